@@ -5,7 +5,7 @@
 //! at the read with this number, counted from 0; the sink has room for so many bytes. What a row leaves out is 1000, no read and 100000.
 #![tactic(auto)]
 
-use citrus_tool::run_words;
+use citrus_tool::{Status, run_words};
 use io_edge::{MemorySink, MemorySource, StdSink, StdSource, read_all, write_all};
 use prcu_marks::OpenGate;
 use prcu_model::NoMemory;
@@ -41,14 +41,10 @@ fn text_of<R: Threads + Wait + Sync>(
     row: &str,
 ) -> Result<Vec<u8>, NoMemory> {
     let line = part_of(row, 0);
-    let mut words = Vec::new(alloc);
-    for word in line.split(' ').skip(1) {
-        words.push(String::from_str(alloc, word)?)?;
-    }
+    let words = words_of(alloc, line)?;
     let mut source = source_of(alloc, row)?;
-    let room = number_at(row, 4, 100_000) as usize;
-    let mut sink = MemorySink::new(alloc, room, 7, Vec::new(alloc))?;
-    let mut errors = MemorySink::new(alloc, 100, 7, Vec::new(alloc))?;
+    let mut sink = sink_with(alloc, number_at(row, 4, 100_000))?;
+    let mut errors = sink_with(alloc, 100)?;
     let status = run_words(
         rt,
         alloc,
@@ -58,20 +54,51 @@ fn text_of<R: Threads + Wait + Sync>(
         &mut errors,
         &OpenGate,
     );
+    let mut text = output_of(alloc, line, sink.bytes(), errors.bytes())?;
+    push_end(&mut text, alloc, status, &mut source)?;
+    Ok(text)
+}
+
+// The words of a line but the first, which is the program's name.
+fn words_of(alloc: Global, line: &str) -> Result<Vec<String>, NoMemory> {
+    let mut words = Vec::new(alloc);
+    for word in line.split(' ').skip(1) {
+        words.push(String::from_str(alloc, word)?)?;
+    }
+    Ok(words)
+}
+
+// A sink that has room for so many bytes.
+fn sink_with(alloc: Global, room: u64) -> Result<MemorySink, NoMemory> {
+    MemorySink::new(alloc, room as usize, 7, Vec::new(alloc))
+}
+
+// The line after `>`, what was written, and what was told after `!`.
+fn output_of(alloc: Global, line: &str, written: &[u8], told: &[u8]) -> Result<Vec<u8>, NoMemory> {
     let mut text = Vec::from_slice(alloc, b"> ")?;
     text.extend_from_slice(line.as_bytes())?;
     text.push(b'\n')?;
-    text.extend_from_slice(sink.bytes())?;
-    if !errors.bytes().is_empty() {
+    text.extend_from_slice(written)?;
+    if !told.is_empty() {
         text.extend_from_slice(b"! ")?;
-        text.extend_from_slice(errors.bytes())?;
+        text.extend_from_slice(told)?;
     }
+    Ok(text)
+}
+
+// Appends the status after `=`, and how many bytes of the source are left.
+fn push_end(
+    text: &mut Vec<u8>,
+    alloc: Global,
+    status: Status,
+    source: &mut MemorySource,
+) -> Result<(), NoMemory> {
     text.extend_from_slice(format!(in alloc; "= {}", status.number())?.as_bytes())?;
-    if let Ok(left) = read_all(alloc, &mut source, 1 << 24) {
+    if let Ok(left) = read_all(alloc, source, 1 << 24) {
         text.extend_from_slice(format!(in alloc; ", {} left", left.len())?.as_bytes())?;
     }
     text.push(b'\n')?;
-    Ok(text)
+    Ok(())
 }
 
 // The source of a row.
