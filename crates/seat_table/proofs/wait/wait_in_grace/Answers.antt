@@ -36,3 +36,6 @@ loop-preserved g c =
           (shape_of g.W.WaitWords.WAY c.args.table.now) i.began c.loop.seat.view c.poll.new.seat.view c.loop.grace c.poll.new.grace i.going
           c.in-NotYet.why c.in-NotYet.ensures.polled;
     }
+
+pub returns-clause-waited : goal.returns-clause-waited
+returns-clause-waited g c = tt
