@@ -1,5 +1,5 @@
 -- What several reads take, and what several writes append, one after another.
-use Rattle.std.proofs.Common.{◌≡◌, ℕ, ◌+◌, ◌-◌, List, [], ◌++◌, length, take, drop, Option, Some, None, refl, sym, ◌∙◌, arith, append-nil, append_assoc, take-append-drop, length-append}
+use Rattle.std.proofs.Common.{◌≡◌, ℕ, ◌+◌, ◌-◌, ◌≤◌, List, [], ◌++◌, length, take, drop, Option, Some, None, refl, sym, ◌∙◌, arith, append-nil, append_assoc, take-append-drop, length-append, length-take, length-take-le}
 use Rattle.std.proofs.lemmas.List.{drop-drop, take_rest}
 use Rattle.std.proofs.Math.Seq.{take-add}
 use Rattle.io_edge.specs.Edge.{Takes, Appends, AppendsFront}
@@ -38,6 +38,31 @@ pub AppendsFront-failed : (before between after : Option (List ℕ)) (text : Lis
     → after ≡ between → AppendsFront before after text
 AppendsFront-failed before between after text i first same =
     (take i text, drop i text, sym (take-append-drop i text), rw same first)
+
+-- a call that took nothing
+pub Takes-none : (before after : Option (List ℕ)) → after ≡ before → Takes before after []
+Takes-none None after same = same
+Takes-none (Some bytes) after same = (bytes, refl, same)
+
+-- a read that failed
+pub TakesToLimit-none : (limit : ℕ) (before after : Option (List ℕ)) (P : Type 0) → after ≡ before → (P → ⊥)
+    → TakesToLimit limit before after P
+TakesToLimit-none limit before after P same other =
+    ([], Takes-none before after same, omega arith, (λ p. absurd (other p), λ past. absurd (omega (arith, past))))
+
+-- a read that took no more than the limit
+pub TakesToLimit-within : (limit n : ℕ) (before after : Option (List ℕ)) (xs : List ℕ) (P : Type 0) → Takes before after (take n xs)
+    → n ≤ limit → (P → ⊥) → TakesToLimit limit before after P
+TakesToLimit-within limit n before after xs P takes within other =
+    let short = length-take n xs in
+    (take n xs, takes, omega (arith, short), (λ p. absurd (other p), λ past. absurd (omega (arith, short, past))))
+
+-- a read that took one byte past it
+pub TakesToLimit-past : (limit n : ℕ) (before after : Option (List ℕ)) (xs : List ℕ) (P : Type 0) → Takes before after (take n xs)
+    → n ≤ length xs → n ≡ limit + 1 → P → TakesToLimit limit before after P
+TakesToLimit-past limit n before after xs P takes within past p =
+    let long = length-take-le n xs within in
+    (take n xs, takes, omega (arith, long), (λ q. omega (arith, long), λ q. p))
 
 -- a call that takes up to what is left of the limit, after these bytes
 pub TakesToLimit-append : (limit left : ℕ) (before between after : Option (List ℕ)) (xs : List ℕ) (P Q : Type 0) → Takes before between xs

@@ -12,10 +12,11 @@ returns-in_err-taken-clause-too_long g c =
 pub loop-text-preserved : goal.loop-text-preserved
 loop-text-preserved g c =
     let inv = c.loop-text.invariant in
-    let led = c.in_ok-taken.ensures.led in (
+    let took = c.in_ok-taken.ensures in
+    let led = took.led in (
       search rules,
-      search rules,
-      rw c.in_ok-taken.ensures.added (Takes-append _ _ _ _ _ inv.2 c.in_ok-taken.ensures.taken),
-      search rules,
+      omega (arith, took.short),
+      rw took.added (Takes-append _ _ _ _ _ inv.2 took.taken),
+      omega (arith, took.no_fault (λ q. absurd (cc (q)))),
       (suc inv.4.0, (c.loop-text.source, led.0, c.in_ok-taken.taken, inv.4.1, omega arith, led.2)),
     )
