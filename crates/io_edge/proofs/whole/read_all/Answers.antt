@@ -30,5 +30,5 @@ loop-text-smaller g c =
       took.short,
       ap length took.added,
       length-append c.loop-text.text.items piece,
-      length-take-le c.in_ok-taken.taken c.take_piece.new.buffer took.within
+      length-take-le c.in_ok-taken.taken c.take_piece.new.buffer took.within,
     )
