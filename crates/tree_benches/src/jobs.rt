@@ -1,5 +1,6 @@
 //! What threads do, one beside another, and how long it takes.
 
+use crate::words::nanos_of;
 use std::io;
 use std::sync::Wait;
 use std::thread::{Threads, join};
@@ -33,22 +34,33 @@ pub enum Crewed<J> {
     Four((J, J), (J, J)),
 }
 
-// A job, and the jobs beside it.
-#[derive(Drop)]
-struct Beside<A, B> {
-    first: A,
-    rest: B,
+fn run_two<R: Threads + Wait + Sync + Clock, J: Job<Told = u64> + Drop + Send>(
+    rt: &R,
+    first: J,
+    second: J,
+) -> u64 {
+    let (one, other) = join(rt, || first.run(rt), || second.run(rt));
+    one.wrapping_add(other)
+}
+
+fn run_three<R: Threads + Wait + Sync + Clock, J: Job<Told = u64> + Drop + Send>(
+    rt: &R,
+    first: J,
+    rest: (J, J),
+) -> u64 {
+    let (one, others) = join(rt, || first.run(rt), || run_two(rt, rest.0, rest.1));
+    one.wrapping_add(others)
 }
 
 // One thread starts all others. If a started one started the next, two would wait for a processor one after another.
-impl<A: Job<Told = u64> + Drop + Send, B: Job<Told = u64> + Drop> Job for Beside<A, B> {
-    /// The sum of what they tell.
-    type Told = u64;
-
-    fn run<R: Threads + Wait + Sync + Clock>(self, rt: &R) -> u64 {
-        let (one, others) = side_by_side(rt, self.first, self.rest);
-        one.wrapping_add(others)
-    }
+fn run_four<R: Threads + Wait + Sync + Clock, J: Job<Told = u64> + Drop + Send>(
+    rt: &R,
+    pair: (J, J),
+    rest: (J, J),
+) -> u64 {
+    let (first, second) = pair;
+    let (one, others) = join(rt, || first.run(rt), || run_three(rt, second, rest));
+    one.wrapping_add(others)
 }
 
 // The sum of what the jobs tell, each in a thread of its own.
@@ -58,18 +70,8 @@ fn run_crew<R: Threads + Wait + Sync + Clock, J: Job<Told = u64> + Drop + Send>(
 ) -> u64 {
     match crewed {
         Crewed::One(job) => job.run(rt),
-        Crewed::Two(first, rest) => Beside { first, rest }.run(rt),
-        Crewed::Four((first, second), (third, fourth)) => {
-            let rest = Beside {
-                first: third,
-                rest: fourth,
-            };
-            let rest = Beside {
-                first: second,
-                rest,
-            };
-            Beside { first, rest }.run(rt)
-        }
+        Crewed::Two(first, second) => run_two(rt, first, second),
+        Crewed::Four(first, second) => run_four(rt, first, second),
     }
 }
 
@@ -77,7 +79,7 @@ fn run_crew<R: Threads + Wait + Sync + Clock, J: Job<Told = u64> + Drop + Send>(
 #[derive(Clone, Copy)]
 pub struct Worked {
     /// How long they took.
-    pub nanos: u128,
+    pub nanos: u64,
     /// The sum of what they told, which has every answer made.
     pub sum: u64,
 }
@@ -89,6 +91,6 @@ pub fn time<R: Threads + Wait + Sync + Clock, J: Job<Told = u64> + Drop + Send>(
 ) -> io::Result<Worked> {
     let begun = Instant::now(rt)?;
     let sum = run_crew(rt, crewed);
-    let nanos = begun.elapsed(rt)?.as_nanos();
+    let nanos = nanos_of(begun.elapsed(rt)?);
     Ok(Worked { nanos, sum })
 }

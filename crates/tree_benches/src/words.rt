@@ -4,6 +4,7 @@ use crate::crew::Crew;
 use crate::jobs::Worked;
 use std::io;
 use std::rt::Runtime;
+use std::time::Duration;
 
 /// What is measured.
 #[derive(Clone, Copy)]
@@ -47,9 +48,16 @@ pub fn rounds_of(word: &str, most: u32) -> Option<u32> {
     Some(rounds)
 }
 
+/// How many nanoseconds a time is, where it is shorter than five centuries.
+pub fn nanos_of(time: Duration) -> u64 {
+    time.as_secs()
+        .saturating_mul(1_000_000_000)
+        .saturating_add(u64::from(time.subsec_nanos()))
+}
+
 /// How long one of so many took, at least one: whole nanoseconds, and tenths beside them.
-pub fn tenths_of(nanos: u128, count: u64) -> (u128, u128) {
-    let tenths = nanos.saturating_mul(10) / u128::from(count.max(1));
+pub fn tenths_of(nanos: u64, count: u64) -> (u64, u64) {
+    let tenths = nanos.saturating_mul(10) / count.max(1);
     (tenths / 10, tenths % 10)
 }
 

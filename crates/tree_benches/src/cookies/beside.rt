@@ -4,6 +4,7 @@ use crate::cookies::rows::Work;
 use crate::cookies::tally::Tally;
 use crate::jobs::Job;
 use crate::seated::Seated;
+use crate::words::nanos_of;
 use citrus_tree::call;
 use prcu_marks::{Client, OpenGate};
 use prcu_model::Op;
@@ -67,7 +68,7 @@ fn make_call<R: Wait + Clock, C: Client>(
     }
     let begun = Instant::now(rt)?;
     let told = client.call(rt, op);
-    tally.add(begun.elapsed(rt)?.as_nanos(), told.number);
+    tally.add(nanos_of(begun.elapsed(rt)?), told.number);
     Ok(())
 }
 
@@ -109,7 +110,7 @@ impl<'a, C: Client + Drop> Job for Writing<'a, C> {
     fn run<R: Threads + Wait + Sync + Clock>(self, rt: &R) -> io::Result<Tally> {
         let mut client = self.client;
         let work = self.work;
-        let mut tally = Tally::new(u128::from(work.section / 10));
+        let mut tally = Tally::new(work.section / 10);
         let mut state = 99;
         for _ in 0..client.remaining() {
             if *self.stop.lock(rt) {

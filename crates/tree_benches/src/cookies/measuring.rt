@@ -73,12 +73,15 @@ fn measure_kind<R: Threads + Wait + Sync + Runtime, W: WaitPart + Sync>(
 
 // What the two threads do in a row. Where no times are asked for a section is short.
 fn work_of(row: Row, ask: &Ask) -> Work {
-    let unit = if ask.timed { 1_000_000 } else { 1000 };
-    let section = row.kind.section.saturating_mul(unit);
+    let section = if ask.timed {
+        row.kind.section.saturating_mul(1_000_000)
+    } else {
+        row.kind.section.saturating_mul(1000)
+    };
     Work {
         middles: row.kind.middles,
         section,
-        rest: (section / 10).saturating_mul(row.rest.tenths),
+        rest: row.rest.of(section),
         rounds: ask.rounds,
     }
 }

@@ -40,25 +40,33 @@ impl Kind {
 #[derive(Clone, Copy)]
 pub struct Rest {
     pub name: &'static str,
-    /// So many tenths of a section.
-    pub tenths: u64,
+    /// Which part of a section: none, or the one by this divisor.
+    pub part: Option<u64>,
 }
 
 impl Rest {
     pub const ALL: [Rest; 3] = [
         Rest {
             name: "no rest",
-            tenths: 0,
+            part: None,
         },
         Rest {
             name: "rests of a tenth",
-            tenths: 1,
+            part: Some(10),
         },
         Rest {
             name: "rests of a fifth",
-            tenths: 2,
+            part: Some(5),
         },
     ];
+
+    /// The rest beside sections of so many nanoseconds.
+    pub fn of(&self, section: u64) -> u64 {
+        match self.part {
+            Some(part) => section.checked_div(part).unwrap_or(0),
+            None => 0,
+        }
+    }
 }
 
 /// How the writer holds its retired slots.

@@ -4,6 +4,7 @@ ghost use Rattle.seat_table.specs.Seats.{IsQuietSeat};
 
 use crate::jobs::Job;
 use crate::seated::Seated;
+use crate::words::nanos_of;
 use exact_list::{Listed, Page, list};
 use key_interval::Keys;
 use prcu_marks::Client;
@@ -30,7 +31,7 @@ pub enum Shape {
 /// How a number of lists went.
 #[derive(Clone, Copy)]
 pub struct Tally {
-    pub nanos: u128,
+    pub nanos: u64,
     /// How many pairs were listed in all.
     pub pairs: u64,
     /// How many lists found that the front had moved.
@@ -102,7 +103,7 @@ fn list_often<R: Wait + Clock, W: WaitPart>(
         let listed = list(rt, table, &mut seat, keys, &mut page, 1);
         tally.add(listed, page.count());
     }
-    tally.nanos = begun.elapsed(rt)?.as_nanos();
+    tally.nanos = nanos_of(begun.elapsed(rt)?);
     Ok(tally)
 }
 
