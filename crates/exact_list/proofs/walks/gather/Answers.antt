@@ -1,4 +1,4 @@
-use Rattle.std.proofs.Common.{rules, ◌+◌, refl, sym, ap, subst, ◌∙◌, length, arith}
+use Rattle.std.proofs.Common.{◌+◌, refl, sym, ap, subst, ◌∙◌, length, arith}
 use Rattle.seat_table.specs.Seats.{shape_of}
 use Rattle.exact_list.proofs.Loading.{still_listing}
 use Rattle.exact_list.proofs.Walking.{may_begin}
@@ -14,8 +14,8 @@ loop-init g c =
     let low = c.low-from.ensures.low in
     let ordered = c.low-from.ensures.ordered in
     record {
-      table = search rules;
-      listed = search rules;
+      table = c.list_load-link.ensures.seat.0;
+      listed = c.list_load-link.ensures.seat.1;
       capacity = refl;
       room = (let empty = ap length c.requires.empty in omega (arith, empty));
       low = omega (arith, low);
@@ -41,8 +41,8 @@ pub loop-preserved-in-Lost : goal.loop-preserved-in-Lost
 loop-preserved-in-Lost g c =
     let i = c.loop.invariant in
     record {
-      table = search rules;
-      listed = search rules;
+      table = c.list_load-link-in-Lost.ensures.seat.0 ∙ c.descend.ensures.seat.0 ∙ i.table;
+      listed = c.list_load-link-in-Lost.ensures.seat.1 ∙ c.descend.ensures.seat.1 ∙ i.listed;
       capacity = i.capacity;
       room = i.room;
       low = i.low;
@@ -93,9 +93,9 @@ loop-preserved g c =
     let more = z.least in
     let low = i.low in
     record {
-      table = search rules;
-      listed = search rules;
-      capacity = search rules;
+      table = c.list_load-link-in-loop.ensures.seat.0 ∙ c.list_load-value.ensures.seat.0 ∙ c.descend.ensures.seat.0 ∙ i.table;
+      listed = c.list_load-link-in-loop.ensures.seat.1 ∙ c.list_load-value.ensures.seat.1 ∙ c.descend.ensures.seat.1 ∙ i.listed;
+      capacity = c.add.ensures.capacity ∙ i.capacity;
       room = c.add.ensures.fits;
       low = omega (arith, low, more);
       high = omega (arith, high, within, below);
