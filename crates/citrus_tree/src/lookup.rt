@@ -1,11 +1,12 @@
 //! Lookups, in a section and without a lock.
 ghost use Rattle.std.specs.Prelude.{◌≡◌, [], None, IfOk};
 ghost use Rattle.seat_table.specs.Seats.{IsQuietSeat};
-ghost use Rattle.citrus_tree.specs.Lookups.{Looked, Gets};
+ghost use Rattle.citrus_tree.specs.Lookups.{Looked, Gets, told_of};
 
+use crate::answer::answered;
 use crate::descent::{Descent, descend};
 use patience::Patience;
-use prcu_marks::{Gate, Point};
+use prcu_marks::Gate;
 use prcu_model::{Reply, Told};
 use seat_table::{CitrusTable, Part, Seat, WaitPart, steps};
 
@@ -54,10 +55,16 @@ pub fn get<P: Patience, W: WaitPart, G: Gate>(
     ensures gets { IfOk result (λ answer. Gets seat.old.view key answer seat.new.view) }
     ensures quiet { IfOk result (λ _. IsQuietSeat seat.new) }
 {
-    let reply = match look_up(patience, table, seat, gate, key)? {
+    let found = look_up(patience, table, seat, gate, key)?;
+    Ok(answered(gate, seat, reply_of(found), 0))
+}
+
+// What a get is told, by what was found.
+fn reply_of(found: Option<u64>) -> Reply
+    ensures { record { reply = result; number = 0 } ≡ told_of found }
+{
+    match found {
         Some(value) => Reply::Val { value },
         None => Reply::Absent,
-    };
-    gate.pass(Point::Answered, seat.place());
-    Ok(Told { reply, number: 0 })
+    }
 }

@@ -1,9 +1,36 @@
 use Rattle.std.proofs.Common.{◌<◌, ◌≤◌, length, sym, ap, ◌∙◌, inl, inr, refl, arith}
 use Rattle.node_slots.proofs.Listed.{listed_length}
+use Rattle.node_slots.proofs.Points.{reclaim_retired}
 use Rattle.tree_points.proofs.Ends.{none_raised}
-use Rattle.citrus_tree.proofs.deletes.Room.{given_spare, no_spare, ready_at_once, ready_reclaimed, room_reclaimed, room_same}
+use Rattle.citrus_tree.proofs.deletes.Room.{empty_listed, given_spare, no_spare, ready_at_once, ready_reclaimed, room_reclaimed, room_same}
 use Rattle.citrus_tree.proofs.KeepingSlots.{slots_reclaimed, slots_self}
 use Rattle.citrus_tree.proofs.delete.make_room.Goals as goal
+
+pub reclaim-requires-clause-outside : goal.reclaim-requires-clause-outside
+reclaim-requires-clause-outside g c = c.requires.quiet.view.section
+
+pub reclaim-requires-clause-unlocked : goal.reclaim-requires-clause-unlocked
+reclaim-requires-clause-unlocked g c = c.requires.quiet.view.locks
+
+pub reclaim-requires-clause-settled : goal.reclaim-requires-clause-settled
+reclaim-requires-clause-settled g c = c.requires.quiet.view.moving
+
+pub reclaim-requires-clause-paid : goal.reclaim-requires-clause-paid
+reclaim-requires-clause-paid g c = c.requires.quiet.view.owes
+
+pub reclaim-requires-clause-listed : goal.reclaim-requires-clause-listed
+reclaim-requires-clause-listed g c = c.requires.quiet.listed
+
+pub returns-then-retired-ge15-clause-listed : goal.returns-then-retired-ge15-clause-listed
+returns-then-retired-ge15-clause-listed g c =
+    empty_listed c.reclaim.new.seat c.in_ok-reclaim.ensures.listed (reclaim_retired c.in_ok-reclaim.ensures.view)
+
+pub take_spare-requires-clause-none : goal.take_spare-requires-clause-none
+take_spare-requires-clause-none g c = no_spare c.spare.result c.args.seat.now.view.hands.spare c.spare.ensures
+    (sym c.is_some.ensures ∙ c.if-is_some.false)
+
+pub returns-then-is_some-clause-listed : goal.returns-then-is_some-clause-listed
+returns-then-is_some-clause-listed g c = c.requires.quiet.listed
 
 pub reclaim-requires-clause-unraised : goal.reclaim-requires-clause-unraised
 reclaim-requires-clause-unraised g c = none_raised c.args.seat.now.view.hands.retired c.requires.quiet.view.raised

@@ -3,13 +3,68 @@ use Rattle.node_slots.specs.Taking.{Takes}
 use Rattle.node_slots.specs.declared.answers.Taken.{Taken}
 use Rattle.node_slots.proofs.Points.{none_retired_now, tries_further}
 use Rattle.citrus_tree.proofs.sets.Replacing.{listed_on}
-use Rattle.citrus_tree.proofs.deletes.Room.{may_reclaim_spare, ready_kept, ready_spare, room_kept, room_spare}
+use Rattle.citrus_tree.proofs.deletes.Room.{kept_retired, may_reclaim_spare, needs_kept, ready_kept, ready_spare, room_kept, room_spare}
 use Rattle.std.proofs.Common.{[], ap, ◌∙◌, inl, inr, subst}
 use Rattle.core_state.specs.declared.view.View.{View}
 use Rattle.citrus_tree.proofs.KeepingSlots.{slots_goes, slots_on, slots_reclaimed, slots_same}
 use Rattle.citrus_tree.proofs.puts.Filling.{goes_none}
 use Rattle.citrus_tree.specs.Gone.{retired_marks}
 use Rattle.citrus_tree.proofs.delete.take_spare.Goals as goal
+
+pub take-requires-clause-unreserved : goal.take-requires-clause-unreserved
+take-requires-clause-unreserved g c = c.requires.quiet.view.reserved
+
+pub take-requires-clause-empty : goal.take-requires-clause-empty
+take-requires-clause-empty g c = c.requires.quiet.view.hand
+
+pub keep_as_spare-requires-clause-asks : goal.keep_as_spare-requires-clause-asks
+keep_as_spare-requires-clause-asks g c = needs_kept c.requires.quiet.view c.requires.few c.requires.none
+    (subst (λ (r : Taken). Takes
+    (shape_of g.W.WaitWords.WAY c.args.table.now) c.args.seat.now.view r c.take.new.seat.view) c.in-Slot.is c.in_ok-slot.ensures.view)
+    c.requires.tickets
+
+pub reclaim-requires-clause-outside : goal.reclaim-requires-clause-outside
+reclaim-requires-clause-outside g c = (may_reclaim_spare c.requires.quiet.view c.requires.few c.requires.none
+    (subst (λ (r : Taken). Takes
+    (shape_of g.W.WaitWords.WAY c.args.table.now) c.args.seat.now.view r c.take.new.seat.view) c.in-Empty.is c.in_ok-slot.ensures.view)
+    c.requires.tickets).outside
+
+pub reclaim-requires-clause-unlocked : goal.reclaim-requires-clause-unlocked
+reclaim-requires-clause-unlocked g c = (may_reclaim_spare c.requires.quiet.view c.requires.few c.requires.none
+    (subst (λ (r : Taken). Takes
+    (shape_of g.W.WaitWords.WAY c.args.table.now) c.args.seat.now.view r c.take.new.seat.view) c.in-Empty.is c.in_ok-slot.ensures.view)
+    c.requires.tickets).unlocked
+
+pub reclaim-requires-clause-settled : goal.reclaim-requires-clause-settled
+reclaim-requires-clause-settled g c = (may_reclaim_spare c.requires.quiet.view c.requires.few c.requires.none
+    (subst (λ (r : Taken). Takes
+    (shape_of g.W.WaitWords.WAY c.args.table.now) c.args.seat.now.view r c.take.new.seat.view) c.in-Empty.is c.in_ok-slot.ensures.view)
+    c.requires.tickets).settled
+
+pub reclaim-requires-clause-paid : goal.reclaim-requires-clause-paid
+reclaim-requires-clause-paid g c = (may_reclaim_spare c.requires.quiet.view c.requires.few c.requires.none
+    (subst (λ (r : Taken). Takes
+    (shape_of g.W.WaitWords.WAY c.args.table.now) c.args.seat.now.view r c.take.new.seat.view) c.in-Empty.is c.in_ok-slot.ensures.view)
+    c.requires.tickets).paid
+
+pub reclaim-requires-clause-ticket : goal.reclaim-requires-clause-ticket
+reclaim-requires-clause-ticket g c = (may_reclaim_spare c.requires.quiet.view c.requires.few c.requires.none
+    (subst (λ (r : Taken). Takes
+    (shape_of g.W.WaitWords.WAY c.args.table.now) c.args.seat.now.view r c.take.new.seat.view) c.in-Empty.is c.in_ok-slot.ensures.view)
+    c.requires.tickets).ticket
+
+pub reclaim-requires-clause-listed : goal.reclaim-requires-clause-listed
+reclaim-requires-clause-listed g c = listed_on c.args.seat.now c.take.new.seat c.take.ensures.seat.1
+    (none_retired_now (subst (λ (r : Taken). Takes
+    (shape_of g.W.WaitWords.WAY c.args.table.now) c.args.seat.now.view r c.take.new.seat.view) c.in-Empty.is c.in_ok-slot.ensures.view)) c.requires.quiet.listed
+
+pub returns-in-Slot-clause-listed : goal.returns-in-Slot-clause-listed
+returns-in-Slot-clause-listed g c = listed_on c.args.seat.now c.keep_as_spare.new.seat
+    (c.keep_as_spare.ensures.seat.1 ∙ c.take.ensures.seat.1)
+    (kept_retired c.requires.quiet.view c.requires.few c.requires.none
+    (subst (λ (r : Taken). Takes
+    (shape_of g.W.WaitWords.WAY c.args.table.now) c.args.seat.now.view r c.take.new.seat.view) c.in-Slot.is c.in_ok-slot.ensures.view)
+    c.keep_as_spare.ensures.told) c.requires.quiet.listed
 
 pub reclaim-requires-clause-unraised : goal.reclaim-requires-clause-unraised
 reclaim-requires-clause-unraised g c = (may_reclaim_spare c.requires.quiet.view c.requires.few c.requires.none

@@ -8,12 +8,42 @@ use Rattle.tree_points.proofs.Holding.{needs_copy_lock, passes_copy_lock_free, p
 use Rattle.tree_points.proofs.Locking.{locks_copy_lock}
 use Rattle.tree_points.proofs.Gone.{gone_on}
 use Rattle.citrus_tree.proofs.deletes.Keeping.{keeps_rest, locks_busy, rest_lock, rest_of, spare_lock}
-use Rattle.citrus_tree.proofs.deletes.Pieces.{few_moved, one_listed, move_deletes}
+use Rattle.citrus_tree.proofs.deletes.Pieces.{few_moved, has_spare, one_listed, move_deletes}
 use Rattle.citrus_tree.proofs.KeepingSlots.{slots_later, slots_rest}
 use Rattle.citrus_tree.proofs.KeepingWaits.{none_begun, wait_later}
 use Rattle.citrus_tree.proofs.deletes.Retiring.{retires_before, two_retired}
 use Rattle.citrus_tree.proofs.deletes.Values.{copy_aside, takes_more, takes_since, value_lock, value_on}
+use Rattle.citrus_tree.proofs.deletes.Tries.{listed_still}
 use Rattle.citrus_tree.proofs.delete.shift.shift.Goals as goal
+
+pub unreachable-requires : goal.unreachable-requires
+unreachable-requires g c = has_spare c.args.node c.args.successor (c.requires.at).1 c.in_default.ensures
+
+pub fill_copy-next_key-requires-clause-at : goal.fill_copy-next_key-requires-clause-at
+fill_copy-next_key-requires-clause-at g c = let a = c.requires.at in (Del c.args.key, a.0, a.1)
+
+pub fill_copy-next_key-requires-clause-spare : goal.fill_copy-next_key-requires-clause-spare
+fill_copy-next_key-requires-clause-spare g c = c.in-Some.ensures
+
+pub link_copy-requires-clause-small : goal.link_copy-requires-clause-small
+link_copy-requires-clause-small g c = c.requires.small
+
+pub finish-requires-clause-small : goal.finish-requires-clause-small
+finish-requires-clause-small g c = c.requires.small.1
+
+pub returns-then-lock-ne0-clause-listed : goal.returns-then-lock-ne0-clause-listed
+returns-then-lock-ne0-clause-listed g c =
+    let k = (shape_of g.W.WaitWords.WAY c.args.table.now) in
+    listed_still c.args.seat.now c.unlock_target.new.seat
+    (c.unlock_target.ensures.seat.1 ∙ c.lock.ensures.seat.1 ∙ c.fill_copy-next_key.ensures.seat.1)
+    (c.unlock_target.ensures.same.retired ∙ (rest_lock k _ _ _ _ c.lock.ensures.told).retired
+    ∙ c.fill_copy-next_key.ensures.same.retired) c.requires.listed
+
+pub returns-clause-listed : goal.returns-clause-listed
+returns-clause-listed g c = c.in_ok-finish.ensures.listed
+
+pub returns-clause-informed : goal.returns-clause-informed
+returns-clause-informed g c = c.in_ok-finish.ensures.informed
 
 pub lock-requires-clause-asks : goal.lock-requires-clause-asks
 lock-requires-clause-asks g c = let a = c.requires.at in

@@ -2,6 +2,20 @@ use Rattle.citrus_tree.proofs.deletes.Keeping.{loads_on}
 use Rattle.citrus_tree.proofs.deletes.Finds.{first_walk}
 use Rattle.citrus_tree.proofs.delete.target.load_target.Goals as goal
 
+pub walk-requires-clause-at : goal.walk-requires-clause-at
+walk-requires-clause-at g c =
+    let a = c.requires.at in (
+      a.0,
+      a.1,
+      first_walk c.load_node-node.result c.if-node-eq0.false c.if-node-eq0-2.false (c.load_node-node.ensures.at a.0 a.1 a.2),
+    )
+
+pub walk-requires-clause-inside : goal.walk-requires-clause-inside
+walk-requires-clause-inside g c = c.load_node-node.ensures.inside
+
+pub returns-clause-inside : goal.returns-clause-inside
+returns-clause-inside g c = c.load_successor-successor.ensures.inside
+
 pub load_successor-successor-requires-clause-at : goal.load_successor-successor-requires-clause-at
 load_successor-successor-requires-clause-at g c =
     let a = c.requires.at in (
