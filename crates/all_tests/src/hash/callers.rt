@@ -3,15 +3,15 @@ ghost use Rattle.std.specs.Prelude.{◌≡◌, length, IfOk, vec_len};
 ghost use Rattle.hash_core.specs.Steps.{IsQuiet};
 ghost use Rattle.client_run.specs.Workers.{AreReadyFor};
 
+use super::{Call, answered, run};
 use crate::same::assert_same;
 use crate::scripts::{drawn_scripts, key_of};
 use class_hash::{HashClient, HashSeat, HashTable};
 use client_run::{Worker, run_all};
-use prcu_marks::{Client, OpenGate};
+use prcu_marks::OpenGate;
 use prcu_model::{NoMemory, Op, PlainMap, Reply, Scripts, Told, ToldList};
 use std::alloc::Global;
 use std::process::Abort;
-use std::sync::Wait;
 use std::test::Fail;
 
 const CALLERS: u32 = 4;
@@ -91,13 +91,18 @@ impl Front {
 
     // Goes on to the least front, from here and from another on, at which the operation is given the reply, or to the last.
     fn seek(&mut self, history: &[Op], from: u64, op: Op, reply: Reply) -> Result<(), NoMemory> {
-        for place in self.number..history.len() {
-            if place as u64 >= from && self.reply_to(op) == reply {
-                break;
+        for update in history.iter().skip(self.number) {
+            if self.gives(from, op, reply) {
+                return Ok(());
             }
-            self.step(history[place])?;
+            self.step(*update)?;
         }
         Ok(())
+    }
+
+    // Whether this front is no earlier than another, and the operation is given the reply here.
+    fn gives(&self, from: u64, op: Op, reply: Reply) -> bool {
+        self.number as u64 >= from && self.reply_to(op) == reply
     }
 }
 
@@ -123,6 +128,17 @@ fn store_script(rt: &impl Abort, history: &mut [Op], script: &[Op], told: &[Told
     count
 }
 
+// Stores each update that all scripts were told of, and tells how many there are.
+fn store_all(rt: &impl Abort, history: &mut [Op], scripts: &Scripts, told: &[ToldList]) -> usize {
+    let mut count = 0usize;
+    for (caller, list) in told.iter().enumerate() {
+        assert!(rt; caller < scripts.count() as usize);
+        let script = scripts.script(caller as u32);
+        count = count.saturating_add(store_script(rt, history, script, list.entries()));
+    }
+    count
+}
+
 // The history of all updates that the scripts were told of. A number that none was told has no update.
 fn merged(
     rt: &impl Abort,
@@ -131,12 +147,7 @@ fn merged(
     told: &[ToldList],
 ) -> Result<Vec<Op>, NoMemory> {
     let mut history = vec![in alloc; NO_UPDATE; scripts.ops() as usize]?;
-    let mut count = 0usize;
-    for (caller, list) in told.iter().enumerate() {
-        assert!(rt; caller < scripts.count() as usize);
-        let script = scripts.script(caller as u32);
-        count = count.saturating_add(store_script(rt, &mut history, script, list.entries()));
-    }
+    let count = store_all(rt, &mut history, scripts, told);
     history.truncate(count);
     Ok(history)
 }
@@ -174,16 +185,14 @@ fn assert_explained(
     Ok(full)
 }
 
-// That the last seat finds in the table what is there at this front.
-fn assert_found<R: Wait + Abort>(rt: &R, table: &HashTable, seat: HashSeat, front: &Front)
-    requires { (seat.table ≡ table.now.id) × IsQuiet seat.view }
-{
-    let mut client = HashClient::new(table, seat, &OpenGate);
-    for key in KEYS {
-        let get = Op::Get { key };
-        assert!(rt; client.remaining() > 0, "no tickets are left");
-        assert_same(rt, client.call(rt, get).reply, front.reply_to(get), get);
+// A get of each key, which is told what is there at this front.
+fn gets_at(front: &Front) -> [Call; 6] {
+    let mut calls = [answered(Op::Get { key: 0 }, Reply::Absent, 0); 6];
+    for place in 0..6_usize {
+        let get = Op::Get { key: KEYS[place] };
+        calls[place] = answered(get, front.reply_to(get), 0);
     }
+    calls
 }
 
 // What the workers were told.
@@ -231,6 +240,6 @@ fn one_history_explains_callers_that_run_beside_each_other(rt: HostRuntime) -> R
 
     let told = lists_told(alloc, workers)?;
     let front = assert_all_explained(&rt, alloc, &scripts, &told)?;
-    assert_found(&rt, &table, seat, &front);
+    run(&rt, &table, seat, &gets_at(&front));
     Ok(())
 }
