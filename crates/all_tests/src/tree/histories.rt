@@ -1,16 +1,15 @@
 //! Scripts in threads of their own, on few slots: one history explains what all of them were told.
-ghost use Rattle.std.specs.Prelude.{◌≡◌, ◌≤◌};
-ghost use Rattle.seat_table.specs.Seats.{IsQuietSeat};
+ghost use Rattle.std.specs.Prelude.{◌≤◌};
 
+use super::{Call, run};
 use crate::same::assert_same;
 use crate::scripts::{drawn_scripts, key_of};
-use citrus_tree::TreeClient;
 use d_wait::Domain;
 use deer_wait::Deer;
 use eer_wait::Eer;
-use prcu_marks::{Client, OpenGate};
+use prcu_marks::OpenGate;
 use prcu_model::{NoMemory, Op, PlainMap, Reply, Scripts, Told, ToldList, Update};
-use seat_table::{CitrusTable, Seat, WaitPart};
+use seat_table::WaitPart;
 use std::alloc::Global;
 use std::process::Abort;
 use std::sync::Wait;
@@ -124,23 +123,17 @@ fn assert_all_explained(
     }
 }
 
-// The values that the tree gives the keys.
-fn values_found<R: Wait + Abort, W: WaitPart>(
-    rt: &R,
-    table: &CitrusTable<W>,
-    seat: Seat<W>,
-) -> Values
-    requires { (seat.table ≡ table.now) × IsQuietSeat seat }
-{
-    let mut client = TreeClient::new(table, seat, &OpenGate);
-    let mut values = [None; 8];
+// A get of each key, which is told the value that is there.
+fn gets_of(values: &Values) -> [Call; 8] {
+    let mut calls = [call!(get 0 none); 8];
     for key in 0..KEYS {
-        assert!(rt; client.remaining() > 0, "no tickets are left");
-        if let Reply::Val { value } = client.call(rt, Op::Get { key }).reply {
-            values[key as usize] = Some(value);
-        }
+        let reply = match values[key as usize] {
+            Some(value) => Reply::Val { value },
+            None => Reply::Absent,
+        };
+        calls[key as usize] = (Op::Get { key }, Told { reply, number: 0 });
     }
-    values
+    calls
 }
 
 // That one history explains a run on so many slots, with cookies or without, and gives the values that are there in the end.
@@ -163,8 +156,10 @@ fn assert_run<R: Threads + Wait + Sync + Abort, W: WaitPart + Send + Sync>(
     } = run_scripts::<R, W, OpenGate>(rt, alloc, &scripts, slots, cookies, &OpenGate)?;
     let fronts = values_at(rt, alloc, &history)?;
     assert_all_explained(rt, &fronts, slots, &scripts, &told);
-    let last = values_found(rt, &table, seat);
-    assert!(rt; fronts.last() == Some(&last), "the tree has {last:?}");
+    let Some(last) = fronts.last() else {
+        panic!(rt; "there is no front");
+    };
+    run(rt, &table, seat, "the tree in the end", &gets_of(last));
     Ok(())
 }
 
