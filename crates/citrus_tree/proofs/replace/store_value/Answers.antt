@@ -50,6 +50,13 @@ pub open_front-requires-clause-paid : goal.open_front-requires-clause-paid
 open_front-requires-clause-paid g c = unpaid c.requires.at.1 c.lock.ensures.told c.if-lock-ne0.false c.locked_load-life.ensures.told
     (is_alive _ _ c.is_life-holds.ensures c.if-not-holds.false) c.locked_load-old.ensures.told
 
+pub replace_value-requires-clause-asks : goal.replace_value-requires-clause-asks
+replace_value-requires-clause-asks g c =
+    stores c.requires.at.1 c.lock.ensures.told c.if-lock-ne0.false c.locked_load-life.ensures.told
+    (is_alive _ _ c.is_life-holds.ensures c.if-not-holds.false) c.locked_load-old.ensures.told c.in_ok-front.ensures.opened
+    (c.in_ok-front.ensures.at _ _ _ _ (committing c.requires.at.1 c.lock.ensures.told c.if-lock-ne0.false c.locked_load-life.ensures.told
+    (is_alive _ _ c.is_life-holds.ensures c.if-not-holds.false) c.locked_load-old.ensures.told))
+
 pub close_front-number-requires-clause-odd : goal.close_front-number-requires-clause-odd
 close_front-number-requires-clause-odd g c =
     let storing =
@@ -58,13 +65,6 @@ close_front-number-requires-clause-odd g c =
     is_odd c.requires.at.1 c.lock.ensures.told c.if-lock-ne0.false c.locked_load-life.ensures.told
     (is_alive _ _ c.is_life-holds.ensures c.if-not-holds.false) c.locked_load-old.ensures.told c.in_ok-front.ensures.opened storing
     c.replace_value.ensures.told
-
-pub replace_value-requires-clause-asks : goal.replace_value-requires-clause-asks
-replace_value-requires-clause-asks g c =
-    stores c.requires.at.1 c.lock.ensures.told c.if-lock-ne0.false c.locked_load-life.ensures.told
-    (is_alive _ _ c.is_life-holds.ensures c.if-not-holds.false) c.locked_load-old.ensures.told c.in_ok-front.ensures.opened
-    (c.in_ok-front.ensures.at _ _ _ _ (committing c.requires.at.1 c.lock.ensures.told c.if-lock-ne0.false c.locked_load-life.ensures.told
-    (is_alive _ _ c.is_life-holds.ensures c.if-not-holds.false) c.locked_load-old.ensures.told))
 
 pub unlock-requires-2-clause-asks : goal.unlock-requires-2-clause-asks
 unlock-requires-2-clause-asks g c =
