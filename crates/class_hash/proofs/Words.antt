@@ -10,9 +10,10 @@ use Rattle.hash_core.specs.declared.layout.TheConstants.{CLASS_BASE, SLOT_BASE, 
 use Rattle.hash_core.specs.declared.words.Field.TheVariants.{Front, Lock, Readers, Head, Free, Retired, Key, Value, Next, Chain}
 use Rattle.hash_core.specs.Memory.{word_of, memory_of}
 use Rattle.hash_core.specs.Rule.{IsShape, Rule}
+use Rattle.hash_core.specs.Fresh.{IsFreshClass}
 use Rattle.hash_core.proofs.First.{starts, fresh_memory}
 use Rattle.hash_core.specs.Slots.{capacity, base}
-use Rattle.class_hash.specs.Fresh.{IsFresh, IsFreshClass, IsFreshSlot, class_words, first_link, next_link, first_seated}
+use Rattle.class_hash.specs.Fresh.{IsFresh, IsFreshSlot, class_words, first_link, next_link, first_seated}
 use Rattle.class_hash.specs.Added.{HasClasses, HasSlots, HasClassSlots}
 use Rattle.prcu_marks.specs.Bounds.{most_tickets}
 
@@ -171,7 +172,6 @@ rule_starts k cs ws same classes slots places tickets fresh =
       marks = [];
       long = all.long;
       holds = starts k.capacities.items k.places k.tickets shape (memory_of k.capacities.items ws)
-          (fresh_memory k.capacities.items ws all.front
-          (λ c small. let f = all.classes c small in (f.lock, f.readers, f.head, f.free, f.retired))
+          (fresh_memory k.capacities.items ws all.front all.classes
           (λ c i small room. (all.slots c i small room).chain_is));
     }

@@ -5,7 +5,8 @@ use Rattle.hash_core.specs.declared.layout.TheConstants.{APART, CLASS_BASE, SLOT
 use Rattle.hash_core.specs.declared.words.Field.TheVariants.{Front}
 use Rattle.hash_core.specs.Memory.{word_of}
 use Rattle.hash_core.specs.Slots.{capacity, base}
-use Rattle.class_hash.specs.Fresh.{IsFreshClass, IsFreshSlot, first_link, next_link}
+use Rattle.hash_core.specs.Fresh.{IsFreshClass}
+use Rattle.class_hash.specs.Fresh.{IsFreshSlot, first_link, next_link}
 
 -- the front, and the words of the first so many classes
 pub record HasClasses (capacities : List ℕ) (n : ℕ) (ws : List ℕ) : Type 0 where

@@ -3,10 +3,10 @@
 use Rattle.std.specs.Prelude.{◌≡◌, ℕ, ◌+◌, ◌<◌, ◌==◌, if◌then◌else◌, List, ◌∷◌, length, replicate, slice_index}
 use Rattle.hash_core.specs.declared.shape.Shape.{Shape}
 use Rattle.hash_core.specs.declared.layout.TheConstants.{CLASS_ROOM}
-use Rattle.hash_core.specs.declared.words.Field.TheVariants.{Front, Lock, Readers, Head, Free, Retired, Key, Value, Next, Chain}
+use Rattle.hash_core.specs.declared.words.Field.TheVariants.{Front, Key, Value, Next, Chain}
 use Rattle.hash_core.specs.declared.view.View.{View}
 use Rattle.hash_core.specs.Memory.{word_of}
-use Rattle.hash_core.specs.Fresh.{first_view}
+use Rattle.hash_core.specs.Fresh.{first_view, IsFreshClass}
 use Rattle.hash_core.specs.Slots.{capacity, base, word_count}
 use Rattle.class_hash.specs.Seats.{SeatAt, TableAt}
 
@@ -28,14 +28,6 @@ next_link before room i = if i + 1 == room then 0 else before + i + 2
 -- the words of a class: its lock, readers, head, free and retired, and the room behind them
 abbrev pub class_words : ℕ → List ℕ
 class_words first = 0 ∷ 0 ∷ 0 ∷ first ∷ 0 ∷ replicate CLASS_ROOM 0
-
--- A class's lock, readers, head, free and retired: its free list has its first slot.
-pub record IsFreshClass (ws : List ℕ) (c first : ℕ) : Type 0 where
-  pub lock : slice_index ws (word_of (Lock c)) ≡ 0
-  pub readers : slice_index ws (word_of (Readers c)) ≡ 0
-  pub head : slice_index ws (word_of (Head c)) ≡ 0
-  pub free : slice_index ws (word_of (Free c)) ≡ first
-  pub retired : slice_index ws (word_of (Retired c)) ≡ 0
 
 -- A slot's key, value, next and chain.
 pub record IsFreshSlot (ws : List ℕ) (s chain : ℕ) : Type 0 where

@@ -1,5 +1,5 @@
 -- The rule holds of a table as it is made.
-use Rattle.std.proofs.Common.{◌≡◌, ℕ, zero, suc, ◌+◌, ◌-◌, ◌*◌, ◌^◌, ◌&&◌, ◌<◌, ◌≤◌, ◌==◌, nat_lt, nat_le, Bool, true, false, cond, List, [], ◌∷◌, sum, Some, None, slice_index, refl, sym, ap, subst, ◌∙◌, inl, inr, arith, eq-eqb, ne_eqb}
+use Rattle.std.proofs.Common.{◌≡◌, ℕ, zero, suc, ◌+◌, ◌-◌, ◌^◌, ◌&&◌, ◌<◌, ◌≤◌, ◌==◌, nat_lt, nat_le, Bool, true, false, cond, List, [], ◌∷◌, sum, Some, None, slice_index, refl, sym, ap, subst, ◌∙◌, inl, inr, arith, eq-eqb, ne_eqb}
 use Rattle.std.proofs.lemmas.Bool.{lt-ltb, le-leb, and_from}
 use Rattle.std.specs.FinMap as finite
 use Rattle.std.specs.Ordering.{nat_cmp}
@@ -8,7 +8,7 @@ use mathlib.Core.Option.{some, some-injective, some-ne-none}
 use mathlib.Core.List.{IsPrefix}
 use native.Mathlib.Decide.{dec_le, ℕ_discrete}
 use lib.ListN.{get_elem?}
-use Rattle.hash_core.specs.declared.words.Field.TheVariants.{Front, Lock, Readers, Head, Free, Retired, Chain}
+use Rattle.hash_core.specs.declared.words.Field.TheVariants.{Front, Free, Chain}
 use Rattle.hash_core.specs.declared.view.View.{View}
 use Rattle.list_laws.specs.Counts.{times, numbers_from}
 use Rattle.hash_core.specs.Lists.{IsPath}
@@ -19,7 +19,7 @@ use Rattle.hash_core.specs.Buckets.{Bucket, HoldsOther, IsFreeOfReaders}
 use Rattle.prcu_model.specs.Dictionary.{WasSaid}
 use Rattle.hash_core.specs.Readers.{WillAnswer}
 use Rattle.hash_core.specs.Seats.{HasHeard, AnswersFor, open_of, HasNoCommit}
-use Rattle.hash_core.specs.Fresh.{first_view, first_slot, slot_after, IsFresh}
+use Rattle.hash_core.specs.Fresh.{first_view, first_slot, slot_after, IsFreshClass, IsFresh}
 use Rattle.hash_core.specs.Rule.{BucketRule, IsShape, MemoryRule}
 use Rattle.list_laws.proofs.Lists.{times_from, from_times, all_from_times}
 use Rattle.hash_core.proofs.Classes.{slot_bounds, slot_within}
@@ -166,20 +166,18 @@ has_field t n number has is = ap (λ b. cond b n 0) has ∙ is
 
 -- A memory is fresh where its words are: of each class its lock, readers, head, free and retired, and of each slot its chain.
 pub fresh_memory : (capacities ws : List ℕ) → slice_index ws (word_of Front) ≡ 0
-    → ((c : ℕ) → c < 64 → (slice_index ws (word_of (Lock c)) ≡ 0) × (slice_index ws (word_of (Readers c)) ≡ 0)
-    × (slice_index ws (word_of (Head c)) ≡ 0) × (slice_index ws (word_of (Free c)) ≡ first_slot capacities c)
-    × (slice_index ws (word_of (Retired c)) ≡ 0))
+    → ((c : ℕ) → c < 64 → IsFreshClass ws c (first_slot capacities c))
     → ((c i : ℕ) → c < 64 → i < capacity capacities c
     → slice_index ws (word_of (Chain (base capacities c + i + 1)))
     ≡ cond (i + 1 == capacity capacities c) 0 (base capacities c + i + 2))
     → IsFresh capacities (memory_of capacities ws)
 fresh_memory capacities ws front classes slots = record {
   front = front;
-  locks = λ c small. has_field (nat_lt c 64) _ 0 (lt-ltb c 64 small) (classes c small).0;
-  readers = λ c small. has_field (nat_lt c 64) _ 0 (lt-ltb c 64 small) (classes c small).1;
-  heads = λ c small. has_field (nat_lt c 64) _ 0 (lt-ltb c 64 small) (classes c small).2;
-  free = λ c small. has_field (nat_lt c 64) _ _ (lt-ltb c 64 small) (classes c small).3;
-  retired = λ c small. has_field (nat_lt c 64) _ 0 (lt-ltb c 64 small) (classes c small).4;
+  locks = λ c small. has_field (nat_lt c 64) _ 0 (lt-ltb c 64 small) (classes c small).lock;
+  readers = λ c small. has_field (nat_lt c 64) _ 0 (lt-ltb c 64 small) (classes c small).readers;
+  heads = λ c small. has_field (nat_lt c 64) _ 0 (lt-ltb c 64 small) (classes c small).head;
+  free = λ c small. has_field (nat_lt c 64) _ _ (lt-ltb c 64 small) (classes c small).free;
+  retired = λ c small. has_field (nat_lt c 64) _ 0 (lt-ltb c 64 small) (classes c small).retired;
   chains = λ c s small of.
       let within = slot_within capacities c s of in
       let bounds = slot_bounds capacities c s of in
