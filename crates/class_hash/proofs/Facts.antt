@@ -118,16 +118,16 @@ module _ (capacities : List ℕ) (places tickets : ℕ) (m : Memory) (vs : List 
       by : (held : Option Hold) → IsLocked c m vs held → IsHeldByOther places v (m (Lock c))
       by None locked = λ some_holder. absurd (some_holder locked.0)
       by (Some hold) locked = λ some_holder.
-          let u : View = locked.1 in
-          let mine : AnswersFor locked.1 locked.1.place =
-          (let works = (r.held.held locked.0 locked.1 hold locked.2 locked.3).1 in inl (omega arith, omega arith)) in (
-            locked.1.place,
-            locked.5,
-            r.apart.within locked.0 locked.1 locked.1.place locked.2 mine,
+          let u : View = locked.view in
+          let mine : AnswersFor u u.place =
+          (let works = (r.held.held locked.id u hold locked.there locked.holds).1 in inl (omega arith, omega arith)) in (
+            u.place,
+            locked.word,
+            r.apart.within locked.id u u.place locked.there mine,
             λ also.
-                let same : id ≡ locked.0 = r.apart.apart id locked.0 locked.1.place v locked.1 at locked.2 also mine in
-                let one : v ≡ locked.1 = at_one vs id v locked.1 at (subst (λ z. get_elem? vs z ≡ some locked.1) (sym same) locked.2) in
-                let e : Some hold ≡ None = sym locked.3 ∙ ap (λ (z : View). z.hold) (sym one) ∙ quiet in
+                let same : id ≡ locked.id = r.apart.apart id locked.id u.place v u at locked.there also mine in
+                let one : v ≡ u = at_one vs id v u at (subst (λ z. get_elem? vs z ≡ some u) (sym same) locked.there) in
+                let e : Some hold ≡ None = sym locked.holds ∙ ap (λ (z : View). z.hold) (sym one) ∙ quiet in
                 absurd (cc),
           )
 
@@ -266,7 +266,7 @@ module _ (capacities : List ℕ) (places tickets : ℕ) (m : Memory) (vs : List 
     where
       turn_case : IsTurned m vs (length (updates_of h)) → m Front ≤ most_front
       turn_case (inl free) = let a = free.0 in let b = few_updates in omega arith
-      turn_case (inr odd) = let a = odd.7 in let b = odd.8 in let c = few_updates in by odd.2.stored odd.2.found b a
+      turn_case (inr odd) = by odd.commit.stored odd.commit.found odd.updates odd.word
         where
           by : (t : Bool) (n : ℕ) → n + cond t 2 0 ≡ 2 * length (updates_of h) → m Front ≡ n + 1 → m Front ≤ most_front
           by true n b a = let c = few_updates in omega arith
@@ -279,12 +279,12 @@ module _ (capacities : List ℕ) (places tickets : ℕ) (m : Memory) (vs : List 
       turn_case : IsTurned m vs (length (updates_of h)) → updates_by commit ≡ 2 * length (updates_of h)
       turn_case (inl free) = absurd (let z : Some commit ≡ None = sym is ∙ free.1 id v at in cc)
       turn_case (inr odd) =
-          let me : id ≡ odd.0 = dite (ℕ_discrete id odd.0) (λ q. q)
-          (λ q. absurd (let z : Some commit ≡ None = sym is ∙ odd.9 id v q at in cc)) in
-          let same : v ≡ odd.1 = at_one vs id v odd.1 at (subst (λ k. get_elem? vs k ≡ some odd.1) (sym me) odd.4) in
-          let e : Some commit ≡ Some odd.2 = sym is ∙ ap (λ (z : View). z.commit) same ∙ odd.5 in
-          let t : commit ≡ odd.2 = cc in
-          ap updates_by t ∙ odd.8
+          let me : id ≡ odd.id = dite (ℕ_discrete id odd.id) (λ q. q)
+          (λ q. absurd (let z : Some commit ≡ None = sym is ∙ odd.alone id v q at in cc)) in
+          let same : v ≡ odd.view = at_one vs id v odd.view at (subst (λ k. get_elem? vs k ≡ some odd.view) (sym me) odd.there) in
+          let e : Some commit ≡ Some odd.commit = sym is ∙ ap (λ (z : View). z.commit) same ∙ odd.has in
+          let t : commit ≡ odd.commit = cc in
+          ap updates_by t ∙ odd.updates
 
   -- the seat's place is one of few, and so are its tickets
   pub has_room : 1 ≤ v.places → HasRoom v

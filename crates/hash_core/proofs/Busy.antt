@@ -14,6 +14,7 @@ use Rattle.hash_core.specs.Buckets.{Bucket, IsLocked, inside_count, IsFreeOfRead
 use Rattle.hash_core.specs.Seats.{AreSeen, AreApart, AreOwned, HasNoCommit, IsTurned}
 use Rattle.hash_core.specs.Steps.{IsQuiet}
 use Rattle.hash_core.specs.Rule.{BucketRule, MemoryRule}
+use Rattle.hash_core.proofs.SeatFrames.{open_in}
 use Rattle.prcu_model.proofs.ListFacts.{all_map}
 use Rattle.list_laws.proofs.Lists.{at_one}
 
@@ -27,10 +28,10 @@ pub record SameBusy (vs vs' : List View) : Type 0 where
 pub quiet_turn : (m : Memory) (vs : List View) (count : ℕ) → IsTurned m vs count → (id : ℕ) (v : View) → get_elem? vs id ≡ some v
     → v.hold ≡ None → HasNoCommit v
 quiet_turn m vs count (inl even) id v at free = even.1 id v at
-quiet_turn m vs count (inr odd) id v at free = odd.9 id v
+quiet_turn m vs count (inr odd) id v at free = odd.alone id v
     (λ e.
-    let same : v ≡ odd.1 = at_one vs id v odd.1 at (subst (λ k. get_elem? vs k ≡ some odd.1) (sym e) odd.4) in
-    let held : None ≡ Some odd.3 = sym free ∙ (ap (λ (z : View). z.hold) same ∙ odd.6) in absurd (cc))
+    let same : v ≡ odd.view = at_one vs id v odd.view at (subst (λ k. get_elem? vs k ≡ some odd.view) (sym e) odd.there) in
+    let held : None ≡ Some odd.hold = sym free ∙ (ap (λ (z : View). z.hold) same ∙ odd.holds) in absurd (cc))
     at
 
 module _ (vs vs' : List View) (busy : SameBusy vs vs') where
@@ -48,15 +49,15 @@ module _ (vs vs' : List View) (busy : SameBusy vs vs') where
 
   locked_busy : (c : ℕ) (m : Memory) (hold : Option Hold) → IsLocked c m vs hold → IsLocked c m vs' hold
   locked_busy c m None locked = (locked.0, λ j u at hold is. locked.1 j u (hold_back j u hold at is) hold is)
-  locked_busy c m (Some hold) locked = (
-    locked.0,
-    locked.1,
-    hold_forth locked.0 locked.1 hold locked.2 locked.3,
-    locked.3,
-    locked.4,
-    locked.5,
-    λ j u far at other is. locked.6 j u far (hold_back j u other at is) other is,
-  )
+  locked_busy c m (Some hold) locked = record {
+    id = locked.id;
+    view = locked.view;
+    there = hold_forth locked.id locked.view hold locked.there locked.holds;
+    holds = locked.holds;
+    class = locked.class;
+    word = locked.word;
+    alone = λ j u far at other is. locked.alone j u far (hold_back j u other at is) other is;
+  }
 
   free_busy : (c : ℕ) (h : List Mark) (s : ℕ) → IsFreeOfReaders c h vs s → IsFreeOfReaders c h vs' s
   free_busy c h s free p j u section was at is class = free p j u section was (section_back j u section at is) is class
@@ -85,18 +86,18 @@ module _ (vs vs' : List View) (busy : SameBusy vs vs') where
 
   turned_busy : (m : Memory) (count : ℕ) → IsTurned m vs count → IsTurned m vs' count
   turned_busy m count (inl even) = inl (even.0, λ j u at. elim (busy.back j u at) [ inl e ↦ even.1 j u e | inr q ↦ q.1 ])
-  turned_busy m count (inr odd) = inr (
-    odd.0,
-    odd.1,
-    odd.2,
-    odd.3,
-    hold_forth odd.0 odd.1 odd.3 odd.4 odd.6,
-    odd.5,
-    odd.6,
-    odd.7,
-    odd.8,
-    λ j u far at. elim (busy.back j u at) [ inl e ↦ odd.9 j u far e | inr q ↦ q.1 ],
-  )
+  turned_busy m count (inr odd) = inr (record {
+    id = odd.id;
+    view = odd.view;
+    commit = odd.commit;
+    hold = odd.hold;
+    there = hold_forth odd.id odd.view odd.hold odd.there odd.holds;
+    has = odd.has;
+    holds = odd.holds;
+    word = odd.word;
+    updates = odd.updates;
+    alone = λ j u far at. elim (busy.back j u at) [ inl e ↦ odd.alone j u far e | inr q ↦ q.1 ];
+  })
 
   -- the rule, where the parts on seats hold that read quiet views
   pub rule_busy : (capacities : List ℕ) (places tickets : ℕ) (m : Memory) (h : List Mark) → MemoryRule capacities places tickets m vs h
@@ -111,7 +112,7 @@ module _ (vs vs' : List View) (busy : SameBusy vs vs') where
     sections = record {
       open_here = λ j u section at is. r.sections.open_here j u section (section_back j u section at is) is;
       entered = entered;
-      all = λ p o is. let q = r.sections.all p o is in (q.0, q.1, q.2, section_forth q.0 q.1 q.2 q.3 q.5, q.4, q.5, q.6);
+      all = λ p o is. let q = r.sections.all p o is in open_in q (section_forth q.id q.view q.section q.there q.inside);
     };
     held = record { held = λ j u hold at is. r.held.held j u hold (hold_back j u hold at is) is };
     turned = turned_busy m (length (updates_of h)) r.turned;

@@ -11,7 +11,7 @@ use Rattle.prcu_model.specs.declared.operation.Update.{Update}
 use Rattle.prcu_model.specs.Dictionary.{map_of}
 use Rattle.prcu_marks.proofs.Histories.{said_longer}
 use Rattle.hash_core.specs.declared.words.Field.{Field}
-use Rattle.hash_core.specs.declared.words.Field.TheVariants.{Lock, Readers, Head, Free, Retired, Key, Value, Next, Chain}
+use Rattle.hash_core.specs.declared.words.Field.TheVariants.{Front, Lock, Readers, Head, Free, Retired, Key, Value, Next, Chain}
 use Rattle.hash_core.specs.declared.view.SearchState.{SearchState}
 use Rattle.hash_core.specs.declared.view.SearchState.TheVariants.{Start, Unread, Passed, Found, Ended}
 use Rattle.hash_core.specs.declared.view.Section.{Section}
@@ -42,6 +42,14 @@ pub record SameWords (capacities : List ℕ) (c : ℕ) (m m' : Memory) : Type 0 
   pub free : m' (Free c) ≡ m (Free c)
   pub retired : m' (Retired c) ≡ m (Retired c)
   pub slots : SameSlots capacities c m m'
+
+-- A class's words that its chain has no part in, and the front, are the same.
+pub record SameLists (c : ℕ) (m m' : Memory) : Type 0 where
+  pub lock : m' (Lock c) ≡ m (Lock c)
+  pub readers : m' (Readers c) ≡ m (Readers c)
+  pub free : m' (Free c) ≡ m (Free c)
+  pub retired : m' (Retired c) ≡ m (Retired c)
+  pub front : m' Front ≡ m Front
 
 -- The marks and updates that came say nothing of the class: where its slots were unlinked, whether they were given since, and its
 -- keys' pairs.
@@ -215,30 +223,30 @@ module _ (c : ℕ) (m m' : Memory) (vs : List View) (id : ℕ) (v w : View) (at 
     each_set (λ j u. HoldsOther c u) vs id w (hold_other c v.hold w.hold held_same (locked.1 id v at)) (λ j u other e. locked.1 j u e),
   )
   locked_same (Some hold) locked =
-      dite (ℕ_discrete locked.0 id)
+      dite (ℕ_discrete locked.id id)
       (λ e.
-      let same : v ≡ locked.1 = some-injective v locked.1 (sym at ∙ subst (λ k. get_elem? vs k ≡ some locked.1) e locked.2) in
-      let held : v.hold ≡ Some hold = ap (λ (z : View). z.hold) same ∙ locked.3 in (
-        id,
-        w,
-        set_here vs id w (at_below vs id v at),
-        hold_same c v.hold w.hold hold held_same held locked.4,
-        locked.4,
-        word ∙ locked.5 ∙ ap (λ n. n + 1) (ap (λ (z : View). z.place) (sym same) ∙ sym place),
-        λ j u other. λ there. each_set (λ k z. k ≢ id → HoldsOther c z) vs id w (λ ne. absurd (ne refl))
-            (λ k z ne q _. locked.6 k z (λ f. ne (f ∙ e)) q) j u there other,
-      ))
-      (λ ne. (
-        locked.0,
-        locked.1,
-        set_else vs id locked.0 w ne ∙ locked.2,
-        locked.3,
-        locked.4,
-        word ∙ locked.5,
-        λ j u other there. each_set (λ k z. k ≢ locked.0 → HoldsOther c z) vs id w
-            (λ far. hold_other c v.hold w.hold held_same (locked.6 id v (λ f. ne (sym f)) at))
-            (λ k z not_id q far. locked.6 k z far q) j u there other,
-      ))
+      let same : v ≡ locked.view = some-injective v locked.view (sym at ∙ subst (λ k. get_elem? vs k ≡ some locked.view) e locked.there) in
+      let held : v.hold ≡ Some hold = ap (λ (z : View). z.hold) same ∙ locked.holds in record {
+        id = id;
+        view = w;
+        there = set_here vs id w (at_below vs id v at);
+        holds = hold_same c v.hold w.hold hold held_same held locked.class;
+        class = locked.class;
+        word = word ∙ locked.word ∙ ap (λ n. n + 1) (ap (λ (z : View). z.place) (sym same) ∙ sym place);
+        alone = λ j u other. λ there. each_set (λ k z. k ≢ id → HoldsOther c z) vs id w (λ ne. absurd (ne refl))
+            (λ k z ne q _. locked.alone k z (λ f. ne (f ∙ e)) q) j u there other;
+      })
+      (λ ne. record {
+        id = locked.id;
+        view = locked.view;
+        there = set_else vs id locked.id w ne ∙ locked.there;
+        holds = locked.holds;
+        class = locked.class;
+        word = word ∙ locked.word;
+        alone = λ j u other there. each_set (λ k z. k ≢ locked.id → HoldsOther c z) vs id w
+            (λ far. hold_other c v.hold w.hold held_same (locked.alone id v (λ f. ne (sym f)) at))
+            (λ k z not_id q far. locked.alone k z far q) j u there other;
+      })
 
 -- slots that no section holds back, where the sections are the same
 module _ (capacities : List ℕ) (c : ℕ) (h h' : List Mark) (vs : List View) (id : ℕ) (v w : View) (at : get_elem? vs id ≡ some v)

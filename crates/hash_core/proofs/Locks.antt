@@ -76,10 +76,11 @@ module _ (capacities : List ℕ) (places tickets : ℕ) (m : Memory) (vs : List 
     where
       holder_case : (held : Option Hold) → (r.bucket c).hold ≡ held → IsLocked c m vs held → (r.bucket c).hold ≡ Some hold
       holder_case None is locked = absurd (locked.1 id v at hold mine class)
-      holder_case (Some other) is locked = dite (ℕ_discrete locked.0 id)
-          (λ e. let same : v ≡ locked.1 = at_one vs id v locked.1 at (subst (λ k. get_elem? vs k ≡ some locked.1) e locked.2) in
-          is ∙ sym (ap (λ (z : View). z.hold) same ∙ locked.3) ∙ mine)
-          (λ ne. absurd (locked.6 id v (λ e. ne (sym e)) at hold mine class))
+      holder_case (Some other) is locked = dite (ℕ_discrete locked.id id)
+          (λ e.
+          let same : v ≡ locked.view = at_one vs id v locked.view at (subst (λ k. get_elem? vs k ≡ some locked.view) e locked.there) in
+          is ∙ sym (ap (λ (z : View). z.hold) same ∙ locked.holds) ∙ mine)
+          (λ ne. absurd (locked.alone id v (λ e. ne (sym e)) at hold mine class))
 
   pub class_small : (hold : Hold) → v.hold ≡ Some hold → hold.class < 64
   class_small hold mine = (r.held.held id v hold at mine).0
@@ -100,7 +101,7 @@ module _ (capacities : List ℕ) (places tickets : ℕ) (m : Memory) (vs : List 
       where
         none_case : (held : Option Hold) → (r.bucket c).hold ≡ held → IsLocked c m vs held → (r.bucket c).hold ≡ None
         none_case None is locked = is
-        none_case (Some hold) is locked = absurd (let a = locked.5 in omega arith)
+        none_case (Some hold) is locked = absurd (let a = locked.word in omega arith)
 
     abbrev b6 : Bucket
     b6 = record (r.bucket c) { hold = Some (fresh_hold c) }
@@ -137,16 +138,16 @@ module _ (capacities : List ℕ) (places tickets : ℕ) (m : Memory) (vs : List 
                 ≡ cond (is_slot_of capacities c x) 1 0) none (b.roles.once x);
           };
           mapped = record { answers = b.mapped.answers };
-          locked = (
-            id,
-            w6,
-            set_here vs id w6 (at_below vs id v at),
-            refl,
-            refl,
-            stored_here m (Lock c) (v.place + 1) (same_self (Lock c)),
-            λ j u ne there. each_set (λ k z. k ≢ id → HoldsOther c z) vs id w6 (λ f. absurd (f refl))
-                (λ k z far e _. (subst (IsLocked c m vs) none b.locked).1 k z e) j u there ne,
-          );
+          locked = record {
+            id = id;
+            view = w6;
+            there = set_here vs id w6 (at_below vs id v at);
+            holds = refl;
+            class = refl;
+            word = stored_here m (Lock c) (v.place + 1) (same_self (Lock c));
+            alone = λ j u ne there. each_set (λ k z. k ≢ id → HoldsOther c z) vs id w6 (λ f. absurd (f refl))
+                (λ k z far e _. (subst (IsLocked c m vs) none b.locked).1 k z e) j u there ne;
+          };
           known = record {
             known = λ hold field number is found. absurd
                 (let e : fresh_hold c ≡ hold = cc in let z : known_in hold.known field ≡ None =
@@ -235,10 +236,10 @@ module _ (capacities : List ℕ) (places tickets : ℕ) (m : Memory) (vs : List 
           locked = (
             stored_here m (Lock c) 0 (same_self (Lock c)),
             λ j u there. each_set (λ k z. HoldsOther c z) vs id w7 (λ other is. absurd (cc))
-                (λ k z far e. dite (ℕ_discrete k locked.0)
-                (λ f. let me : id ≡ locked.0 = dite (ℕ_discrete id locked.0) (λ q. q)
-                (λ q. absurd (locked.6 id v q at hold needs.hold_is refl)) in absurd (far (f ∙ sym me)))
-                (λ f. locked.6 k z f e)) j u there,
+                (λ k z far e. dite (ℕ_discrete k locked.id)
+                (λ f. let me : id ≡ locked.id = dite (ℕ_discrete id locked.id) (λ q. q)
+                (λ q. absurd (locked.alone id v q at hold needs.hold_is refl)) in absurd (far (f ∙ sym me)))
+                (λ f. locked.alone k z f e)) j u there,
           );
           known = record { known = λ other field number is found. absurd (cc) };
           ages = record {
@@ -284,17 +285,18 @@ module _ (capacities : List ℕ) (places tickets : ℕ) (m : Memory) (vs : List 
       let c : ℕ = hold.class in
       let locked = subst (IsLocked c m vs) (holder_of c (class_small hold mine) hold mine refl)
       (r.buckets c (class_small hold mine)).locked in
-      let me : id ≡ locked.0 = dite (ℕ_discrete id locked.0) (λ q. q) (λ q. absurd (locked.6 id v q at hold mine refl)) in
-      let same : v ≡ locked.1 = at_one vs id v locked.1 at (subst (λ k. get_elem? vs k ≡ some locked.1) (sym me) locked.2) in (
-        id,
-        w,
-        set_here vs id w (at_below vs id v at),
-        is,
-        class,
-        word ∙ locked.5 ∙ ap (λ n. n + 1) (ap (λ (z : View). z.place) (sym same) ∙ sym place),
-        λ j u ne there. each_set (λ k z. k ≢ id → HoldsOther c z) vs id w (λ f. absurd (f refl))
-            (λ k z far e _. locked.6 k z (λ f. far (f ∙ sym me)) e) j u there ne,
-      )
+      let me : id ≡ locked.id = dite (ℕ_discrete id locked.id) (λ q. q) (λ q. absurd (locked.alone id v q at hold mine refl)) in
+      let same : v ≡ locked.view = at_one vs id v locked.view at (subst (λ k. get_elem? vs k ≡ some locked.view) (sym me) locked.there) in
+      record {
+        id = id;
+        view = w;
+        there = set_here vs id w (at_below vs id v at);
+        holds = is;
+        class = class;
+        word = word ∙ locked.word ∙ ap (λ n. n + 1) (ap (λ (z : View). z.place) (sym same) ∙ sym place);
+        alone = λ j u ne there. each_set (λ k z. k ≢ id → HoldsOther c z) vs id w (λ f. absurd (f refl))
+            (λ k z far e _. locked.alone k z (λ f. far (f ∙ sym me)) e) j u there ne;
+      }
 
   -- what the holder does is nothing to other classes
   pub elsewhere_held : (d : ℕ) (hold new : Hold) → v.hold ≡ Some hold → new.class ≡ hold.class → d ≢ hold.class → (w : View)
@@ -506,20 +508,20 @@ module _ (capacities : List ℕ) (places tickets : ℕ) (m : Memory) (vs : List 
     turned12 = turn_case r.turned
       where
         turn_case : IsTurned m vs (length (updates_of h)) → IsTurned m12 (set vs id w12) (length (updates_of h))
-        turn_case (inl free) = inr (
-          id,
-          w12,
-          turn12,
-          hold,
-          set_here vs id w12 (at_below vs id v at),
-          refl,
-          needs.0,
-          refl,
-          (let a = free.0 in omega arith),
-          λ j u ne there. each_set (λ k z. k ≢ id → HasNoCommit z) vs id w12 (λ f. absurd (f refl))
-              (λ k z far e _. free.1 k z e) j u there ne,
-        )
-        turn_case (inr odd) = absurd (let a = odd.7 in let b = odd.8 in let z = needs.1 in parity odd.2.stored odd.2.found b a)
+        turn_case (inl free) = inr (record {
+          id = id;
+          view = w12;
+          commit = turn12;
+          hold = hold;
+          there = set_here vs id w12 (at_below vs id v at);
+          has = refl;
+          holds = needs.0;
+          word = refl;
+          updates = let a = free.0 in omega arith;
+          alone = λ j u ne there. each_set (λ k z. k ≢ id → HasNoCommit z) vs id w12 (λ f. absurd (f refl))
+              (λ k z far e _. free.1 k z e) j u there ne;
+        })
+        turn_case (inr odd) = absurd (parity odd.commit.stored odd.commit.found odd.updates odd.word)
           where
             parity : (t : Bool) (n : ℕ) → n + cond t 2 0 ≡ 2 * length (updates_of h) → m Front ≡ n + 1 → ⊥
             parity true n b a = let z = needs.1 in omega arith
@@ -542,16 +544,16 @@ module _ (capacities : List ℕ) (places tickets : ℕ) (m : Memory) (vs : List 
         turn_case : IsTurned m vs (length (updates_of h)) → IsTurned m16 (set vs id w16) (length (updates_of h))
         turn_case (inl free) = absurd (let z : Some (record { found = even; stored = true }) ≡ None = sym needs ∙ free.1 id v at in cc)
         turn_case (inr odd) =
-            let me : id ≡ odd.0 = dite (ℕ_discrete id odd.0) (λ q. q)
-            (λ q. absurd (let z : Some (record { found = even; stored = true }) ≡ None = sym needs ∙ odd.9 id v q at in cc)) in
-            let same : v ≡ odd.1 = at_one vs id v odd.1 at (subst (λ k. get_elem? vs k ≡ some odd.1) (sym me) odd.4) in
-            let commit : Some (record { found = even; stored = true }) ≡ Some odd.2 =
-            sym needs ∙ ap (λ (z : View). z.commit) same ∙ odd.5 in
-            let by : updates_by (record { found = even; stored = true }) ≡ updates_by odd.2 =
+            let me : id ≡ odd.id = dite (ℕ_discrete id odd.id) (λ q. q)
+            (λ q. absurd (let z : Some (record { found = even; stored = true }) ≡ None = sym needs ∙ odd.alone id v q at in cc)) in
+            let same : v ≡ odd.view = at_one vs id v odd.view at (subst (λ k. get_elem? vs k ≡ some odd.view) (sym me) odd.there) in
+            let commit : Some (record { found = even; stored = true }) ≡ Some odd.commit =
+            sym needs ∙ ap (λ (z : View). z.commit) same ∙ odd.has in
+            let by : updates_by (record { found = even; stored = true }) ≡ updates_by odd.commit =
             ap (λ (o : Option Commit). turn_updates o) commit in
             inl (
-              (let b = odd.8 in omega arith),
-              λ j u there. each_set (λ k z. HasNoCommit z) vs id w16 refl (λ k z far e. odd.9 k z (λ f. far (f ∙ sym me)) e) j u there,
+              (let b = odd.updates in omega arith),
+              λ j u there. each_set (λ k z. HasNoCommit z) vs id w16 refl (λ k z far e. odd.alone k z (λ f. far (f ∙ sym me)) e) j u there,
             )
           where
             turn_updates : Option Commit → ℕ

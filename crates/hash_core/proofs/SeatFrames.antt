@@ -17,10 +17,15 @@ use Rattle.hash_core.specs.declared.view.View.{View}
 use Rattle.list_laws.specs.Counts.{times}
 use Rattle.hash_core.specs.Memory.{Memory}
 use Rattle.prcu_marks.specs.Marks.{Open, open_at, own_of, is_of, entered_at}
-use Rattle.hash_core.specs.Seats.{HasHeard, AreSeen, HasPlace, AnswersFor, AreApart, AreOwned, open_of, AreOpen, AreHeld, HasNoCommit, IsTurned}
+use Rattle.hash_core.specs.Seats.{HasHeard, AreSeen, HasPlace, AnswersFor, AreApart, AreOwned, open_of, IsOpenOf, AreOpen, AreHeld, HasNoCommit, IsTurned}
 use Rattle.prcu_model.proofs.ListFacts.{prefix_self, prefix_trans, all_map}
 use Rattle.list_laws.proofs.Lists.{at_below, at_one, each_set}
 use Rattle.prcu_marks.proofs.MarkLists.{own_of-append}
+
+-- An open section is that of its view wherever the view stands.
+pub open_in : {vs vs' : List View} {p : ℕ} {o : Open} (q : IsOpenOf vs p o) → get_elem? vs' q.id ≡ some q.view → IsOpenOf vs' p o
+open_in q there =
+    record { id = q.id; view = q.view; section = q.section; there = there; place = q.place; inside = q.inside; same = q.same }
 
 -- Who answers for which places is the same.
 pub record SamePlaces (v w : View) : Type 0 where
@@ -190,11 +195,19 @@ module _ (vs : List View) (id : ℕ) (v w : View) (at : get_elem? vs id ≡ some
         (λ mine. sections ∙ s.entered id v at (omega arith) ∙ ap (λ p. entered_at p h) (sym place) ∙ sym (entered w.place))
         (λ k z other e theirs. s.entered k z e theirs ∙ sym (entered z.place)) j u there works;
     all = λ p o is. let q = s.all p o (sym (opened p) ∙ is) in
-        dite (ℕ_discrete q.0 id)
-        (λ e. let same : v ≡ q.1 = at_one vs id v q.1 at (subst (λ k. get_elem? vs k ≡ some q.1) e q.3) in
-        let now = forth q.2 (ap (λ (z : View). z.section) same ∙ q.5) in
-        (id, w, now.0, set_here vs id w (at_below vs id v at), place ∙ ap (λ (z : View). z.place) same ∙ q.4, now.1, q.6 ∙ now.2))
-        (λ ne. (q.0, q.1, q.2, set_else vs id q.0 w ne ∙ q.3, q.4, q.5, q.6));
+        dite (ℕ_discrete q.id id)
+        (λ e. let same : v ≡ q.view = at_one vs id v q.view at (subst (λ k. get_elem? vs k ≡ some q.view) e q.there) in
+        let now = forth q.section (ap (λ (z : View). z.section) same ∙ q.inside) in
+        record {
+          id = id;
+          view = w;
+          section = now.0;
+          there = set_here vs id w (at_below vs id v at);
+          place = place ∙ ap (λ (z : View). z.place) same ∙ q.place;
+          inside = now.1;
+          same = q.same ∙ now.2;
+        })
+        (λ ne. open_in q (set_else vs id q.id w ne ∙ q.there));
   }
 
   pub held_still : ((hold : Hold) → w.hold ≡ Some hold → (hold.class < 64) × (1 ≤ w.places)) → AreHeld vs → AreHeld (set vs id w)
@@ -210,34 +223,34 @@ module _ (vs : List View) (id : ℕ) (v w : View) (at : get_elem? vs id ≡ some
   turned_same m m' count front commit hold (inl even) =
       inl (front ∙ even.0, each_set (λ k z. HasNoCommit z) vs id w (commit ∙ even.1 id v at) (λ k z other e. even.1 k z e))
   turned_same m m' count front commit hold (inr odd) = inr (
-      dite (ℕ_discrete odd.0 id)
+      dite (ℕ_discrete odd.id id)
       (λ e.
-      let same : v ≡ odd.1 = at_one vs id v odd.1 at (subst (λ k. get_elem? vs k ≡ some odd.1) e odd.4) in
-      let mine : v.commit ≡ Some odd.2 = ap (λ (z : View). z.commit) same ∙ odd.5 in
-      let held = hold odd.2 odd.3 mine (ap (λ (z : View). z.hold) same ∙ odd.6) in (
-        id,
-        w,
-        odd.2,
-        held.0,
-        set_here vs id w (at_below vs id v at),
-        commit ∙ mine,
-        held.1,
-        front ∙ odd.7,
-        odd.8,
-        λ j u ne there. each_set (λ k z. k ≢ id → HasNoCommit z) vs id w (λ f. absurd (f refl))
-            (λ k z other q _. odd.9 k z (λ f. other (f ∙ e)) q) j u there ne,
-      ))
-      (λ ne. (
-        odd.0,
-        odd.1,
-        odd.2,
-        odd.3,
-        set_else vs id odd.0 w ne ∙ odd.4,
-        odd.5,
-        odd.6,
-        front ∙ odd.7,
-        odd.8,
-        λ j u far there. each_set (λ k z. k ≢ odd.0 → HasNoCommit z) vs id w (λ f. commit ∙ odd.9 id v (λ g. ne (sym g)) at)
-            (λ k z other q f. odd.9 k z f q) j u there far,
-      ))
+      let same : v ≡ odd.view = at_one vs id v odd.view at (subst (λ k. get_elem? vs k ≡ some odd.view) e odd.there) in
+      let mine : v.commit ≡ Some odd.commit = ap (λ (z : View). z.commit) same ∙ odd.has in
+      let held = hold odd.commit odd.hold mine (ap (λ (z : View). z.hold) same ∙ odd.holds) in record {
+        id = id;
+        view = w;
+        commit = odd.commit;
+        hold = held.0;
+        there = set_here vs id w (at_below vs id v at);
+        has = commit ∙ mine;
+        holds = held.1;
+        word = front ∙ odd.word;
+        updates = odd.updates;
+        alone = λ j u ne there. each_set (λ k z. k ≢ id → HasNoCommit z) vs id w (λ f. absurd (f refl))
+            (λ k z other q _. odd.alone k z (λ f. other (f ∙ e)) q) j u there ne;
+      })
+      (λ ne. record {
+        id = odd.id;
+        view = odd.view;
+        commit = odd.commit;
+        hold = odd.hold;
+        there = set_else vs id odd.id w ne ∙ odd.there;
+        has = odd.has;
+        holds = odd.holds;
+        word = front ∙ odd.word;
+        updates = odd.updates;
+        alone = λ j u far there. each_set (λ k z. k ≢ odd.id → HasNoCommit z) vs id w
+            (λ f. commit ∙ odd.alone id v (λ g. ne (sym g)) at) (λ k z other q f. odd.alone k z f q) j u there far;
+      })
       )

@@ -38,7 +38,7 @@ use Rattle.hash_core.proofs.MarkOrder.{marks_snoc}
 use Rattle.hash_core.proofs.Adds.{gone_at-same, reuse_more}
 use Rattle.hash_core.proofs.Frames.{SameMarks, SameSection, locked_same, still_said, still_answer, frame_ages_same}
 use Rattle.hash_core.proofs.Stores.{same_words, readers_words, stored_here, same_self}
-use Rattle.hash_core.proofs.SeatFrames.{seen_whole, apart_same, owned_more, held_still, turned_same}
+use Rattle.hash_core.proofs.SeatFrames.{open_in, seen_whole, apart_same, owned_more, held_still, turned_same}
 use Rattle.hash_core.proofs.Quiet.{same_marks, same_hold, seats_same, tickets_same}
 use Rattle.hash_core.proofs.Whole.{SeatsRule, after_step}
 
@@ -121,11 +121,11 @@ module _ (capacities : List ℕ) (places tickets : ℕ) (m : Memory) (vs : List 
         closed_case None is = refl
         closed_case (Some o) is =
             let q = r.sections.all v.place o is in
-            let there = r.sections.open_here q.0 q.1 q.2 q.3 q.5 in
-            let me : q.0 ≡ id = r.apart.apart q.0 id v.place q.1 v q.3 at (let e = q.4 in let w = there.0 in inl (omega arith, omega arith))
-            (inl (omega arith, omega arith)) in
-            let same : v ≡ q.1 = at_one vs id v q.1 at (subst (λ k. get_elem? vs k ≡ some q.1) me q.3) in
-            absurd (let z : Some q.2 ≡ None = sym (ap (λ (y : View). y.section) same ∙ q.5) ∙ outside in cc)
+            let there = r.sections.open_here q.id q.view q.section q.there q.inside in
+            let me : q.id ≡ id = r.apart.apart q.id id v.place q.view v q.there at
+            (let e = q.place in let w = there.0 in inl (omega arith, omega arith)) (inl (omega arith, omega arith)) in
+            let same : v ≡ q.view = at_one vs id v q.view at (subst (λ k. get_elem? vs k ≡ some q.view) me q.there) in
+            absurd (let z : Some q.section ≡ None = sym (ap (λ (y : View). y.section) same ∙ q.inside) ∙ outside in cc)
 
     sections3 : AreOpen (set vs id w3) h3 (updates_of h3)
     sections3 = record {
@@ -153,11 +153,20 @@ module _ (capacities : List ℕ) (places tickets : ℕ) (m : Memory) (vs : List 
       all = λ p o is. dite (ℕ_discrete p v.place)
           (λ e. let now : open_at v.place h3 ≡ Some o = subst (λ q. open_at q h3 ≡ Some o) e is in
           let same : open_of section3 ≡ o = cc (open_here3, now) in
-          (id, w3, section3, set_here vs id w3 (at_below vs id v at), sym e, refl, sym same))
+          record {
+            id = id;
+            view = w3;
+            section = section3;
+            there = set_here vs id w3 (at_below vs id v at);
+            place = sym e;
+            inside = refl;
+            same = sym same;
+          })
           (λ ne. let q = r.sections.all p o (sym (open_else3 p ne) ∙ is) in
-          let far : q.0 ≢ id = λ e. let same : v ≡ q.1 = at_one vs id v q.1 at (subst (λ k. get_elem? vs k ≡ some q.1) e q.3) in
-          absurd (let z : Some q.2 ≡ None = sym (ap (λ (y : View). y.section) same ∙ q.5) ∙ outside in cc) in
-          (q.0, q.1, q.2, set_else vs id q.0 w3 far ∙ q.3, q.4, q.5, q.6));
+          let far : q.id ≢ id = λ e.
+          let same : v ≡ q.view = at_one vs id v q.view at (subst (λ k. get_elem? vs k ≡ some q.view) e q.there) in
+          absurd (let z : Some q.section ≡ None = sym (ap (λ (y : View). y.section) same ∙ q.inside) ∙ outside in cc) in
+          open_in q (set_else vs id q.id w3 far ∙ q.there));
     }
 
     seats3 : SeatsRule capacities places tickets m3 (set vs id w3) h3
@@ -318,9 +327,10 @@ module _ (capacities : List ℕ) (places tickets : ℕ) (m : Memory) (vs : List 
           (λ e. absurd (let now : open_at v.place h4 ≡ Some o = subst (λ q. open_at q h4 ≡ Some o) e is in
           let z : None ≡ Some o = sym open_here4 ∙ now in cc))
           (λ ne. let q = r.sections.all p o (sym (open_else4 p ne) ∙ is) in
-          let far : q.0 ≢ id = λ e. let same : v ≡ q.1 = at_one vs id v q.1 at (subst (λ k. get_elem? vs k ≡ some q.1) e q.3) in
-          ne (sym q.4 ∙ ap (λ (y : View). y.place) (sym same)) in
-          (q.0, q.1, q.2, set_else vs id q.0 w4 far ∙ q.3, q.4, q.5, q.6));
+          let far : q.id ≢ id = λ e.
+          let same : v ≡ q.view = at_one vs id v q.view at (subst (λ k. get_elem? vs k ≡ some q.view) e q.there) in
+          ne (sym q.place ∙ ap (λ (y : View). y.place) (sym same)) in
+          open_in q (set_else vs id q.id w4 far ∙ q.there));
     }
 
     seats4 : SeatsRule capacities places tickets m4 (set vs id w4) h4

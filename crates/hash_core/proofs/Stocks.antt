@@ -12,7 +12,7 @@ use Rattle.prcu_model.specs.declared.operation.Update.{Update}
 use Rattle.prcu_model.specs.Dictionary.{map_of}
 use Rattle.prcu_model.specs.History.{IsLegal}
 use Rattle.hash_core.specs.declared.words.Field.{Field}
-use Rattle.hash_core.specs.declared.words.Field.TheVariants.{Front, Lock, Readers, Head, Free, Retired, Key, Value, Next, Chain}
+use Rattle.hash_core.specs.declared.words.Field.TheVariants.{Front, Head, Free, Retired, Key, Value, Next, Chain}
 use Rattle.hash_core.specs.declared.view.Section.{Section}
 use Rattle.hash_core.specs.declared.view.Hold.{Hold}
 use Rattle.hash_core.specs.declared.view.View.{View}
@@ -37,7 +37,7 @@ use Rattle.prcu_marks.proofs.LastUnlinked.{last_unlinked-same, last_gone}
 use Rattle.hash_core.proofs.MarkOrder.{marks_snoc}
 use Rattle.hash_core.proofs.Adds.{open_at-same, gone_at-given_here, gone_at-given_other}
 use Rattle.hash_core.proofs.Classes.{one_class, slot_within, at_most_one}
-use Rattle.hash_core.proofs.Frames.{SameMarks, free_slot, retired_slot, taken_slot, unlinked_slot}
+use Rattle.hash_core.proofs.Frames.{SameMarks, SameLists, free_slot, retired_slot, taken_slot, unlinked_slot}
 use Rattle.hash_core.proofs.Stores.{class_words, stored_here, same_self, same_is}
 use Rattle.hash_core.proofs.SeatFrames.{seen_whole, apart_same, owned_same, open_same, held_still, turned_same}
 use Rattle.hash_core.proofs.Quiet.{same_marks, seats_same, section_back, section_forth, tickets_same}
@@ -407,13 +407,10 @@ module _ (capacities : List ℕ) (places tickets : ℕ) (m : Memory) (vs : List 
     chains11 (Next t) is s = refl
     chains11 _ is s = absurd is
 
-    words11 : (f : Field) → IsFieldOf slot f → (d : ℕ)
-        → (stored m f number (Lock d) ≡ m (Lock d)) × (stored m f number (Readers d) ≡ m (Readers d))
-        × (stored m f number (Head d) ≡ m (Head d)) × (stored m f number (Free d) ≡ m (Free d))
-        × (stored m f number (Retired d) ≡ m (Retired d)) × (stored m f number Front ≡ m Front)
-    words11 (Key t) is d = (refl, refl, refl, refl, refl, refl)
-    words11 (Value t) is d = (refl, refl, refl, refl, refl, refl)
-    words11 (Next t) is d = (refl, refl, refl, refl, refl, refl)
+    words11 : (f : Field) → IsFieldOf slot f → (d : ℕ) → SameLists d m (stored m f number) × (stored m f number (Head d) ≡ m (Head d))
+    words11 (Key t) is d = (record { lock = refl; readers = refl; free = refl; retired = refl; front = refl }, refl)
+    words11 (Value t) is d = (record { lock = refl; readers = refl; free = refl; retired = refl; front = refl }, refl)
+    words11 (Next t) is d = (record { lock = refl; readers = refl; free = refl; retired = refl; front = refl }, refl)
     words11 _ is d = absurd is
 
     -- the slot taken isn't linked
@@ -431,11 +428,12 @@ module _ (capacities : List ℕ) (places tickets : ℕ) (m : Memory) (vs : List 
         let f = needs.field_is in
         let c : ℕ = hold.class in
         let chain : List ℕ = (r.bucket hold.class).chain in
-        after_step capacities places tickets m vs h r id v w at m11 h (seats_held new11 refl m11 (words11 field f c).5) hold.class
+        let words = words11 field f c in
+        after_step capacities places tickets m vs h r id v w at m11 h (seats_held new11 refl m11 words.0.front) hold.class
         (record (r.bucket hold.class) { hold = Some new11 })
         (λ _. record {
           chained = record {
-            path = subst (λ z. IsPath (λ s. m11 (Next s)) z chain) (sym (words11 field f c).2)
+            path = subst (λ z. IsPath (λ s. m11 (Next s)) z chain) (sym words.1)
                 (IsPath-same (λ s. m (Next s)) (λ s. m11 (Next s)) (m (Head c)) chain
                 (λ s there. (else11 field f s (linked11 s there)).2) rule.chained.path);
             classes = all_change (λ s. m (Key s) % 64 ≡ c) (λ s. m11 (Key s) % 64 ≡ c) chain
@@ -444,10 +442,10 @@ module _ (capacities : List ℕ) (places tickets : ℕ) (m : Memory) (vs : List 
                 (λ s there. let q = else11 field f s (linked11 s there) in (q.0, q.1)) rule.chained.distinct;
           };
           listed = record {
-            free = subst (λ z. IsPath (λ s. m11 (Chain s)) z (r.bucket c).free) (sym (words11 field f c).3)
+            free = subst (λ z. IsPath (λ s. m11 (Chain s)) z (r.bucket c).free) (sym words.0.free)
                 (IsPath-same (λ s. m (Chain s)) (λ s. m11 (Chain s)) (m (Free c)) (r.bucket c).free
                 (λ s _. chains11 field f s) rule.listed.free);
-            retired = subst (λ z. IsPath (λ s. m11 (Chain s)) z (r.bucket c).retired) (sym (words11 field f c).4)
+            retired = subst (λ z. IsPath (λ s. m11 (Chain s)) z (r.bucket c).retired) (sym words.0.retired)
                 (IsPath-same (λ s. m (Chain s)) (λ s. m11 (Chain s)) (m (Retired c)) (r.bucket c).retired
                 (λ s _. chains11 field f s) rule.listed.retired);
             moved = IsPath-same (λ s. m (Chain s)) (λ s. m11 (Chain s)) (link_of hold.moved) (r.bucket c).moved
@@ -458,7 +456,7 @@ module _ (capacities : List ℕ) (places tickets : ℕ) (m : Memory) (vs : List 
             answers = λ key class. rule.mapped.answers key class
                 ∙ sym (seek-same m m11 key chain (λ s there. let q = else11 field f s (linked11 s there) in (q.0, q.1)));
           };
-          locked = locked_by capacities places tickets m vs h r id v at hold new11 mine refl m11 (words11 field f c).0 w refl refl;
+          locked = locked_by capacities places tickets m vs h r id v at hold new11 mine refl m11 words.0.lock w refl refl;
           known = known_after field number (of_class11 field f) new11 refl;
           ages = record {
             chain = rule.ages.chain;
@@ -467,7 +465,7 @@ module _ (capacities : List ℕ) (places tickets : ℕ) (m : Memory) (vs : List 
             moved = rule.ages.moved;
             unlinked = λ s is. rule.ages.unlinked s (ap unlinked_of had ∙ is);
           };
-          counted = record { readers = (words11 field f c).1 ∙ (counted_still capacities c m h vs id v w at refl rule.counted).readers };
+          counted = record { readers = words.0.readers ∙ (counted_still capacities c m h vs id v w at refl rule.counted).readers };
           clean = clean_still capacities places tickets m vs h r id v at c w refl (r.bucket c) (Some new11)
               (λ other is yes s of. let e : new11 ≡ other = cc in
               rule.clean.clear hold had (ap (λ (z : Hold). z.clear) e ∙ yes) s of) rule.clean;
@@ -555,9 +553,10 @@ module _ (capacities : List ℕ) (places tickets : ℕ) (m : Memory) (vs : List 
               let q = r.sections.all p o (ap (open_at p) (sym same) ∙ there) in
               let c_is : hold.class ≡ d = one_class capacities hold.class d slot slot_of_take
               (subst (λ z. is_slot_of capacities d z ≡ true) (sym e) of) in
-              let key : q.2.key % 64 ≡ hold.class = ap (λ (z : Open). z.key % 64) (sym q.6) ∙ class ∙ sym c_is in
-              let l = slot_clean i q.0 q.1 q.2 (ap (λ z. last_unlinked z h) e ∙ ap (last_unlinked s) (sym same) ∙ gone) q.3 q.5 key in
-              let at_is : o.at ≡ q.2.entered = ap (λ (z : Open). z.at) q.6 in omega arith
+              let key : q.section.key % 64 ≡ hold.class = ap (λ (z : Open). z.key % 64) (sym q.same) ∙ class ∙ sym c_is in
+              let l = slot_clean i q.id q.view q.section
+              (ap (λ z. last_unlinked z h) e ∙ ap (last_unlinked s) (sym same) ∙ gone) q.there q.inside key in
+              let at_is : o.at ≡ q.section.entered = ap (λ (z : Open). z.at) q.same in omega arith
         ]
 
     same_marks_take : (d : ℕ) → d ≢ hold.class → SameMarks capacities d h h_take (updates_of h) (updates_of h_take)

@@ -11,7 +11,7 @@ use Rattle.prcu_model.specs.declared.operation.Op.TheVariants.{Del}
 use Rattle.prcu_model.specs.Dictionary.{updated, map_of}
 use Rattle.prcu_model.proofs.Fronts.{map_of-push}
 use Rattle.hash_core.specs.declared.words.Field.{Field}
-use Rattle.hash_core.specs.declared.words.Field.TheVariants.{Front, Lock, Readers, Head, Free, Retired, Key, Value, Next, Chain}
+use Rattle.hash_core.specs.declared.words.Field.TheVariants.{Head, Free, Retired, Key, Value, Next, Chain}
 use Rattle.hash_core.specs.declared.view.SearchState.{SearchState}
 use Rattle.hash_core.specs.declared.view.SearchState.TheVariants.{Start, Unread, Passed, Found, Ended}
 use Rattle.hash_core.specs.declared.view.Section.{Section}
@@ -37,7 +37,7 @@ use Rattle.hash_core.proofs.Classes.{one_class, at_most_one}
 use Rattle.prcu_marks.proofs.LastUnlinked.{last_unlinked-same, last_unlinked-other}
 use Rattle.hash_core.proofs.MarkOrder.{marks_snoc}
 use Rattle.hash_core.proofs.Adds.{open_at-same, gone_at-same, gone_at-unlinked_here, gone_at-unlinked_other, reuse_more}
-use Rattle.hash_core.proofs.Frames.{chain_slot}
+use Rattle.hash_core.proofs.Frames.{SameLists, chain_slot}
 use Rattle.prcu_marks.proofs.Histories.{said_longer}
 use Rattle.hash_core.proofs.Stores.{class_words, stored_here, same_self}
 use Rattle.hash_core.proofs.Sections.{free_each}
@@ -187,11 +187,9 @@ module _ (capacities : List ℕ) (places tickets : ℕ) (m : Memory) (vs : List 
   slots14 (Next t) is s = (refl, refl, refl)
   slots14 _ is s = absurd is
 
-  words14 : (l : Field) → LinksTo hold l → (d : ℕ)
-      → (stored m l next (Lock d) ≡ m (Lock d)) × (stored m l next (Readers d) ≡ m (Readers d)) × (stored m l next (Free d) ≡ m (Free d))
-      × (stored m l next (Retired d) ≡ m (Retired d)) × (stored m l next Front ≡ m Front)
-  words14 (Head e) is d = (refl, refl, refl, refl, refl)
-  words14 (Next t) is d = (refl, refl, refl, refl, refl)
+  words14 : (l : Field) → LinksTo hold l → (d : ℕ) → SameLists d m (stored m l next)
+  words14 (Head e) is d = record { lock = refl; readers = refl; free = refl; retired = refl; front = refl }
+  words14 (Next t) is d = record { lock = refl; readers = refl; free = refl; retired = refl; front = refl }
   words14 _ is d = absurd is
 
   of_class14 : (l : Field) → LinksTo hold l → IsOfClass capacities hold.class l
@@ -501,7 +499,7 @@ module _ (capacities : List ℕ) (places tickets : ℕ) (m : Memory) (vs : List 
       elsewhere (option_to_list hold.taken) (λ x. let a = roles14 x in let l = at_most_one (is_slot_of capacities hold.class x) _ a in
       omega arith) in
       after_step capacities places tickets m vs h r id v w14 at m14 h14
-      (seats_updated capacities places tickets m vs h r id v at hold mine even needs.commit (Del key) new14 refl m14 words.4
+      (seats_updated capacities places tickets m vs h r id v at hold mine even needs.commit (Del key) new14 refl m14 words.front
       (Unlinked slot ∷ []) longer14 (λ p. refl) open14 entered14 order14 reuse14 present14)
       hold.class b14
       (λ _. record {
@@ -514,9 +512,9 @@ module _ (capacities : List ℕ) (places tickets : ℕ) (m : Memory) (vs : List 
               (λ s _. let q = slots14 link needs.link_is s in (q.0, q.1)) without.0;
         };
         listed = record {
-          free = subst (λ z. IsPath (λ s. m14 (Chain s)) z (r.bucket hold.class).free) (sym words.2)
+          free = subst (λ z. IsPath (λ s. m14 (Chain s)) z (r.bucket hold.class).free) (sym words.free)
               (chains14 (m (Free hold.class)) (r.bucket hold.class).free bucket_rule.listed.free);
-          retired = subst (λ z. IsPath (λ s. m14 (Chain s)) z (r.bucket hold.class).retired) (sym words.3)
+          retired = subst (λ z. IsPath (λ s. m14 (Chain s)) z (r.bucket hold.class).retired) (sym words.retired)
               (chains14 (m (Retired hold.class)) (r.bucket hold.class).retired bucket_rule.listed.retired);
           moved = chains14 (link_of hold.moved) (r.bucket hold.class).moved (moved_by capacities places tickets m vs h r id v at hold mine);
         };
@@ -525,7 +523,7 @@ module _ (capacities : List ℕ) (places tickets : ℕ) (m : Memory) (vs : List 
               omega arith;
         };
         mapped = record { answers = mapped14 };
-        locked = locked_by capacities places tickets m vs h r id v at hold new14 mine refl m14 words.0 w14 refl refl;
+        locked = locked_by capacities places tickets m vs h r id v at hold new14 mine refl m14 words.lock w14 refl refl;
         known = known_after capacities places tickets m vs h r id v at hold mine link next (of_class14 link needs.link_is) new14 refl;
         ages = record {
           chain = all_from_times (λ s. gone_at s h14 ≡ None) (cut.before ++ cut.after)
@@ -541,7 +539,9 @@ module _ (capacities : List ℕ) (places tickets : ℕ) (m : Memory) (vs : List 
               (λ s is p. (p.0, gone14 s (not_slot (r.bucket hold.class).moved other_moved s is) ∙ p.1)) bucket_rule.ages.moved;
           unlinked = λ s is. let e : slot ≡ s = cc in (length h + 1, ap (λ z. gone_at z h14) (sym e) ∙ gone_here14);
         };
-        counted = record { readers = words.1 ∙ (counted_still capacities hold.class m h vs id v w14 at refl bucket_rule.counted).readers };
+        counted = record {
+          readers = words.readers ∙ (counted_still capacities hold.class m h vs id v w14 at refl bucket_rule.counted).readers;
+        };
         clean = record {
           free = all_change (IsFreeOfReaders hold.class h vs) (IsFreeOfReaders hold.class h14 (set vs id w14)) (r.bucket hold.class).free
               (λ s is. free14 s (not_slot (r.bucket hold.class).free other_free s is)) bucket_rule.clean.free;

@@ -49,16 +49,16 @@ module _ (capacities : List ℕ) (places tickets : ℕ) (m : Memory) (vs : List 
   turned_by = elim r.turned [
     | inl quiet ↦ absurd (let a : None ≡ Some (record { found = even; stored = false }) = sym (quiet.1 id v at) ∙ commit.commit_is in cc)
     | inr odd ↦
-        let me : id ≡ odd.0 = dite (ℕ_discrete id odd.0) (λ q. q)
-        (λ ne. absurd (let a : None ≡ Some (record { found = even; stored = false }) = sym (odd.9 id v ne at) ∙ commit.commit_is in
+        let me : id ≡ odd.id = dite (ℕ_discrete id odd.id) (λ q. q)
+        (λ ne. absurd (let a : None ≡ Some (record { found = even; stored = false }) = sym (odd.alone id v ne at) ∙ commit.commit_is in
         cc)) in
-        let same : v ≡ odd.1 = at_one vs id v odd.1 at (subst (λ k. get_elem? vs k ≡ some odd.1) (sym me) odd.4) in
-        let there : Some odd.2 ≡ Some (record { found = even; stored = false }) =
-        sym odd.5 ∙ ap (λ (z : View). z.commit) (sym same) ∙ commit.commit_is in
-        let it : ◌≡◌ {A = Commit} odd.2 (record { found = even; stored = false }) = cc in
-        let found : odd.2.found ≡ even = ap (λ (z : Commit). z.found) it in
-        let count : updates_by odd.2 ≡ updates_by (record { found = even; stored = false }) = ap updates_by it in
-        (let a = odd.7 in omega arith, let a = odd.8 in omega arith, λ j u ne there. odd.9 j u (λ e. ne (e ∙ sym me)) there)
+        let same : v ≡ odd.view = at_one vs id v odd.view at (subst (λ k. get_elem? vs k ≡ some odd.view) (sym me) odd.there) in
+        let there : Some odd.commit ≡ Some (record { found = even; stored = false }) =
+        sym odd.has ∙ ap (λ (z : View). z.commit) (sym same) ∙ commit.commit_is in
+        let it : ◌≡◌ {A = Commit} odd.commit (record { found = even; stored = false }) = cc in
+        let found : odd.commit.found ≡ even = ap (λ (z : Commit). z.found) it in
+        let count : updates_by odd.commit ≡ updates_by (record { found = even; stored = false }) = ap updates_by it in
+        (let a = odd.word in omega arith, let a = odd.updates in omega arith, λ j u ne there. odd.alone j u (λ e. ne (e ∙ sym me)) there)
   ]
 
   module _ (op : Op) (new : Hold) (class : new.class ≡ hold.class) (m' : Memory) (front : m' Front ≡ m Front) (more : List Mark)
@@ -94,19 +94,19 @@ module _ (capacities : List ℕ) (places tickets : ℕ) (m : Memory) (vs : List 
               (class_small capacities places tickets m vs h r id v at hold mine)),
           works capacities places tickets m vs h r id v at hold mine,
         )) r.held;
-        turned = inr (
-          id,
-          w_new,
-          record { found = even; stored = true },
-          new,
-          set_here vs id w_new (at_below vs id v at),
-          refl,
-          refl,
-          front ∙ turned_by.0,
-          (let a = turned_by.1 in let n = one_longer in omega arith),
-          λ j u ne there. each_set (λ k z. k ≢ id → HasNoCommit z) vs id w_new (λ f. absurd (f refl))
-              (λ k z far e _. turned_by.2 k z far e) j u there ne,
-        );
+        turned = inr (record {
+          id = id;
+          view = w_new;
+          commit = record { found = even; stored = true };
+          hold = new;
+          there = set_here vs id w_new (at_below vs id v at);
+          has = refl;
+          holds = refl;
+          word = front ∙ turned_by.0;
+          updates = let a = turned_by.1 in let n = one_longer in omega arith;
+          alone = λ j u ne there. each_set (λ k z. k ≢ id → HasNoCommit z) vs id w_new (λ f. absurd (f refl))
+              (λ k z far e _. turned_by.2 k z far e) j u there ne;
+        });
         tickets_are =
             (let sum = total_set (λ (z : View). z.tickets) vs id v w_new at in
             let was = r.tickets_are in

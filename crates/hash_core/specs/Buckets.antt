@@ -82,12 +82,20 @@ pub record IsMapped (c : ℕ) (m : Memory) (us : List Update) (chain : List ℕ)
 abbrev pub HoldsOther : ℕ → View → Type 0
 HoldsOther c v = (hold : Hold) → v.hold ≡ Some hold → hold.class ≢ c
 
+-- this view holds the lock, and no other
+pub record IsHeldBy (c : ℕ) (m : Memory) (vs : List View) (hold : Hold) : Type 0 where
+  pub id : ℕ
+  pub view : View
+  pub there : get_elem? vs id ≡ some view
+  pub holds : view.hold ≡ Some hold
+  pub class : hold.class ≡ c
+  pub word : m (Lock c) ≡ view.place + 1
+  pub alone : (j : ℕ) (v : View) → j ≢ id → get_elem? vs j ≡ some v → HoldsOther c v
+
 -- A lock word is the place plus 1 of the one view that holds the lock, 0 where none does.
 abbrev pub IsLocked : ℕ → Memory → List View → Option Hold → Type 0
 IsLocked c m vs None = (m (Lock c) ≡ 0) × ((id : ℕ) (v : View) → get_elem? vs id ≡ some v → HoldsOther c v)
-IsLocked c m vs (Some hold) = (holder : ℕ) × (u : View) × (get_elem? vs holder ≡ some u) × (u.hold ≡ Some hold) × (hold.class ≡ c)
-    × (m (Lock c) ≡ u.place + 1)
-    × ((id : ℕ) (v : View) → id ≢ holder → get_elem? vs id ≡ some v → HoldsOther c v)
+IsLocked c m vs (Some hold) = IsHeldBy c m vs hold
 
 -- What the holder knows of the class's words is so.
 pub record IsKnown (capacities : List ℕ) (c : ℕ) (m : Memory) (held : Option Hold) : Type 0 where

@@ -54,15 +54,23 @@ pub record AreOwned (places : ℕ) (vs : List View) (h : List Mark) : Type 0 whe
 abbrev pub open_of : Section → Open
 open_of section = record { count = section.count; key = section.key; at = section.entered }
 
+-- an open section, by the marks, is that of the view that works at its place
+pub record IsOpenOf (vs : List View) (p : ℕ) (o : Open) : Type 0 where
+  pub id : ℕ
+  pub view : View
+  pub section : Section
+  pub there : get_elem? vs id ≡ some view
+  pub place : view.place ≡ p
+  pub inside : view.section ≡ Some section
+  pub same : o ≡ open_of section
+
 -- A view's section is the open one of its place, by the marks; no other is open. Its number is that of the sections
 -- entered before it.
 pub record AreOpen (vs : List View) (h : List Mark) (us : List Update) : Type 0 where
   pub open_here : (id : ℕ) (v : View) (section : Section) → get_elem? vs id ≡ some v → v.section ≡ Some section
       → (1 ≤ v.places) × (open_at v.place h ≡ Some (open_of section)) × (section.from ≤ length us) × (section.key < 2 ^ 64)
   pub entered : (id : ℕ) (v : View) → get_elem? vs id ≡ some v → 1 ≤ v.places → v.sections ≡ entered_at v.place h
-  pub all : (p : ℕ) (o : Open) → open_at p h ≡ Some o
-      → (id : ℕ) × (v : View) × (section : Section) × (get_elem? vs id ≡ some v) × (v.place ≡ p) × (v.section ≡ Some section)
-      × (o ≡ open_of section)
+  pub all : (p : ℕ) (o : Open) → open_at p h ≡ Some o → IsOpenOf vs p o
 
 -- A lock that is held is that of a class, and its holder works at a place.
 pub record AreHeld (vs : List View) : Type 0 where
@@ -71,10 +79,20 @@ pub record AreHeld (vs : List View) : Type 0 where
 abbrev pub HasNoCommit : View → Type 0
 HasNoCommit v = v.commit ≡ None
 
--- An even front is twice the number of updates. An odd one belongs to one view, which holds a lock.
+-- the front is odd by this view, which holds a lock, and by no other
+pub record IsOddBy (m : Memory) (vs : List View) (count : ℕ) : Type 0 where
+  pub id : ℕ
+  pub view : View
+  pub commit : Commit
+  pub hold : Hold
+  pub there : get_elem? vs id ≡ some view
+  pub has : view.commit ≡ Some commit
+  pub holds : view.hold ≡ Some hold
+  pub word : m Front ≡ commit.found + 1
+  pub updates : updates_by commit ≡ 2 * count
+  pub alone : (j : ℕ) (v : View) → j ≢ id → get_elem? vs j ≡ some v → HasNoCommit v
+
+-- An even front is twice the number of updates, and is no view's commit; an odd one is one view's.
 abbrev pub IsTurned : Memory → List View → ℕ → Type 0
 IsTurned m vs count =
-    ((m Front ≡ 2 * count) × ((id : ℕ) (v : View) → get_elem? vs id ≡ some v → HasNoCommit v))
-    ⊎ ((owner : ℕ) × (u : View) × (commit : Commit) × (hold : Hold) × (get_elem? vs owner ≡ some u) × (u.commit ≡ Some commit)
-    × (u.hold ≡ Some hold) × (m Front ≡ commit.found + 1) × (updates_by commit ≡ 2 * count)
-    × ((id : ℕ) (v : View) → id ≢ owner → get_elem? vs id ≡ some v → HasNoCommit v))
+    ((m Front ≡ 2 * count) × ((id : ℕ) (v : View) → get_elem? vs id ≡ some v → HasNoCommit v)) ⊎ IsOddBy m vs count
