@@ -428,12 +428,12 @@ module _ (capacities : List ℕ) (places tickets : ℕ) (m : Memory) (vs : List 
         let f = needs.field_is in
         let c : ℕ = hold.class in
         let chain : List ℕ = (r.bucket hold.class).chain in
-        let words = words11 field f c in
-        after_step capacities places tickets m vs h r id v w at m11 h (seats_held new11 refl m11 words.0.front) hold.class
+        let (words, head) = words11 field f c in
+        after_step capacities places tickets m vs h r id v w at m11 h (seats_held new11 refl m11 words.front) hold.class
         (record (r.bucket hold.class) { hold = Some new11 })
         (λ _. record {
           chained = record {
-            path = subst (λ z. IsPath (λ s. m11 (Next s)) z chain) (sym words.1)
+            path = subst (λ z. IsPath (λ s. m11 (Next s)) z chain) (sym head)
                 (IsPath-same (λ s. m (Next s)) (λ s. m11 (Next s)) (m (Head c)) chain
                 (λ s there. (else11 field f s (linked11 s there)).2) rule.chained.path);
             classes = all_change (λ s. m (Key s) % 64 ≡ c) (λ s. m11 (Key s) % 64 ≡ c) chain
@@ -442,10 +442,10 @@ module _ (capacities : List ℕ) (places tickets : ℕ) (m : Memory) (vs : List 
                 (λ s there. let q = else11 field f s (linked11 s there) in (q.0, q.1)) rule.chained.distinct;
           };
           listed = record {
-            free = subst (λ z. IsPath (λ s. m11 (Chain s)) z (r.bucket c).free) (sym words.0.free)
+            free = subst (λ z. IsPath (λ s. m11 (Chain s)) z (r.bucket c).free) (sym words.free)
                 (IsPath-same (λ s. m (Chain s)) (λ s. m11 (Chain s)) (m (Free c)) (r.bucket c).free
                 (λ s _. chains11 field f s) rule.listed.free);
-            retired = subst (λ z. IsPath (λ s. m11 (Chain s)) z (r.bucket c).retired) (sym words.0.retired)
+            retired = subst (λ z. IsPath (λ s. m11 (Chain s)) z (r.bucket c).retired) (sym words.retired)
                 (IsPath-same (λ s. m (Chain s)) (λ s. m11 (Chain s)) (m (Retired c)) (r.bucket c).retired
                 (λ s _. chains11 field f s) rule.listed.retired);
             moved = IsPath-same (λ s. m (Chain s)) (λ s. m11 (Chain s)) (link_of hold.moved) (r.bucket c).moved
@@ -456,7 +456,7 @@ module _ (capacities : List ℕ) (places tickets : ℕ) (m : Memory) (vs : List 
             answers = λ key class. rule.mapped.answers key class
                 ∙ sym (seek-same m m11 key chain (λ s there. let q = else11 field f s (linked11 s there) in (q.0, q.1)));
           };
-          locked = locked_by capacities places tickets m vs h r id v at hold new11 mine refl m11 words.0.lock w refl refl;
+          locked = locked_by capacities places tickets m vs h r id v at hold new11 mine refl m11 words.lock w refl refl;
           known = known_after field number (of_class11 field f) new11 refl;
           ages = record {
             chain = rule.ages.chain;
@@ -465,7 +465,7 @@ module _ (capacities : List ℕ) (places tickets : ℕ) (m : Memory) (vs : List 
             moved = rule.ages.moved;
             unlinked = λ s is. rule.ages.unlinked s (ap unlinked_of had ∙ is);
           };
-          counted = record { readers = words.0.readers ∙ (counted_still capacities c m h vs id v w at refl rule.counted).readers };
+          counted = record { readers = words.readers ∙ (counted_still capacities c m h vs id v w at refl rule.counted).readers };
           clean = clean_still capacities places tickets m vs h r id v at c w refl (r.bucket c) (Some new11)
               (λ other is yes s of. let e : new11 ≡ other = cc in
               rule.clean.clear hold had (ap (λ (z : Hold). z.clear) e ∙ yes) s of) rule.clean;
