@@ -4,6 +4,7 @@ use Rattle.std.proofs.lemmas.Bool.{leb-true, ltb-true}
 use Rattle.prcu_marks.specs.Bounds.{greatest_key}
 use Rattle.core_state.specs.declared.view.View.{View}
 use Rattle.core_state.specs.steps.Seating.{new_view, NeedsSplit, NeedsJoin, first_of, second_of}
+use Rattle.core_frames.proofs.views.SeatFacts.{new_view_quiet, quiet_as}
 use Rattle.core_examples.proofs.Acts.{Run, run, end_of, begin, look_stamp, reserve, seize, take_slot}
 use Rattle.core_examples.proofs.Reuses.{keep, raise_hand, free_hand, count_free, load_retired, raise_to_spare, raise_retired, free_retired}
 use Rattle.core_examples.proofs.MovingDelete.{delete_fifty}
@@ -32,16 +33,7 @@ two_places = new_view 0 2 20 []
 splits : NeedsSplit two_places 1 10
 unfolding two_places
 splits = record {
-  quiet = record {
-    section = refl;
-    locks = refl;
-    reserved = refl;
-    hand = refl;
-    moving = refl;
-    owes = refl;
-    commit = refl;
-    raised = refl;
-  };
+  quiet = new_view_quiet 0 2 20 [];
   some = leb-true 1 1 refl;
   few = ltb-true 1 2 refl;
   paid = leb-true 10 20 refl;
@@ -49,7 +41,4 @@ splits = record {
 
 joins : NeedsJoin (first_of 1 10 two_places) (second_of 1 10 two_places)
 unfolding two_places
-joins = record {
-  first = record { section = refl; locks = refl; reserved = refl; hand = refl; moving = refl; owes = refl; commit = refl; raised = refl };
-  second = record { section = refl; locks = refl; reserved = refl; hand = refl; moving = refl; owes = refl; commit = refl; raised = refl };
-}
+joins = record { first = quiet_as two_places _ refl refl refl refl refl splits.quiet; second = new_view_quiet 1 1 10 [] }

@@ -7,6 +7,7 @@ use Rattle.core_state.specs.declared.view.View.{View}
 use Rattle.core_state.specs.memory.Memory.{Memory}
 use Rattle.core_state.specs.steps.Seating.{new_view, NeedsSplit, first_of, second_of}
 use Rattle.core_state.specs.Invariant.{HoldsNow}
+use Rattle.core_frames.proofs.views.SeatFacts.{new_view_quiet}
 use Rattle.wait_laws.specs.SeatLaws.{SplitKeeps}
 use Rattle.list_laws.specs.Counts.{total}
 use Rattle.core_laws.specs.Whole.{place_views}
@@ -32,16 +33,7 @@ module _ (split : SplitKeeps) (k : Shape) (m : Memory) where
       let v : View = new_view p (suc n) paid [] in
       let w : View = new_view p 1 t [] in
       let needs : NeedsSplit v n more = record {
-        quiet = record {
-          section = refl;
-          locks = refl;
-          reserved = refl;
-          hand = refl;
-          moving = refl;
-          owes = refl;
-          commit = refl;
-          raised = refl;
-        };
+        quiet = new_view_quiet p (suc n) paid [];
         some = omega arith;
         few = omega arith;
         paid = omega arith;

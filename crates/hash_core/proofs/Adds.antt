@@ -1,11 +1,10 @@
 -- What one more mark leaves as it was.
-use Rattle.std.proofs.Common.{◌≡◌, ◌≢◌, ℕ, ◌≤◌, cond, List, [], ◌∷◌, ◌++◌, length, take, Option, Some, None, refl, sym, ap, subst, ◌∙◌, inl, inr, arith, eq-eqb, ne_eqb, append-nil}
-use Rattle.std.proofs.lemmas.List.{take-append-le}
+use Rattle.std.proofs.Common.{◌≡◌, ◌≢◌, ℕ, ◌<◌, cond, List, [], ◌∷◌, ◌++◌, length, Option, Some, None, refl, sym, ap, subst, ◌∙◌, eq-eqb, ne_eqb, append-nil}
 use Rattle.prcu_marks.specs.declared.mark.Mark.{Mark}
 use Rattle.prcu_marks.specs.declared.mark.Mark.TheVariants.{Entered, Left, Began, Ended, Done, Given, Unlinked, Freed}
 use Rattle.prcu_marks.specs.Marks.{Open, next_open, open_at, next_gone, gone_at, last_unlinked}
 use Rattle.hash_core.specs.Marks.{ReuseByClass}
-use Rattle.list_laws.proofs.Lists.{at_below, at_end}
+use Rattle.list_laws.proofs.Lists.{past_snoc}
 use Rattle.prcu_marks.proofs.MarkLists.{open_at-snoc, gone_at-snoc}
 
 -- a mark that neither enters nor leaves a section
@@ -64,13 +63,8 @@ gone_at-unlinked_other h s t ne = gone_at-snoc s h (Unlinked t) ∙ ap (λ b. co
 pub reuse_more : (capacities : List ℕ) (h : List Mark) (m : Mark) → ((s : ℕ) → m ≢ Given s) → ReuseByClass capacities h
     → ReuseByClass capacities (h ++ m ∷ [])
 reuse_more capacities h m none reuse j s c i p o given of gone there class =
-    elim (at_end h m (Given s) j given) [
-      | inl old ↦
-          let below = at_below h j (Given s) old in
-          let same : take j (h ++ m ∷ []) ≡ take j h = (let le : j ≤ length h = omega arith in take-append-le j h (m ∷ []) le) in
-          reuse j s c i p o old of (ap (last_unlinked s) (sym same) ∙ gone) (ap (open_at p) (sym same) ∙ there) class
-      | inr new ↦ absurd (none s new.1)
-    ]
+    past_snoc (λ (past : List Mark) (a : Mark). a ≡ Given s → last_unlinked s past ≡ Some i → open_at p past ≡ Some o → i < o.at) h m (Given s)
+    (λ e _ _. absurd (none s e)) (λ n old _ last now. reuse n s c i p o old of last now class) j given refl gone there
 
 pub reuse_nothing : (capacities : List ℕ) (h : List Mark) → ReuseByClass capacities h → ReuseByClass capacities (h ++ [])
 reuse_nothing capacities h reuse = subst (ReuseByClass capacities) (sym (append-nil h)) reuse

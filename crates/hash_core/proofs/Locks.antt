@@ -88,6 +88,18 @@ module _ (capacities : List ℕ) (places tickets : ℕ) (m : Memory) (vs : List 
   pub works : (hold : Hold) → v.hold ≡ Some hold → 1 ≤ v.places
   works hold mine = (r.held.held id v hold at mine).1
 
+  -- slots that are to be free stay so
+  pub clean_still : (c : ℕ) (w : View) → w.section ≡ v.section → (b : Bucket) → (new : Option Hold)
+      → ((hold : Hold) → new ≡ Some hold → hold.clear ≡ true → (s : ℕ) → is_slot_of capacities c s ≡ true → IsFreeOfReaders c h vs s)
+      → AreClean capacities c h vs b → AreClean capacities c h (set vs id w) (record b { hold = new })
+  clean_still c w section b new clear clean = record {
+    free = all_map (IsFreeOfReaders c h vs) (IsFreeOfReaders c h (set vs id w)) b.free
+        (free_still capacities c m h vs id v w at section) clean.free;
+    moved = all_map (IsFreeOfReaders c h vs) (IsFreeOfReaders c h (set vs id w)) b.moved
+        (free_still capacities c m h vs id v w at section) clean.moved;
+    clear = λ hold is yes s of. free_still capacities c m h vs id v w at section s (clear hold is yes s of);
+  }
+
   -- H6, where the lock was free
   module _ (c : ℕ) (small : c < 64) (quiet : IsQuiet v) (place : 1 ≤ v.places) (free : m (Lock c) ≡ 0) where
     abbrev w6 : View
@@ -161,14 +173,8 @@ module _ (capacities : List ℕ) (places tickets : ℕ) (m : Memory) (vs : List 
             unlinked = λ s is. absurd (cc);
           };
           counted = record { readers = (counted_still capacities c m h vs id v w6 at refl b.counted).readers };
-          clean = record {
-            free = all_map (IsFreeOfReaders c h vs) (IsFreeOfReaders c h (set vs id w6)) (r.bucket c).free
-                (free_still capacities c m h vs id v w6 at refl) b.clean.free;
-            moved = all_map (IsFreeOfReaders c h vs) (IsFreeOfReaders c h (set vs id w6)) (r.bucket c).moved
-                (free_still capacities c m h vs id v w6 at refl) b.clean.moved;
-            clear = λ hold is clear s of. absurd (let e : fresh_hold c ≡ hold = cc in
-                let z : hold.clear ≡ false = ap (λ (y : Hold). y.clear) (sym e) in cc);
-          };
+          clean = clean_still c w6 refl (r.bucket c) (Some (fresh_hold c)) (λ hold is yes s of. absurd (let e : fresh_hold c ≡ hold = cc in
+              let z : hold.clear ≡ false = ap (λ (y : Hold). y.clear) (sym e) in cc)) b.clean;
           answered = answered_still capacities c m h vs id v w6 at refl m6 (r.bucket c)
               (λ s _. (refl, refl, refl, refl)) b.roles b.answered;
         }
@@ -250,13 +256,7 @@ module _ (capacities : List ℕ) (places tickets : ℕ) (m : Memory) (vs : List 
             unlinked = λ s is. absurd (cc);
           };
           counted = record { readers = (counted_still capacities c m h vs id v w7 at refl b.counted).readers };
-          clean = record {
-            free = all_map (IsFreeOfReaders c h vs) (IsFreeOfReaders c h (set vs id w7)) (r.bucket c).free
-                (free_still capacities c m h vs id v w7 at refl) b.clean.free;
-            moved = all_map (IsFreeOfReaders c h vs) (IsFreeOfReaders c h (set vs id w7)) (r.bucket c).moved
-                (free_still capacities c m h vs id v w7 at refl) b.clean.moved;
-            clear = λ other is clear s of. absurd (cc);
-          };
+          clean = clean_still c w7 refl (r.bucket c) None (λ other is yes s of. absurd (cc)) b.clean;
           answered = answered_still capacities c m h vs id v w7 at refl m7 (r.bucket c)
               (λ s _. (refl, refl, refl, refl)) b.roles b.answered;
         }
@@ -306,17 +306,6 @@ module _ (capacities : List ℕ) (places tickets : ℕ) (m : Memory) (vs : List 
     section = subst (SameSection d v.section) (sym section) (same_section d v.section);
     hold = subst (λ (q : Option Hold × Option Hold). SameHold d q.0 q.1) (λ i. (sym mine i, sym is i))
         (inr (λ e. ne (sym e), λ e. ne (sym e ∙ class)));
-  }
-
-  pub clean_still : (c : ℕ) (w : View) → w.section ≡ v.section → (b : Bucket) → (new : Option Hold)
-      → ((hold : Hold) → new ≡ Some hold → hold.clear ≡ true → (s : ℕ) → is_slot_of capacities c s ≡ true → IsFreeOfReaders c h vs s)
-      → AreClean capacities c h vs b → AreClean capacities c h (set vs id w) (record b { hold = new })
-  clean_still c w section b new clear clean = record {
-    free = all_map (IsFreeOfReaders c h vs) (IsFreeOfReaders c h (set vs id w)) b.free
-        (free_still capacities c m h vs id v w at section) clean.free;
-    moved = all_map (IsFreeOfReaders c h vs) (IsFreeOfReaders c h (set vs id w)) b.moved
-        (free_still capacities c m h vs id v w at section) clean.moved;
-    clear = λ hold is yes s of. free_still capacities c m h vs id v w at section s (clear hold is yes s of);
   }
 
   -- the rule of the holder's bucket stays where the holder learns what words are, or that no reader is in the class

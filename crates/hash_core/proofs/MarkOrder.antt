@@ -1,7 +1,5 @@
 -- What is true of each list of marks stays true with one more mark, and is true of each beginning.
-use Rattle.std.proofs.Common.{◌≡◌, ℕ, ◌^◌, ◌<◌, ◌≤◌, List, [], ◌∷◌, ◌++◌, length, take, Some, None, sym, ap, subst, ◌∙◌, ⊎_elim, arith}
-use Rattle.std.proofs.lemmas.List.{take-append-le}
-use Rattle.std.proofs.Math.Seq.{take-append_seam}
+use Rattle.std.proofs.Common.{◌≡◌, ℕ, ◌^◌, ◌<◌, List, [], ◌∷◌, ◌++◌, Some, None, sym, ap, subst, ◌∙◌, ⊎_elim}
 use mathlib.Core.Option.{some}
 use mathlib.Core.List.{IsPrefix}
 use lib.ListN.{get_elem?}
@@ -10,7 +8,7 @@ use Rattle.prcu_marks.specs.declared.mark.Mark.{Mark}
 use Rattle.prcu_marks.specs.declared.mark.Mark.TheVariants.{Entered, Left, Began, Ended, Done, Given, Unlinked, Freed}
 use Rattle.prcu_marks.specs.Marks.{Open, open_at, entered_at, last_unlinked}
 use Rattle.hash_core.specs.Marks.{IsLeftHere, AreMarks, ReuseByClass}
-use Rattle.list_laws.proofs.Lists.{at_below, at_end}
+use Rattle.list_laws.proofs.Lists.{at_end, before_at, past_snoc}
 
 -- what a new mark has to meet, after these
 abbrev pub NewMark : ℕ → List Mark → Mark → Type 0
@@ -28,48 +26,27 @@ left_here places h (Given s) n = tt
 left_here places h (Unlinked s) n = tt
 left_here places h (Freed s) n = n
 
--- what stands before a mark is the same, whether it is old or the new one
-module _ (h : List Mark) (m : Mark) where
-  before_old : (j : ℕ) (a : Mark) → get_elem? h j ≡ some a → take j (h ++ m ∷ []) ≡ take j h
-  before_old j a e = let l = at_below h j a e in let le : j ≤ length h = omega arith in take-append-le j h (m ∷ []) le
-
-  before_new : (j : ℕ) → j ≡ length h → take j (h ++ m ∷ []) ≡ h
-  before_new j e = ap (λ i. take i (h ++ m ∷ [])) e ∙ take-append_seam h (m ∷ [])
-
 pub marks_snoc : (places : ℕ) (h : List Mark) (m : Mark) → NewMark places h m → AreMarks places h → AreMarks places (h ++ m ∷ [])
 marks_snoc places h m new t = record {
-  entered = λ j p c x e. ⊎_elim
-      (λ (o : get_elem? h j ≡ some (Entered p c x)). (let r = t.entered j p c x o in let b = sym (before_old h m j (Entered p c x) o) in
-      (r.0, r.1, r.2 ∙ ap (entered_at p) b, ap (open_at p) (sym b) ∙ r.3)))
-      (λ n. (let r = subst (NewMark places h) n.1 new in let b = sym (before_new h m j n.0) in
-      (r.0, r.1, r.2 ∙ ap (entered_at p) b, ap (open_at p) (sym b) ∙ r.3)))
-      (at_end h m (Entered p c x) j e);
-  left = λ j p c e. ⊎_elim
-      (λ (o : get_elem? h j ≡ some (Left p c)). (let r = t.left j p c o in
-      (r.0, ap (open_at p) (before_old h m j (Left p c) o) ∙ r.1, r.2)))
-      (λ n. (let r = subst (NewMark places h) n.1 new in (r.0, ap (open_at p) (before_new h m j n.0) ∙ r.1, r.2)))
-      (at_end h m (Left p c) j e);
+  entered = λ j p c x. past_snoc (NewMark places) h m (Entered p c x) new (λ i. t.entered i p c x) j;
+  left = λ j p c. past_snoc (NewMark places) h m (Left p c) new (λ i. t.left i p c) j;
   others = λ j a e. ⊎_elim (λ (o : get_elem? h j ≡ some a). t.others j a o) (λ n. subst IsLeftHere n.1 (left_here places h m new))
       (at_end h m a j e);
 }
-
--- what stands before a mark of a beginning
-before_begins : (a r : List Mark) (j : ℕ) (x : Mark) → get_elem? a j ≡ some x → take j (a ++ r) ≡ take j a
-before_begins a r j x e = let l = at_below a j x e in let le : j ≤ length a = omega arith in take-append-le j a r le
 
 pub marks_begin : (places : ℕ) (a h : List Mark) → IsPrefix a h → AreMarks places h → AreMarks places a
 marks_begin places a h begins all =
     let t = subst (AreMarks places) (sym begins.1) all in
     let r : List Mark = begins.0 in
     record {
-      entered = λ j p c x e. (let q = t.entered j p c x (at_longer a r j _ e) in let b = before_begins a r j _ e in
+      entered = λ j p c x e. (let q = t.entered j p c x (at_longer a r j _ e) in let b = before_at a r j _ e in
           (q.0, q.1, q.2 ∙ ap (entered_at p) b, ap (open_at p) (sym b) ∙ q.3));
-      left = λ j p c e. (let q = t.left j p c (at_longer a r j _ e) in (q.0, ap (open_at p) (sym (before_begins a r j _ e)) ∙ q.1, q.2));
+      left = λ j p c e. (let q = t.left j p c (at_longer a r j _ e) in (q.0, ap (open_at p) (sym (before_at a r j _ e)) ∙ q.1, q.2));
       others = λ j m e. t.others j m (at_longer a r j m e);
     }
 
 pub reuse_begins : (capacities : List ℕ) (a h : List Mark) → IsPrefix a h → ReuseByClass capacities h → ReuseByClass capacities a
 reuse_begins capacities a h begins all j s c i p o given of last there class =
     let t = subst (ReuseByClass capacities) (sym begins.1) all in
-    let b = before_begins a begins.0 j _ given in
+    let b = before_at a begins.0 j _ given in
     t j s c i p o (at_longer a begins.0 j _ given) of (ap (last_unlinked s) b ∙ last) (ap (open_at p) b ∙ there) class

@@ -1,5 +1,5 @@
 -- A store in a word of the table is a store in its field.
-use Rattle.std.proofs.Common.{◌≡◌, ℕ, ◌+◌, ◌*◌, ◌<◌, ◌≤◌, nat_le, ◌&&◌, Bool, true, false, cond, List, length, sum, set, slice_index, refl, sym, ap, subst, ◌∙◌, arith, get_or-set_other, get_or-set_same}
+use Rattle.std.proofs.Common.{◌≡◌, ℕ, ◌+◌, ◌*◌, ◌<◌, ◌≤◌, nat_le, ◌&&◌, Bool, true, false, cond, List, length, sum, set, slice_index, refl, sym, ap, subst, ◌∙◌, arith, eq-eqb, get_or-set_other, get_or-set_same}
 use Rattle.std.proofs.lemmas.Bool.{ltb-true, leb-true}
 use Rattle.hash_core.specs.declared.layout.TheConstants.{APART, CLASS_BASE, CLASS_WORDS}
 use Rattle.hash_core.specs.declared.words.Field.{Field}
@@ -8,7 +8,7 @@ use Rattle.hash_core.specs.Memory.{word_of, same_field, is_field, memory_of, sto
 use Rattle.hash_core.specs.Slots.{word_count}
 use Rattle.hash_core.specs.Places.{NoPlaceIsShared, FieldsAreWithin, IsOwnWord, LinesAreOwn}
 use Rattle.hash_core.proofs.Classes.{and_true}
-use Rattle.hash_core.proofs.Stores.{same_self, same_is}
+use Rattle.hash_core.proofs.Stores.{same_is}
 
 -- where a field lies
 abbrev Lies : List ℕ → Field → Type 0
@@ -41,24 +41,15 @@ lies capacities (Chain s) e = slot_lies capacities s e
 -- no two fields share a word
 one_field : (capacities : List ℕ) (f g : Field) → Lies capacities f → Lies capacities g → word_of f ≡ word_of g → same_field f g ≡ true
 one_field capacities Front Front p q e = refl
-one_field capacities (Lock c) (Lock d) p q e = let f : c ≡ d = omega arith in
-    subst (λ z. same_field (Lock c) (Lock z) ≡ true) f (same_self (Lock c))
-one_field capacities (Readers c) (Readers d) p q e = let f : c ≡ d = omega arith in
-    subst (λ z. same_field (Readers c) (Readers z) ≡ true) f (same_self (Readers c))
-one_field capacities (Head c) (Head d) p q e = let f : c ≡ d = omega arith in
-    subst (λ z. same_field (Head c) (Head z) ≡ true) f (same_self (Head c))
-one_field capacities (Free c) (Free d) p q e = let f : c ≡ d = omega arith in
-    subst (λ z. same_field (Free c) (Free z) ≡ true) f (same_self (Free c))
-one_field capacities (Retired c) (Retired d) p q e = let f : c ≡ d = omega arith in
-    subst (λ z. same_field (Retired c) (Retired z) ≡ true) f (same_self (Retired c))
-one_field capacities (Key c) (Key d) p q e = let f : c ≡ d = omega arith in
-    subst (λ z. same_field (Key c) (Key z) ≡ true) f (same_self (Key c))
-one_field capacities (Value c) (Value d) p q e = let f : c ≡ d = omega arith in
-    subst (λ z. same_field (Value c) (Value z) ≡ true) f (same_self (Value c))
-one_field capacities (Next c) (Next d) p q e = let f : c ≡ d = omega arith in
-    subst (λ z. same_field (Next c) (Next z) ≡ true) f (same_self (Next c))
-one_field capacities (Chain c) (Chain d) p q e = let f : c ≡ d = omega arith in
-    subst (λ z. same_field (Chain c) (Chain z) ≡ true) f (same_self (Chain c))
+one_field capacities (Lock c) (Lock d) p q e = eq-eqb c d (omega arith)
+one_field capacities (Readers c) (Readers d) p q e = eq-eqb c d (omega arith)
+one_field capacities (Head c) (Head d) p q e = eq-eqb c d (omega arith)
+one_field capacities (Free c) (Free d) p q e = eq-eqb c d (omega arith)
+one_field capacities (Retired c) (Retired d) p q e = eq-eqb c d (omega arith)
+one_field capacities (Key c) (Key d) p q e = eq-eqb c d (omega arith)
+one_field capacities (Value c) (Value d) p q e = eq-eqb c d (omega arith)
+one_field capacities (Next c) (Next d) p q e = eq-eqb c d (omega arith)
+one_field capacities (Chain c) (Chain d) p q e = eq-eqb c d (omega arith)
 one_field capacities _ _ p q e = absurd (omega arith)
 
 -- no two fields stand at one place of the row

@@ -79,6 +79,25 @@ module _ (capacities : List ℕ) (places tickets : ℕ) (m : Memory) (vs : List 
   other_place j u ne there mine theirs e =
       ne (r.apart.apart j id u.place u v there at (inl (omega arith, omega arith)) (inl (omega arith, omega arith)))
 
+  -- what a load of another field gives, where the memory is the same
+  known_same : (d : ℕ) (m' : Memory) → ((field : Field) → IsOfClass capacities d field → m' field ≡ m field)
+      → IsKnown capacities d m (r.bucket d).hold → IsKnown capacities d m' (r.bucket d).hold
+  known_same d m' same known = record {
+    known = λ hold field number is found. let k = known.known hold field number is found in
+        (k.0, same field k.0 ∙ k.1);
+  }
+
+  -- how many read a class is no field of it
+  readers_stay : (c n : ℕ) (field : Field) → IsOfClass capacities c field → stored m (Readers c) n field ≡ m field
+  readers_stay c n (Head d) of = refl
+  readers_stay c n (Free d) of = refl
+  readers_stay c n (Retired d) of = refl
+  readers_stay c n (Key s) of = refl
+  readers_stay c n (Value s) of = refl
+  readers_stay c n (Next s) of = refl
+  readers_stay c n (Chain s) of = refl
+  readers_stay c n _ of = absurd of
+
   module _ (key : ℕ) (fits : key < 2 ^ 64) (works : 1 ≤ v.places) (outside : v.section ≡ None) where
     abbrev section3 : Section
     section3 = record { key = key; count = v.sections; entered = length h; from = length (updates_of h); state = Start; loaded = None }
@@ -203,10 +222,7 @@ module _ (capacities : List ℕ) (places tickets : ℕ) (m : Memory) (vs : List 
           roles = b.roles;
           mapped = record { answers = λ k class. marks.pairs k class ∙ b.mapped.answers k class };
           locked = locked_same c m m3 vs id v w3 at refl refl (same_hold c v.hold) (r.bucket c).hold b.locked;
-          known = record {
-            known = λ hold field number is found. let k = b.known.known hold field number is found in
-                (k.0, known_case field k.0 ∙ k.1);
-          };
+          known = known_same c m3 (readers_stay c (m (Readers c) + 1)) b.known;
           ages = frame_ages_same capacities c h h3 (r.bucket c) (λ s _. gone s) b.roles b.ages;
           counted = record {
             readers =
@@ -238,16 +254,6 @@ module _ (capacities : List ℕ) (places tickets : ℕ) (m : Memory) (vs : List 
                 (b.answered.loaded k z section value e theirs class read)) j u there is;
           };
         }
-      where
-        known_case : (field : Field) → IsOfClass capacities (key % 64) field → m3 field ≡ m field
-        known_case (Head d) of = refl
-        known_case (Free d) of = refl
-        known_case (Retired d) of = refl
-        known_case (Key s) of = refl
-        known_case (Value s) of = refl
-        known_case (Next s) of = refl
-        known_case (Chain s) of = refl
-        known_case _ of = absurd of
 
     -- H3 keeps the rule
     pub law3 : MemoryRule capacities places tickets m3 (set vs id w3) h3
@@ -261,14 +267,6 @@ module _ (capacities : List ℕ) (places tickets : ℕ) (m : Memory) (vs : List 
             hold = same_hold d v.hold;
           };
         })
-
-  -- what a load of another field gives, where the memory is the same
-  known_same : (d : ℕ) (m' : Memory) → ((field : Field) → IsOfClass capacities d field → m' field ≡ m field)
-      → IsKnown capacities d m (r.bucket d).hold → IsKnown capacities d m' (r.bucket d).hold
-  known_same d m' same known = record {
-    known = λ hold field number is found. let k = known.known hold field number is found in
-        (k.0, same field k.0 ∙ k.1);
-  }
 
   module _ (section : Section) (inside : v.section ≡ Some section) where
     works4 : 1 ≤ v.places
@@ -372,7 +370,7 @@ module _ (capacities : List ℕ) (places tickets : ℕ) (m : Memory) (vs : List 
           roles = b.roles;
           mapped = record { answers = λ k class. marks.pairs k class ∙ b.mapped.answers k class };
           locked = locked_same c m m4 vs id v w4 at refl refl (same_hold c v.hold) (r.bucket c).hold b.locked;
-          known = known_same c m4 known_case b.known;
+          known = known_same c m4 (readers_stay c (m (Readers c) - 1)) b.known;
           ages = frame_ages_same capacities c h h4 (r.bucket c) (λ s _. gone s) b.roles b.ages;
           counted = record {
             readers =
@@ -402,16 +400,6 @@ module _ (capacities : List ℕ) (places tickets : ℕ) (m : Memory) (vs : List 
                 (b.answered.loaded k z other value e theirs class read)) j u there is;
           };
         }
-      where
-        known_case : (field : Field) → IsOfClass capacities (section.key % 64) field → m4 field ≡ m field
-        known_case (Head d) of = refl
-        known_case (Free d) of = refl
-        known_case (Retired d) of = refl
-        known_case (Key s) of = refl
-        known_case (Value s) of = refl
-        known_case (Next s) of = refl
-        known_case (Chain s) of = refl
-        known_case _ of = absurd of
 
     -- H4 keeps the rule
     pub law4 : MemoryRule capacities places tickets m4 (set vs id w4) h4

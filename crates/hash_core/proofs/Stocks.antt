@@ -1,9 +1,7 @@
 -- The kinds of step on the free list, the retired list and the slot taken.
-use Rattle.std.proofs.Common.{◌≡◌, ◌≢◌, ℕ, ◌+◌, ◌%◌, ◌<◌, ◌≤◌, Bool, true, false, cond, List, [], ◌∷◌, ◌++◌, length, take, set, Some, None, refl, sym, ap, subst, ◌∙◌, inl, inr, arith, ne_eqb, append-nil, option_to_list}
+use Rattle.std.proofs.Common.{◌≡◌, ◌≢◌, ℕ, ◌+◌, ◌%◌, ◌<◌, ◌≤◌, Bool, true, false, cond, List, [], ◌∷◌, ◌++◌, length, set, Some, None, refl, sym, ap, subst, ◌∙◌, inr, arith, ne_eqb, append-nil, option_to_list}
 use Rattle.std.specs.List.{AllByRecursion}
 use Rattle.std.specs.FinMap as finite
-use Rattle.std.proofs.Math.Seq.{take-append_seam}
-use Rattle.std.proofs.lemmas.List.{take-append-le}
 use mathlib.Core.Option.{some}
 use lib.ListN.{get_elem?}
 use Rattle.prcu_marks.specs.declared.mark.Mark.{Mark}
@@ -30,7 +28,7 @@ use Rattle.hash_core.specs.Seats.{IsTurned}
 use Rattle.hash_core.specs.Steps.{NeedsTake, after_take, NeedsRefill, after_refill, NeedsMove, after_move, NeedsPush, after_push, NeedsChain, after_chain, IsFieldOf, NeedsWrite, after_write}
 use Rattle.hash_core.specs.Rule.{BucketRule, MemoryRule}
 use Rattle.prcu_model.proofs.ListFacts.{all_map}
-use Rattle.list_laws.proofs.Lists.{at_below, at_end, each_set, all_change, all_from_times, times_here}
+use Rattle.list_laws.proofs.Lists.{past_snoc, each_set, all_change, all_from_times, times_here}
 use Rattle.hash_core.proofs.Paths.{path_cons, path_none, IsPath-same, seek-same, HaveDistinctKeys-same}
 use Rattle.prcu_marks.proofs.MarkLists.{updates_of-append, entered_at-append}
 use Rattle.prcu_marks.proofs.LastUnlinked.{last_unlinked-same, last_gone}
@@ -542,22 +540,17 @@ module _ (capacities : List ℕ) (places tickets : ℕ) (m : Memory) (vs : List 
 
     reuse_take : ReuseByClass capacities h_take
     reuse_take j s d i p o given of gone there class =
-        elim (at_end h (Given slot) (Given s) j given) [
-          | inl old ↦
-              let below = at_below h j (Given s) old in
-              let same : take j h_take ≡ take j h = (let le : j ≤ length h = omega arith in take-append-le j h (Given slot ∷ []) le) in
-              r.reuse j s d i p o old of (ap (last_unlinked s) (sym same) ∙ gone) (ap (open_at p) (sym same) ∙ there) class
-          | inr new ↦
-              let e : slot ≡ s = (let z = new.1 in cc) in
-              let same : take j h_take ≡ h = ap (λ n. take n h_take) new.0 ∙ take-append_seam h (Given slot ∷ []) in
-              let q = r.sections.all p o (ap (open_at p) (sym same) ∙ there) in
-              let c_is : hold.class ≡ d = one_class capacities hold.class d slot slot_of_take
-              (subst (λ z. is_slot_of capacities d z ≡ true) (sym e) of) in
-              let key : q.section.key % 64 ≡ hold.class = ap (λ (z : Open). z.key % 64) (sym q.same) ∙ class ∙ sym c_is in
-              let l = slot_clean i q.id q.view q.section
-              (ap (λ z. last_unlinked z h) e ∙ ap (last_unlinked s) (sym same) ∙ gone) q.there q.inside key in
-              let at_is : o.at ≡ q.section.entered = ap (λ (z : Open). z.at) q.same in omega arith
-        ]
+        past_snoc (λ (past : List Mark) (a : Mark). a ≡ Given s → last_unlinked s past ≡ Some i → open_at p past ≡ Some o → i < o.at)
+        h (Given slot) (Given s)
+        (λ is last now.
+        let e : slot ≡ s = (let z = is in cc) in
+        let q = r.sections.all p o now in
+        let c_is : hold.class ≡ d = one_class capacities hold.class d slot slot_of_take
+        (subst (λ z. is_slot_of capacities d z ≡ true) (sym e) of) in
+        let key : q.section.key % 64 ≡ hold.class = ap (λ (z : Open). z.key % 64) (sym q.same) ∙ class ∙ sym c_is in
+        let l = slot_clean i q.id q.view q.section (ap (λ z. last_unlinked z h) e ∙ last) q.there q.inside key in
+        let at_is : o.at ≡ q.section.entered = ap (λ (z : Open). z.at) q.same in omega arith)
+        (λ n old _ last now. r.reuse n s d i p o old of last now class) j given refl gone there
 
     same_marks_take : (d : ℕ) → d ≢ hold.class → SameMarks capacities d h h_take (updates_of h) (updates_of h_take)
     same_marks_take d ne = record {

@@ -1,5 +1,5 @@
 -- A store in a field of one class leaves what the others read.
-use Rattle.std.proofs.Common.{◌≡◌, ◌≢◌, ℕ, ◌==◌, true, cond, List, refl, sym, ap, subst, ◌∙◌, eq-eqb, ne_eqb}
+use Rattle.std.proofs.Common.{◌≡◌, ◌≢◌, ℕ, ◌==◌, true, false, cond, List, refl, sym, ap, subst, ◌∙◌, eq-eqb, ne_eqb}
 use Rattle.hash_core.specs.declared.words.Field.{Field}
 use Rattle.hash_core.specs.declared.words.Field.TheVariants.{Front, Lock, Readers, Head, Free, Retired, Key, Value, Next, Chain}
 use Rattle.hash_core.specs.Memory.{Memory, same_field, stored}
@@ -89,63 +89,38 @@ module _ (capacities : List ℕ) (c d : ℕ) (m : Memory) (n : ℕ) (other : d �
   far_slot : (s t : ℕ) → is_slot_of capacities c s ≡ true → is_slot_of capacities d t ≡ true → s ≢ t
   far_slot s t of_c of_d e = far (one_class capacities c d s of_c (subst (λ z. is_slot_of capacities d z ≡ true) (sym e) of_d))
 
+  -- a field of one class is no word of the other
+  far_field : (field other : Field) → IsOfClass capacities c field → IsOfClass capacities d other → same_field field other ≡ false
+  far_field Front _ of _ = absurd of
+  far_field (Lock e) _ of _ = absurd of
+  far_field (Readers e) _ of _ = absurd of
+  far_field (Head e) (Head f) of there = ne_eqb e f (λ g. far (sym of ∙ g ∙ there))
+  far_field (Free e) (Free f) of there = ne_eqb e f (λ g. far (sym of ∙ g ∙ there))
+  far_field (Retired e) (Retired f) of there = ne_eqb e f (λ g. far (sym of ∙ g ∙ there))
+  far_field (Key s) (Key t) of there = ne_eqb s t (far_slot s t of there)
+  far_field (Value s) (Value t) of there = ne_eqb s t (far_slot s t of there)
+  far_field (Next s) (Next t) of there = ne_eqb s t (far_slot s t of there)
+  far_field (Chain s) (Chain t) of there = ne_eqb s t (far_slot s t of there)
+  far_field _ _ of there = refl
+
+  -- and not how many read the other, nor who has its lock
+  far_words : (field : Field) → IsOfClass capacities c field
+      → (same_field field (Lock d) ≡ false) × (same_field field (Readers d) ≡ false)
+  far_words (Lock e) of = absurd of
+  far_words (Readers e) of = absurd of
+  far_words _ of = (refl, refl)
+
   pub class_words : (field : Field) → IsOfClass capacities c field → SameWords capacities d m (stored m field n)
-  class_words Front of = absurd of
-  class_words (Lock e) of = absurd of
-  class_words (Readers e) of = absurd of
-  class_words (Head e) of = record {
-    lock = refl;
-    readers = refl;
-    head = cond_ne 0 n (m (Head d)) e d (λ f. far (sym of ∙ f));
-    free = refl;
-    retired = refl;
-    slots = λ s _. (refl, refl, refl, refl);
-  }
-  class_words (Free e) of = record {
-    lock = refl;
-    readers = refl;
-    head = refl;
-    free = cond_ne 0 n (m (Free d)) e d (λ f. far (sym of ∙ f));
-    retired = refl;
-    slots = λ s _. (refl, refl, refl, refl);
-  }
-  class_words (Retired e) of = record {
-    lock = refl;
-    readers = refl;
-    head = refl;
-    free = refl;
-    retired = cond_ne 0 n (m (Retired d)) e d (λ f. far (sym of ∙ f));
-    slots = λ s _. (refl, refl, refl, refl);
-  }
-  class_words (Key t) of = record {
-    lock = refl;
-    readers = refl;
-    head = refl;
-    free = refl;
-    retired = refl;
-    slots = λ s here. (cond_ne 0 n (m (Key s)) t s (far_slot t s of here), refl, refl, refl);
-  }
-  class_words (Value t) of = record {
-    lock = refl;
-    readers = refl;
-    head = refl;
-    free = refl;
-    retired = refl;
-    slots = λ s here. (refl, cond_ne 0 n (m (Value s)) t s (far_slot t s of here), refl, refl);
-  }
-  class_words (Next t) of = record {
-    lock = refl;
-    readers = refl;
-    head = refl;
-    free = refl;
-    retired = refl;
-    slots = λ s here. (refl, refl, cond_ne 0 n (m (Next s)) t s (far_slot t s of here), refl);
-  }
-  class_words (Chain t) of = record {
-    lock = refl;
-    readers = refl;
-    head = refl;
-    free = refl;
-    retired = refl;
-    slots = λ s here. (refl, refl, refl, cond_ne 0 n (m (Chain s)) t s (far_slot t s of here));
-  }
+  class_words field of =
+      let away : (other : Field) → same_field field other ≡ false → stored m field n other ≡ m other =
+      λ other e. ap (λ t. cond t n (m other)) e in
+      let stays : (other : Field) → IsOfClass capacities d other → stored m field n other ≡ m other =
+      λ other there. away other (far_field field other of there) in
+      record {
+        lock = away (Lock d) (far_words field of).0;
+        readers = away (Readers d) (far_words field of).1;
+        head = stays (Head d) refl;
+        free = stays (Free d) refl;
+        retired = stays (Retired d) refl;
+        slots = λ s there. (stays (Key s) there, stays (Value s) there, stays (Next s) there, stays (Chain s) there);
+      }

@@ -43,44 +43,35 @@ module _ (capacities : List ℕ) (places tickets : ℕ) (m : Memory) (vs : List 
   still d small elsewhere = bucket_frame capacities d m m' h h' (updates_of h) (updates_of h') vs id v w
       (r.bucket d) at elsewhere.words elsewhere.marks elsewhere.view (r.buckets d small)
 
+  -- the rule after the step, whatever the classes are like
+  rule_with : (bucket : ℕ → Bucket) → ((d : ℕ) → d < 64 → BucketRule capacities d m' h' (updates_of h') (set vs id w) (bucket d))
+      → MemoryRule capacities places tickets m' (set vs id w) h'
+  rule_with bucket buckets = record {
+    shape = r.shape;
+    seen = seats.seen;
+    apart = seats.apart;
+    owned = seats.owned;
+    sections = seats.sections;
+    held = seats.held;
+    turned = seats.turned;
+    tickets_are = seats.tickets_are;
+    legal = seats.legal;
+    marks = seats.marks;
+    reuse = seats.reuse;
+    bucket = bucket;
+    buckets = buckets;
+  }
+
   -- a step in one class
   pub after_step : (c : ℕ) (b : Bucket) → (c < 64 → BucketRule capacities c m' h' (updates_of h') (set vs id w) b)
       → ((d : ℕ) → d < 64 → d ≢ c → IsElsewhere capacities d m m' h h' v w) → MemoryRule capacities places tickets m' (set vs id w) h'
-  after_step c b mine others = record {
-    shape = r.shape;
-    seen = seats.seen;
-    apart = seats.apart;
-    owned = seats.owned;
-    sections = seats.sections;
-    held = seats.held;
-    turned = seats.turned;
-    tickets_are = seats.tickets_are;
-    legal = seats.legal;
-    marks = seats.marks;
-    reuse = seats.reuse;
-    bucket = λ d. cond (d == c) b (r.bucket d);
-    buckets = λ d small. dite (ℕ_discrete d c)
-        (λ e. let here : b ≡ cond (d == c) b (r.bucket d) = ap (λ t. cond t b (r.bucket d)) (sym (eq-eqb d c e)) in
-        subst (BucketRule capacities d m' h' (updates_of h') (set vs id w)) here
-        (subst (λ z. BucketRule capacities z m' h' (updates_of h') (set vs id w) b) (sym e) (mine (subst (λ z. z < 64) e small))))
-        (λ ne. let there : r.bucket d ≡ cond (d == c) b (r.bucket d) = ap (λ t. cond t b (r.bucket d)) (sym (ne_eqb d c ne)) in
-        subst (BucketRule capacities d m' h' (updates_of h') (set vs id w)) there (still d small (others d small ne)));
-  }
+  after_step c b mine others = rule_with (λ d. cond (d == c) b (r.bucket d)) (λ d small. dite (ℕ_discrete d c)
+      (λ e. let here : b ≡ cond (d == c) b (r.bucket d) = ap (λ t. cond t b (r.bucket d)) (sym (eq-eqb d c e)) in
+      subst (BucketRule capacities d m' h' (updates_of h') (set vs id w)) here
+      (subst (λ z. BucketRule capacities z m' h' (updates_of h') (set vs id w) b) (sym e) (mine (subst (λ z. z < 64) e small))))
+      (λ ne. let there : r.bucket d ≡ cond (d == c) b (r.bucket d) = ap (λ t. cond t b (r.bucket d)) (sym (ne_eqb d c ne)) in
+      subst (BucketRule capacities d m' h' (updates_of h') (set vs id w)) there (still d small (others d small ne))))
 
   -- a step that no class is concerned with
   pub after_quiet : ((d : ℕ) → d < 64 → IsElsewhere capacities d m m' h h' v w) → MemoryRule capacities places tickets m' (set vs id w) h'
-  after_quiet others = record {
-    shape = r.shape;
-    seen = seats.seen;
-    apart = seats.apart;
-    owned = seats.owned;
-    sections = seats.sections;
-    held = seats.held;
-    turned = seats.turned;
-    tickets_are = seats.tickets_are;
-    legal = seats.legal;
-    marks = seats.marks;
-    reuse = seats.reuse;
-    bucket = r.bucket;
-    buckets = λ d small. still d small (others d small);
-  }
+  after_quiet others = rule_with r.bucket (λ d small. still d small (others d small))

@@ -1,6 +1,8 @@
 -- Lists of views, and of numbers of slots and places.
-use Rattle.std.proofs.Common.{◌≡◌, ◌≢◌, ℕ, zero, suc, ◌+◌, ◌<◌, ◌≤◌, ◌⊎◌, cond, List, [], ◌∷◌, ◌++◌, length, map, set, refl, sym, ap, subst, ◌∙◌, ⊎_elim, inl, inr, arith, eq-eqb, ne_eqb}
+use Rattle.std.proofs.Common.{◌≡◌, ◌≢◌, ℕ, zero, suc, ◌+◌, ◌<◌, ◌≤◌, ◌⊎◌, cond, List, [], ◌∷◌, ◌++◌, length, map, take, set, refl, sym, ap, subst, ◌∙◌, ⊎_elim, inl, inr, arith, eq-eqb, ne_eqb}
 use Rattle.std.specs.List.{AllByRecursion}
+use Rattle.std.proofs.Math.Seq.{take-append_seam}
+use Rattle.std.proofs.lemmas.List.{take-append-le}
 use mathlib.Core.Logic.{dite}
 use mathlib.Core.Option.{some, some-injective, some-ne-none}
 use native.Mathlib.Decide.{dec_le, ℕ_discrete}
@@ -20,6 +22,19 @@ module _ {A : Type 0} where
   at_end [] a b (suc j) e = absurd (some-ne-none b (sym e))
   at_end (x ∷ xs) a b zero e = inl e
   at_end (x ∷ xs) a b (suc j) e = elim (at_end xs a b j e) [ inl t ↦ inl t | inr t ↦ inr (ap suc t.0, t.1) ]
+
+  -- before an element of a list stands the same in a longer one
+  pub before_at : (l r : List A) (j : ℕ) (a : A) → get_elem? l j ≡ some a → take j (l ++ r) ≡ take j l
+  before_at l r j a e = take-append-le j l r (let b = at_below l j a e in omega arith)
+
+  -- a fact of an element and of those before it, in a list with one more element
+  pub past_snoc : (P : List A → A → Type 0) (l : List A) (a b : A) → P l a → ((j : ℕ) → get_elem? l j ≡ some b → P (take j l) b) → (j : ℕ)
+      → get_elem? (l ++ a ∷ []) j ≡ some b → P (take j (l ++ a ∷ [])) b
+  past_snoc P l a b new old j e = ⊎_elim
+      (λ (o : get_elem? l j ≡ some b). subst (λ xs. P xs b) (sym (before_at l (a ∷ []) j b o)) (old j o))
+      (λ (n : (j ≡ length l) × (a ≡ b)). subst (λ (z : List A × A). P z.0 z.1)
+      (λ i. (sym (ap (λ x. take x (l ++ a ∷ [])) n.0 ∙ take-append_seam l (a ∷ [])) i, n.1 i)) new)
+      (at_end l a b j e)
 
   pub set_twice : (l : List A) (i : ℕ) (a b : A) → set (set l i a) i b ≡ set l i b
   set_twice [] i a b = refl

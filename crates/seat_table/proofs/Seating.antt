@@ -13,6 +13,7 @@ use Rattle.core_state.specs.views.Views.{Works, unraised_among, IsQuiet, places_
 use Rattle.core_state.specs.steps.Seating.{new_view, unknown_slot, NeedsSplit, first_of, second_of, NeedsJoin, both_of, spent_view, meeting_of, spent_places}
 use Rattle.core_state.specs.Invariant.{Rule}
 use Rattle.seat_table.specs.declared.rule.Nothing.{Nothing}
+use Rattle.core_frames.proofs.views.SeatFacts.{new_view_quiet, quiet_as}
 use Rattle.core_acts.specs.declared.act.Act.TheVariants.{LoadClock}
 use Rattle.seat_table.specs.Seats.{SeatAt, IsQuietSeat, KeepsOwn}
 use Rattle.seat_table.specs.Gains.{Sees, TellsNow}
@@ -135,20 +136,6 @@ second_told k v w places tickets is some few inside told =
     same_slot : {held : Held} {s : ℕ} → Some (unknown_slot s) ≡ Some held → held.slot ≡ s
     same_slot {held} {s} e = let q : unknown_slot s ≡ held = cc in ap (λ (z : Held). z.slot) (sym q)
 
--- what a quiet view is, for another view with the same fields
-quiet_as : (v w : View) → w.section ≡ v.section → w.locks ≡ v.locks → w.hands ≡ v.hands → w.moving ≡ v.moving → w.commit ≡ v.commit
-    → IsQuiet v → IsQuiet w
-quiet_as v w section locks hands moving commit q = record {
-  section = section ∙ q.section;
-  locks = locks ∙ q.locks;
-  reserved = ap (λ (z : Hands). z.reserved) hands ∙ q.reserved;
-  hand = ap (λ (z : Hands). z.hand) hands ∙ q.hand;
-  moving = moving ∙ q.moving;
-  owes = ap (λ (z : Hands). z.owes) hands ∙ q.owes;
-  commit = commit ∙ q.commit;
-  raised = ap (λ (z : Hands). unraised_among z.retired) hands ∙ q.raised ∙ ap (λ (z : Hands). length z.retired) (sym hands);
-}
-
 -- a seat stays quiet where its view has the same hands and is in no other way less quiet
 pub still_quiet : (s t : SeatAt) → t.view.section ≡ s.view.section → t.view.locks ≡ s.view.locks → t.view.hands ≡ s.view.hands
     → t.view.moving ≡ s.view.moving → t.view.commit ≡ s.view.commit → t.listed ≡ s.listed → IsQuietSeat s → IsQuietSeat t
@@ -171,19 +158,7 @@ pub new_quiet : (t : SeatAt) (place places tickets : ℕ) (seen : List Mark) →
 new_quiet t place places tickets seen is listed =
     subst (λ (z : List ℕ × View). IsQuietSeat (record { table = t.table; view = z.1; listed = z.0; looked = t.looked }))
     (λ i. (sym listed i, sym is i))
-    (record {
-      view = record {
-        section = refl;
-        locks = refl;
-        reserved = refl;
-        hand = refl;
-        moving = refl;
-        owes = refl;
-        commit = refl;
-        raised = refl;
-      };
-      listed = record { each = λ slot. refl };
-    })
+    (record { view = new_view_quiet place places tickets seen; listed = record { each = λ slot. refl } })
 
 -- after a join, and the load of the clock that follows
 pub joined_quiet : (k : Shape) (s o t : SeatAt) (clock : ℕ) → Told k (both_of s.view o.view) LoadClock clock t.view → t.listed ≡ s.listed

@@ -1,7 +1,6 @@
 -- The parts on grace and reuse read what was waited for, by the views and by the marks, and the open sections. A step that ends no
 -- wait keeps them, where no section comes that was entered before the marks that come.
-use Rattle.std.proofs.Common.{◌≡◌, ℕ, ◌+◌, ◌<◌, ◌≤◌, ◌⊎◌, List, [], ◌∷◌, ◌++◌, length, set, Some, None, sym, ap, subst, ◌∙◌, ⊎_elim, arith, Bool, true}
-use Rattle.std.proofs.lemmas.List.{take-append-le}
+use Rattle.std.proofs.Common.{◌≡◌, ℕ, ◌+◌, ◌<◌, ◌≤◌, ◌⊎◌, List, [], ◌∷◌, ◌++◌, length, set, Some, None, sym, subst, ◌∙◌, ⊎_elim, arith, Bool, true}
 use mathlib.Core.Option.{some}
 use lib.ListN.{get_elem?}
 use Rattle.prcu_marks.specs.declared.mark.Mark.{Mark}
@@ -16,7 +15,7 @@ use Rattle.core_state.specs.declared.view.View.{View}
 use Rattle.list_laws.specs.Counts.{Each}
 use Rattle.core_state.specs.Marks.{Grace, IsReused, Reuse, HasWaited}
 use Rattle.core_state.specs.parts.GraceParts.{IsClear, IsWaitedRetired, IsWaitedMove, GraceParts}
-use Rattle.list_laws.proofs.Lists.{at_below, at_end, each_set, each_change}
+use Rattle.list_laws.proofs.Lists.{at_below, past_snoc, each_set, each_change}
 use Rattle.prcu_marks.proofs.LastUnlinked.{last_unlinked-below}
 use Rattle.core_frames.proofs.marks.MarkFacts.{IsOutside, TurnsNoWait, QuietMarks}
 use Rattle.core_frames.proofs.views.Same.{was}
@@ -80,11 +79,8 @@ grace_snoc h m none grace = grace_longer h (h ++ m ∷ []) (prefix_snoc h m) (wa
 -- a mark that doesn't say that a slot is used again leaves reuse as it was
 pub reuse_more : (h : List Mark) (m : Mark) → ((s : ℕ) → IsReused m s → ⊥) → Reuse h → Reuse (h ++ m ∷ [])
 reuse_more h m none reuse j s i p a o at used last there =
-    ⊎_elim
-    (λ (old : get_elem? h j ≡ some a).
-    (let same = take-append-le j h (m ∷ []) (let l = at_below h j a old in omega arith) in
-    reuse j s i p a o old used (ap (last_unlinked s) (sym same) ∙ last) (ap (open_at p) (sym same) ∙ there)))
-    (λ new. absurd (none s (subst (λ z. IsReused z s) (sym new.1) used))) (at_end h m a j at)
+    past_snoc (λ (past : List Mark) (b : Mark). IsReused b s → last_unlinked s past ≡ Some i → open_at p past ≡ Some o → i < o.at) h m a
+    (λ again _ _. absurd (none s again)) (λ n old. reuse n s i p a o old) j at used last there
 
 pub reuse_snoc : (h : List Mark) (m : Mark) → IsOutside m → Reuse h → Reuse (h ++ m ∷ [])
 reuse_snoc h m outside reuse = reuse_more h m (λ s r. ⊎_elim (λ (e : m ≡ Given s). absurd (subst IsOutside e outside))

@@ -1,11 +1,9 @@
 -- The parts on marks and waits read what views have seen, their places and waits, and the marks. One more mark keeps them where it
 -- stands in order.
-use Rattle.std.proofs.Common.{◌≡◌, ℕ, ◌+◌, ◌^◌, ◌<◌, ◌≤◌, List, [], ◌∷◌, ◌++◌, length, take, set, Some, None, refl, sym, ap, subst, ◌∙◌, ⊎_elim, arith, ◌≢◌, ◌⊎◌, inl, inr}
-use Rattle.std.proofs.lemmas.List.{take-append-le}
+use Rattle.std.proofs.Common.{◌≡◌, ℕ, ◌+◌, ◌^◌, ◌<◌, ◌≤◌, List, [], ◌∷◌, ◌++◌, length, set, Some, None, refl, sym, ap, subst, ◌∙◌, ⊎_elim, arith, ◌≢◌, ◌⊎◌, inl, inr}
 use mathlib.Core.Option.{some}
 use mathlib.Core.List.{IsPrefix}
 use lib.ListN.{get_elem?}
-use Rattle.std.proofs.Math.Seq.{take-append_seam}
 use Rattle.atomic_table.proofs.Lists.{at_longer, set_here}
 use Rattle.prcu_marks.specs.declared.mark.Mark.{Mark}
 use Rattle.prcu_marks.specs.declared.mark.Mark.TheVariants.{Entered, Left, Began, Ended, Done}
@@ -16,7 +14,7 @@ use Rattle.core_state.specs.declared.view.Waiting.{Waiting}
 use Rattle.core_state.specs.declared.view.View.{View}
 use Rattle.core_state.specs.Marks.{begun, begun_at, AreMarks}
 use Rattle.core_state.specs.parts.MarkParts.{HasEnded, WaitStands, MarkParts}
-use Rattle.list_laws.proofs.Lists.{at_below, at_end, each_change, each_set}
+use Rattle.list_laws.proofs.Lists.{at_below, at_end, past_snoc, each_change, each_set}
 use Rattle.core_frames.proofs.views.Same.{still}
 use Rattle.core_state.specs.views.Views.{Works}
 use Rattle.core_frames.proofs.marks.MoreMarks.{QuietWaits, cut_at, longer_at, waits_same}
@@ -30,32 +28,11 @@ NewMark places h (Ended p n) = (i low high : ℕ) × (i < length h) × (get_elem
 NewMark places h (Done u) = ⊥
 NewMark places h _ = Unit {0}
 
--- what stands before a mark is the same, whether it is old or the new one
-module _ (h : List Mark) (m : Mark) where
-  before_old : (j : ℕ) (a : Mark) → get_elem? h j ≡ some a → take j (h ++ m ∷ []) ≡ take j h
-  before_old j a e = take-append-le j h (m ∷ []) (let l = at_below h j a e in omega arith)
-
-  before_new : (j : ℕ) → j ≡ length h → take j (h ++ m ∷ []) ≡ h
-  before_new j e = ap (λ i. take i (h ++ m ∷ [])) e ∙ take-append_seam h (m ∷ [])
-
 pub marks_snoc : (places : ℕ) (h : List Mark) (m : Mark) → NewMark places h m → AreMarks places h → AreMarks places (h ++ m ∷ [])
 marks_snoc places h m new t = record {
-  entered = λ j p c x e. ⊎_elim
-      (λ (o : get_elem? h j ≡ some (Entered p c x)). (let r = t.entered j p c x o in let b = sym (before_old h m j (Entered p c x) o) in
-      (r.0, r.1, r.2 ∙ ap (entered_at p) b, ap (open_at p) (sym b) ∙ r.3)))
-      (λ n. (let r = subst (NewMark places h) n.1 new in let b = sym (before_new h m j n.0) in
-      (r.0, r.1, r.2 ∙ ap (entered_at p) b, ap (open_at p) (sym b) ∙ r.3)))
-      (at_end h m (Entered p c x) j e);
-  left = λ j p c e. ⊎_elim
-      (λ (o : get_elem? h j ≡ some (Left p c)). (let r = t.left j p c o in
-      (r.0, ap (open_at p) (before_old h m j (Left p c) o) ∙ r.1, r.2)))
-      (λ n. (let r = subst (NewMark places h) n.1 new in (r.0, ap (open_at p) (before_new h m j n.0) ∙ r.1, r.2)))
-      (at_end h m (Left p c) j e);
-  began = λ j p c low high e. ⊎_elim
-      (λ (o : get_elem? h j ≡ some (Began p c low high)). (let r = t.began j p c low high o in
-      (r.0, r.1 ∙ ap (begun_at p) (sym (before_old h m j (Began p c low high) o)), r.2, r.3)))
-      (λ n. (let r = subst (NewMark places h) n.1 new in (r.0, r.1 ∙ ap (begun_at p) (sym (before_new h m j n.0)), r.2, r.3)))
-      (at_end h m (Began p c low high) j e);
+  entered = λ j p c x. past_snoc (NewMark places) h m (Entered p c x) new (λ i. t.entered i p c x) j;
+  left = λ j p c. past_snoc (NewMark places) h m (Left p c) new (λ i. t.left i p c) j;
+  began = λ j p c low high. past_snoc (NewMark places) h m (Began p c low high) new (λ i. t.began i p c low high) j;
   ended = λ j p c e. ⊎_elim
       (λ (o : get_elem? h j ≡ some (Ended p c)). (let r = t.ended j p c o in (r.0, r.1, r.2, r.3, at_longer h (m ∷ []) r.0 _ r.4)))
       (λ n. (let r = subst (NewMark places h) n.1 new in let lt = r.3 in let at = n.0 in

@@ -36,6 +36,33 @@ pub record SameForMore (v w : View) (h' : List Mark) : Type 0 where
   pub waits : w.counts.waits ≡ v.counts.waits
   pub seen : w.seen ≡ h'
 
+-- where it changes the seat's tickets, hands, locks, commit and move alone, and what is known
+pub same_for_more : {v w : View} {h' : List Mark} → w ≡ record v {
+  allowance = record v.allowance { tickets = w.allowance.tickets };
+  records = w.records;
+  locks = w.locks;
+  hands = w.hands;
+  commit = w.commit;
+  moving = w.moving;
+  latest = w.latest;
+  trail = w.trail;
+  seen = h';
+} → SameForMore v w h'
+same_for_more e = record {
+  places = record {
+    place = ap (λ (z : View). z.allowance.place) e;
+    places = ap (λ (z : View). z.allowance.places) e;
+    joined = ap (λ (z : View). z.allowance.joined) e;
+    met = ap (λ (z : View). z.allowance.met) e;
+  };
+  section = ap (λ (z : View). z.section) e;
+  enter = ap (λ (z : View). z.enter) e;
+  wait = ap (λ (z : View). z.wait) e;
+  sections = ap (λ (z : View). z.counts.sections) e;
+  waits = ap (λ (z : View). z.counts.waits) e;
+  seen = ap (λ (z : View). z.seen) e;
+}
+
 module _ (h h' : List Mark) (place : ℕ) (more : PlainMarks place h h') where
   pub mark_frame_plain : (places : ℕ) (vs : List View) (id : ℕ) (v w : View) → get_elem? vs id ≡ some v → SameForMore v w h'
       → AreMarks places h' → MarkParts places vs h → MarkParts places (set vs id w) h'

@@ -10,9 +10,11 @@ use Rattle.prcu_marks.specs.declared.mark.Mark.TheVariants.{Entered, Left}
 use Rattle.prcu_marks.specs.Marks.{open_at, entered_at}
 use Rattle.prcu_marks.proofs.MarkLists.{open_at-snoc, entered_at-append}
 use Rattle.core_state.specs.declared.view.Spent.{Spent}
+use Rattle.core_state.specs.declared.view.Hands.{Hands}
 use Rattle.core_state.specs.declared.view.View.{View}
 use Rattle.list_laws.specs.Counts.{times, numbers_from, total}
-use Rattle.core_state.specs.views.Views.{Works, places_of, IsUnused}
+use Rattle.core_state.specs.views.Views.{Works, places_of, IsQuiet, IsUnused, unraised_among}
+use Rattle.core_state.specs.steps.Seating.{new_view}
 use Rattle.core_state.specs.parts.SeatParts.{ArePlaced}
 use Rattle.list_laws.proofs.Lists.{total_part, total_two, times_append, from_times}
 
@@ -36,6 +38,33 @@ one_at_most false n e = omega arith
 some_is : (b : Bool) (n : ℕ) → n ≡ cond b 1 0 → 1 ≤ n → b ≡ true
 some_is true n e has = refl
 some_is false n e has = absurd (omega arith)
+
+-- a view that works at a place for the first time is quiet
+pub new_view_quiet : (place places tickets : ℕ) (seen : List Mark) → IsQuiet (new_view place places tickets seen)
+new_view_quiet place places tickets seen = record {
+  section = refl;
+  locks = refl;
+  reserved = refl;
+  hand = refl;
+  moving = refl;
+  owes = refl;
+  commit = refl;
+  raised = refl;
+}
+
+-- what a quiet view is, for another view with the same fields
+pub quiet_as : (v w : View) → w.section ≡ v.section → w.locks ≡ v.locks → w.hands ≡ v.hands → w.moving ≡ v.moving → w.commit ≡ v.commit
+    → IsQuiet v → IsQuiet w
+quiet_as v w section locks hands moving commit q = record {
+  section = section ∙ q.section;
+  locks = locks ∙ q.locks;
+  reserved = ap (λ (z : Hands). z.reserved) hands ∙ q.reserved;
+  hand = ap (λ (z : Hands). z.hand) hands ∙ q.hand;
+  moving = moving ∙ q.moving;
+  owes = ap (λ (z : Hands). z.owes) hands ∙ q.owes;
+  commit = commit ∙ q.commit;
+  raised = ap (λ (z : Hands). unraised_among z.retired) hands ∙ q.raised ∙ ap (λ (z : Hands). length z.retired) (sym hands);
+}
 
 module _ (places : ℕ) (vs : List View) (placed : ArePlaced places vs) where
   -- no two views answer for one place

@@ -27,6 +27,7 @@ use Rattle.core_state.specs.steps.Moves.{NeedsCopyLink, after_copy_link}
 use Rattle.core_state.specs.tree.Chart.{Chart}
 use Rattle.core_state.specs.parts.ReaderParts.{IsRecord, IsStillLinked}
 use Rattle.core_state.specs.parts.SlotParts.{IsHeldKnown}
+use Rattle.core_frames.proofs.frames.PlainFrames.{same_for_more}
 use Rattle.core_frames.proofs.views.Leaving.{right_left_low}
 use Rattle.core_frames.proofs.views.Roles.{spare_own, spare_among, own_below, own_off, not_gone}
 use Rattle.tree_laws.proofs.updates.DeleteMarks.{delete_update, both_marks, delete_said}
@@ -236,15 +237,7 @@ module _ (z : CopyStep) where
     w = w;
     hs = hs;
     changes = changes (copy_link z);
-    same = record {
-      places = record { place = refl; places = refl; joined = refl; met = refl };
-      section = refl;
-      enter = refl;
-      wait = refl;
-      sections = refl;
-      waits = refl;
-      seen = refl;
-    };
+    same = same_for_more refl;
     outside = outside z;
     records = refl;
     plain = delete_plain h (update_of z) z.d;

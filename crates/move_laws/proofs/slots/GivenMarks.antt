@@ -1,8 +1,6 @@
 -- A slot is given or freed: what the mark says of it, and that it is used again only after all sections that may meet it.
-use Rattle.std.proofs.Common.{◌≡◌, ◌≢◌, ℕ, suc, ◌+◌, ◌<◌, ◌⊎◌, ◌==◌, Bool, true, false, cond, List, [], ◌∷◌, ◌++◌, length, take, Option, Some, None, refl, sym, ap, subst, ◌∙◌, ⊎_elim, inl, inr, arith, append-nil, ne_eqb, eq-eqb}
-use Rattle.std.proofs.lemmas.List.{take-append-le}
+use Rattle.std.proofs.Common.{◌≡◌, ◌≢◌, ℕ, suc, ◌+◌, ◌<◌, ◌⊎◌, ◌==◌, Bool, true, false, cond, List, [], ◌∷◌, ◌++◌, length, Option, Some, None, refl, sym, ap, ◌∙◌, ⊎_elim, inl, inr, arith, append-nil, ne_eqb, eq-eqb}
 use Rattle.std.proofs.lemmas.Bool.{eqb-true}
-use Rattle.std.proofs.Math.Seq.{take-append_seam}
 use mathlib.Core.Option.{some, some-injective}
 use lib.ListN.{get_elem?}
 use Rattle.atomic_table.proofs.Lists.{at_longer}
@@ -12,7 +10,7 @@ use Rattle.prcu_marks.specs.Marks.{Open, updates_of, open_at, gone_at, next_gone
 use Rattle.prcu_marks.proofs.MarkLists.{updates_of-append, gone_at-snoc}
 use Rattle.prcu_marks.specs.Bounds.{greatest_key}
 use Rattle.core_state.specs.Marks.{IsReused, Reuse}
-use Rattle.list_laws.proofs.Lists.{at_below, at_end}
+use Rattle.list_laws.proofs.Lists.{at_end, past_snoc}
 use Rattle.core_frames.proofs.marks.MarkTold.{open_mark}
 use Rattle.core_frames.proofs.marks.PlainMarks.{IsPlain}
 use Rattle.core_frames.proofs.frames.MarkFrame.{NewMark}
@@ -134,15 +132,10 @@ module _ (given : Bool) (s : ℕ) (h : List Mark) where
   -- reuse goes on where the slot that is used again is met by no open section
   pub used_reuse : ((i p : ℕ) (o : Open) → last_unlinked s h ≡ Some i → open_at p h ≡ Some o → i < o.at) → Reuse h → Reuse hs
   used_reuse clean reuse j t i p a o at used last there =
-      ⊎_elim
-      (λ (old : get_elem? h j ≡ some a).
-      let same = take-append-le j h (used_mark given s ∷ []) (let l = at_below h j a old in omega arith) in
-      reuse j t i p a o old used (ap (last_unlinked t) (sym same) ∙ last) (ap (open_at p) (sym same) ∙ there))
-      (λ (new : (j ≡ length h) × (used_mark given s ≡ a)).
-      let whole : take j hs ≡ h = ap (λ n. take n hs) new.0 ∙ take-append_seam h (used_mark given s ∷ []) in
-      let is : t ≡ s = used_only t (subst (λ z. IsReused z t) (sym new.1) used) in
-      clean i p o (ap (λ z. last_unlinked z h) (sym is) ∙ ap (last_unlinked t) (sym whole) ∙ last) (ap (open_at p) (sym whole) ∙ there))
-      (at_end h (used_mark given s) a j at)
+      past_snoc (λ (past : List Mark) (b : Mark). IsReused b t → last_unlinked t past ≡ Some i → open_at p past ≡ Some o → i < o.at)
+      h (used_mark given s) a
+      (λ again gone now. clean i p o (ap (λ z. last_unlinked z h) (sym (used_only t again)) ∙ gone) now)
+      (λ n old. reuse n t i p a o old) j at used last there
 
 -- Where no section is open that was entered before a slot was unlinked last, each open one was entered after it.
 pub entered_later : (k : Shape) (m : Memory) (vs : List View) (h : List Mark) → HoldsNow k m vs h → (s a p : ℕ) (o : Open)

@@ -9,6 +9,7 @@ use Rattle.core_state.specs.declared.shape.Shape.{Shape}
 use Rattle.core_state.specs.declared.words.Field.{Field}
 use Rattle.core_state.specs.declared.words.Field.TheVariants.{State, Life}
 use Rattle.core_state.specs.declared.words.Kind.TheVariants.{K11, K12, K15}
+use Rattle.core_state.specs.declared.view.Retired.{Retired}
 use Rattle.core_state.specs.declared.view.View.{View}
 use Rattle.core_state.specs.memory.Memory.{Memory, stored, slot_count, is_field}
 use Rattle.core_state.specs.views.Views.{Works}
@@ -18,7 +19,7 @@ use Rattle.core_state.specs.Invariant.{HoldsNow}
 use Rattle.core_frames.specs.Laws.{IsKept, Keeps}
 use Rattle.core_frames.proofs.Keeping.{no_mark, only_loaded}
 use Rattle.move_laws.proofs.slots.Filling.{content_filled, life_filled}
-use Rattle.move_laws.proofs.slots.Raising.{becomes_spare, stays_retired}
+use Rattle.move_laws.proofs.slots.Raising.{RaiseStep, becomes_spare, stays_retired}
 use Rattle.move_laws.proofs.slots.Seizing.{seizes, frees_hand}
 use Rattle.move_laws.proofs.slots.GivingBack.{frees_retired}
 use Rattle.atomic_table.proofs.Lists.{set_again}
@@ -43,6 +44,17 @@ module _ (k : Shape) (m : Memory) (vs : List View) (h : List Mark) (id : ℕ) (v
   seize field found left w marks (step11 {n = n} {slot = slot} needs) fits e =
       exchanged slot n (n == 0) (ltb-true slot (slot_count k) fits) e needs refl
 
+  -- the life of a retired slot is raised
+  abbrev raising : (at : ℕ) (r : Retired) (life number : ℕ) → NeedsRaiseRetired v at r r.slot life number → RaiseStep
+  raising at r life number needs = record {
+    who = record { k = k; m = m; vs = vs; h = h; id = id; v = v; inv = i; there = there; works = works };
+    at = at;
+    r = r;
+    life = life;
+    number = number;
+    needs = needs;
+  }
+
   fill : (field : Field) (found left : ℕ) (w : View) (marks : List Mark) → IsStep k h v K12 field found left w marks
       → IsKept k m h (stored m field left) (set vs id w) (h ++ marks)
   fill field found left w marks (step12_content {number = number} {slot = slot} {field = f} held needs) =
@@ -57,25 +69,11 @@ module _ (k : Shape) (m : Memory) (vs : List View) (h : List Mark) (id : ℕ) (v
   fill field found left w marks (step12_spare {number = number} {slot = slot} at life r needs lacks) =
       subst (λ x. NeedsRaiseRetired v at r x life number
       → IsKept k m h (stored m (Life x) number) (set vs id (after_raise_to_spare v x number h)) (h ++ Given x ∷ [])) needs.retired.1
-      (λ same. becomes_spare (record {
-        who = record { k = k; m = m; vs = vs; h = h; id = id; v = v; inv = i; there = there; works = works };
-        at = at;
-        r = r;
-        life = life;
-        number = number;
-        needs = same;
-      }) lacks) needs
+      (λ same. becomes_spare (raising at r life number same) lacks) needs
   fill field found left w marks (step12_raised {number = number} {slot = slot} at life r needs kept) =
       subst (λ x. NeedsRaiseRetired v at r x life number
       → IsKept k m h (stored m (Life x) number) (set vs id (after_raise_retired v x)) (h ++ [])) needs.retired.1
-      (λ same. stays_retired (record {
-        who = record { k = k; m = m; vs = vs; h = h; id = id; v = v; inv = i; there = there; works = works };
-        at = at;
-        r = r;
-        life = life;
-        number = number;
-        needs = same;
-      }) kept) needs
+      (λ same. stays_retired (raising at r life number same) kept) needs
 
   give_back : (field : Field) (found left : ℕ) (w : View) (marks : List Mark) → IsStep k h v K15 field found left w marks
       → is_field k field ≡ true → IsKept k m h (stored m field left) (set vs id w) (h ++ marks)

@@ -17,26 +17,20 @@ use Rattle.core_state.specs.steps.Moves.{after_unlink_old}
 use Rattle.core_state.specs.steps.Steps.{IsStep, step26, step27}
 use Rattle.core_state.specs.Invariant.{HoldsNow}
 use Rattle.core_frames.specs.Laws.{IsKept, Keeps}
+use Rattle.core_frames.proofs.frames.Stepper.{Stepper}
 use Rattle.move_laws.proofs.unlink.OldUnlinked.{unlinked_kept}
 
 module _ (k : Shape) (m : Memory) (vs : List View) (h : List Mark) (id : ℕ) (v : View) (i : HoldsNow k m vs h)
     (there : get_elem? vs id ≡ some v) (works : Works v) where
+  abbrev who : Stepper
+  who = record { k = k; m = m; vs = vs; h = h; id = id; v = v; inv = i; there = there; works = works }
+
   case26 : (left : ℕ) (w : View) (field : Field) (found : ℕ) (marks : List Mark) → IsStep k h v K26 field found left w marks
       → IsKept k m h (stored m field left) (set vs id w) (h ++ marks)
   case26 left w field found marks (step26 {parent = parent} {old = old} {child = child} move lock needs apart) =
       subst (λ (z : ℕ × ℕ). IsKept k m h (stored m (Link z.0 Left) child) (set vs id (after_unlink_old v z.0 Left z.1 child h))
       (h ++ Unlinked z.1 ∷ [])) (λ x. (needs.parent_is x, needs.old_is x))
-      (unlinked_kept (record {
-        k = k;
-        m = m;
-        vs = vs;
-        h = h;
-        id = id;
-        v = v;
-        inv = i;
-        there = there;
-        works = works;
-      }) move lock child Left needs.moving needs.waited (ap (lock_of v.locks) needs.old_is ∙ needs.locked) needs.marked
+      (unlinked_kept who move lock child Left needs.moving needs.waited (ap (lock_of v.locks) needs.old_is ∙ needs.locked) needs.marked
       (ap (λ o. known_in lock.known (Link o Right)) needs.old_is ∙ needs.right_now)
       (ap (λ b. cond b Right Left) (ne_eqb move.parent move.copy.slot (λ e. apart (sym needs.parent_is ∙ e)))))
 
@@ -45,17 +39,7 @@ module _ (k : Shape) (m : Memory) (vs : List View) (h : List Mark) (id : ℕ) (v
   case27 left w field found marks (step27 {copy = copy} {old = old} {child = child} move lock needs same) =
       subst (λ (z : ℕ × ℕ). IsKept k m h (stored m (Link z.0 Right) child) (set vs id (after_unlink_old v z.0 Right z.1 child h))
       (h ++ Unlinked z.1 ∷ [])) (λ x. (needs.parent_is x, needs.old_is x))
-      (unlinked_kept (record {
-        k = k;
-        m = m;
-        vs = vs;
-        h = h;
-        id = id;
-        v = v;
-        inv = i;
-        there = there;
-        works = works;
-      }) move lock child Right needs.moving needs.waited (ap (lock_of v.locks) needs.old_is ∙ needs.locked) needs.marked
+      (unlinked_kept who move lock child Right needs.moving needs.waited (ap (lock_of v.locks) needs.old_is ∙ needs.locked) needs.marked
       (ap (λ o. known_in lock.known (Link o Right)) needs.old_is ∙ needs.right_now)
       (ap (λ b. cond b Right Left) (eq-eqb move.parent move.copy.slot (needs.parent_is ∙ same))))
 

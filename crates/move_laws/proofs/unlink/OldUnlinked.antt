@@ -24,6 +24,7 @@ use Rattle.core_state.specs.views.Views.{open_reading}
 use Rattle.core_state.specs.tree.Chart.{Hangs, HoldsMap}
 use Rattle.core_state.specs.tree.Readers.{MayPass}
 use Rattle.core_state.specs.parts.TreeParts.{map_now, IsMoving}
+use Rattle.core_frames.proofs.frames.PlainFrames.{same_for_more}
 use Rattle.core_frames.specs.Laws.{IsKept}
 use Rattle.list_laws.proofs.Lists.{in_second}
 use Rattle.tree_laws.proofs.stores.Stores.{link_at, stores_link}
@@ -143,15 +144,7 @@ module _ (who : Stepper) (move : Move) (lock : HeldLock) (child : ℕ) (b : Side
     said = λ key from o y. subst (λ us. WasSaid us key from o) (sym same_updates) y;
     now = unlinked_snoc h u;
     reuse = reuse_unlinked h u i.grace.reuse;
-    same = record {
-      places = record { place = refl; places = refl; joined = refl; met = refl };
-      section = refl;
-      enter = refl;
-      wait = refl;
-      sections = refl;
-      waits = refl;
-      seen = refl;
-    };
+    same = same_for_more refl;
     locks = refl;
     hand = refl;
     spare = refl;

@@ -14,6 +14,7 @@ use Rattle.core_state.specs.views.Known.{note_moving}
 use Rattle.core_state.specs.steps.Links.{NeedsBypass, after_bypass}
 use Rattle.core_state.specs.tree.Chart.{HoldsMap}
 use Rattle.core_state.specs.parts.TreeParts.{map_now}
+use Rattle.core_frames.proofs.frames.PlainFrames.{same_for_more}
 use Rattle.core_frames.specs.Laws.{IsKept}
 use Rattle.tree_laws.proofs.stores.Stores.{stores_link}
 use Rattle.core_frames.proofs.marks.UpdateMarks.{delete_plain, delete_now, delete_reuse, delete_marks}
@@ -124,15 +125,7 @@ module _ (who : Stepper) (commit : Commit) (r : Reading) (p : ℕ) (b : Side) (d
     said = delete_said h v.allowance.place r.key d;
     now = delete_now h update d;
     reuse = delete_reuse h update d i.grace.reuse;
-    same = record {
-      places = record { place = refl; places = refl; joined = refl; met = refl };
-      section = refl;
-      enter = refl;
-      wait = refl;
-      sections = refl;
-      waits = refl;
-      seen = refl;
-    };
+    same = same_for_more refl;
     locks = refl;
     hand = refl;
     spare = refl;

@@ -31,6 +31,7 @@ use Rattle.list_laws.proofs.Lists.{in_second}
 use Rattle.tree_laws.proofs.locks.LockHeld.{lock_outside, lock_alone, linked_spare}
 use Rattle.tree_laws.proofs.stores.Stores.{stores_link}
 use Rattle.tree_laws.proofs.chart.Leaves.{LinksLeaf, leaf_linked, changes}
+use Rattle.core_frames.proofs.frames.PlainFrames.{same_for_more}
 use Rattle.core_frames.proofs.chart.Absent.{absent}
 use Rattle.tree_laws.proofs.locks.Locked.{holds_alone}
 use Rattle.core_frames.proofs.views.Roles.{own_off, own_below, hand_own, not_gone, held_there}
@@ -244,15 +245,7 @@ module _ (z : LeafLink) where
     w = w;
     hs = hs;
     changes = changes m new n g slot b leaf i.tree.shape (links z);
-    same = record {
-      places = record { place = refl; places = refl; joined = refl; met = refl };
-      section = refl;
-      enter = refl;
-      wait = refl;
-      sections = refl;
-      waits = refl;
-      seen = refl;
-    };
+    same = same_for_more refl;
     outside = outside z;
     records = refl;
     plain = put_plain h v.allowance.place r.key value;

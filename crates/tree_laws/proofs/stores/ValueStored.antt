@@ -54,7 +54,7 @@ use Rattle.tree_laws.proofs.stores.StoreFront.{odd_front, front_made}
 use Rattle.tree_laws.proofs.stores.StoreListings.{listings_after}
 use Rattle.core_frames.proofs.views.Fields.{stored_here}
 use Rattle.core_frames.proofs.chart.Plain.{clocked_before}
-use Rattle.core_frames.proofs.frames.PlainFrames.{seat_frame_plain, waiter_frame_plain, mark_frame_plain, SameForMore, grace_same}
+use Rattle.core_frames.proofs.frames.PlainFrames.{seat_frame_plain, waiter_frame_plain, mark_frame_plain, SameForMore, grace_same, same_for_more}
 use Rattle.core_frames.proofs.marks.PlainMarks.{plain_one, PlainMarks}
 use Rattle.core_frames.proofs.marks.UpdateMarks.{marks_done, gone_done, last_done, reuse_done}
 use Rattle.tree_laws.proofs.notes.Notes.{note_option-unraised}
@@ -151,15 +151,7 @@ module _ (k : Shape) (m : Memory) (vs : List View) (h : List Mark) (i : HoldsNow
   one_longer = ap length more_updates ∙ length-append (updates_of h) (update ∷ [])
 
   same : SameForMore v w h'
-  same = record {
-    places = record { place = refl; places = refl; joined = refl; met = refl };
-    section = refl;
-    enter = refl;
-    wait = refl;
-    sections = refl;
-    waits = refl;
-    seen = refl;
-  }
+  same = same_for_more refl
 
   -- the dictionary
   present : map_now h (m (Key d)) ≡ Some (m (Value d))
