@@ -13,9 +13,10 @@ ghost use Rattle.class_hash.specs.Answers.{IsInformed};
 use crate::access::load;
 use crate::rule::Nothing;
 use crate::table::HashTable;
-use crate::told::{Cut, Glue, Share};
+use crate::told::{Cut, Glue};
 use atomic_table::Seat;
 use hash_core::{Act, Field, View, index_of};
+use prcu_marks::Share;
 use std::marker::{Brand, Model};
 
 /// What a seat remembers of the bucket whose lock it holds.

@@ -16,11 +16,12 @@ use crate::access::load;
 use crate::rule::Nothing;
 use crate::scan::region;
 use crate::table::CitrusTable;
-use crate::told::{Cut, Glue, Share};
+use crate::told::{Cut, Glue};
 use crate::waiter::WaitWords;
 use arrayvec::ArrayVec;
 use core_acts::Act;
 use core_state::{Field, View};
+use prcu_marks::Share;
 use std::marker::{Brand, Model, PhantomData};
 
 /// How many slots that its place freed a seat notes.
