@@ -135,8 +135,8 @@ module _ (k : Shape) (shape : IsShape k) (o : Own) (v w : View) (h h' : List Mar
       → let told : ℕ = said_by (access_of o.place (act_at o stage)) n in
       (let o' : Own = after o told stage in Fits o' o'.stage w × IsTold o' w h' m') → IsAble o told stage
   able (at.AtLink s b) n f word left next = link_able s n b (λ e. next)
-  able (at.LeafField spot i) n f word left next = (f.point).5
-  able (at.LeafLock spot) n f word left next = free_locks f.owns.locks_are ((f.point).2).locks_are
+  able (at.LeafField spot i) n f word left next = (f.point).small
+  able (at.LeafLock spot) n f word left next = free_locks f.owns.locks_are ((f.point).bare).locks_are
   able at.Count n f word left next = omega arith
   able (at.LookKey (Reuse (Leaf spot)) clock p) n f word left next = ((f.point).2, tt)
   able (at.LookKey (Reuse Spare) clock p) n f word left next = ((f.point).2, tt)
@@ -149,13 +149,14 @@ module _ (k : Shape) (shape : IsShape k) (o : Own) (v w : View) (h h' : List Mar
   able (at.LookStamp (Move move) clock p key) n f word left next = ((f.point).3).0
   able (at.OldRaise aim life) n f word left next = let has = (f.point).3 in
       first_kept v.hands.retired has.0 o.retired has.1 has.2 f.owns.retired_are
-  able (at.OldFree aim) n f word left next = let has = (f.point).3 in
-      first_kept v.hands.retired has.0 o.retired has.1 has.2 f.owns.retired_are
+  able (at.OldFree aim) n f word left next = let has = (f.point).first in
+      first_kept v.hands.retired has.first o.retired has.rest has.are f.owns.retired_are
   able (at.OldCount aim) n f word left next = omega arith
   able (at.Commit u expected) n f word left next = omega arith
-  able (at.Store (update.Bypass d child) front) n f word left next = (let room = ((f.point).1).1.room ((f.point).1).0 in omega arith)
+  able (at.Store (update.Bypass d child) front) n f word left next =
+      (let del = (f.point).deleting in let room = del.1.room del.0 in omega arith)
   able (at.Store (update.Copy d u next_key copy) front) n f word left next =
-      (let room = (((f.point).0).1).1.room (((f.point).0).1).0 in omega arith)
+      (let del = ((f.point).copying).deleting in let room = del.1.room del.0 in omega arith)
   able (at.Even u front) n f word left next = omega arith
   able (at.Unlock last.Again) n f word left next = some_left o.locks ((f.point).0).some
   able (at.Unlock (last.New number)) n f word left next = some_left o.locks ((f.point).0).some
@@ -170,10 +171,10 @@ module _ (k : Shape) (shape : IsShape k) (o : Own) (v w : View) (h h' : List Mar
       let long : length o.locks ≡ i = ap length (f.point).locks_are ∙ first_long t i in
       (omega arith, omega arith)
   able (at.TargetLoad t i found) n f word left next = (let below = (f.point).more in let most = few_words t.successor in omega arith)
-  able (at.CopyField d u next_key value i) n f word left next = (f.point).4
+  able (at.CopyField d u next_key value i) n f word left next = (f.point).small
   able (at.CopyLock d u next_key) n f word left next =
       let t : Target = record { node = d; successor = Some u } in
-      let long : length o.locks ≡ target_locks t = ap length (((f.point).0).4) ∙ first_long t (target_locks t) in
+      let long : length o.locks ≡ target_locks t = ap length (((f.point).0).locks_are) ∙ first_long t (target_locks t) in
       let most = few_locks t in omega arith
   able (at.Unlink move child) n f word left next =
       (let is = ((f.point).0).move in let room = few.room is.move is.is in let long = kept_long f.owns.retired_are in omega arith)

@@ -52,13 +52,13 @@ made_at : (o : Own) (v : View) (stage : Stage) (us ws : List Update) → Fits o 
     → us ≡ updates_by v.allowance.place (op_of (act_at o stage)) → ws ≡ update_at o stage → us ≡ ws
 made_at o v (at.OldRaise aim life) us ws f place is e = is ∙ none_made v.allowance.place (has_slot o.spare) _ _ refl refl ∙ sym e
 made_at o v (at.Store (update.Leaf spot) front) us ws f place is e =
-    is ∙ (λ j. record { caller = place j; op = put_is o.op ((f.point).5) j } ∷ []) ∙ sym e
+    is ∙ (λ j. record { caller = place j; op = put_is o.op ((f.point).puts) j } ∷ []) ∙ sym e
 made_at o v (at.Store (update.Value s old) front) us ws f place is e =
     is ∙ (λ j. record { caller = place j; op = set_is o.op (((f.point).1).3) j } ∷ []) ∙ sym e
 made_at o v (at.Store (update.Bypass d child) front) us ws f place is e =
-    is ∙ (λ j. record { caller = place j; op = del_is o.op (((f.point).1).0) j } ∷ []) ∙ sym e
+    is ∙ (λ j. record { caller = place j; op = del_is o.op (((f.point).deleting).0) j } ∷ []) ∙ sym e
 made_at o v (at.Store (update.Copy d u next_key copy) front) us ws f place is e =
-    is ∙ (λ j. record { caller = place j; op = del_is o.op ((((f.point).0).1).0) j } ∷ []) ∙ sym e
+    is ∙ (λ j. record { caller = place j; op = del_is o.op ((((f.point).copying).deleting).0) j } ∷ []) ∙ sym e
 made_at o v (at.Unlink m child) us ws f place is e =
     is ∙ none_made v.allowance.place (m.successor.parent == m.node.node) _ _ refl refl ∙ sym e
 made_at o v _ us ws f place is e = is ∙ sym e

@@ -381,7 +381,7 @@ module _ (k : Shape) (m : Memory) (vs : List View) (h : List Mark) (i : ℕ) (o 
             → Tells (record { scripts = k.places; slots = k.slots }) i script (none_free (record o { free = 0 }) aim) section (h ++ [])
         none (Leaf spot) t f zero_free =
             either_tells (record { scripts = k.places; slots = k.slots }) i script section (h ++ []) (is_none_left o.retired) _ _
-            (λ e. full_answers spot expected t (f.point).6
+            (λ e. full_answers spot expected t (f.point).takes.1
             (answers_are_said k m vs h i o v (at.Reserve (Leaf spot) expected) inv there f e zero_free)
             (record o { free = 0 }) refl section)
             (λ e. quiet (at.Reserve (Leaf spot) expected) t refl (λ z. absurd (cc))
@@ -453,7 +453,7 @@ module _ (k : Shape) (m : Memory) (vs : List View) (h : List Mark) (i : ℕ) (o 
     store_turn : (u : Making) (front : ℕ) → Fits o (at.Store u front) v → Before (at.Store u front) → After (at.Store u front)
     store_turn (update.Leaf spot) front f t =
         let is = answers_are_said k m vs h i o v (at.Store (update.Leaf spot) front) inv there f in
-        let put = (f.point).5 in
+        let put = (f.point).puts in
         let a : Act = act_at o (at.Store (update.Leaf spot) front) in
         let n : ℕ = said_by (access_of o.place a) (m (field_of o.place a)) in
         let section : Option Section = (view_after (noted v a n) h n a).section in
@@ -475,7 +475,7 @@ module _ (k : Shape) (m : Memory) (vs : List View) (h : List Mark) (i : ℕ) (o 
         (after o n (at.Store (update.Value s old) front)) refl refl refl section)
     store_turn (update.Bypass d child) front f t =
         let is = answers_are_said k m vs h i o v (at.Store (update.Bypass d child) front) inv there f in
-        let del = ((f.point).1).0 in
+        let del = ((f.point).deleting).0 in
         let a : Act = act_at o (at.Store (update.Bypass d child) front) in
         let n : ℕ = said_by (access_of o.place a) (m (field_of o.place a)) in
         let section : Option Section = (view_after (noted v a n) h n a).section in
@@ -486,15 +486,16 @@ module _ (k : Shape) (m : Memory) (vs : List View) (h : List Mark) (i : ℕ) (o 
         (gone_confirms o.op (map_of (updates_of h)) del) (after o n (at.Store (update.Bypass d child) front)) refl refl refl section)
     store_turn (update.Copy d u next_key copy) front f t =
         let is = answers_are_said k m vs h i o v (at.Store (update.Copy d u next_key copy) front) inv there f in
-        let del = (((f.point).0).1).0 in
+        let del = ((f.point).copying).deleting.0 in
         let a : Act = act_at o (at.Store (update.Copy d u next_key copy) front) in
         let n : ℕ = said_by (access_of o.place a) (m (field_of o.place a)) in
         let section : Option Section = (view_after (noted v a n) h n a).section in
-        let needs = needs_are_given k h o v m n (at.Store (update.Copy d u next_key copy) front) (λ _. eer) places told f in
+        let (commit, r, held, left, right, value, links, same) =
+        needs_are_given k h o v m n (at.Store (update.Copy d u next_key copy) front) (λ _. eer) places told f in
         let next : IsNextKey (map_of (updates_of h)) (key_now o) next_key =
-        subst (λ key. IsNextKey (map_of (updates_of h)) key next_key) needs.7
-        (copy_next k m vs h i v inv there works needs.0 needs.1 needs.2 d.parent d.side d.node copy u.slot u.parent needs.3 needs.4
-        next_key needs.5 needs.6) in
+        subst (λ key. IsNextKey (map_of (updates_of h)) key next_key) same
+        (copy_next k m vs h i v inv there works commit r held d.parent d.side d.node copy u.slot u.parent left right next_key value
+        links) in
         subst (λ op. Tells (record { scripts = k.places; slots = k.slots }) i script
         (after o n (at.Store (update.Copy d u next_key copy) front)) section
         (h ++ Done (record { caller = v.allowance.place; op = op }) ∷ (Unlinked d.node ∷ []))) (sym (del_is o.op del))

@@ -28,7 +28,7 @@ use Rattle.core_points.specs.DeleteFacts.{BeforeCopy, IsAside, under}
 use Rattle.core_points.specs.Told.{IsTold, SpareComes}
 use Rattle.core_frames.specs.Telling.{IsToldOf}
 use Rattle.core_frames.proofs.Telling.{told_of}
-use Rattle.core_points.specs.Fits.{Fits}
+use Rattle.core_points.specs.Fits.{Fits, plain}
 use Rattle.core_points.specs.Laws.{NeedsAreGiven, NextFits, RuleTells, TrailsAreFree, is_finished}
 use Rattle.core_points.proofs.Bypasses.{needs_mark, next_mark, needs_bypass, next_bypass, needs_empty_tag, next_empty_tag, needs_empty_raise, next_empty_raise}
 use Rattle.core_points.proofs.Commits.{needs_commit, next_commit, needs_even, next_even}
@@ -64,19 +64,19 @@ comes o v h word told owns none = none_are v.hands.retired o.retired owns.retire
 
 -- the spare is none of the slots of a delete whose records hold
 is_aside : (o : Own) (v : View) (h : List Mark) (word : Field → ℕ) (d : Node) (u : Successor) → IsTold o v h word → Owns o v
-    → BeforeCopy o v d u → IsAside (or_root o.spare) d u
+    → BeforeCopy o (plain v) d u → IsAside (or_root o.spare) d u
 is_aside o v h word d u told owns p =
-    let c = p.0 in
-    let both = c.2 in
+    let c = p.copying in
+    let both = c.both in
     let r = both.0 in
     let node = both.2 in
     let s = both.3 in
-    let spare = some_spare v.hands.spare o.spare owns.spare_is (((c.1).1).has_spare (c.1).0) in
+    let spare = some_spare v.hands.spare o.spare owns.spare_is (((c.deleting).1).has_spare (c.deleting).0) in
     let known = λ (t g : ℕ) (e : loaded_in (under v.locks t) (Life t) ≡ Some (2 * g)). loaded_known (under v.locks t) (Life t) (2 * g) e in
     let apart = λ (t g : ℕ) (recorded : LoadedGeneration r t g) (e : loaded_in (under v.locks t) (Life t)
     ≡ Some (2 * g)). λ (same : or_root o.spare ≡ t). told.aside r t g node.kept recorded (known t g e) spare.0 spare.1
     (spare.2 ∙ same) in
-    let from_node : or_root o.spare ≢ d.node = apart d.node d.generation node.recorded p.1 in
+    let from_node : or_root o.spare ≢ d.node = apart d.node d.generation node.recorded p.unmarked in
     record {
       parent = apart d.parent d.parent_generation node.parent_recorded node.parent_life;
       node = from_node;

@@ -111,9 +111,10 @@ full_said : (k : Shape) (m : Memory) (vs : List View) (h : List Mark) (id : ℕ)
     → Fits o (at.Reserve (Leaf spot) expected) v → is_none_left o.retired ≡ true → m Free ≡ 0
     → k.slots ≤ finite.len (map_of (updates_of h)) + 20 * (k.places - 1)
 full_said k m vs h id v o spot expected inv there f none empty =
-    let b = (f.point).1 in
+    let i = (f.point).idle in
+    let b = i.bare in
     let full = empty_is_full k m vs h inv id v there
-    (record { works = f.owns.works; reserved = b.reserved_is; hand = (f.point).2; owes = b.paid; moving = b.settled }) empty in
+    (record { works = f.owns.works; reserved = b.reserved_is; hand = i.empty; owes = b.paid; moving = b.settled }) empty in
     let no = none_retired v.hands.retired o.retired f.owns.retired_are none in omega arith
 
 -- The number of an update is its place in the history.
@@ -217,13 +218,13 @@ answers_are_said k m vs h id o v (at.OldFree aim) inv there f = tt
 answers_are_said k m vs h id o v (at.OldCount aim) inv there f = tt
 answers_are_said k m vs h id o v (at.Commit u expected) inv there f = tt
 answers_are_said k m vs h id o v (at.Store (update.Leaf spot) front) inv there f =
-    (is_numbered k m vs h id v front inv there (((f.point).2).turn_is), tt)
+    (is_numbered k m vs h id v front inv there (((f.point).bare).turn_is), tt)
 answers_are_said k m vs h id o v (at.Store (update.Value s old) front) inv there f =
     (is_numbered k m vs h id v front inv there ((((f.point).1).0).turn_is), old_is k m vs h id v o s old front inv there f)
 answers_are_said k m vs h id o v (at.Store (update.Bypass d child) front) inv there f =
-    (is_numbered k m vs h id v front inv there (((f.point).0).turn_is), tt)
+    (is_numbered k m vs h id v front inv there (((f.point).quiet).turn_is), tt)
 answers_are_said k m vs h id o v (at.Store (update.Copy d u next_key copy) front) inv there f =
-    (is_numbered k m vs h id v front inv there ((((f.point).0).0).turn_is), tt)
+    (is_numbered k m vs h id v front inv there ((((f.point).copying).quiet).turn_is), tt)
 answers_are_said k m vs h id o v (at.Even u front) inv there f = tt
 answers_are_said k m vs h id o v (at.Unlock l) inv there f = tt
 answers_are_said k m vs h id o v (at.SetLife s) inv there f = tt

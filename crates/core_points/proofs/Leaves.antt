@@ -122,15 +122,16 @@ module _ (k : Shape) (h : List Mark) (o : Own) (v : View) (n : ℕ) where
             unraised = λ z. f.unraised refl;
             tickets = subst (λ x. x + 4 * length o.rest + o.kept ≤ v.allowance.tickets)
                 (ap (λ x. owed_op o.op x o.retired) e ∙ owed_put o.op o.retired spot ((f.point).1).0) f.tickets;
-            point = (
-              refl,
-              ((f.point).0).0,
-              subst (λ x. HandFits x o.hand_life (key_now o) (value_in o.op) v.hands.hand) e ((f.point).0).1,
-              e,
-              positive o.free,
-              has,
-              ((f.point).1).0,
-            );
+            point = record {
+              idle = record {
+                outside = refl;
+                bare = ((f.point).0).0;
+                empty = subst (λ x. HandFits x o.hand_life (key_now o) (value_in o.op) v.hands.hand) e ((f.point).0).1;
+                no_hand = e;
+              };
+              some = positive o.free;
+              takes = (has, ((f.point).1).0);
+            };
           })
       by_hand (Some s) e section has = subst (λ b. let st : Stage = cond b (at.LeafLock spot) (taking o (Leaf spot)) in
           Fits (go o st) st (leaving v section h)) (sym (ap is_some e))
@@ -138,5 +139,6 @@ module _ (k : Shape) (h : List Mark) (o : Own) (v : View) (n : ℕ) where
             owns = f.owns;
             unraised = λ z. f.unraised refl;
             tickets = f.tickets;
-            point = (refl, (s, e), ((f.point).0).0, ((f.point).0).1, has, ((f.point).1).0);
+            point = let p = f.point in
+                record { outside = refl; taken = (s, e); bare = (p.0).0; hand = (p.0).1; has_spot = has; puts = (p.1).0 };
           })

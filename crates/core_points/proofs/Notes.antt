@@ -141,12 +141,12 @@ owns_spared o v w slot spare is = record {
 }
 
 -- what is quiet stays so when the front is turned, and before locks are given up
-pub quiet_turned : {commit turn : Option Commit} {o_hand : Option ℕ} {section : Option Section} {moving : Option Move} {reserved owes : Bool}
-    {hand : Option Held} (now : Option Commit) → QuietParts commit o_hand section turn moving reserved owes hand
-    → QuietParts now o_hand section now moving reserved owes hand
-quiet_turned now q = record {
+pub quiet_turned : {commit turn now here : Option Commit} {o_hand : Option ℕ} {section : Option Section} {moving : Option Move} {reserved owes : Bool}
+    {hand : Option Held} → here ≡ now → QuietParts commit o_hand section turn moving reserved owes hand
+    → QuietParts now o_hand section here moving reserved owes hand
+quiet_turned e q = record {
   outside = q.outside;
-  turn_is = refl;
+  turn_is = e;
   settled = q.settled;
   unreserved = q.unreserved;
   paid = q.paid;

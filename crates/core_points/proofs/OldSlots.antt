@@ -101,7 +101,12 @@ module _ (k : Shape) (h : List Mark) (o : Own) (v : View) (n : ℕ) where
             (λ (r : Retired). r.raised ≡ false) v.hands.retired
             (λ r p. fact_kept (λ (r : Retired). r.raised ≡ false) to (λ r q. q) r (r.slot == slot) p) (f.unraised refl);
         point = (
-          (i.0, bare_noted v slot (Life slot) n false [] [] None false i.1 refl, ap (note_option slot (read_at (Life slot) n)) i.2, i.3),
+          record {
+            outside = i.outside;
+            bare = bare_noted v slot (Life slot) n false [] [] None false i.bare refl;
+            empty = ap (note_option slot (read_at (Life slot) n)) i.empty;
+            no_hand = i.no_hand;
+          },
           for_same aim (plain v) (plain w) refl (f.point).1,
           each_map (changed_at slot to) (λ (r : Retired). r.waited ≡ true) (λ (r : Retired). r.waited ≡ true) v.hands.retired
               (λ r p. fact_kept (λ (r : Retired). r.waited ≡ true) to (λ r q. q) r (r.slot == slot) p) (f.point).3,
@@ -125,7 +130,7 @@ module _ (k : Shape) (h : List Mark) (o : Own) (v : View) (n : ℕ) where
       let q = (f.point).3 in
       let r : Retired = q.0 in
       let e = first_slot r q.1 f.owns q.2 in
-      let b = ((f.point).0).1 in
+      let b = ((f.point).0).bare in
       let number : ℕ = 2 * (life / 2 + 1) in
       by_spare (is_some o.spare) refl (ap first_or_root e)
       (λ slot is. record {
@@ -172,21 +177,21 @@ module _ (k : Shape) (h : List Mark) (o : Own) (v : View) (n : ℕ) where
                 (λ r. slot_kept to (λ r. refl) r (r.slot == slot)) v.hands.retired ∙ f.owns.retired_are);
             tickets = f.tickets;
             unraised = λ z. cc;
-            point = (
-              (f.point).0,
-              for_same aim (plain v) (plain (after_raise_retired v slot)) refl (f.point).1,
-              each_map (changed_at slot to) (λ (r : Retired). r.waited ≡ true) (λ (r : Retired). r.waited ≡ true) v.hands.retired
-                  (λ r p. fact_kept (λ (r : Retired). r.waited ≡ true) to (λ r q. q) r (r.slot == slot) p) (f.point).2,
-              (
-                to r,
-                q.1,
-                ap (change_retired slot to) q.2
-                    ∙ change_first slot to r q.1 (sym is) (subst (λ s. IsAlone s q.1) (sym is) (alone r q.1 q.2)),
-                refl,
-                tail_each (λ (r : Retired). r.raised ≡ false) r q.1 v.hands.retired q.2 (f.unraised refl),
-              ),
-              some_spare,
-            );
+            point = record {
+              idle = (f.point).0;
+              aimed = for_same aim (plain v) (plain (after_raise_retired v slot)) refl (f.point).1;
+              waited = each_map (changed_at slot to) (λ (r : Retired). r.waited ≡ true) (λ (r : Retired). r.waited ≡ true) v.hands.retired
+                  (λ r p. fact_kept (λ (r : Retired). r.waited ≡ true) to (λ r q. q) r (r.slot == slot) p) (f.point).2;
+              first = record {
+                first = to r;
+                rest = q.1;
+                are = ap (change_retired slot to) q.2
+                    ∙ change_first slot to r q.1 (sym is) (subst (λ s. IsAlone s q.1) (sym is) (alone r q.1 q.2));
+                raised = refl;
+                others = tail_each (λ (r : Retired). r.raised ≡ false) r q.1 v.hands.retired q.2 (f.unraised refl);
+              };
+              has_spare = some_spare;
+            };
           }
       by_spare false none =
           let q = (f.point).3 in
@@ -217,45 +222,45 @@ module _ (k : Shape) (h : List Mark) (o : Own) (v : View) (n : ℕ) where
 
   pub needs_old_free : (aim : Aim) → Fits o (at.OldFree aim) v → Needs k v n (act_at o (at.OldFree aim))
   needs_old_free aim f =
-      let q = (f.point).3 in (
+      let q = (f.point).first in (
         0,
-        q.0,
+        q.first,
         record {
-          paid = (((f.point).0).1).paid;
-          retired = (ap (λ xs. get_elem? xs 0) q.2, sym (ap first_or_root (first_slot q.0 q.1 f.owns q.2)));
-          raised = q.3;
+          paid = (((f.point).idle).bare).paid;
+          retired = (ap (λ xs. get_elem? xs 0) q.are, sym (ap first_or_root (first_slot q.first q.rest f.owns q.are)));
+          raised = q.raised;
         },
       )
 
   pub next_old_free : (aim : Aim) → TellsAlone v → Fits o (at.OldFree aim) v
       → Fits (after o n (at.OldFree aim)) (at.OldCount aim) (view_after v h n (act_at o (at.OldFree aim)))
   next_old_free aim alone f =
-      let q = (f.point).3 in
-      let r : Retired = q.0 in
-      let e = first_slot r q.1 f.owns q.2 in
+      let q = (f.point).first in
+      let r : Retired = q.first in
+      let e = first_slot r q.rest f.owns q.are in
       let slot : ℕ = first_or_root o.retired in
       let is : slot ≡ r.slot = ap first_or_root e in
-      let left : without_retired slot v.hands.retired ≡ q.1 =
-      ap (without_retired slot) q.2 ∙ without_first slot r q.1 (sym is) (subst (λ s. IsAlone s q.1) (sym is) (alone r q.1 q.2)) in
-      let i = (f.point).0 in
-      let b = i.1 in record {
+      let left : without_retired slot v.hands.retired ≡ q.rest =
+      ap (without_retired slot) q.are ∙ without_first slot r q.rest (sym is) (subst (λ s. IsAlone s q.rest) (sym is) (alone r q.rest q.are)) in
+      let i = (f.point).idle in
+      let b = i.bare in record {
         owns = owns_retired o v f.owns _ _ (ap (map (λ (r : Retired). r.slot)) left ∙ sym (ap but_first e));
         tickets = f.tickets;
-        unraised = λ z. subst (λ xs. Each xs (λ (r : Retired). r.raised ≡ false)) (sym left) q.4;
+        unraised = λ z. subst (λ xs. Each xs (λ (r : Retired). r.raised ≡ false)) (sym left) q.others;
         point = (
           record {
-            outside = i.0;
-            no_hand = i.3;
-            empty = i.2;
+            outside = i.outside;
+            no_hand = i.no_hand;
+            empty = i.empty;
             unlocked = b.locks_are;
             no_turn = b.turn_is;
             settled = b.settled;
             unreserved = b.reserved_is;
             owing = refl;
           },
-          for_free aim (f.point).1,
+          for_free aim (f.point).aimed,
           subst (λ xs. Each xs (λ (r : Retired). r.waited ≡ true)) (sym left)
-              (tail_each (λ (r : Retired). r.waited ≡ true) r q.1 v.hands.retired q.2 (f.point).2),
+              (tail_each (λ (r : Retired). r.waited ≡ true) r q.rest v.hands.retired q.are (f.point).waited),
         );
       }
     where
@@ -273,12 +278,12 @@ module _ (k : Shape) (h : List Mark) (o : Own) (v : View) (n : ℕ) where
       → Fits (after o n (at.OldCount aim)) (after o n (at.OldCount aim)).stage (view_after v h n (act_at o (at.OldCount aim)))
   next_old_count aim comes f =
       let p = (f.point).0 in
-      giving_fits (record o { free = n + 1 }) aim (view_after v h n (act_at o (at.OldCount aim))) comes f.owns (
-        p.outside,
-        record { locks_are = p.unlocked; turn_is = p.no_turn; settled = p.settled; reserved_is = p.unreserved; paid = refl },
-        p.empty,
-        p.no_hand,
-      ) (for_count aim (f.point).1) f.tickets (f.unraised refl) (f.point).2
+      giving_fits (record o { free = n + 1 }) aim (view_after v h n (act_at o (at.OldCount aim))) comes f.owns (record {
+        outside = p.outside;
+        bare = record { locks_are = p.unlocked; turn_is = p.no_turn; settled = p.settled; reserved_is = p.unreserved; paid = refl };
+        empty = p.empty;
+        no_hand = p.no_hand;
+      }) (for_count aim (f.point).1) f.tickets (f.unraised refl) (f.point).2
     where
       for_count : (aim : Aim) → ForAim o (plain v) aim → ForAim (record o { free = n + 1 })
           (view_after v h n (act_at o (at.OldCount aim))) aim

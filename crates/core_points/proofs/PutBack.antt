@@ -46,7 +46,7 @@ module _ (k : Shape) (h : List Mark) (o : Own) (v : View) (n : ℕ) where
         point = (
           (f.point).0,
           bare_noted v s (Life s) number true [] [] None false ((f.point).2).0 refl,
-          (s, raised, hand.1, (leaf.2).slot_is, refl, e),
+          record { slot = s; held = raised; taken = hand.1; slot_is = (leaf.2).slot_is; raised = refl; in_hand = e },
           (f.point).3,
         );
       })
@@ -54,8 +54,8 @@ module _ (k : Shape) (h : List Mark) (o : Own) (v : View) (n : ℕ) where
   pub needs_free : Fits o at.Free v → Needs k v n (act_at o at.Free)
   needs_free f =
       let q = (f.point).2 in
-      subst (λ s. Needs k v n (FreeInHand s)) (sym (ap or_root q.2))
-      (q.1, record { paid = ((f.point).1).paid; in_hand = (q.5, q.3); raised = q.4 })
+      subst (λ s. Needs k v n (FreeInHand s)) (sym (ap or_root q.taken))
+      (q.held, record { paid = ((f.point).1).paid; in_hand = (q.in_hand, q.slot_is); raised = q.raised })
 
   pub next_free : Fits o at.Free v → Fits (after o n at.Free) at.Count (view_after v h n (act_at o at.Free))
   next_free f = let b = (f.point).1 in record {

@@ -116,9 +116,9 @@ module _ (k : Shape) (h : List Mark) (o : Own) (v : View) (n : ℕ) where
   needs_reserve spot expected f =
       let p = f.point in
       record {
-        some = p.4;
-        unreserved = (p.1).reserved_is;
-        empty = p.2;
+        some = p.some;
+        unreserved = ((p.idle).bare).reserved_is;
+        empty = (p.idle).empty;
         ticket = (let t = f.tickets in let two = two_owed spot o.retired in omega arith);
       }
 
@@ -132,12 +132,12 @@ module _ (k : Shape) (h : List Mark) (o : Own) (v : View) (n : ℕ) where
           cond (is_none_left rs) (answer (record o { free = 0 }) Full 0) (go (record o { free = 0 }) (at.Begin (Reuse (Leaf spot)))) in
           Fits o' o'.stage (record v { latest = record v.latest { free = Some 0 }; seen = h })
       empties [] e = answers (record o { free = 0 }) _ Full 0
-          (record {
+          (let i = (f.point).idle in record {
             owns = f.owns;
-            outside = (f.point).0;
-            empty = (f.point).3;
-            bare = (f.point).1;
-            no_hand = (f.point).2;
+            outside = i.outside;
+            empty = i.no_hand;
+            bare = i.bare;
+            no_hand = i.empty;
             unraised = f.unraised refl;
           })
           (let t = f.tickets in omega arith)
@@ -145,7 +145,7 @@ module _ (k : Shape) (h : List Mark) (o : Own) (v : View) (n : ℕ) where
         owns = f.owns;
         unraised = λ z. f.unraised refl;
         tickets = subst (λ rs. owed_reserve (Leaf spot) rs + 4 * length o.rest + o.kept ≤ v.allowance.tickets) e f.tickets;
-        point = (((f.point).0, (f.point).1, (f.point).2, (f.point).3), ((f.point).5, (f.point).6));
+        point = ((f.point).idle, (f.point).takes);
       }
 
       held : (z : Bool) → let o' : Own = cond z (go (record o { free = n - 1 }) (at.Seize (Leaf spot)))
@@ -157,18 +157,17 @@ module _ (k : Shape) (h : List Mark) (o : Own) (v : View) (n : ℕ) where
           })
           (cond (n == 0) (record v { latest = record v.latest { free = Some 0 }; seen = h })
           (record v { latest = record v.latest { free = Some n } })))
-      held true = record {
+      held true = let i = (f.point).idle in record {
         owns = f.owns;
         unraised = λ z. f.unraised refl;
         tickets = (let t = f.tickets in let two = two_owed spot o.retired in omega arith);
-        point = (
-          (f.point).0,
-          bare_reserved true (f.point).1,
-          (f.point).2,
-          (f.point).3,
-          (f.point).5,
-          (f.point).6,
-        );
+        point = record {
+          outside = i.outside;
+          bare = bare_reserved true i.bare;
+          empty = i.empty;
+          no_hand = i.no_hand;
+          takes = (f.point).takes;
+        };
       }
       held false = dite (ℕ_discrete n 0)
           (λ e. subst (λ z. let o' : Own = cond z (none_free (record o { free = 0 }) (Leaf spot))
@@ -183,11 +182,11 @@ module _ (k : Shape) (h : List Mark) (o : Own) (v : View) (n : ℕ) where
             owns = f.owns;
             unraised = λ z. f.unraised refl;
             tickets = f.tickets;
-            point = ((f.point).0, (f.point).1, (f.point).2, (f.point).3, omega arith, (f.point).5, (f.point).6);
+            point = record { idle = (f.point).idle; some = omega arith; takes = (f.point).takes };
           }))
 
   pub needs_seize : (spot : Spot) → Fits o (at.Seize (Leaf spot)) v → Needs k v n (act_at o (at.Seize (Leaf spot)))
-  needs_seize spot f = record { reserved = ((f.point).1).reserved_is; some = (λ e. let one = f.owns.scans in absurd (omega arith)) }
+  needs_seize spot f = record { reserved = ((f.point).bare).reserved_is; some = (λ e. let one = f.owns.scans in absurd (omega arith)) }
 
   pub next_seize : (spot : Spot) → Fits o (at.Seize (Leaf spot)) v
       → Fits (after o n (at.Seize (Leaf spot))) (after o n (at.Seize (Leaf spot))).stage
@@ -200,28 +199,21 @@ module _ (k : Shape) (h : List Mark) (o : Own) (v : View) (n : ℕ) where
             hands = record v.hands { reserved = false; hand = Some (seized o.scan) };
             seen = h ++ Given o.scan ∷ [];
           }) v)
-      got true = record {
+      got true = let p = f.point in record {
         owns = owns_scanned o v f.owns;
         unraised = λ z. f.unraised refl;
         tickets = f.tickets;
-        point = (
-          (f.point).0,
-          bare_reserved false (f.point).1,
-          refl,
-          refl,
-          (f.point).4,
-          (f.point).5,
-        );
+        point = record { outside = p.outside; bare = bare_reserved false p.bare; in_hand = refl; taken = refl; takes = p.takes };
       }
-      got false = record {
+      got false = let p = f.point in record {
         owns = owns_scanned o v f.owns;
         unraised = λ z. f.unraised refl;
         tickets = f.tickets;
-        point = f.point;
+        point = record { outside = p.outside; bare = p.bare; empty = p.empty; no_hand = p.no_hand; takes = p.takes };
       }
 
   pub needs_age : (spot : Spot) (s : ℕ) → Fits o (at.Age (Leaf spot) s) v → Needs k v n (act_at o (at.Age (Leaf spot) s))
-  needs_age spot s f = (seized s, inl ((f.point).2, refl))
+  needs_age spot s f = (seized s, inl ((f.point).in_hand, refl))
 
   pub next_age : (spot : Spot) (s : ℕ) → Fits o (at.Age (Leaf spot) s) v
       → Fits (after o n (at.Age (Leaf spot) s)) (at.LeafField spot 0) (view_after v h n (act_at o (at.Age (Leaf spot) s)))
@@ -229,12 +221,14 @@ module _ (k : Shape) (h : List Mark) (o : Own) (v : View) (n : ℕ) where
     owns = owns_noted o v s (Life s) n false f.owns;
     unraised = λ z. f.unraised refl;
     tickets = f.tickets;
-    point = (
-      p.0,
-      bare_noted v s (Life s) n false [] [] None false p.1 refl,
-      (s, p.3, ap (note_option s (read_at (Life s) n)) p.2 ∙ ap Some (held_here s (read_at (Life s) n) (seized s) refl)),
-      p.4,
-      p.5,
-      omega arith,
-    );
+    point = record {
+      outside = p.outside;
+      bare = bare_noted v s (Life s) n false [] [] None false p.bare refl;
+      slot = s;
+      taken = p.taken;
+      in_hand = ap (note_option s (read_at (Life s) n)) p.in_hand ∙ ap Some (held_here s (read_at (Life s) n) (seized s) refl);
+      has_spot = (p.takes).0;
+      puts = (p.takes).1;
+      small = omega arith;
+    };
   }

@@ -87,18 +87,18 @@ giving_fits o aim w comes owns idle for paid unraised waited = by_left (is_none_
 
     calm : is_none_left o.retired ≡ true → Calm o w
     calm none = (
-      idle.1,
-      subst (λ x. HandFits x o.hand_life (key_now o) (value_in o.op) w.hands.hand) (sym idle.3) idle.2,
-      record { empty = λ z. idle.3; room = λ z. none_left o.retired none; has_spare = λ z. spare_now none },
+      idle.bare,
+      subst (λ x. HandFits x o.hand_life (key_now o) (value_in o.op) w.hands.hand) (sym idle.no_hand) idle.empty,
+      record { empty = λ z. idle.no_hand; room = λ z. none_left o.retired none; has_spare = λ z. spare_now none },
     )
 
     enters : is_none_left o.retired ≡ true → (m : ℕ) → 2 ≤ m → m + 4 * length o.rest + o.kept ≤ w.allowance.tickets
         → Fits (go o at.EnterClock) at.EnterClock w
     enters none m two paid = record {
       owns = owns;
-      tickets = (let few = few_owed o.op o.hand o.retired idle.3 none in omega arith);
+      tickets = (let few = few_owed o.op o.hand o.retired idle.no_hand none in omega arith);
       unraised = λ z. unraised;
-      point = (idle.0, calm none);
+      point = (idle.outside, calm none);
     }
 
     reserved : (retired : List ℕ) (spot : Spot) → is_none_left retired ≡ true → owed_reserve (Leaf spot) retired ≡ 2
@@ -116,7 +116,7 @@ giving_fits o aim w comes owns idle for paid unraised waited = by_left (is_none_
       owns = owns;
       tickets = subst (λ x. x + 4 * length o.rest + o.kept ≤ w.allowance.tickets) (sym (reserved o.retired spot none)) paid;
       unraised = λ z. unraised;
-      point = (idle.0, idle.1, idle.2, idle.3, positive o.free, for.0, for.1);
+      point = record { idle = idle; some = positive o.free; takes = for };
     }
     back Spare none for paid = enters none 2 (omega arith) paid
     back Room none for paid = spares none paid (is_some o.spare) refl
@@ -129,7 +129,7 @@ module _ (k : Shape) (h : List Mark) (o : Own) (v : View) (n : ℕ) where
   -- the wait begins
   pub needs_begin : (aim : Aim) → Fits o (at.Begin (Reuse aim)) v → Needs k v n (act_at o (at.Begin (Reuse aim)))
   needs_begin aim f = record {
-    outside = ((f.point).0).0;
+    outside = ((f.point).0).outside;
     ticket = (let t = f.tickets in omega arith);
     some = omega arith;
     high_fits = omega arith;
@@ -219,20 +219,20 @@ module _ (k : Shape) (h : List Mark) (o : Own) (v : View) (n : ℕ) where
       by_last : (z : Bool) → (p + 1 == o.places) ≡ z → let o' : Own = cond z (giving o aim) (go o (at.LookKey (Reuse aim) clock (p + 1))) in
           Fits o' o'.stage (cond z (ending v (with_excused wait field) h) (record v { wait = Some (with_excused wait field) }))
       by_last true e =
-          let b = idle.1 in
+          let b = idle.bare in
           giving_fits o aim (ending v (with_excused wait field) h) comes
-          (owns_retired o v owns _ _ (same_slots (waited_retired (with_excused wait field)) (λ r. refl) v.hands.retired ∙ owns.retired_are)) (
-            idle.0,
-            record {
+          (owns_retired o v owns _ _ (same_slots (waited_retired (with_excused wait field)) (λ r. refl) v.hands.retired ∙ owns.retired_are)) (record {
+            outside = idle.outside;
+            bare = record {
               locks_are = b.locks_are;
               turn_is = b.turn_is;
               settled = ap (waited_move (with_excused wait field)) b.settled;
               reserved_is = b.reserved_is;
               paid = b.paid;
-            },
-            idle.2,
-            idle.3,
-          )
+            };
+            empty = idle.empty;
+            no_hand = idle.no_hand;
+          })
           (for_aim_same aim (ending v (with_excused wait field) h) refl for) paid
           (each_map (waited_retired (with_excused wait field)) (λ (r : Retired). r.raised ≡ false)
           (λ (r : Retired). r.raised ≡ false) v.hands.retired (λ r q. q) unraised)

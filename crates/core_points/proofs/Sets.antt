@@ -269,7 +269,7 @@ module _ (k : Shape) (h : List Mark) (o : Own) (v : View) (n : ℕ) where
         unraised = λ z. f.unraised refl;
         tickets = (let t = f.tickets in omega arith);
         point = (
-          quiet_turned (Some (record { found = front; stored = true })) q,
+          quiet_turned refl q,
           ap is_none_left (own_lock o w s _ owns is refl),
           subst AreClear (sym is) (clear_one s (stored_at (Value s) value ∷ set_known s g old)),
           p.3,

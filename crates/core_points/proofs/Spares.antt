@@ -39,8 +39,8 @@ module _ (k : Shape) (h : List Mark) (o : Own) (v : View) (n : ℕ) where
   pub needs_reserve_spare : (expected : ℕ) → Fits o (at.Reserve Spare expected) v → Needs k v n (act_at o (at.Reserve Spare expected))
   needs_reserve_spare expected f =
       let p = f.point in
-      let i = p.0 in
-      record { some = p.1; unreserved = (i.1).reserved_is; empty = i.2; ticket = (let t = f.tickets in omega arith) }
+      let i = p.idle in
+      record { some = p.some; unreserved = (i.bare).reserved_is; empty = i.empty; ticket = (let t = f.tickets in omega arith) }
 
   pub next_reserve_spare : (expected : ℕ) → Fits o (at.Reserve Spare expected) v
       → Fits (after o n (at.Reserve Spare expected)) (after o n (at.Reserve Spare expected)).stage
@@ -57,19 +57,29 @@ module _ (k : Shape) (h : List Mark) (o : Own) (v : View) (n : ℕ) where
           (cond (n == 0) (record v { latest = record v.latest { free = Some 0 }; seen = h })
           (record v { latest = record v.latest { free = Some n } })))
       held true =
-          let p = f.point in
-          let i = p.0 in record {
+          let i = (f.point).idle in record {
             owns = f.owns;
             unraised = λ z. f.unraised refl;
             tickets = (let t = f.tickets in omega arith);
-            point = (i.0, bare_reserved true i.1, i.2, i.3, p.2, p.3, p.4);
+            point = record {
+              outside = i.outside;
+              bare = bare_reserved true i.bare;
+              empty = i.empty;
+              no_hand = i.no_hand;
+              takes = (f.point).takes;
+            };
           }
       held false = dite (ℕ_discrete n 0)
           (λ e. subst (λ z. let o' : Own = cond z (none_free (record o { free = 0 }) Spare)
           (go (record o { free = n }) (at.Reserve Spare n)) in
           Fits o' o'.stage (cond z (record v { latest = record v.latest { free = Some 0 }; seen = h })
           (record v { latest = record v.latest { free = Some n } }))) (sym (eq-eqb n 0 e))
-          (record { owns = f.owns; unraised = λ z. f.unraised refl; tickets = f.tickets; point = ((f.point).0, (f.point).2) }))
+          (record {
+            owns = f.owns;
+            unraised = λ z. f.unraised refl;
+            tickets = f.tickets;
+            point = ((f.point).idle, ((f.point).takes).deletes);
+          }))
           (λ ne. subst (λ z. let o' : Own = cond z (none_free (record o { free = 0 }) Spare)
           (go (record o { free = n }) (at.Reserve Spare n)) in
           Fits o' o'.stage (cond z (record v { latest = record v.latest { free = Some 0 }; seen = h })
@@ -78,11 +88,11 @@ module _ (k : Shape) (h : List Mark) (o : Own) (v : View) (n : ℕ) where
             owns = f.owns;
             unraised = λ z. f.unraised refl;
             tickets = f.tickets;
-            point = ((f.point).0, omega arith, (f.point).2, (f.point).3, (f.point).4);
+            point = record { idle = (f.point).idle; some = omega arith; takes = (f.point).takes };
           }))
 
   pub needs_seize_spare : Fits o (at.Seize Spare) v → Needs k v n (act_at o (at.Seize Spare))
-  needs_seize_spare f = record { reserved = ((f.point).1).reserved_is; some = (λ e. let one = f.owns.scans in absurd (omega arith)) }
+  needs_seize_spare f = record { reserved = ((f.point).bare).reserved_is; some = (λ e. let one = f.owns.scans in absurd (omega arith)) }
 
   pub next_seize_spare : Fits o (at.Seize Spare) v
       → Fits (after o n (at.Seize Spare)) (after o n (at.Seize Spare)).stage (view_after v h n (act_at o (at.Seize Spare)))
@@ -99,17 +109,17 @@ module _ (k : Shape) (h : List Mark) (o : Own) (v : View) (n : ℕ) where
             owns = owns_scanned o v f.owns;
             unraised = λ z. f.unraised refl;
             tickets = f.tickets;
-            point = (p.0, bare_reserved false p.1, refl, refl, p.4, p.5, p.6);
+            point = record { outside = p.outside; bare = bare_reserved false p.bare; in_hand = refl; taken = refl; takes = p.takes };
           }
-      got false = record {
+      got false = let p = f.point in record {
         owns = owns_scanned o v f.owns;
         unraised = λ z. f.unraised refl;
         tickets = f.tickets;
-        point = f.point;
+        point = record { outside = p.outside; bare = p.bare; empty = p.empty; no_hand = p.no_hand; takes = p.takes };
       }
 
   pub needs_age_spare : (s : ℕ) → Fits o (at.Age Spare s) v → Needs k v n (act_at o (at.Age Spare s))
-  needs_age_spare s f = (seized s, inl ((f.point).2, refl))
+  needs_age_spare s f = (seized s, inl ((f.point).in_hand, refl))
 
   pub next_age_spare : (s : ℕ) → Fits o (at.Age Spare s) v
       → Fits (after o n (at.Age Spare s)) (at.Keep s) (view_after v h n (act_at o (at.Age Spare s)))
@@ -117,38 +127,33 @@ module _ (k : Shape) (h : List Mark) (o : Own) (v : View) (n : ℕ) where
     owns = owns_noted o v s (Life s) n false f.owns;
     unraised = λ z. f.unraised refl;
     tickets = f.tickets;
-    point = (
-      p.0,
-      bare_noted v s (Life s) n false [] [] None false p.1 refl,
-      (
-        record { slot = s; known = read_at (Life s) n ∷ (seized s).known; raised = false },
-        ap (note_option s (read_at (Life s) n)) p.2 ∙ ap Some (held_here s (read_at (Life s) n) (seized s) refl),
-        refl,
-      ),
-      p.4,
-      p.5,
-      p.6,
-    );
+    point = record {
+      outside = p.outside;
+      bare = bare_noted v s (Life s) n false [] [] None false p.bare refl;
+      held = record { slot = s; known = read_at (Life s) n ∷ (seized s).known; raised = false };
+      in_hand = ap (note_option s (read_at (Life s) n)) p.in_hand ∙ ap Some (held_here s (read_at (Life s) n) (seized s) refl);
+      slot_is = refl;
+      lacks = p.takes;
+    };
   }
 
   pub needs_keep : (s : ℕ) → Fits o (at.Keep s) v → Needs k v n (act_at o (at.Keep s))
-  needs_keep s f = let q = (f.point).2 in (
-    q.0,
+  needs_keep s f = let p = f.point in (
+    p.held,
     record {
-      in_hand = (q.1, q.2);
-      none = no_spare v.hands.spare o.spare f.owns.spare_is (ap is_some (f.point).5);
+      in_hand = (p.in_hand, p.slot_is);
+      none = no_spare v.hands.spare o.spare f.owns.spare_is (ap is_some (p.lacks).no_spare);
     },
   )
 
   pub next_keep : (s : ℕ) → Fits o (at.Keep s) v → Fits (after o n (at.Keep s)) at.EnterClock (view_after v h n (act_at o (at.Keep s)))
   next_keep s f =
       let p = f.point in
-      let q = p.2 in
       let owns = owns_noted o v s (Life s) n false f.owns in
-      let b = bare_noted v s (Life s) n false [] [] None false p.1 refl in record {
+      let b = bare_noted v s (Life s) n false [] [] None false p.bare refl in record {
         owns = owns_spared o (noting v s (Life s) n false) owns (Some s) _
-            (spare_noted s (read_at (Life s) n) v.hands.hand ∙ ap spare_slot q.1 ∙ ap Some q.2);
+            (spare_noted s (read_at (Life s) n) v.hands.hand ∙ ap spare_slot p.in_hand ∙ ap Some p.slot_is);
         unraised = λ z. f.unraised refl;
-        tickets = (let t = f.tickets in let two = delete_owed o.op None o.retired p.3 in omega arith);
-        point = (p.0, (b, refl, record { empty = λ z. refl; room = λ z. p.4; has_spare = λ z. refl }));
+        tickets = (let t = f.tickets in let two = delete_owed o.op None o.retired (p.lacks).deletes in omega arith);
+        point = (p.outside, (b, refl, record { empty = λ z. refl; room = λ z. (p.lacks).room; has_spare = λ z. refl }));
       }

@@ -123,7 +123,7 @@ module _ (k : Shape) (h : List Mark) (o : Own) (v : View) (word : Field → ℕ)
   within (at.SpotTag s b) eer f d = searched s (part.Tag b) d
   within (at.SpotLife s b tag) eer f d = searched s part.Life d
   within (at.LeafField spot i) eer f d = filled d.0 (or_root o.hand) (content_part i) (d.1).holder
-  within (at.LeafLock spot) eer f d = slot_in spot.slot ((f.point).4).inside
+  within (at.LeafLock spot) eer f d = slot_in spot.slot ((f.point).has_spot).inside
   within (at.LeafLife spot) eer f d = locked spot.slot part.Life d
   within (at.LeafSide spot life) eer f d = locked spot.slot (part.Link spot.side) d
   within (at.LeafTag spot life link) eer f d = locked spot.slot (part.Tag spot.side) d

@@ -55,12 +55,13 @@ pub may_take : {k : Shape} {op : Op} {kept e : ℕ} {aim : Aim} {v : View} → I
 may_take {e = e} {aim = aim} {v = v} a = by aim a.fits
   where
     by : (aim : Aim) → Fits a.own (at.Reserve aim e) v → MayTake v
-    by (Leaf spot) f = let p = f.point in record {
-      unreserved = (p.1).reserved_is;
-      empty = p.2;
+    by (Leaf spot) f = let i = (f.point).idle in record {
+      unreserved = (i.bare).reserved_is;
+      empty = i.empty;
       ticket = (let t = f.tickets in let two = least_two a.own.retired spot in omega arith);
     }
-    by Spare f = let i = (f.point).0 in record { unreserved = (i.1).reserved_is; empty = i.2; ticket = (let t = f.tickets in omega arith) }
+    by Spare f = let i = (f.point).idle in
+        record { unreserved = (i.bare).reserved_is; empty = i.empty; ticket = (let t = f.tickets in omega arith) }
     by Room f = absurd f.point
 
 -- A take makes steps.
@@ -104,13 +105,22 @@ module _ {slot generation : ℕ} {v w : View} (taken : HasTaken v slot generatio
       let o : Own = a.own in
       let f = a.fits in
       let p = f.point in
+      let i = p.idle in
       let o' : Own = go (record o { hand = Some slot; hand_life = life }) (at.LeafField spot 0) in
-      let b = bare_noted v slot (Life slot) life false [] [] None false p.1 refl in
       let fits : Fits o' (at.LeafField spot 0) after_taking = record {
         owns = owns_noted o v slot (Life slot) life false f.owns;
         tickets = (let t = f.tickets in let two = least_two o.retired spot in omega arith);
         unraised = λ z. f.unraised refl;
-        point = (p.0, b, (slot, refl, refl), p.5, p.6, omega arith);
+        point = record {
+          outside = i.outside;
+          bare = bare_noted v slot (Life slot) life false [] [] None false i.bare refl;
+          slot = slot;
+          taken = refl;
+          in_hand = refl;
+          has_spot = (p.takes).0;
+          puts = (p.takes).1;
+          small = omega arith;
+        };
       } in
       moves_on a o' refl (subst (Fits o' (at.LeafField spot 0)) (sym taken.rest) fits)
 
@@ -118,15 +128,20 @@ module _ {slot generation : ℕ} {v w : View} (taken : HasTaken v slot generatio
   takes_spare a =
       let o : Own = a.own in
       let f = a.fits in
-      let p = f.point in
-      let i = p.0 in
+      let i = (f.point).idle in
       let o' : Own = go (record o { hand = Some slot; hand_life = life }) (at.Keep slot) in
-      let b = bare_noted v slot (Life slot) life false [] [] None false i.1 refl in
       let fits : Fits o' (at.Keep slot) after_taking = record {
         owns = owns_noted o v slot (Life slot) life false f.owns;
         tickets = (let t = f.tickets in omega arith);
         unraised = λ z. f.unraised refl;
-        point = (i.0, b, (aged slot life, refl, refl), p.2, p.3, p.4);
+        point = record {
+          outside = i.outside;
+          bare = bare_noted v slot (Life slot) life false [] [] None false i.bare refl;
+          held = aged slot life;
+          in_hand = refl;
+          slot_is = refl;
+          lacks = (f.point).takes;
+        };
       } in
       moves_on a o' refl (subst (Fits o' (at.Keep slot)) (sym taken.rest) fits)
 
@@ -147,19 +162,19 @@ module _ {k : Shape} {v w : View} (none : FoundNone k v w) where
 
   -- A put answers Full, where nothing is retired; then the dictionary is as large as that asks for.
   pub none_is_full : {op : Op} {kept e : ℕ} {spot : Spot} → IsAt k op kept (at.Reserve (Leaf spot) e) v → IsFull k w
-  none_is_full a = let b = (a.fits.point).1 in none.full b.settled b.paid
+  none_is_full a = let b = a.fits.point.idle.bare in none.full b.settled b.paid
 
   pub none_ends : {op : Op} {kept e : ℕ} {spot : Spot} → IsAt k op kept (at.Reserve (Leaf spot) e) v → IsDone k op kept w
   none_ends {spot = spot} a =
       let o : Own = a.own in
       let f = a.fits in
-      let p = f.point in
+      let i = (f.point).idle in
       let o' : Own = go o at.Finished in
       let fits : Fits o' at.Finished after_none = record {
         owns = f.owns;
         tickets = (let t = f.tickets in omega arith);
         unraised = λ z. f.unraised refl;
-        point = (p.0, p.1, p.2);
+        point = (i.outside, i.bare, i.empty);
       } in
       moves_on a o' refl (subst (Fits o' at.Finished) (sym none.rest) fits)
 
@@ -176,7 +191,7 @@ module _ {k : Shape} {v w : View} (none : FoundNone k v w) where
         tickets = (let t = f.tickets in let three = three_left o.retired spot
             (none_retired v.hands.retired o.retired f.owns.retired_are some) in omega arith);
         unraised = λ z. f.unraised refl;
-        point = ((p.0, p.1, p.2, p.3), (p.5, p.6));
+        point = (p.idle, p.takes);
       } in
       moves_on a o' refl (subst (Fits o' (at.Begin (Reuse (Leaf spot)))) (sym none.rest) fits)
 
@@ -190,7 +205,7 @@ module _ {k : Shape} {v w : View} (none : FoundNone k v w) where
         owns = f.owns;
         tickets = f.tickets;
         unraised = λ z. f.unraised refl;
-        point = (p.0, p.2);
+        point = (p.idle, (p.takes).deletes);
       } in
       moves_on a o' refl (subst (Fits o' (at.Begin (Reuse Spare))) (sym none.rest) fits)
 
@@ -266,9 +281,9 @@ pub may_reclaim : {k : Shape} {op : Op} {kept : ℕ} {aim : Aim} {v : View} → 
 may_reclaim a =
     let f = a.fits in
     let i = (f.point).0 in
-    let b = i.1 in
+    let b = i.bare in
     record {
-      outside = i.0;
+      outside = i.outside;
       unlocked = b.locks_are;
       settled = b.settled;
       paid = b.paid;

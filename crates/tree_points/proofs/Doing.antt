@@ -88,7 +88,7 @@ module _ {k : Shape} {kept n : ℕ} {v w : View} where
   updated_leaf {key} {value} {leaf} {front} a t =
       updated t.marks [] (Put key value) front refl refl (further v _ t.goes refl) t.sees (allowed t.goes refl)
       (ap (λ (z : View). z.seen) t.goes)
-      ((t.gains).found (record { found = front; stored = false }) (((a.fits).point).2).turn_is)
+      ((t.gains).found (record { found = front; stored = false }) (((a.fits).point).bare).turn_is)
 
   -- a set's value was the key's, as the set loaded it
   pub updated_value : {key value s old front : ℕ} → IsAt k (Set key value) kept (at.Store (update.Value s old) front) v
@@ -163,7 +163,7 @@ linked_case : {k : Shape} {op : Op} {kept leaf front : ℕ} {v : View} {spot : S
     (a : IsAt k op kept (at.Store (update.Leaf spot) front) v) → IsSlotOf (Some leaf) v.hands.hand
     → act_at a.own (at.Store (update.Leaf spot) front) ≡ acts.LinkLeaf spot.slot spot.side leaf (key_of op) (value_in op)
 linked_case {op = op} {leaf = leaf} {v = v} {spot = spot} a is =
-    let hand : a.own.hand ≡ Some leaf = sym (slot_in_hand a.own.hand _ _ _ v.hands.hand ((a.fits).point).3)
+    let hand : a.own.hand ≡ Some leaf = sym (slot_in_hand a.own.hand _ _ _ v.hands.hand ((a.fits).point).hand)
     ∙ slot_of v.hands.hand leaf is in
     ap (λ x. acts.LinkLeaf spot.slot spot.side (or_root x) (key_now a.own) (value_in a.own.op)) hand
     ∙ ap (λ (x : Op). acts.LinkLeaf spot.slot spot.side leaf (key_of x) (value_in x)) a.op_is

@@ -60,7 +60,12 @@ reserves_any {e = e} {aim = aim} {v = v} a expected some = moves_on a a.own refl
       owns = f.owns;
       tickets = f.tickets;
       unraised = f.unraised;
-      point = (p.0, p.1, p.2, p.3, some, p.5, p.6);
+      point = record { idle = p.idle; some = some; takes = p.takes };
     }
-    by Spare f = let p = f.point in record { owns = f.owns; tickets = f.tickets; unraised = f.unraised; point = (p.0, some, p.2, p.3, p.4) }
+    by Spare f = let p = f.point in record {
+      owns = f.owns;
+      tickets = f.tickets;
+      unraised = f.unraised;
+      point = record { idle = p.idle; some = some; takes = p.takes };
+    }
     by Room f = absurd f.point

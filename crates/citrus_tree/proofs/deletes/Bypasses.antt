@@ -80,7 +80,7 @@ module _ {k : Shape} {op : Op} {kept : ℕ} (d : Node) (child : ℕ) (is : child
 -- with the front to be opened, and open
 pub bypass_paid : {k : Shape} {op : Op} {kept child e : ℕ} {v : View} (d : Node) → IsAt k op kept (at.Commit (update.Bypass d child) e) v
     → (v.moving ≡ None) × (v.commit ≡ None)
-bypass_paid d a = let q = ((a.fits.point).0).0 in (q.settled, q.turn_is)
+bypass_paid d a = let q = ((a.fits.point).0).quiet in (q.settled, q.turn_is)
 
 pub bypass_odd : {k : Shape} {op : Op} {kept child front : ℕ} {v : View} (d : Node)
     → IsAt k op kept (at.Even (update.Bypass d child) front) v → v.commit ≡ Some (record { found = front; stored = true })
