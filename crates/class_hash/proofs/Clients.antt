@@ -17,7 +17,7 @@ use Rattle.prcu_model.specs.Replies.{Confirms, tells_update}
 use Rattle.prcu_marks.specs.Marks.{updates_of}
 use Rattle.prcu_marks.specs.Callers.{Caller, HasSeenItsOwn, IsLeftBy, entered_for, WaitsFor, HasMadeUpdate, WasExplained, HasAnswered}
 use Rattle.prcu_model.proofs.ListFacts.{prefix_self, prefix_trans, all_map, all_append}
-use Rattle.prcu_marks.proofs.MarkLists.{updates_of-append}
+use Rattle.prcu_marks.proofs.MarkLists.{updates_of-append, updates_below}
 use Rattle.prcu_marks.proofs.OwnMarks.{entered_for-append}
 use Rattle.hash_core.specs.declared.view.View.{View}
 use Rattle.class_hash.specs.Answers.{IsInformed}
@@ -61,11 +61,6 @@ no_updates place key (Done u ∷ ms) all = absurd all.0
 no_updates place key (Given s ∷ ms) all = absurd all.0
 no_updates place key (Unlinked s ∷ ms) all = absurd all.0
 no_updates place key (Freed s ∷ ms) all = absurd all.0
-
--- who has seen more has seen no fewer updates
-updates_below : (a b : List Mark) → IsPrefix a b → length (updates_of a) ≤ length (updates_of b)
-updates_below a b p = let e = ap length (ap updates_of (sym p.1) ∙ updates_of-append a p.0) in
-    omega (arith, e, length-append (updates_of a) (updates_of p.0))
 
 module _ (explains : Dictionary → Op → Reply → Type 0) (v w : View) (op : Op) (told : Told)
     (met : HasSeenItsOwn (record { place = w.place; own = w.own; seen = w.seen })) where
