@@ -31,7 +31,7 @@ use Rattle.class_hash.proofs.Informed.{new_informed}
 use Rattle.hash_run.specs.Capacities.{put_keys, AreCapacities}
 use Rattle.client_run.specs.Crews.{IsCrew, AreDone, HaveMet, HaveRun}
 use Rattle.client_run.proofs.Crews.{mapped_at, some_there, entries_are, crew_ready, chain_of, crew_keeps, crew_has_told}
-use Rattle.hash_run.specs.Crews.{idle_view, client_for, IsDone, IsJoined, StandsFor, all_own}
+use Rattle.hash_run.specs.Crews.{client_for, IsDone, IsJoined, StandsFor, all_own}
 use Rattle.hash_run.proofs.Roomy.{PutsInto, each_put_there, all_stand, all_from_own, told_from_lines, all_lines_from_ops, at_number}
 
 pub ready : (table : TableAt) (scripts : List (List Op)) (workers : List (Work ClientAt)) → IsCrew (client_for table) scripts workers
