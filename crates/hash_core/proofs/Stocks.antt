@@ -28,13 +28,13 @@ use Rattle.hash_core.specs.Seats.{IsTurned}
 use Rattle.hash_core.specs.Steps.{NeedsTake, after_take, NeedsRefill, after_refill, NeedsMove, after_move, NeedsPush, after_push, NeedsChain, after_chain, IsFieldOf, NeedsWrite, after_write}
 use Rattle.hash_core.specs.Rule.{BucketRule, MemoryRule}
 use Rattle.prcu_model.proofs.ListFacts.{all_map}
-use Rattle.list_laws.proofs.Lists.{past_snoc, each_set, all_change, all_from_times, times_here}
+use Rattle.list_laws.proofs.Lists.{past_snoc, each_set, all_change, all_from_times, times_here, at_most_one}
 use Rattle.hash_core.proofs.Paths.{path_cons, path_none, IsPath-same, seek-same, HaveDistinctKeys-same}
 use Rattle.prcu_marks.proofs.MarkLists.{updates_of-append, entered_at-append}
 use Rattle.prcu_marks.proofs.LastUnlinked.{last_unlinked-same, last_gone}
 use Rattle.hash_core.proofs.MarkOrder.{marks_snoc}
 use Rattle.hash_core.proofs.Adds.{open_at-same, gone_at-given_here, gone_at-given_other}
-use Rattle.hash_core.proofs.Classes.{one_class, slot_within, at_most_one}
+use Rattle.hash_core.proofs.Classes.{one_class, slot_within}
 use Rattle.hash_core.proofs.Frames.{SameMarks, SameLists, free_slot, retired_slot, taken_slot, unlinked_slot}
 use Rattle.hash_core.proofs.Stores.{class_words, stored_here, same_self, same_is}
 use Rattle.hash_core.proofs.SeatFrames.{seen_whole, apart_same, owned_same, open_same, held_still, turned_same}
