@@ -89,7 +89,7 @@ is_aside o v h word d u told owns p =
 
 module _ (k : Shape) (h : List Mark) (o : Own) (w : View) (places : k.places ≡ o.places) where
   leaves : (key : ℕ) (state : SearchState) (more : Section → Type 0) → Inside w key state more → (s : Section) × (w.section ≡ Some s)
-  leaves key state more i = (i.0, i.1)
+  leaves key state more i = (i.section, i.is)
 
   needs_all : (word : Field → ℕ) → IsTold o w h word → (n : ℕ) (stage : Stage) → (is_step (act_at o stage) ≡ false → k.waiter ≡ Eer)
       → Fits o stage w → Needs k w n (act_at o stage)

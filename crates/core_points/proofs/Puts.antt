@@ -26,7 +26,7 @@ use Rattle.core_points.specs.Facts.{read_at}
 use Rattle.core_points.specs.Tickets.{owed_reserve}
 use Rattle.core_points.specs.Fits.{Fits}
 use Rattle.core_points.proofs.Answers.{answers}
-use Rattle.core_points.proofs.Notes.{owns_scanned, owns_noted, bare_noted, bare_reserved, held_here}
+use Rattle.core_points.proofs.Notes.{owns_scanned, owns_noted, bare_noted, bare_reserved, held_here, stands_on}
 use Rattle.core_frames.proofs.views.Readings.{missed_stays}
 use Rattle.tree_laws.proofs.notes.Knowing.{known_here}
 
@@ -38,19 +38,19 @@ module _ (k : Shape) (h : List Mark) (o : Own) (v : View) (n : ℕ) where
   -- the record: the tag and the life, in the section
   pub needs_spot_tag : (s : ℕ) (b : Side) → Fits o (at.SpotTag s b) v → Needs k v n (act_at o (at.SpotTag s b))
   needs_spot_tag s b f = let i = (f.point).2 in (
-    i.0,
-    record { section_is = i.1; searches = (i.2).searches; stood = (i.2).here; loadable = refl },
+    i.section,
+    record { section_is = i.is; searches = (i.stands).searches; stood = (i.stands).here; loadable = refl },
   )
 
   pub next_spot_tag : (s : ℕ) (b : Side) → Fits o (at.SpotTag s b) v
       → Fits (after o n (at.SpotTag s b)) (at.SpotLife s b n) (view_after v h n (act_at o (at.SpotTag s b)))
   next_spot_tag s b f =
       let i = (f.point).2 in
-      let section : Section = i.0 in
+      let section : Section = i.section in
       let o' : Own = go o (at.SpotLife s b n) in
-      subst (λ x. Fits o' (at.SpotLife s b n) (after_search_load v x (Tag s b) n)) (sym (section_is v _ i.1))
+      subst (λ x. Fits o' (at.SpotLife s b n) (after_search_load v x (Tag s b) n)) (sym (section_is v _ i.is))
       (subst (λ (r : Reading). Fits o' (at.SpotLife s b n) (record v { section = Some (record section { reading = r }) }))
-      (sym (missed_stays section.reading s b (Tag s b) n (i.2).state_is))
+      (sym (missed_stays section.reading s b (Tag s b) n (i.stands).state_is))
       (record {
         owns = f.owns;
         unraised = λ z. f.unraised refl;
@@ -58,34 +58,28 @@ module _ (k : Shape) (h : List Mark) (o : Own) (v : View) (n : ℕ) where
         point = (
           (f.point).0,
           (f.point).1,
-          (
-            _,
-            refl,
-            record {
-              searches = (i.2).searches;
-              key_is = (i.2).key_is;
-              sought = (i.2).sought;
-              state_is = (i.2).state_is;
-              here = (i.2).here;
-            },
-            known_here section.reading.loads (Tag s b) n false,
-          ),
+          record {
+            section = _;
+            is = refl;
+            stands = stands_on _ refl (i.stands).state_is (i.stands).here i.stands;
+            known = known_here section.reading.loads (Tag s b) n false;
+          },
         );
       }))
 
   pub needs_spot_life : (s : ℕ) (b : Side) (tag : ℕ) → Fits o (at.SpotLife s b tag) v → Needs k v n (act_at o (at.SpotLife s b tag))
   needs_spot_life s b tag f = let i = (f.point).2 in
-      (i.0, record { section_is = i.1; searches = (i.2).searches; stood = (i.2).here; loadable = refl })
+      (i.section, record { section_is = i.is; searches = (i.stands).searches; stood = (i.stands).here; loadable = refl })
 
   pub next_spot_life : (s : ℕ) (b : Side) (tag : ℕ) → Fits o (at.SpotLife s b tag) v
       → Fits (after o n (at.SpotLife s b tag)) (after o n (at.SpotLife s b tag)).stage (view_after v h n (act_at o (at.SpotLife s b tag)))
   next_spot_life s b tag f =
       let i = (f.point).2 in
-      let section : Section = i.0 in
+      let section : Section = i.section in
       let o' : Own = after o n (at.SpotLife s b tag) in
-      subst (λ x. Fits o' o'.stage (after_search_load v x (Life s) n)) (sym (section_is v _ i.1))
+      subst (λ x. Fits o' o'.stage (after_search_load v x (Life s) n)) (sym (section_is v _ i.is))
       (subst (λ (r : Reading). Fits o' o'.stage (record v { section = Some (record section { reading = r }) }))
-      (sym (missed_stays section.reading s b (Life s) n (i.2).state_is))
+      (sym (missed_stays section.reading s b (Life s) n (i.stands).state_is))
       (record {
         owns = f.owns;
         unraised = λ z. f.unraised refl;
@@ -94,18 +88,12 @@ module _ (k : Shape) (h : List Mark) (o : Own) (v : View) (n : ℕ) where
           (f.point).0,
           (
             (f.point).1,
-            (
-              _,
-              refl,
-              record {
-                searches = (i.2).searches;
-                key_is = (i.2).key_is;
-                sought = (i.2).sought;
-                state_is = (i.2).state_is;
-                here = (i.2).here;
-              },
-              ((n, known_here section.reading.loads (Life s) n false, refl), i.3),
-            ),
+            record {
+              section = _;
+              is = refl;
+              stands = stands_on _ refl (i.stands).state_is (i.stands).here i.stands;
+              known = ((n, known_here section.reading.loads (Life s) n false, refl), i.known);
+            },
           ),
         );
       }))

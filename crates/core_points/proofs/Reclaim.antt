@@ -86,11 +86,11 @@ giving_fits o aim w comes owns idle for paid unraised waited = by_left (is_none_
         by false e = absurd (let q : true ≡ false = sym none ∙ comes e in cc)
 
     calm : is_none_left o.retired ≡ true → Calm o w
-    calm none = (
-      idle.bare,
-      subst (λ x. HandFits x o.hand_life (key_now o) (value_in o.op) w.hands.hand) (sym idle.no_hand) idle.empty,
-      record { empty = λ z. idle.no_hand; room = λ z. none_left o.retired none; has_spare = λ z. spare_now none },
-    )
+    calm none = record {
+      bare = idle.bare;
+      hand = subst (λ x. HandFits x o.hand_life (key_now o) (value_in o.op) w.hands.hand) (sym idle.no_hand) idle.empty;
+      ready = record { empty = λ z. idle.no_hand; room = λ z. none_left o.retired none; has_spare = λ z. spare_now none };
+    }
 
     enters : is_none_left o.retired ≡ true → (m : ℕ) → 2 ≤ m → m + 4 * length o.rest + o.kept ≤ w.allowance.tickets
         → Fits (go o at.EnterClock) at.EnterClock w

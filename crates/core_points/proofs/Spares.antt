@@ -155,5 +155,8 @@ module _ (k : Shape) (h : List Mark) (o : Own) (v : View) (n : ℕ) where
             (spare_noted s (read_at (Life s) n) v.hands.hand ∙ ap spare_slot p.in_hand ∙ ap Some p.slot_is);
         unraised = λ z. f.unraised refl;
         tickets = (let t = f.tickets in let two = delete_owed o.op None o.retired (p.lacks).deletes in omega arith);
-        point = (p.outside, (b, refl, record { empty = λ z. refl; room = λ z. (p.lacks).room; has_spare = λ z. refl }));
+        point = (
+          p.outside,
+          record { bare = b; hand = refl; ready = record { empty = λ z. refl; room = λ z. (p.lacks).room; has_spare = λ z. refl } },
+        );
       }

@@ -363,7 +363,12 @@ module _ (k : Shape) (h : List Mark) (o : Own) (v : View) (n : ℕ) where
           let q = p.quiet in
           let bare = no_slots v.locks (λ x. f.owns.locks_are x ∙ ap (times x) (none_in o.locks e)) in
           let c = quiet_calm o v q bare in
-          record { owns = f.owns; unraised = λ z. f.unraised refl; tickets = f.tickets; point = (q.outside, (c.0, c.1, (p.deleting).1)) }
+          record {
+            owns = f.owns;
+            unraised = λ z. f.unraised refl;
+            tickets = f.tickets;
+            point = (q.outside, record { bare = c.0; hand = c.1; ready = (p.deleting).1 });
+          }
       taken false e =
           let p = f.point in
           let q = p.quiet in

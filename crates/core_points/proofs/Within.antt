@@ -63,7 +63,8 @@ target_within o v t i f = by (i == 0) (i == 1)
 
 copy_within : (o : Own) (v : View) (h : List Mark) (word : Field → ℕ) (d : Node) (u : Successor) (next_key : ℕ) → IsTold o v h word
     → Fits o (at.CopyLock d u next_key) v → or_root o.spare < table_of o
-copy_within o v h word d u next_key told f = let c = (((f.point).1).1).2 in subst (λ x. x < table_of o) c.2 (told.spare_within c.0 c.1)
+copy_within o v h word d u next_key told f = let c = ((f.point).1).has_copy in
+    subst (λ x. x < table_of o) c.slot_is (told.spare_within c.held c.spare_is)
 
 module _ (k : Shape) (h : List Mark) (o : Own) (v : View) (word : Field → ℕ) (slots : k.slots ≡ o.slots) (places : k.places ≡ o.places)
     (told : IsTold o v h word) where
@@ -158,7 +159,7 @@ module _ (k : Shape) (h : List Mark) (o : Own) (v : View) (word : Field → ℕ)
   within (at.Even u front) eer f d = tt
   within (at.Unlock l) eer f d = under_lock (first_or_root o.locks) (d.0, (d.1).held)
   within (at.SetLife s) eer f d = searched s part.Life d
-  within (at.SetLock s generation) eer f d = slot_in s ((f.point).2).inside
+  within (at.SetLock s generation) eer f d = slot_in s ((f.point).found).inside
   within (at.SetCheck s generation) eer f d = locked s part.Life d
   within (at.SetValue s) eer f d = locked s part.Value d
   within (at.ParentLife p b x) eer f d = searched p part.Life d

@@ -105,8 +105,14 @@ pub record Stands (section : Section) (key : ℕ) (state : SearchState) : Type 0
   pub state_is : section.reading.state ≡ state
   pub here : IsIn section.reading.stood (state_slot state)
 
+pub record InsideParts (now : Option Section) (key : ℕ) (state : SearchState) (more : Section → Type 0) : Type 0 where
+  pub section : Section
+  pub is : now ≡ Some section
+  pub stands : Stands section key state
+  pub known : more section
+
 abbrev pub Inside : View → ℕ → SearchState → (Section → Type 0) → Type 0
-Inside v key state more = (section : Section) × (v.section ≡ Some section) × Stands section key state × more section
+Inside v key state more = InsideParts v.section key state more
 
 abbrev pub Nothing : Section → Type 0
 Nothing section = Unit {0}
@@ -169,8 +175,14 @@ abbrev pub Hand : Own → View → Type 0
 Hand o v = HandFits o.hand o.hand_life (key_now o) (value_in o.op) v.hands.hand
 
 -- with nothing under way but a filled slot in hand
+pub record CalmParts (op : Op) (o_hand o_spare : Option ℕ) (life : ℕ) (o_retired : List ℕ) (locks : List HeldLock) (turn : Option Commit)
+    (moving : Option Move) (reserves owes : Bool) (held : Option Held) : Type 0 where
+  pub bare : BareParts [] None false locks turn moving reserves owes
+  pub hand : HandFits o_hand life (key_of op) (value_in op) held
+  pub ready : IsReady op o_hand o_spare o_retired
+
 abbrev pub Calm : Own → View → Type 0
-Calm o v = Bare v [] None false × Hand o v × Ready o
+Calm o v = CalmParts o.op o.hand o.spare o.hand_life o.retired v.locks v.commit v.moving v.hands.reserved v.hands.owes v.hands.hand
 
 -- a put that has a slot in hand, a record, and this much under way
 pub record Putting (o : Own) (v : View) (spot : Spot) (locks : List HeldLock) (commit : Option Commit) : Type 0 where
@@ -341,9 +353,11 @@ pub record HasFound (n : ℕ) (records : List Reading) (key s generation : ℕ) 
   pub inside : s < n
 
 -- a set that has a record, and this much under way
-abbrev pub Setting : Own → View → ℕ → ℕ → List HeldLock → Option Commit → Type 0
-Setting o v s generation locks commit = Quiet o v commit × (v.locks ≡ locks) × HasFound (table_of o) v.records (key_now o) s generation
-    × (is_set o.op ≡ true)
+pub record Setting (o : Own) (v : View) (s generation : ℕ) (locks : List HeldLock) (commit : Option Commit) : Type 0 where
+  pub quiet : Quiet o v commit
+  pub locks_are : v.locks ≡ locks
+  pub found : HasFound (table_of o) v.records (key_now o) s generation
+  pub sets : is_set o.op ≡ true
 
 -- what a set loaded under its lock, where it holds its record
 abbrev pub set_known : ℕ → ℕ → ℕ → List Known

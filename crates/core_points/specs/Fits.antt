@@ -6,7 +6,6 @@ use Rattle.prcu_marks.specs.declared.mark.Side.TheVariants.{Left, Right}
 use Rattle.prcu_model.specs.declared.operation.Op.TheVariants.{Get}
 use Rattle.core_state.specs.declared.words.Field.TheVariants.{Life, Key, Link, Tag}
 use Rattle.core_state.specs.declared.view.Clocked.{Clocked}
-use Rattle.core_state.specs.declared.view.Held.{Held}
 use Rattle.core_state.specs.declared.view.Retired.{Retired}
 use Rattle.core_state.specs.declared.view.SearchState.TheVariants.{At, Unread, Found, Missed}
 use Rattle.prcu_marks.specs.declared.commit.Commit.{Commit}
@@ -23,12 +22,11 @@ use Rattle.core_points.specs.declared.stage.Update.TheVariants as update
 use Rattle.core_points.specs.declared.stage.Waits.TheVariants.{Reuse, Move}
 use Rattle.core_points.specs.declared.stage.Stage.{Stage}
 use Rattle.core_points.specs.declared.stage.Stage.TheVariants as at
-use Rattle.core_state.specs.steps.Slots.{seized}
 use Rattle.core_points.specs.declared.stage.Moving.{Moving}
-use Rattle.core_points.specs.Callers.{Own, key_now, value_in, or_root, is_some, is_none_left}
-use Rattle.core_points.specs.Facts.{is_put, is_delete, is_set, table_of, read_at, leaf_held, Bare, Inside, Nothing, HasSpot, one_lock, spot_known, AreClear, Owns, Ready, Hand, Calm, Putting, Idle, ForAim, Reserving, Seizing, Aging, Filling, Keeping, HasRaised, GivingBack, Outlasting, Owing, Quiet, HasLocks, Unlocking, Setting, set_known}
+use Rattle.core_points.specs.Callers.{Own, key_now, or_root, is_none_left}
+use Rattle.core_points.specs.Facts.{is_put, is_delete, is_set, read_at, Bare, Inside, Nothing, one_lock, spot_known, AreClear, Owns, Ready, Hand, Calm, Putting, Idle, ForAim, Reserving, Seizing, Aging, Filling, Keeping, HasRaised, GivingBack, Outlasting, Owing, Quiet, HasLocks, Unlocking, Setting, set_known}
 use Rattle.core_points.specs.Tickets.{owed}
-use Rattle.core_points.specs.DeleteFacts.{ReadsLives, WalksTo, ReadsParent, ReadsChildren, AreApart, OnNode, under, IsUnmarked, ClearButMark, Bypassing, IsAside, KnowsSuccessor, HasCopy, all_locks, Copying, BeforeCopy, CopyFilling, IsFilled, BothMarking, CopyMaking, Holds, Shifting, HoldsOld, OutlastingMove, Emptied, Anything, Relinked, TargetLocking, TargetLoading, FewMarking}
+use Rattle.core_points.specs.DeleteFacts.{ReadsLives, WalksTo, ReadsParent, ReadsChildren, AreApart, OnNode, under, ClearButMark, Bypassing, IsAside, BeforeCopy, CopyFilling, IsFilled, BothMarking, CopyMaking, Shifting, HoldsOld, OutlastingMove, Emptied, Anything, Relinked, TargetLocking, TargetLoading, FewMarking}
 
 abbrev pub PointLeave : Own → View → Then → Type 0
 PointLeave o v then.Absent = (is_put o.op ≡ false) × ((s : ℕ) × (b : Side) × Inside v (key_now o) (Missed s b) Nothing)

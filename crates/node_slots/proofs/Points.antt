@@ -219,8 +219,8 @@ may_put_back {v = v} a =
     let o : Own = a.own in
     let p = a.fits.point in
     let calm = p.2 in
-    let leaf = subst (λ x. HandFits x o.hand_life (key_now o) (value_in o.op) v.hands.hand) (p.1).1 calm.1 in
-    record { paid = (calm.0).paid; hand = (leaf.0, leaf.1, (leaf.2).unraised) }
+    let leaf = subst (λ x. HandFits x o.hand_life (key_now o) (value_in o.op) v.hands.hand) (p.1).1 calm.hand in
+    record { paid = (calm.bare).paid; hand = (leaf.0, leaf.1, (leaf.2).unraised) }
 
 module _ {slot : ℕ} {v w : View} (back : PutsBack v slot w) where
   pub back_gone : HasGone v w []
@@ -258,7 +258,7 @@ module _ {slot : ℕ} {v w : View} (back : PutsBack v slot w) where
         seen = w.seen;
       }) in
       let o' : Own = go (record o { hand = None }) at.Finished in
-      let b1 = bare_noted v slot (Life slot) life false [] [] None false (p.2).0 refl in
+      let b1 = bare_noted v slot (Life slot) life false [] [] None false (p.2).bare refl in
       let b2 = bare_noted first slot (Life slot) (next_life life) true [] [] None false b1 refl in
       let fits : Fits o' at.Finished last = record {
         owns = owns_noted o first slot (Life slot) (next_life life) true (owns_noted o v slot (Life slot) life false f.owns);
