@@ -27,7 +27,7 @@ use Rattle.core_points.specs.declared.stage.Update.TheVariants as update
 use Rattle.core_points.specs.Acts.{Needs, view_after}
 use Rattle.core_points.specs.Callers.{Own, go, is_none_left, key_now, value_in}
 use Rattle.core_points.specs.Programs.{act_at, after, committing}
-use Rattle.core_points.specs.Facts.{AreClear, Bare, Calm, HandFits, Quiet, Setting, is_put, is_set, one_lock, read_at, set_known, stored_at, table_of}
+use Rattle.core_points.specs.Facts.{AreClear, Calm, HandFits, Quiet, Ready, Setting, is_put, is_set, one_lock, read_at, set_known, stored_at, table_of}
 use Rattle.core_points.specs.Tickets.{owed_op}
 use Rattle.core_points.specs.Fits.{Fits, plain}
 use Rattle.core_points.proofs.Answers.{ready_set}
@@ -64,16 +64,16 @@ quiet_noted o v s field n by_store commit q =
       no_hand = q.no_hand;
     }
 
--- the caller's call starts again with nothing held
-pub quiet_calm : (o : Own) (v : View) → Quiet o v None → v.locks ≡ []
-    → Bare v [] None false × HandFits o.hand o.hand_life (key_now o) (value_in o.op) v.hands.hand
-quiet_calm o v q none = (
-  record { locks_are = none; turn_is = q.turn_is; settled = q.settled; reserved_is = q.unreserved; paid = q.paid },
-  subst (λ x. HandFits x o.hand_life (key_now o) (value_in o.op) v.hands.hand) (sym q.no_hand) q.empty,
-)
-
 pub quiet_hand : (o : Own) (v : View) → Quiet o v None → HandFits o.hand o.hand_life (key_now o) (value_in o.op) v.hands.hand
 quiet_hand o v q = subst (λ x. HandFits x o.hand_life (key_now o) (value_in o.op) v.hands.hand) (sym q.no_hand) q.empty
+
+-- the caller's call starts again with nothing held
+pub quiet_calm : (o : Own) (v : View) → Quiet o v None → v.locks ≡ [] → Ready o → Calm o v
+quiet_calm o v q none ready = record {
+  bare = record { locks_are = none; turn_is = q.turn_is; settled = q.settled; reserved_is = q.unreserved; paid = q.paid };
+  hand = quiet_hand o v q;
+  ready = ready;
+}
 
 -- outside the section, with no slot in hand
 pub calm_quiet : (o : Own) (v : View) (section : Section) (h : List Mark) → Calm o v → is_put o.op ≡ false
@@ -166,17 +166,13 @@ module _ (k : Shape) (h : List Mark) (o : Own) (v : View) (n : ℕ) where
       got false =
           let p = f.point in
           let q = p.quiet in
-          let c = quiet_calm o v q p.locks_are in
           subst (λ ls. let st : Stage = cond (is_none_left ls) at.EnterClock (at.Unlock last.Again) in Fits (go o st) st v)
           (sym (no_locks o v f.owns p.locks_are))
           (record {
             owns = f.owns;
             unraised = λ z. f.unraised refl;
             tickets = f.tickets;
-            point = (
-              q.outside,
-              record { bare = c.0; hand = c.1; ready = ready_set o.op o.hand o.spare o.retired p.sets q.no_hand },
-            );
+            point = (q.outside, quiet_calm o v q p.locks_are (ready_set o.op o.hand o.spare o.retired p.sets q.no_hand));
           })
 
   -- a load under the lock

@@ -16,7 +16,6 @@ use Rattle.core_state.specs.views.Known.{known_under, loaded_in}
 use Rattle.core_state.specs.steps.Slots.{IsInHand, IsRetiredAt}
 use Rattle.core_state.specs.steps.Locks.{NeedsLockedLoad}
 use Rattle.core_state.specs.steps.Loads.{NeedsSearchLoad}
-use Rattle.core_points.specs.declared.stage.Aim.TheVariants.{Leaf, Spare, Room}
 use Rattle.core_points.specs.declared.stage.Node.{Node}
 use Rattle.core_points.specs.declared.stage.Successor.{Successor}
 use Rattle.core_points.specs.declared.stage.Target.{Target}
@@ -129,9 +128,7 @@ module _ (k : Shape) (h : List Mark) (o : Own) (v : View) (word : Field → ℕ)
   within (at.LeafSide spot life) eer f d = locked spot.slot (part.Link spot.side) d
   within (at.LeafTag spot life link) eer f d = locked spot.slot (part.Tag spot.side) d
   within (at.Reserve aim expected) eer f d = tt
-  within (at.Seize (Leaf spot)) eer f d = slot_in o.scan (let le = f.owns.scans_table in omega arith)
-  within (at.Seize Spare) eer f d = slot_in o.scan (let le = f.owns.scans_table in omega arith)
-  within (at.Seize Room) eer f d = absurd f.point
+  within (at.Seize aim) eer f d = slot_in o.scan (let le = f.owns.scans_table in omega arith)
   within (at.Age aim s) eer f d = slot_in s (held_in_table d.0 s d.1)
   within (at.Keep s) eer f d = in_hand d.0 s (d.1).in_hand
   within at.Raise eer f d = in_hand d.0 (or_root o.hand) (d.2).in_hand

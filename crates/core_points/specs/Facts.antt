@@ -27,7 +27,7 @@ use Rattle.core_state.specs.steps.Slots.{seized}
 use Rattle.prcu_model.specs.Dictionary.{key_of}
 use Rattle.core_points.specs.declared.stage.Spot.{Spot}
 use Rattle.core_points.specs.declared.stage.Aim.{Aim}
-use Rattle.core_points.specs.declared.stage.Aim.TheVariants.{Leaf}
+use Rattle.core_points.specs.declared.stage.Aim.TheVariants.{Leaf, Spare, Room}
 use Rattle.core_points.specs.Callers.{Own, key_now, value_in, is_some, is_none_left}
 
 abbrev pub is_put : Op → Bool
@@ -204,9 +204,13 @@ pub record IdleParts (o_hand : Option ℕ) (section : Option Section) (locks : L
 abbrev pub Idle : Own → View → Type 0
 Idle o v = IdleParts o.hand v.section v.locks v.commit v.moving v.hands.reserved v.hands.owes v.hands.hand
 
+-- what slots are given back for: a put's spot, or a delete
+abbrev pub AimsAt : ℕ → Op → List Reading → Aim → Type 0
+AimsAt n op records (Leaf spot) = HasSpot n records (key_of op) spot × (is_put op ≡ true)
+AimsAt n op records aim = is_delete op ≡ true
+
 abbrev pub ForAim : Own → View → Aim → Type 0
-ForAim o v (Leaf spot) = HasSpot (table_of o) v.records (key_now o) spot × (is_put o.op ≡ true)
-ForAim o v aim = is_delete o.op ≡ true
+ForAim o v aim = AimsAt (table_of o) o.op v.records aim
 
 -- a delete that takes a spare
 pub record LacksSpare (op : Op) (spare : Option ℕ) (retired : List ℕ) : Type 0 where
@@ -214,9 +218,14 @@ pub record LacksSpare (op : Op) (spare : Option ℕ) (retired : List ℕ) : Type
   pub room : length retired < 15
   pub no_spare : spare ≡ None
 
+-- what a slot is taken for: a put's spot, or a delete's spare
+abbrev pub TakesAt : ℕ → Op → Option ℕ → List ℕ → List Reading → Aim → Type 0
+TakesAt n op spare retired records (Leaf spot) = AimsAt n op records (Leaf spot)
+TakesAt n op spare retired records Spare = LacksSpare op spare retired
+TakesAt n op spare retired records Room = ⊥
+
 abbrev pub TakesFor : Own → View → Aim → Type 0
-TakesFor o v (Leaf spot) = ForAim o v (Leaf spot)
-TakesFor o v aim = LacksSpare o.op o.spare o.retired
+TakesFor o v aim = TakesAt (table_of o) o.op o.spare o.retired v.records aim
 
 -- before a slot is reserved, where some are free
 pub record Reserving (o : Own) (v : View) (aim : Aim) (expected : ℕ) : Type 0 where

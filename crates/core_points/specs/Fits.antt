@@ -12,7 +12,6 @@ use Rattle.prcu_marks.specs.declared.commit.Commit.{Commit}
 use Rattle.core_state.specs.declared.view.View.{View}
 use Rattle.list_laws.specs.Counts.{IsIn, Each}
 use Rattle.core_state.specs.views.Known.{known_in, LoadedGeneration}
-use Rattle.core_points.specs.declared.stage.Aim.TheVariants.{Leaf, Spare, Room}
 use Rattle.core_points.specs.declared.stage.Then.{Then}
 use Rattle.core_points.specs.declared.stage.Then.TheVariants as then
 use Rattle.core_points.specs.declared.stage.Last.{Last}
@@ -78,9 +77,9 @@ Point o (at.Leave next) v = Calm o v × PointLeave o v next
 Point o (at.SpotTag s b) v = Calm o v × (is_put o.op ≡ true) × Inside v (key_now o) (Missed s b) Nothing
 Point o (at.SpotLife s b tag) v = Calm o v × (is_put o.op ≡ true)
     × Inside v (key_now o) (Missed s b) (λ section. known_in section.reading.loads (Tag s b) ≡ Some tag)
-Point o (at.Reserve (Leaf spot) expected) v = Reserving o v (Leaf spot) expected
-Point o (at.Seize (Leaf spot)) v = Seizing o v (Leaf spot)
-Point o (at.Age (Leaf spot) s) v = Aging o v (Leaf spot) s
+Point o (at.Reserve aim expected) v = Reserving o v aim expected
+Point o (at.Seize aim) v = Seizing o v aim
+Point o (at.Age aim s) v = Aging o v aim s
 Point o (at.LeafField spot i) v = Filling o v spot i
 Point o (at.LeafLock spot) v = Putting o v spot [] None
 Point o (at.LeafLife spot) v = Putting o v spot (one_lock spot.slot []) None
@@ -104,13 +103,7 @@ Point o (at.OldRaise aim life) v = Idle o v × ForAim o v aim × Each v.hands.re
 Point o (at.OldFree aim) v = GivingBack o v aim
 Point o (at.OldCount aim) v = Owing o v × ForAim o v aim × Each v.hands.retired (λ (r : Retired). r.waited ≡ true)
 -- a spare is taken
-Point o (at.Reserve Spare expected) v = Reserving o v Spare expected
-Point o (at.Seize Spare) v = Seizing o v Spare
-Point o (at.Age Spare s) v = Aging o v Spare s
 Point o (at.Keep s) v = Keeping o v s
-Point o (at.Reserve Room expected) v = ⊥
-Point o (at.Seize Room) v = ⊥
-Point o (at.Age Room s) v = ⊥
 -- a set
 Point o (at.SetLife s) v = Calm o v × (is_set o.op ≡ true) × ((p : ℕ) × (b : Side) × Inside v (key_now o) (Found s p b None) Nothing)
 Point o (at.SetLock s generation) v = Setting o v s generation [] None
