@@ -92,8 +92,8 @@ module _ (k : Shape) (shape : IsShape k) (o : Own) (v w : View) (h h' : List Mar
       let is : o'.stage ≡ at.AtKey (suc n) s b = ap (λ z. cond z (ended o.op s b) (at.AtKey (suc n) s b))
       (ne_eqb (suc n) 0 (λ e. absurd (omega arith))) in
       let f : Fits o' (at.AtKey (suc n) s b) w = subst (λ st. Fits o' st w) is got.0 in
-      let section = (f.point).1 in
-      small (suc n) (at.AtLink s b) (suc n) (got.1.stood section.0 section.1 (suc n) (section.2).here)
+      let i = (f.point).1 in
+      small (suc n) (at.AtLink s b) (suc n) (got.1.stood i.section i.is (suc n) (i.stands).here)
 
   right_able : (d : Node) (n : ℕ) → d.left ≢ 0 → (let o' : Own = after o n (at.NodeRight d) in Fits o' o'.stage w × IsTold o' w h' m')
       → n < 2 ^ 32
@@ -107,8 +107,8 @@ module _ (k : Shape) (shape : IsShape k) (o : Own) (v w : View) (h h' : List Mar
       let is : o'.stage ≡ at.SuccessorLeft d' u = ap (λ z. cond z (at.Leave (then.Delete (record { node = d'; successor = None })))
       (at.SuccessorLeft d' u)) none in
       let f : Fits o' (at.SuccessorLeft d' u) w = subst (λ st. Fits o' st w) is got.0 in
-      let section = (f.point).2 in
-      small (suc n) (at.NodeRight d) (suc n) (got.1.stood section.0 section.1 (suc n) ((section.3).1.1).slot_stood)
+      let i = (f.point).2 in
+      small (suc n) (at.NodeRight d) (suc n) (got.1.stood i.section i.is (suc n) ((i.known).1.1).slot_stood)
 
   left_able : (d : Node) (u : Successor) (n : ℕ)
       → (let o' : Own = after o n (at.SuccessorLeft d u) in Fits o' o'.stage w × IsTold o' w h' m') → n < 2 ^ 32
@@ -120,8 +120,8 @@ module _ (k : Shape) (shape : IsShape k) (o : Own) (v w : View) (h h' : List Mar
       (cond (u.parent == d.node) (at.SuccessorLife d u) (at.SuccessorParentLife d u)) (at.SuccessorLeft d u'))
       (ne_eqb (suc n) 0 (λ e. absurd (omega arith))) in
       let f : Fits o' (at.SuccessorLeft d u') w = subst (λ st. Fits o' st w) is got.0 in
-      let section = (f.point).2 in
-      small (suc n) (at.SuccessorLeft d u) (suc n) (got.1.stood section.0 section.1 (suc n) ((section.3).1.1).slot_stood)
+      let i = (f.point).2 in
+      small (suc n) (at.SuccessorLeft d u) (suc n) (got.1.stood i.section i.is (suc n) ((i.known).1.1).slot_stood)
 
   -- no lock is held
   free_locks : SameLocks o.locks v.locks → v.locks ≡ [] → length o.locks < 5
@@ -162,7 +162,7 @@ module _ (k : Shape) (shape : IsShape k) (o : Own) (v w : View) (h h' : List Mar
   able (at.Unlock (last.New number)) n f word left next = some_left o.locks ((f.point).0).some
   able (at.Unlock (last.Gone number)) n f word left next = some_left o.locks ((f.point).0).some
   able (at.Unlock (last.Was value number)) n f word left next = some_left o.locks ((f.point).0).some
-  able (at.SetLock s generation) n f word left next = free_locks f.owns.locks_are ((f.point).1)
+  able (at.SetLock s generation) n f word left next = free_locks f.owns.locks_are (f.point).locks_are
   able (at.NodeRight d) n f word left next = λ some_child. right_able d n some_child next
   able (at.SuccessorLeft d u) n f word left next = left_able d u n next
   able (at.TargetLock t i) n f word left next =

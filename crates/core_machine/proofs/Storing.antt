@@ -54,7 +54,7 @@ made_at o v (at.OldRaise aim life) us ws f place is e = is ∙ none_made v.allow
 made_at o v (at.Store (update.Leaf spot) front) us ws f place is e =
     is ∙ (λ j. record { caller = place j; op = put_is o.op ((f.point).puts) j } ∷ []) ∙ sym e
 made_at o v (at.Store (update.Value s old) front) us ws f place is e =
-    is ∙ (λ j. record { caller = place j; op = set_is o.op (((f.point).1).3) j } ∷ []) ∙ sym e
+    is ∙ (λ j. record { caller = place j; op = set_is o.op (((f.point).1).sets) j } ∷ []) ∙ sym e
 made_at o v (at.Store (update.Bypass d child) front) us ws f place is e =
     is ∙ (λ j. record { caller = place j; op = del_is o.op (((f.point).deleting).0) j } ∷ []) ∙ sym e
 made_at o v (at.Store (update.Copy d u next_key copy) front) us ws f place is e =

@@ -79,12 +79,11 @@ module _ (o : Own) (v : View) (free : IsFree o v) where
     tickets = (let few = owed_start op o.hand o.retired free.empty in omega arith);
     point = (
       free.outside,
-      (
-        free.bare,
-        subst (λ x. HandFits x o.hand_life (key_of op) (value_in op) v.hands.hand)
-            (sym free.empty) free.no_hand,
-        ready,
-      ),
+      record {
+        bare = free.bare;
+        hand = subst (λ x. HandFits x o.hand_life (key_of op) (value_in op) v.hands.hand) (sym free.empty) free.no_hand;
+        ready = ready;
+      },
     );
   }
 

@@ -21,7 +21,7 @@ module _ (k : Shape) (h : List Mark) (o : Own) (v : View) (n : ℕ) where
   -- the front by this view, and the pending move, at an update that is to be made
   making_front : (u : Update) (commit : Option Commit) → Making o u (plain v) commit → (v.commit ≡ commit) × (v.moving ≡ None)
   making_front (update.Leaf spot) commit p = ((p.bare).turn_is, (p.bare).settled)
-  making_front (update.Value s old) commit p = let q = (p.1).0 in (q.turn_is, q.settled)
+  making_front (update.Value s old) commit p = let q = (p.1).quiet in (q.turn_is, q.settled)
   making_front (update.Bypass d child) commit p = let q = p.quiet in (q.turn_is, q.settled)
   making_front (update.Copy d u next_key copy) commit p = let q = (p.copying).quiet in (q.turn_is, q.settled)
 
@@ -40,7 +40,8 @@ module _ (k : Shape) (h : List Mark) (o : Own) (v : View) (n : ℕ) where
         has_spot = p.has_spot;
         puts = p.puts;
       }
-  turned (update.Value s old) o' w turn commit e p = (p.0, (quiet_turned e (p.1).0, (p.1).1, (p.1).2, (p.1).3))
+  turned (update.Value s old) o' w turn commit e p =
+      let q = p.1 in (p.0, record { quiet = quiet_turned e q.quiet; locks_are = q.locks_are; found = q.found; sets = q.sets })
   turned (update.Bypass d child) o' w turn commit e p = record {
     quiet = quiet_turned e p.quiet;
     deleting = p.deleting;

@@ -154,38 +154,40 @@ life_no_content s (suc (suc (suc (suc j)))) lt = absurd (omega arith)
 
 filled_more : (spare : Option Held) (copy : ℕ) (d : Node) (next_key value i : ℕ) → i ≤ 3 → HasCopy spare copy d next_key value i
     → HasCopy (note_option copy (stored_at (content copy i) (contents next_key value d.left d.right i)) spare) copy d next_key value (suc i)
-filled_more spare copy d next_key value i le (held, e, is, has) =
-    let kn : Known = stored_at (content copy i) (contents next_key value d.left d.right i) in (
-      record held { known = kn ∷ held.known },
-      ap (note_option copy kn) e ∙ ap Some (held_here copy kn held is),
-      is,
-      λ j lt. dite (ℕ_discrete j i)
+filled_more spare copy d next_key value i le p =
+    let held = p.held in
+    let kn : Known = stored_at (content copy i) (contents next_key value d.left d.right i) in record {
+      held = record held { known = kn ∷ held.known };
+      spare_is = ap (note_option copy kn) p.spare_is ∙ ap Some (held_here copy kn held p.slot_is);
+      slot_is = p.slot_is;
+      known = λ j lt. dite (ℕ_discrete j i)
           (λ same. subst (λ x. known_in (kn ∷ held.known) (content copy x) ≡ Some (contents next_key value d.left d.right x)) (sym same)
           (ap (λ z. cond z (Some (contents next_key value d.left d.right i)) (known_in held.known (content copy i)))
           (same_self (content copy i))))
           (λ ne. ap (λ z. cond z (Some (contents next_key value d.left d.right i)) (known_in held.known (content copy j)))
-          (contents_apart copy i j (omega arith) le) ∙ has j (omega arith)),
-    )
+          (contents_apart copy i j (omega arith) le) ∙ p.known j (omega arith));
+    }
 
 aged : (spare : Option Held) (copy : ℕ) (d : Node) (next_key value n : ℕ) → HasCopy spare copy d next_key value 4
     → HasCopy (note_option copy (read_at (Life copy) n) spare) copy d next_key value 4
-aged spare copy d next_key value n (held, e, is, has) =
-    let kn : Known = read_at (Life copy) n in (
-      record held { known = kn ∷ held.known },
-      ap (note_option copy kn) e ∙ ap Some (held_here copy kn held is),
-      is,
-      λ j lt. ap (λ z. cond z (Some n) (known_in held.known (content copy j))) (life_no_content copy j lt) ∙ has j lt,
-    )
+aged spare copy d next_key value n p =
+    let held = p.held in
+    let kn : Known = read_at (Life copy) n in record {
+      held = record held { known = kn ∷ held.known };
+      spare_is = ap (note_option copy kn) p.spare_is ∙ ap Some (held_here copy kn held p.slot_is);
+      slot_is = p.slot_is;
+      known = λ j lt. ap (λ z. cond z (Some n) (known_in held.known (content copy j))) (life_no_content copy j lt) ∙ p.known j lt;
+    }
 
 copy_elsewhere : (spare : Option Held) (copy s : ℕ) (kn : Known) (d : Node) (next_key value i : ℕ) → copy ≢ s
     → HasCopy spare copy d next_key value i → HasCopy (note_option s kn spare) copy d next_key value i
-copy_elsewhere spare copy s kn d next_key value i ne (held, e, is, has) = (
-  held,
-  ap (note_option s kn) e ∙ ap (λ z. Some (cond z (record held { known = kn ∷ held.known }) held))
-      (ne_eqb held.slot s (λ same. ne (sym is ∙ same))),
-  is,
-  has,
-)
+copy_elsewhere spare copy s kn d next_key value i ne p = let held = p.held in record {
+  held = held;
+  spare_is = ap (note_option s kn) p.spare_is ∙ ap (λ z. Some (cond z (record held { known = kn ∷ held.known }) held))
+      (ne_eqb held.slot s (λ same. ne (sym p.slot_is ∙ same)));
+  slot_is = p.slot_is;
+  known = p.known;
+}
 
 module _ (k : Shape) (h : List Mark) (o : Own) (v : View) (n : ℕ) where
   -- a load of the successor's key or value
@@ -252,7 +254,7 @@ module _ (k : Shape) (h : List Mark) (o : Own) (v : View) (n : ℕ) where
             key = known_more_under v.locks u.slot (read_at (Value u.slot) n) u.slot (Key u.slot) next_key refl p.2;
             value_is = known_now v.locks u.slot (Value u.slot) n b.held;
           };
-          has_copy = (s.0, s.1, s.2, λ j lt. absurd (omega arith));
+          has_copy = record { held = s.0; spare_is = s.1; slot_is = s.2; known = λ j lt. absurd (omega arith) };
           small = omega arith;
         };
       }
@@ -287,7 +289,7 @@ module _ (k : Shape) (h : List Mark) (o : Own) (v : View) (n : ℕ) where
   pub needs_copy_field : (d : Node) (u : Successor) (next_key value i : ℕ) → Fits o (at.CopyField d u next_key value i) v
       → Needs k v n (act_at o (at.CopyField d u next_key value i))
   needs_copy_field d u next_key value i f = let c = (f.point).has_copy in
-      (c.0, record { holder = inr (c.1, c.2); content = content_is i (f.point).small (or_root o.spare) })
+      (c.held, record { holder = inr (c.spare_is, c.slot_is); content = content_is i (f.point).small (or_root o.spare) })
 
   pub next_copy_field : (d : Node) (u : Successor) (next_key value i : ℕ) → Fits o (at.CopyField d u next_key value i) v
       → Fits (after o n (at.CopyField d u next_key value i)) (after o n (at.CopyField d u next_key value i)).stage
@@ -314,15 +316,13 @@ module _ (k : Shape) (h : List Mark) (o : Own) (v : View) (n : ℕ) where
             tickets = f.tickets;
             point = (
               before_noted d u copy field number true _ p.aside p.before,
-              (
-                p.aside,
-                (
-                  value,
-                  knows_noted d u copy (stored_at field number) next_key value p.aside p.knows,
-                  subst (HasCopy (note_option copy (stored_at field number) v.hands.spare) copy d next_key value) four
-                      (filled_more v.hands.spare copy d next_key value i p.small p.has_copy),
-                ),
-              ),
+              record {
+                aside = p.aside;
+                value = value;
+                knows = knows_noted d u copy (stored_at field number) next_key value p.aside p.knows;
+                has_copy = subst (HasCopy (note_option copy (stored_at field number) v.hands.spare) copy d next_key value) four
+                    (filled_more v.hands.spare copy d next_key value i p.small p.has_copy);
+              },
             );
           }
       by false e =
@@ -344,21 +344,25 @@ module _ (k : Shape) (h : List Mark) (o : Own) (v : View) (n : ℕ) where
 
   pub needs_copy_age : (d : Node) (u : Successor) (next_key : ℕ) → Fits o (at.CopyAge d u next_key) v
       → Needs k v n (act_at o (at.CopyAge d u next_key))
-  needs_copy_age d u next_key f = let c = (((f.point).1).1).2 in (c.0, inr (c.1, c.2))
+  needs_copy_age d u next_key f = let c = ((f.point).1).has_copy in (c.held, inr (c.spare_is, c.slot_is))
 
   pub next_copy_age : (d : Node) (u : Successor) (next_key : ℕ) → Fits o (at.CopyAge d u next_key) v
       → Fits (after o n (at.CopyAge d u next_key)) (at.CopyLock d u next_key) (view_after v h n (act_at o (at.CopyAge d u next_key)))
   next_copy_age d u next_key f =
       let p = f.point in
       let copy : ℕ = or_root o.spare in
-      let q = p.1 in
-      let x = q.1 in record {
+      let q = p.1 in record {
         owns = owns_noted o v copy (Life copy) n false f.owns;
         unraised = λ z. f.unraised refl;
         tickets = f.tickets;
         point = (
-          before_noted d u copy (Life copy) n false _ q.0 p.0,
-          (q.0, (x.0, knows_noted d u copy (read_at (Life copy) n) next_key x.0 q.0 x.1, aged v.hands.spare copy d next_key x.0 n x.2)),
+          before_noted d u copy (Life copy) n false _ q.aside p.0,
+          record {
+            aside = q.aside;
+            value = q.value;
+            knows = knows_noted d u copy (read_at (Life copy) n) next_key q.value q.aside q.knows;
+            has_copy = aged v.hands.spare copy d next_key q.value n q.has_copy;
+          },
         );
       }
 
@@ -385,7 +389,6 @@ module _ (k : Shape) (h : List Mark) (o : Own) (v : View) (n : ℕ) where
           let p = (f.point).0 in
           let q = (f.point).1 in
           let c = p.copying in
-          let x = q.1 in
           let now : List HeldLock = new_lock copy ∷ v.locks in
           let same : (t : ℕ) → copy ≢ t → under now t ≡ under v.locks t = λ t ne. under_new copy t v.locks ne in record {
             owns = owns_more o v copy f.owns;
@@ -395,10 +398,15 @@ module _ (k : Shape) (h : List Mark) (o : Own) (v : View) (n : ℕ) where
               copying = record {
                 quiet = c.quiet;
                 deleting = c.deleting;
-                both = aside_to v.records v.locks now (key_now o) copy d u q.0 same c.both;
+                both = aside_to v.records v.locks now (key_now o) copy d u q.aside same c.both;
               };
-              filled = (q.0, (x.0, knows_to v.locks now u next_key x.0 (same u.slot (q.0).successor) x.1, x.2));
-              unmarked = ap (λ ks. loaded_in ks (Life d.node)) (same d.node (q.0).node) ∙ p.unmarked;
+              filled = record {
+                aside = q.aside;
+                value = q.value;
+                knows = knows_to v.locks now u next_key q.value (same u.slot (q.aside).successor) q.knows;
+                has_copy = q.has_copy;
+              };
+              unmarked = ap (λ ks. loaded_in ks (Life d.node)) (same d.node (q.aside).node) ∙ p.unmarked;
               clear = each_more IsClear (new_lock copy) v.locks (refl, refl, refl) p.clear;
               locks_are = ap (λ xs. copy ∷ xs) p.locks_are;
               copy_held = holds_new copy v.locks;
@@ -452,7 +460,6 @@ module _ (k : Shape) (h : List Mark) (o : Own) (v : View) (n : ℕ) where
       let both = c.both in
       let r : Reading = both.0 in
       let q = p.filled in
-      let x = q.1 in
       let kn : Known = stored_at (Life d.node) (2 * d.generation + 1) in
       let noted : List HeldLock = change_lock d.node (note_lock kn) v.locks in
       let now : List HeldLock = change_lock d.node (with_mark true) noted in
@@ -477,14 +484,12 @@ module _ (k : Shape) (h : List Mark) (o : Own) (v : View) (n : ℕ) where
                     (links_same v.locks now u.slot s) both.3,
               );
             };
-            filled = (
-              q.0,
-              (
-                x.0,
-                knows_to v.locks now u next_key x.0 s x.1,
-                copy_elsewhere v.hands.spare copy d.node kn d next_key x.0 4 (q.0).node x.2,
-              ),
-            );
+            filled = record {
+              aside = q.aside;
+              value = q.value;
+              knows = knows_to v.locks now u next_key q.value s q.knows;
+              has_copy = copy_elsewhere v.hands.spare copy d.node kn d next_key q.value 4 (q.aside).node q.has_copy;
+            };
             marked = is_marked v d p.unmarked;
             clear = clear_marked kn d.node v.locks p.clear;
             locks_are = p.locks_are;
@@ -503,27 +508,27 @@ module _ (k : Shape) (h : List Mark) (o : Own) (v : View) (n : ℕ) where
       let c = p.copying in
       let both = c.both in
       let r : Reading = both.0 in
-      let x = (p.filled).1 in
-      let has = x.2 in (
+      let x = p.filled in
+      let has = x.has_copy in (
         record { found = front; stored = false },
         r,
-        has.0,
+        has.held,
         d.left,
         d.right,
-        x.0,
+        x.value,
         record {
           has_commit = record { commit_is = (c.quiet).turn_is; unmade = refl; ticket = (let t = f.tickets in omega arith) };
           room = (let room = ((c.deleting).1).room (c.deleting).0 in let long = same_length v.hands.retired o.retired f.owns.retired_are in omega arith);
           records = both_children v r d u both.2 both.3;
           marked = marked_node v r d both.2 p.marked;
-          spare_is = (has.1, has.2);
+          spare_is = (has.spare_is, has.slot_is);
           locked = p.copy_held;
-          old_key = (x.1).key;
-          old_value = (x.1).value_is;
-          key_is = has.3 0 (omega arith);
-          value_is = has.3 1 (omega arith);
-          left_is = has.3 2 (omega arith);
-          right_is = has.3 3 (omega arith);
+          old_key = (x.knows).key;
+          old_value = (x.knows).value_is;
+          key_is = has.known 0 (omega arith);
+          value_is = has.known 1 (omega arith);
+          left_is = has.known 2 (omega arith);
+          right_is = has.known 3 (omega arith);
         },
         both.1,
       )
@@ -535,9 +540,8 @@ module _ (k : Shape) (h : List Mark) (o : Own) (v : View) (n : ℕ) where
       let p = f.point in
       let c = p.copying in
       let both = c.both in
-      let x = (p.filled).1 in
-      let has = x.2 in
-      let held : Held = has.0 in
+      let has = (p.filled).has_copy in
+      let held : Held = has.held in
       let kn : Known = stored_at (Link d.parent d.side) held.slot in
       let noted : List HeldLock = change_lock d.parent (note_lock kn) v.locks in
       let now : List HeldLock = change_lock d.node (with_mark false) noted in
@@ -557,7 +561,7 @@ module _ (k : Shape) (h : List Mark) (o : Own) (v : View) (n : ℕ) where
       subst (λ x. Fits o' o'.stage (after_copy_link v x (spare_of v) d.parent d.side d.node u.slot u.parent (key_now o) next_key h))
       (sym (commit_is v _ (c.quiet).turn_is))
       (subst (λ y. Fits o' o'.stage (after_copy_link v (record { found = front; stored = false }) y d.parent d.side d.node u.slot u.parent
-      (key_now o) next_key h)) (sym (spare_is v _ has.1))
+      (key_now o) next_key h)) (sym (spare_is v _ has.spare_is))
       (record {
         owns = owns_retired (record o { spare = None }) (record stored { hands = record stored.hands { spare = None } })
             (owns_spared o stored (owns_relocked o linked now (slots_change d.node (with_mark false) (λ l. refl) noted) owns) None None refl) _ _
@@ -577,14 +581,14 @@ module _ (k : Shape) (h : List Mark) (o : Own) (v : View) (n : ℕ) where
               is = refl;
               key_is = refl;
               next_is = refl;
-              copy_is = has.2;
+              copy_is = has.slot_is;
               old_is = refl;
-              parent_is = ap (λ y. cond (u.parent == d.node) y u.parent) has.2;
+              parent_is = ap (λ y. cond (u.parent == d.node) y u.parent) has.slot_is;
               waited_is = refl;
             };
             locks_are = p.locks_are;
             parent_held = still_held now still (u.parent == d.node) refl p.copy_held (both.3).link;
-            apart = ((p.filled).0).walk_parent;
+            apart = ((p.filled).aside).walk_parent;
             deletes = (c.deleting).0;
           },
           record { lock = old.0; locked = locked; marked_is = (clear_lock now u.slot old.0 clear locked).2; life = old.2 },

@@ -9,18 +9,17 @@ use Rattle.core_state.specs.views.Known.{lock_of, note_option, noting}
 use Rattle.core_state.specs.declared.view.Retired.{Retired}
 use Rattle.core_state.specs.declared.shape.Shape.{Shape}
 use Rattle.core_state.specs.steps.Seating.{spare_slot}
-use Rattle.core_state.specs.steps.Slots.{change_retired, new_spare, without_retired, NeedsRaiseRetired, after_retired_life, after_raise_to_spare, after_raise_retired, after_free_retired}
+use Rattle.core_state.specs.steps.Slots.{change_retired, new_spare, without_retired, NeedsRaiseRetired, after_retired_life, after_raise_to_spare}
 use lib.ListN.{get_elem?}
 use Rattle.core_acts.specs.Laws.{said}
 use Rattle.core_points.specs.declared.stage.Aim.{Aim}
-use Rattle.core_points.specs.declared.stage.Aim.TheVariants.{Leaf, Spare, Room}
 use Rattle.core_points.specs.declared.stage.Stage.TheVariants as at
 use Rattle.core_acts.specs.declared.act.Act.TheVariants.{RaiseRetired, RaiseToSpare}
 use Rattle.core_points.specs.Acts.{Needs, view_after}
-use Rattle.core_points.specs.Callers.{Own, but_first, first_or_root, go, is_none_left, is_some, key_now}
+use Rattle.core_points.specs.Callers.{Own, but_first, first_or_root, go, is_none_left, is_some}
 use Rattle.core_points.specs.Programs.{act_at, after, giving}
-use Rattle.core_points.specs.Facts.{ForAim, HasSpot, Owns, read_at, table_of}
-use Rattle.core_points.specs.Fits.{Fits, plain}
+use Rattle.core_points.specs.Facts.{Owns, read_at}
+use Rattle.core_points.specs.Fits.{Fits}
 use Rattle.list_laws.specs.Counts.{Each}
 use Rattle.core_points.specs.Told.{TellsAlone, IsAlone, SpareComes}
 use Rattle.core_points.proofs.Reclaim.{each_map, same_slots, giving_fits}
@@ -74,11 +73,6 @@ no_spare None own e none = refl
 no_spare (Some held) own e none = absurd (let q : true ≡ false = ap is_some e ∙ none in cc)
 
 module _ (k : Shape) (h : List Mark) (o : Own) (v : View) (n : ℕ) where
-  for_same : (aim : Aim) (u w : View) → w.records ≡ u.records → ForAim o u aim → ForAim o w aim
-  for_same (Leaf spot) u w e (has, put) = (subst (λ rs. HasSpot (table_of o) rs (key_now o) spot) (sym e) has, put)
-  for_same Spare u w e a = a
-  for_same Room u w e a = a
-
   pub needs_old_age : (aim : Aim) → Fits o (at.OldAge aim) v → Needs k v n (act_at o (at.OldAge aim))
   needs_old_age aim f =
       let x = head_of v.hands.retired o.retired f.owns.retired_are (f.point).2 in
@@ -107,7 +101,7 @@ module _ (k : Shape) (h : List Mark) (o : Own) (v : View) (n : ℕ) where
             empty = ap (note_option slot (read_at (Life slot) n)) i.empty;
             no_hand = i.no_hand;
           },
-          for_same aim (plain v) (plain w) refl (f.point).1,
+          (f.point).1,
           each_map (changed_at slot to) (λ (r : Retired). r.waited ≡ true) (λ (r : Retired). r.waited ≡ true) v.hands.retired
               (λ r p. fact_kept (λ (r : Retired). r.waited ≡ true) to (λ r q. q) r (r.slot == slot) p) (f.point).3,
           (
@@ -179,7 +173,7 @@ module _ (k : Shape) (h : List Mark) (o : Own) (v : View) (n : ℕ) where
             unraised = λ z. cc;
             point = record {
               idle = (f.point).0;
-              aimed = for_same aim (plain v) (plain (after_raise_retired v slot)) refl (f.point).1;
+              aimed = (f.point).1;
               waited = each_map (changed_at slot to) (λ (r : Retired). r.waited ≡ true) (λ (r : Retired). r.waited ≡ true) v.hands.retired
                   (λ r p. fact_kept (λ (r : Retired). r.waited ≡ true) to (λ r q. q) r (r.slot == slot) p) (f.point).2;
               first = record {
@@ -207,18 +201,11 @@ module _ (k : Shape) (h : List Mark) (o : Own) (v : View) (n : ℕ) where
           (owns_retired (record o { spare = Some slot }) (record v { hands = record v.hands { spare = Some (new_spare slot number) } })
           (owns_spared o v f.owns (Some slot) (Some (new_spare slot number)) refl) _ _
           (ap (map (λ (r : Retired). r.slot)) left ∙ sym (ap but_first e)))
-          (f.point).0 (for_spare aim (f.point).1) f.tickets
+          (f.point).0 (f.point).1 f.tickets
           (subst (λ xs. Each xs (λ (r : Retired). r.raised ≡ false)) (sym left)
           (tail_each (λ (r : Retired). r.raised ≡ false) r q.1 v.hands.retired q.2 (f.unraised refl)))
           (subst (λ xs. Each xs (λ (r : Retired). r.waited ≡ true)) (sym left)
           (tail_each (λ (r : Retired). r.waited ≡ true) r q.1 v.hands.retired q.2 (f.point).2))
-        where
-          for_spare : (aim : Aim) → ForAim o (plain v) aim
-              → ForAim (record o { spare = Some (first_or_root o.retired); retired = but_first o.retired })
-              (after_raise_to_spare v (first_or_root o.retired) (2 * (life / 2 + 1)) h) aim
-          for_spare (Leaf spot) a = a
-          for_spare Spare a = a
-          for_spare Room a = a
 
   pub needs_old_free : (aim : Aim) → Fits o (at.OldFree aim) v → Needs k v n (act_at o (at.OldFree aim))
   needs_old_free aim f =
@@ -258,18 +245,11 @@ module _ (k : Shape) (h : List Mark) (o : Own) (v : View) (n : ℕ) where
             unreserved = b.reserved_is;
             owing = refl;
           },
-          for_free aim (f.point).aimed,
+          (f.point).aimed,
           subst (λ xs. Each xs (λ (r : Retired). r.waited ≡ true)) (sym left)
               (tail_each (λ (r : Retired). r.waited ≡ true) r q.rest v.hands.retired q.are (f.point).waited),
         );
       }
-    where
-      for_free : (aim : Aim) → ForAim o (plain v) aim
-          → ForAim (record o { retired = but_first o.retired; stage = at.OldCount aim })
-          (plain (after_free_retired v (first_or_root o.retired) h)) aim
-      for_free (Leaf spot) a = a
-      for_free Spare a = a
-      for_free Room a = a
 
   pub needs_old_count : (aim : Aim) → Fits o (at.OldCount aim) v → Needs k v n (act_at o (at.OldCount aim))
   needs_old_count aim f = ((f.point).0).owing
@@ -283,10 +263,4 @@ module _ (k : Shape) (h : List Mark) (o : Own) (v : View) (n : ℕ) where
         bare = record { locks_are = p.unlocked; turn_is = p.no_turn; settled = p.settled; reserved_is = p.unreserved; paid = refl };
         empty = p.empty;
         no_hand = p.no_hand;
-      }) (for_count aim (f.point).1) f.tickets (f.unraised refl) (f.point).2
-    where
-      for_count : (aim : Aim) → ForAim o (plain v) aim → ForAim (record o { free = n + 1 })
-          (view_after v h n (act_at o (at.OldCount aim))) aim
-      for_count (Leaf spot) a = a
-      for_count Spare a = a
-      for_count Room a = a
+      }) (f.point).1 f.tickets (f.unraised refl) (f.point).2

@@ -22,7 +22,7 @@ module _ (k : Shape) (h : List Mark) (o : Own) (v : View) (n : ℕ) where
   pub needs_raise : Fits o at.Raise v → Needs k v n (act_at o at.Raise)
   needs_raise f =
       let hand = (f.point).1 in
-      let leaf = subst (λ x. HandFits x o.hand_life (key_now o) (value_in o.op) v.hands.hand) hand.1 ((f.point).2).1 in
+      let leaf = subst (λ x. HandFits x o.hand_life (key_now o) (value_in o.op) v.hands.hand) hand.1 ((f.point).2).hand in
       let is = leaf.2 in
       subst (λ s. Needs k v n (RaiseInHand s (2 * (o.hand_life / 2 + 1)))) (sym (ap or_root hand.1))
       (leaf.0, o.hand_life, record { in_hand = (leaf.1, is.slot_is); unraised = is.unraised; loaded = is.life_is; next = refl })
@@ -32,7 +32,7 @@ module _ (k : Shape) (h : List Mark) (o : Own) (v : View) (n : ℕ) where
       let hand = (f.point).1 in
       let s : ℕ = hand.0 in
       let number : ℕ = 2 * (o.hand_life / 2 + 1) in
-      let leaf = subst (λ x. HandFits x o.hand_life (key_now o) (value_in o.op) v.hands.hand) hand.1 ((f.point).2).1 in
+      let leaf = subst (λ x. HandFits x o.hand_life (key_now o) (value_in o.op) v.hands.hand) hand.1 ((f.point).2).hand in
       let held : Held = leaf.0 in
       let raised : Held = record held { known = stored_at (Life s) number ∷ held.known; raised = true } in
       let e : raise_held (note_option s (stored_at (Life s) number) v.hands.hand) ≡ Some raised =
@@ -45,7 +45,7 @@ module _ (k : Shape) (h : List Mark) (o : Own) (v : View) (n : ℕ) where
         tickets = f.tickets;
         point = (
           (f.point).0,
-          bare_noted v s (Life s) number true [] [] None false ((f.point).2).0 refl,
+          bare_noted v s (Life s) number true [] [] None false ((f.point).2).bare refl,
           record { slot = s; held = raised; taken = hand.1; slot_is = (leaf.2).slot_is; raised = refl; in_hand = e },
           (f.point).3,
         );

@@ -169,7 +169,8 @@ module _ (k : Shape) (h : List Mark) (o : Own) (v : View) (n : ℕ) where
             owns = f.owns;
             unraised = λ z. f.unraised refl;
             tickets = f.tickets;
-            point = let p = f.point in (p.outside, (p.bare, p.hand, ready_put o.op o.hand o.spare o.retired p.puts));
+            point = let p = f.point in
+                (p.outside, record { bare = p.bare; hand = p.hand; ready = ready_put o.op o.hand o.spare o.retired p.puts });
           })
 
   -- a load under the lock

@@ -362,17 +362,20 @@ module _ (k : Shape) (h : List Mark) (o : Own) (v : View) (n : ℕ) where
           let p = f.point in
           let q = p.quiet in
           let bare = no_slots v.locks (λ x. f.owns.locks_are x ∙ ap (times x) (none_in o.locks e)) in
-          let c = quiet_calm o v q bare in
-          record { owns = f.owns; unraised = λ z. f.unraised refl; tickets = f.tickets; point = (q.outside, (c.0, c.1, (p.deleting).1)) }
-      taken false e =
-          let p = f.point in
-          let q = p.quiet in
-          let c = quiet_hand o v q in
           record {
             owns = f.owns;
             unraised = λ z. f.unraised refl;
             tickets = f.tickets;
-            point = (quiet_unlocking q q.turn_is p.clear e, c, (p.deleting).1);
+            point = (q.outside, quiet_calm o v q bare (p.deleting).1);
+          }
+      taken false e =
+          let p = f.point in
+          let q = p.quiet in
+          record {
+            owns = f.owns;
+            unraised = λ z. f.unraised refl;
+            tickets = f.tickets;
+            point = (quiet_unlocking q q.turn_is p.clear e, quiet_hand o v q, (p.deleting).1);
           }
 
       got : (z : Bool) → (n == 0) ≡ z → let o' : Own =

@@ -264,9 +264,11 @@ pub record KnowsSuccessor (locks : List HeldLock) (u : Successor) (next_key valu
   pub value_is : known_in (under locks u.slot) (Value u.slot) ≡ Some value
 
 -- the spare has so many of the fields of a copy
-abbrev pub HasCopy : Option Held → ℕ → Node → ℕ → ℕ → ℕ → Type 0
-HasCopy spare copy d next_key value i = (held : Held) × (spare ≡ Some held) × (held.slot ≡ copy)
-    × ((j : ℕ) → j < i → known_in held.known (content copy j) ≡ Some (contents next_key value d.left d.right j))
+pub record HasCopy (spare : Option Held) (copy : ℕ) (d : Node) (next_key value i : ℕ) : Type 0 where
+  pub held : Held
+  pub spare_is : spare ≡ Some held
+  pub slot_is : held.slot ≡ copy
+  pub known : (j : ℕ) → j < i → known_in held.known (content copy j) ≡ Some (contents next_key value d.left d.right j)
 
 -- the caller holds the locks of node and successor
 abbrev pub two_children : Node → Successor → Target
@@ -296,9 +298,14 @@ pub record CopyFilling (o : Own) (v : View) (d : Node) (u : Successor) (next_key
   pub has_copy : HasCopy v.hands.spare (or_root o.spare) d next_key value i
   pub small : i ≤ 3
 
+pub record FilledParts (spare : Option Held) (locks : List HeldLock) (d : Node) (u : Successor) (next_key copy : ℕ) : Type 0 where
+  pub aside : IsAside copy d u
+  pub value : ℕ
+  pub knows : KnowsSuccessor locks u next_key value
+  pub has_copy : HasCopy spare copy d next_key value 4
+
 abbrev pub IsFilled : View → Node → Successor → ℕ → ℕ → Type 0
-IsFilled v d u next_key copy = IsAside copy d u
-    × ((value : ℕ) × KnowsSuccessor v.locks u next_key value × HasCopy v.hands.spare copy d next_key value 4)
+IsFilled v d u next_key copy = FilledParts v.hands.spare v.locks d u next_key copy
 
 -- a node with two children is to be marked
 pub record BothMarking (o : Own) (v : View) (d : Node) (u : Successor) (next_key copy : ℕ) : Type 0 where

@@ -27,7 +27,7 @@ use Rattle.core_state.specs.steps.Slots.{seized}
 use Rattle.prcu_model.specs.Dictionary.{key_of}
 use Rattle.core_points.specs.declared.stage.Spot.{Spot}
 use Rattle.core_points.specs.declared.stage.Aim.{Aim}
-use Rattle.core_points.specs.declared.stage.Aim.TheVariants.{Leaf}
+use Rattle.core_points.specs.declared.stage.Aim.TheVariants.{Leaf, Spare, Room}
 use Rattle.core_points.specs.Callers.{Own, key_now, value_in, is_some, is_none_left}
 
 abbrev pub is_put : Op → Bool
@@ -105,8 +105,14 @@ pub record Stands (section : Section) (key : ℕ) (state : SearchState) : Type 0
   pub state_is : section.reading.state ≡ state
   pub here : IsIn section.reading.stood (state_slot state)
 
+pub record InsideParts (now : Option Section) (key : ℕ) (state : SearchState) (more : Section → Type 0) : Type 0 where
+  pub section : Section
+  pub is : now ≡ Some section
+  pub stands : Stands section key state
+  pub known : more section
+
 abbrev pub Inside : View → ℕ → SearchState → (Section → Type 0) → Type 0
-Inside v key state more = (section : Section) × (v.section ≡ Some section) × Stands section key state × more section
+Inside v key state more = InsideParts v.section key state more
 
 abbrev pub Nothing : Section → Type 0
 Nothing section = Unit {0}
@@ -169,8 +175,14 @@ abbrev pub Hand : Own → View → Type 0
 Hand o v = HandFits o.hand o.hand_life (key_now o) (value_in o.op) v.hands.hand
 
 -- with nothing under way but a filled slot in hand
+pub record CalmParts (op : Op) (o_hand o_spare : Option ℕ) (life : ℕ) (o_retired : List ℕ) (locks : List HeldLock) (turn : Option Commit)
+    (moving : Option Move) (reserves owes : Bool) (held : Option Held) : Type 0 where
+  pub bare : BareParts [] None false locks turn moving reserves owes
+  pub hand : HandFits o_hand life (key_of op) (value_in op) held
+  pub ready : IsReady op o_hand o_spare o_retired
+
 abbrev pub Calm : Own → View → Type 0
-Calm o v = Bare v [] None false × Hand o v × Ready o
+Calm o v = CalmParts o.op o.hand o.spare o.hand_life o.retired v.locks v.commit v.moving v.hands.reserved v.hands.owes v.hands.hand
 
 -- a put that has a slot in hand, a record, and this much under way
 pub record Putting (o : Own) (v : View) (spot : Spot) (locks : List HeldLock) (commit : Option Commit) : Type 0 where
@@ -192,9 +204,13 @@ pub record IdleParts (o_hand : Option ℕ) (section : Option Section) (locks : L
 abbrev pub Idle : Own → View → Type 0
 Idle o v = IdleParts o.hand v.section v.locks v.commit v.moving v.hands.reserved v.hands.owes v.hands.hand
 
+-- what slots are given back for: a put's spot, or a delete
+abbrev pub AimsAt : ℕ → Op → List Reading → Aim → Type 0
+AimsAt n op records (Leaf spot) = HasSpot n records (key_of op) spot × (is_put op ≡ true)
+AimsAt n op records aim = is_delete op ≡ true
+
 abbrev pub ForAim : Own → View → Aim → Type 0
-ForAim o v (Leaf spot) = HasSpot (table_of o) v.records (key_now o) spot × (is_put o.op ≡ true)
-ForAim o v aim = is_delete o.op ≡ true
+ForAim o v aim = AimsAt (table_of o) o.op v.records aim
 
 -- a delete that takes a spare
 pub record LacksSpare (op : Op) (spare : Option ℕ) (retired : List ℕ) : Type 0 where
@@ -202,9 +218,14 @@ pub record LacksSpare (op : Op) (spare : Option ℕ) (retired : List ℕ) : Type
   pub room : length retired < 15
   pub no_spare : spare ≡ None
 
+-- what a slot is taken for: a put's spot, or a delete's spare
+abbrev pub TakesAt : ℕ → Op → Option ℕ → List ℕ → List Reading → Aim → Type 0
+TakesAt n op spare retired records (Leaf spot) = AimsAt n op records (Leaf spot)
+TakesAt n op spare retired records Spare = LacksSpare op spare retired
+TakesAt n op spare retired records Room = ⊥
+
 abbrev pub TakesFor : Own → View → Aim → Type 0
-TakesFor o v (Leaf spot) = ForAim o v (Leaf spot)
-TakesFor o v aim = LacksSpare o.op o.spare o.retired
+TakesFor o v aim = TakesAt (table_of o) o.op o.spare o.retired v.records aim
 
 -- before a slot is reserved, where some are free
 pub record Reserving (o : Own) (v : View) (aim : Aim) (expected : ℕ) : Type 0 where
@@ -341,9 +362,11 @@ pub record HasFound (n : ℕ) (records : List Reading) (key s generation : ℕ) 
   pub inside : s < n
 
 -- a set that has a record, and this much under way
-abbrev pub Setting : Own → View → ℕ → ℕ → List HeldLock → Option Commit → Type 0
-Setting o v s generation locks commit = Quiet o v commit × (v.locks ≡ locks) × HasFound (table_of o) v.records (key_now o) s generation
-    × (is_set o.op ≡ true)
+pub record Setting (o : Own) (v : View) (s generation : ℕ) (locks : List HeldLock) (commit : Option Commit) : Type 0 where
+  pub quiet : Quiet o v commit
+  pub locks_are : v.locks ≡ locks
+  pub found : HasFound (table_of o) v.records (key_now o) s generation
+  pub sets : is_set o.op ≡ true
 
 -- what a set loaded under its lock, where it holds its record
 abbrev pub set_known : ℕ → ℕ → ℕ → List Known

@@ -6,14 +6,12 @@ use Rattle.prcu_marks.specs.declared.mark.Side.TheVariants.{Left, Right}
 use Rattle.prcu_model.specs.declared.operation.Op.TheVariants.{Get}
 use Rattle.core_state.specs.declared.words.Field.TheVariants.{Life, Key, Link, Tag}
 use Rattle.core_state.specs.declared.view.Clocked.{Clocked}
-use Rattle.core_state.specs.declared.view.Held.{Held}
 use Rattle.core_state.specs.declared.view.Retired.{Retired}
 use Rattle.core_state.specs.declared.view.SearchState.TheVariants.{At, Unread, Found, Missed}
 use Rattle.prcu_marks.specs.declared.commit.Commit.{Commit}
 use Rattle.core_state.specs.declared.view.View.{View}
 use Rattle.list_laws.specs.Counts.{IsIn, Each}
 use Rattle.core_state.specs.views.Known.{known_in, LoadedGeneration}
-use Rattle.core_points.specs.declared.stage.Aim.TheVariants.{Leaf, Spare, Room}
 use Rattle.core_points.specs.declared.stage.Then.{Then}
 use Rattle.core_points.specs.declared.stage.Then.TheVariants as then
 use Rattle.core_points.specs.declared.stage.Last.{Last}
@@ -23,12 +21,11 @@ use Rattle.core_points.specs.declared.stage.Update.TheVariants as update
 use Rattle.core_points.specs.declared.stage.Waits.TheVariants.{Reuse, Move}
 use Rattle.core_points.specs.declared.stage.Stage.{Stage}
 use Rattle.core_points.specs.declared.stage.Stage.TheVariants as at
-use Rattle.core_state.specs.steps.Slots.{seized}
 use Rattle.core_points.specs.declared.stage.Moving.{Moving}
-use Rattle.core_points.specs.Callers.{Own, key_now, value_in, or_root, is_some, is_none_left}
-use Rattle.core_points.specs.Facts.{is_put, is_delete, is_set, table_of, read_at, leaf_held, Bare, Inside, Nothing, HasSpot, one_lock, spot_known, AreClear, Owns, Ready, Hand, Calm, Putting, Idle, ForAim, Reserving, Seizing, Aging, Filling, Keeping, HasRaised, GivingBack, Outlasting, Owing, Quiet, HasLocks, Unlocking, Setting, set_known}
+use Rattle.core_points.specs.Callers.{Own, key_now, or_root, is_none_left}
+use Rattle.core_points.specs.Facts.{is_put, is_delete, is_set, read_at, Bare, Inside, Nothing, one_lock, spot_known, AreClear, Owns, Ready, Hand, Calm, Putting, Idle, ForAim, Reserving, Seizing, Aging, Filling, Keeping, HasRaised, GivingBack, Outlasting, Owing, Quiet, HasLocks, Unlocking, Setting, set_known}
 use Rattle.core_points.specs.Tickets.{owed}
-use Rattle.core_points.specs.DeleteFacts.{ReadsLives, WalksTo, ReadsParent, ReadsChildren, AreApart, OnNode, under, IsUnmarked, ClearButMark, Bypassing, IsAside, KnowsSuccessor, HasCopy, all_locks, Copying, BeforeCopy, CopyFilling, IsFilled, BothMarking, CopyMaking, Holds, Shifting, HoldsOld, OutlastingMove, Emptied, Anything, Relinked, TargetLocking, TargetLoading, FewMarking}
+use Rattle.core_points.specs.DeleteFacts.{ReadsLives, WalksTo, ReadsParent, ReadsChildren, AreApart, OnNode, under, ClearButMark, Bypassing, IsAside, BeforeCopy, CopyFilling, IsFilled, BothMarking, CopyMaking, Shifting, HoldsOld, OutlastingMove, Emptied, Anything, Relinked, TargetLocking, TargetLoading, FewMarking}
 
 abbrev pub PointLeave : Own → View → Then → Type 0
 PointLeave o v then.Absent = (is_put o.op ≡ false) × ((s : ℕ) × (b : Side) × Inside v (key_now o) (Missed s b) Nothing)
@@ -80,9 +77,9 @@ Point o (at.Leave next) v = Calm o v × PointLeave o v next
 Point o (at.SpotTag s b) v = Calm o v × (is_put o.op ≡ true) × Inside v (key_now o) (Missed s b) Nothing
 Point o (at.SpotLife s b tag) v = Calm o v × (is_put o.op ≡ true)
     × Inside v (key_now o) (Missed s b) (λ section. known_in section.reading.loads (Tag s b) ≡ Some tag)
-Point o (at.Reserve (Leaf spot) expected) v = Reserving o v (Leaf spot) expected
-Point o (at.Seize (Leaf spot)) v = Seizing o v (Leaf spot)
-Point o (at.Age (Leaf spot) s) v = Aging o v (Leaf spot) s
+Point o (at.Reserve aim expected) v = Reserving o v aim expected
+Point o (at.Seize aim) v = Seizing o v aim
+Point o (at.Age aim s) v = Aging o v aim s
 Point o (at.LeafField spot i) v = Filling o v spot i
 Point o (at.LeafLock spot) v = Putting o v spot [] None
 Point o (at.LeafLife spot) v = Putting o v spot (one_lock spot.slot []) None
@@ -106,13 +103,7 @@ Point o (at.OldRaise aim life) v = Idle o v × ForAim o v aim × Each v.hands.re
 Point o (at.OldFree aim) v = GivingBack o v aim
 Point o (at.OldCount aim) v = Owing o v × ForAim o v aim × Each v.hands.retired (λ (r : Retired). r.waited ≡ true)
 -- a spare is taken
-Point o (at.Reserve Spare expected) v = Reserving o v Spare expected
-Point o (at.Seize Spare) v = Seizing o v Spare
-Point o (at.Age Spare s) v = Aging o v Spare s
 Point o (at.Keep s) v = Keeping o v s
-Point o (at.Reserve Room expected) v = ⊥
-Point o (at.Seize Room) v = ⊥
-Point o (at.Age Room s) v = ⊥
 -- a set
 Point o (at.SetLife s) v = Calm o v × (is_set o.op ≡ true) × ((p : ℕ) × (b : Side) × Inside v (key_now o) (Found s p b None) Nothing)
 Point o (at.SetLock s generation) v = Setting o v s generation [] None

@@ -37,9 +37,11 @@ use Rattle.node_slots.specs.Slots.{aged, next_life, renewing, PutsBack}
 use Rattle.node_slots.specs.Taking.{HasTaken, FoundNone, TriesBy}
 use Rattle.node_slots.specs.Reclaiming.{first_spare, HasReclaimed}
 
-least_two : (retired : List ℕ) (spot : Spot) → 2 ≤ owed_reserve (Leaf spot) retired
-least_two [] spot = omega arith
-least_two (s ∷ ss) spot = omega arith
+least_two : (aim : Aim) (retired : List ℕ) → 2 ≤ owed_reserve aim retired
+least_two (Leaf spot) [] = omega arith
+least_two (Leaf spot) (s ∷ ss) = omega arith
+least_two Spare retired = omega arith
+least_two Room retired = omega arith
 
 three_left : (retired : List ℕ) (spot : Spot) → is_none_left retired ≡ false → owed_reserve (Leaf spot) retired ≡ 3
 three_left [] spot e = cc
@@ -52,17 +54,12 @@ pub record MayTake (v : View) : Type 0 where
   pub ticket : 1 ≤ v.allowance.tickets
 
 pub may_take : {k : Shape} {op : Op} {kept e : ℕ} {aim : Aim} {v : View} → IsAt k op kept (at.Reserve aim e) v → MayTake v
-may_take {e = e} {aim = aim} {v = v} a = by aim a.fits
-  where
-    by : (aim : Aim) → Fits a.own (at.Reserve aim e) v → MayTake v
-    by (Leaf spot) f = let i = (f.point).idle in record {
-      unreserved = (i.bare).reserved_is;
+may_take {aim = aim} a =
+    let i = a.fits.point.idle in record {
+      unreserved = i.bare.reserved_is;
       empty = i.empty;
-      ticket = (let t = f.tickets in let two = least_two a.own.retired spot in omega arith);
+      ticket = (let t = a.fits.tickets in let two = least_two aim a.own.retired in omega arith);
     }
-    by Spare f = let i = (f.point).idle in
-        record { unreserved = (i.bare).reserved_is; empty = i.empty; ticket = (let t = f.tickets in omega arith) }
-    by Room f = absurd f.point
 
 -- A take makes steps.
 pub tries_further : (k : Shape) (v w : View) (looked now : ℕ) (t : Taken) → TriesBy k v looked t w now
@@ -109,7 +106,7 @@ module _ {slot generation : ℕ} {v w : View} (taken : HasTaken v slot generatio
       let o' : Own = go (record o { hand = Some slot; hand_life = life }) (at.LeafField spot 0) in
       let fits : Fits o' (at.LeafField spot 0) after_taking = record {
         owns = owns_noted o v slot (Life slot) life false f.owns;
-        tickets = (let t = f.tickets in let two = least_two o.retired spot in omega arith);
+        tickets = (let t = f.tickets in let two = least_two (Leaf spot) o.retired in omega arith);
         unraised = λ z. f.unraised refl;
         point = record {
           outside = i.outside;
@@ -219,8 +216,8 @@ may_put_back {v = v} a =
     let o : Own = a.own in
     let p = a.fits.point in
     let calm = p.2 in
-    let leaf = subst (λ x. HandFits x o.hand_life (key_now o) (value_in o.op) v.hands.hand) (p.1).1 calm.1 in
-    record { paid = (calm.0).paid; hand = (leaf.0, leaf.1, (leaf.2).unraised) }
+    let leaf = subst (λ x. HandFits x o.hand_life (key_now o) (value_in o.op) v.hands.hand) (p.1).1 calm.hand in
+    record { paid = (calm.bare).paid; hand = (leaf.0, leaf.1, (leaf.2).unraised) }
 
 module _ {slot : ℕ} {v w : View} (back : PutsBack v slot w) where
   pub back_gone : HasGone v w []
@@ -258,7 +255,7 @@ module _ {slot : ℕ} {v w : View} (back : PutsBack v slot w) where
         seen = w.seen;
       }) in
       let o' : Own = go (record o { hand = None }) at.Finished in
-      let b1 = bare_noted v slot (Life slot) life false [] [] None false (p.2).0 refl in
+      let b1 = bare_noted v slot (Life slot) life false [] [] None false (p.2).bare refl in
       let b2 = bare_noted first slot (Life slot) (next_life life) true [] [] None false b1 refl in
       let fits : Fits o' at.Finished last = record {
         owns = owns_noted o first slot (Life slot) (next_life life) true (owns_noted o v slot (Life slot) life false f.owns);

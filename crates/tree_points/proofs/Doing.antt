@@ -33,7 +33,6 @@ use Rattle.prcu_marks.specs.declared.mark.Mark.TheVariants.{Done}
 use Rattle.prcu_marks.specs.Marks.{own_of, updates_of}
 use Rattle.core_state.specs.declared.words.Field.TheVariants.{Life, Link, Value}
 use Rattle.core_state.specs.views.Known.{known_in, known_of, known_under, lock_of}
-use Rattle.core_points.specs.DeleteFacts.{under}
 use Rattle.core_points.proofs.Locking.{slots_in}
 use Rattle.core_points.specs.Callers.{key_now, or_root}
 use Rattle.core_points.specs.Programs.{act_at}
@@ -97,8 +96,8 @@ module _ {k : Shape} {kept n : ℕ} {v w : View} where
   updated_value {key} {value} {s} {old} {front} a t = (
     updated t.marks [] (Set key value) front refl refl (further v _ t.goes refl) t.sees (allowed t.goes refl)
         (ap (λ (z : View). z.seen) t.goes)
-        (((t.gains).counted).found (record { found = front; stored = false }) ((((a.fits).point).1).0).turn_is),
-    (t.gains).was old (the_value v s ((a.fits).point).0 old (((a.fits).point).1).1),
+        (((t.gains).counted).found (record { found = front; stored = false }) ((((a.fits).point).1).quiet).turn_is),
+    (t.gains).was old (the_value v s ((a.fits).point).0 old (((a.fits).point).1).locks_are),
   )
 
   pub gone_store_leaf : {key value leaf front : ℕ} {spot : Spot} → IsAt k (Put key value) kept (at.Store (update.Leaf spot) front) v

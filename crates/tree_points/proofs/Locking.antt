@@ -49,11 +49,11 @@ locks_store_leaf {v = v} {spot = spot} a = holds_one v spot.slot _ (((a.fits).po
 
 pub locks_set_check : {k : Shape} {op : Op} {kept s generation : ℕ} {v : View} → IsAt k op kept (at.SetCheck s generation) v
     → HasLocks (s ∷ []) v
-locks_set_check {s = s} {v = v} a = holds_one v s _ ((a.fits).point).1
+locks_set_check {s = s} {v = v} a = holds_one v s _ ((a.fits).point).locks_are
 
 pub locks_store_value : {k : Shape} {op : Op} {kept front s old : ℕ} {v : View} → IsAt k op kept (at.Store (update.Value s old) front) v
     → HasLocks (s ∷ []) v
-locks_store_value {s = s} {v = v} a = holds_one v s _ (((a.fits).point).1).1
+locks_store_value {s = s} {v = v} a = holds_one v s _ (((a.fits).point).1).locks_are
 
 -- those of a delete are the first of its target's, the latest first
 pub locks_target_lock : {k : Shape} {op : Op} {kept i : ℕ} {v : View} {t : Target} → IsAt k op kept (at.TargetLock t i) v
@@ -109,7 +109,7 @@ pub passes_set_lock_busy : {k : Shape} {op : Op} {kept n : ℕ} {v w : View} {s 
     → IsAt k op kept (at.SetLock s generation) v → Told k v (acts.Lock s) n w → IsAt k op kept at.EnterClock w
 passes_set_lock_busy {n = n} {v = v} {s = s} {generation = generation} busy a t =
     passes_as (at.SetLock s generation) at.EnterClock (acts.Lock s) a refl refl
-    (busy_stage a.own s n (at.SetCheck s generation) true busy (ap is_none_left (no_locks a.own v (a.fits).owns ((a.fits).point).1))) t
+    (busy_stage a.own s n (at.SetCheck s generation) true busy (ap is_none_left (no_locks a.own v (a.fits).owns ((a.fits).point).locks_are))) t
 
 -- the locks of a delete
 pub needs_target_lock : {k : Shape} {op : Op} {kept i : ℕ} {v : View} {t : Target} → IsAt k op kept (at.TargetLock t i) v → TellsNow k v

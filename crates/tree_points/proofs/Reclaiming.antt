@@ -62,11 +62,11 @@ module _ (o : Own) (v w : View) (aim : Aim) (f : Fits o (at.Begin (Reuse aim)) v
   some_spare (Some held) ne = refl
 
   ready : Calm new w
-  ready = (
-    bare,
-    subst (λ x. HandFits x o.hand_life (key_now o) (value_in o.op) w.hands.hand) (sym idle.no_hand) (r.hand ∙ idle.empty),
-    record { empty = λ z. idle.no_hand; room = λ z. omega arith; has_spare = λ z. some_spare w.hands.spare r.spare },
-  )
+  ready = record {
+    bare = bare;
+    hand = subst (λ x. HandFits x o.hand_life (key_now o) (value_in o.op) w.hands.hand) (sym idle.no_hand) (r.hand ∙ idle.empty);
+    ready = record { empty = λ z. idle.no_hand; room = λ z. omega arith; has_spare = λ z. some_spare w.hands.spare r.spare };
+  }
 
   enters_again : (m : ℕ) → owed_op o.op o.hand [] ≤ m → m + 4 * length o.rest + o.kept ≤ w.allowance.tickets → Fits new at.EnterClock w
   enters_again m few paid = record { owns = owns; tickets = omega arith; unraised = λ z. unraised; point = (r.section ∙ idle.outside, ready) }

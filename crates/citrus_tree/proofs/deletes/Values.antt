@@ -221,7 +221,7 @@ value_lock {n = n} {v = v} s t ne told = record {
 pub copy_aside : {k : Shape} {op : Op} {kept next_key copy : ℕ} {v : View} (d : Node) (u : Successor)
     → IsAt k op kept (at.CopyLock d u next_key) v → IsSlotOf (Some copy) v.hands.spare → copy ≢ d.node
 copy_aside d u a spare same =
-    ((a.fits.point).1).0.node (ap or_root (own_spare a spare) ∙ same)
+    ((a.fits.point).1).aside.node (ap or_root (own_spare a spare) ∙ same)
 
 -- What an update took out stays so in the longer history.
 updates_grow : (h seen : List Mark) → IsPrefix h seen → IsPrefix (updates_of h) (updates_of seen)

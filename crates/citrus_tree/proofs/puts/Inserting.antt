@@ -60,7 +60,7 @@ left_view {v} {w} l = record v {
 -- Where a put stands after its search.
 module _ {k : Shape} {kept key value : ℕ} {v : View} (a : IsAt k (Put key value) kept at.EnterClock v) where
   own_hand : (h : Option Held) → v.hands.hand ≡ h → a.own.hand ≡ spare_slot h
-  own_hand h e = sym (slot_in_hand a.own.hand _ _ _ v.hands.hand ((a.fits.point).1).1) ∙ ap spare_slot e
+  own_hand h e = sym (slot_in_hand a.own.hand _ _ _ v.hands.hand ((a.fits.point).1).hand) ∙ ap spare_slot e
 
   -- the key is there
   pub old_at : {w : View} {old : ℕ} → Looked v key (Some old) w → IsAt k (Put key value) kept (old_stage w.hands.hand) w
@@ -71,7 +71,7 @@ module _ {k : Shape} {kept key value : ℕ} {v : View} (a : IsAt k (Put key valu
         owns = a.fits.owns;
         tickets = (let t = a.fits.tickets in omega arith);
         unraised = a.fits.unraised;
-        point = (refl, ((a.fits.point).1).0, e);
+        point = (refl, ((a.fits.point).1).bare, e);
       })
       by (Some held) e = moves_on a a.own refl (record {
         owns = a.fits.owns;
@@ -104,7 +104,7 @@ module _ {k : Shape} {kept key value : ℕ} {v : View} (a : IsAt k (Put key valu
             (λ i. (a.op_is i, own_hand None e i)) a.fits.tickets;
         unraised = a.fits.unraised;
         point = record {
-          idle = record { outside = refl; bare = ((a.fits.point).1).0; empty = e; no_hand = own_hand None e };
+          idle = record { outside = refl; bare = ((a.fits.point).1).bare; empty = e; no_hand = own_hand None e };
           some = omega arith;
           takes = (has, ap is_put a.op_is);
         };
@@ -116,8 +116,8 @@ module _ {k : Shape} {kept key value : ℕ} {v : View} (a : IsAt k (Put key valu
         point = record {
           outside = refl;
           taken = (held.slot, own_hand (Some held) e);
-          bare = ((a.fits.point).1).0;
-          hand = ((a.fits.point).1).1;
+          bare = ((a.fits.point).1).bare;
+          hand = ((a.fits.point).1).hand;
           has_spot = has;
           puts = ap is_put a.op_is;
         };
