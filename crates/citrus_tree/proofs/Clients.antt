@@ -1,8 +1,8 @@
 -- A call of a client answers as its marks say.
-use Rattle.std.proofs.Common.{◌≡◌, ℕ, ◌+◌, ◌-◌, ◌≤◌, ◌==◌, Bool, true, false, cond, MatchBool, List, [], ◌∷◌, ◌++◌, length, Option, Some, None, is_some, refl, sym, ap, subst, ◌∙◌, arith, inl, inr, eq-eqb, append_assoc, append-nil, length-append}
+use Rattle.std.proofs.Common.{◌≡◌, ℕ, ◌+◌, ◌-◌, ◌≤◌, ◌==◌, true, false, cond, MatchBool, List, [], ◌∷◌, ◌++◌, length, Option, Some, None, is_some, refl, sym, ap, subst, ◌∙◌, arith, inl, inr, eq-eqb, append_assoc, append-nil}
 use Rattle.std.specs.List.{AllByRecursion, slice_get}
 use Rattle.std.specs.FinMap as finite
-use Rattle.std.proofs.lemmas.List.{take_all, take_at, take-append-le}
+use Rattle.std.proofs.lemmas.List.{take_all, take_at}
 use mathlib.Core.List.{IsPrefix}
 use Rattle.prcu_model.specs.declared.operation.Op.{Op}
 use Rattle.prcu_model.specs.declared.operation.Op.TheVariants.{Put, Get, Del, Set}
@@ -19,7 +19,7 @@ use Rattle.prcu_marks.specs.declared.mark.Mark.TheVariants.{Entered, Left, Began
 use Rattle.prcu_marks.specs.Chains.{IsChain}
 use Rattle.prcu_marks.specs.Callers as callers
 use Rattle.prcu_marks.specs.Callers.{Caller, HasSeenItsOwn, IsLeftBy, entered_for, IsMoveWait, WaitsFor, HasMadeUpdate, WasExplained, HasAnswered}
-use Rattle.prcu_marks.specs.Marks.{updates_of, is_of, own_of}
+use Rattle.prcu_marks.specs.Marks.{updates_of, own_of}
 use Rattle.prcu_marks.proofs.Callers.{HasTold, chain_tells, told_meets, map_at-longer}
 use Rattle.prcu_marks.proofs.MarkLists.{updates_of-append, updates_below}
 use Rattle.prcu_marks.proofs.OwnMarks.{entered_for-append, own_twice}
