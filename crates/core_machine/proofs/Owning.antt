@@ -243,7 +243,10 @@ module _ (scripts : List (List Op)) (slots : ℕ) (callers : List ℕ) (machine 
     pub next_answers : (words' : List ℕ) (kept' : List Caller) (updates' : List Update) (result : Stepped) (b : Bool)
         → is_finished c.stage ≡ b
         → StepsBy b words kept updates i c words' kept' updates' result → result ≡ stepped_as (answers (core scripts slots callers) i)
-    next_answers words' kept' updates' result b is s = by b is s ∙ sym (ap stepped_as (ap (λ (z : Option Own). elim z as (λ _. Answer) [ none ↦ has_ended | some o ↦ own_answers (core scripts slots callers) o ]) own_there))
+    next_answers words' kept' updates' result b is s = by b is s ∙ sym (ap stepped_as (ap (λ (z : Option Own). elim z as (λ _. Answer) [
+      | none ↦ has_ended
+      | some o ↦ own_answers (core scripts slots callers) o
+    ]) own_there))
       where
         by : (b : Bool) → is_finished c.stage ≡ b → StepsBy b words kept updates i c words' kept' updates' result
             → result ≡ stepped_as (own_answers (core scripts slots callers) (own_of c))

@@ -36,10 +36,16 @@ quiet_turn m vs count (inr odd) id v at free = odd.alone id v
 
 module _ (vs vs' : List View) (busy : SameBusy vs vs') where
   section_back : (j : ℕ) (u : View) (section : Section) → get_elem? vs' j ≡ some u → u.section ≡ Some section → get_elem? vs j ≡ some u
-  section_back j u section at is = elim (busy.back j u at) [ inl e ↦ e | inr q ↦ absurd (let z : None ≡ Some section = sym q.0.0 ∙ is in cc) ]
+  section_back j u section at is = elim (busy.back j u at) [
+    | inl e ↦ e
+    | inr q ↦ absurd (let z : None ≡ Some section = sym q.0.0 ∙ is in cc)
+  ]
 
   section_forth : (j : ℕ) (u : View) (section : Section) → get_elem? vs j ≡ some u → u.section ≡ Some section → get_elem? vs' j ≡ some u
-  section_forth j u section at is = elim (busy.forth j u at) [ inl e ↦ e | inr q ↦ absurd (let z : None ≡ Some section = sym q.0 ∙ is in cc) ]
+  section_forth j u section at is = elim (busy.forth j u at) [
+    | inl e ↦ e
+    | inr q ↦ absurd (let z : None ≡ Some section = sym q.0 ∙ is in cc)
+  ]
 
   hold_back : (j : ℕ) (u : View) (hold : Hold) → get_elem? vs' j ≡ some u → u.hold ≡ Some hold → get_elem? vs j ≡ some u
   hold_back j u hold at is = elim (busy.back j u at) [ inl e ↦ e | inr q ↦ absurd (let z : None ≡ Some hold = sym q.0.1 ∙ is in cc) ]

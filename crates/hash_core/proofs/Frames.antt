@@ -94,7 +94,10 @@ same_count : (c : ℕ) (a b : Option Section) → SameSection c a b → inside_c
 same_count c None None same = refl
 same_count c None (Some t) same = other_count c t same
 same_count c (Some s) None same = sym (other_count c s same)
-same_count c (Some s) (Some t) same = elim same [ inl q ↦ ap (λ z. inside_count c (Some z)) (sym q) | inr n ↦ other_count c t n.1 ∙ sym (other_count c s n.0) ]
+same_count c (Some s) (Some t) same = elim same [
+  | inl q ↦ ap (λ z. inside_count c (Some z)) (sym q)
+  | inr n ↦ other_count c t n.1 ∙ sym (other_count c s n.0)
+]
 
 hold_other : (c : ℕ) (a b : Option Hold) → SameHold c a b → ((k : Hold) → a ≡ Some k → k.class ≢ c) → (k : Hold) → b ≡ Some k → k.class ≢ c
 hold_other c a None same before k is = absurd (cc)
