@@ -3,11 +3,13 @@
 //! gives away.
 #![tactic(auto)]
 
+pub mod access;
 pub mod client;
 pub mod commit;
 pub mod mark;
 pub mod share;
 
+pub use access::Access;
 pub use client::{Client, Gate, OpenGate, Point};
 pub use commit::Commit;
 pub use mark::{Mark, Side, Why};

@@ -22,49 +22,20 @@ use Rattle.core_state.specs.Invariant.{Invariant, Rule}
 use Rattle.seat_table.specs.declared.rule.Nothing.{Nothing}
 use Rattle.seat_table.specs.Seats.{TableAt, way_of, with_way, shape_of}
 use Rattle.core_acts.specs.declared.act.Act.{Act}
-use Rattle.core_acts.specs.declared.access.Access.{Access}
-use Rattle.core_acts.specs.declared.access.Access.TheVariants.{Load, Store, Exchange, Add, Subtract, Flip}
-use Rattle.core_acts.specs.Acts.{StaysWord, field_of, access_of, left_by, said_by, Asks}
+use Rattle.prcu_marks.specs.declared.access.Access.{Access}
+use Rattle.prcu_marks.specs.declared.access.Access.TheVariants.{Load, Store, Exchange, Add, Subtract, Flip}
+use Rattle.prcu_marks.specs.Accesses.{left_by, said_by, StaysWord}
+use Rattle.core_acts.specs.Acts.{field_of, access_of, Asks}
 use Rattle.core_acts.specs.Laws.{done, marks}
 use Rattle.core_acts.proofs.Acting.{has_word, acts_keep}
 use Rattle.seat_table.specs.Told.{Touches, tells}
 use Rattle.seat_table.specs.Gains.{WordFits}
 use Rattle.core_frames.proofs.views.Fields.{same_self}
 use Rattle.core_frames.proofs.Telling.{told_of}
+use Rattle.prcu_marks.proofs.Accesses.{made_by, makes}
 use Rattle.seat_table.proofs.Memories.{memory-word, memory-stored}
 use Rattle.seat_table.proofs.Facts.{sees, informed, fits, word_fits, said_fits, stood_inside, has_side, stays_in, still_works, tells_apart, word_below}
 use Rattle.seat_table.proofs.Gained.{gains}
-
-either_is : (b : Bool) (x y : ℕ) → either b x y ≡ cond b x y
-either_is true x y = refl
-either_is false x y = refl
-
--- an exchange-xor with 1 turns the last bit
-last_turned : (n : ℕ) → bit_xor n 1 ≡ turned_gate n
-last_turned n = dite (ℕ_discrete (n % 2) 0)
-    (λ e. let half : n / 2 * 2 + 1 ≡ n + 1 = omega arith in
-    xor_step n 1 ∙ ap (λ r. bit_xor (n / 2) 0 * 2 + differ r 1) e ∙ ap (λ z. z * 2 + 1) (xor_zero_r (n / 2)) ∙ half
-    ∙ ap (λ b. cond b (n + 1) (n - 1)) (sym (eq-eqb (n % 2) 0 e)))
-    (λ ne. let one : n % 2 ≡ 1 = omega arith in let half : n / 2 * 2 + 0 ≡ n - 1 = omega arith in
-    xor_step n 1 ∙ ap (λ r. bit_xor (n / 2) 0 * 2 + differ r 1) one ∙ ap (λ z. z * 2 + 0) (xor_zero_r (n / 2)) ∙ half
-    ∙ ap (λ b. cond b (n + 1) (n - 1)) (sym (ne_eqb (n % 2) 0 ne)))
-
--- what the table makes of a number by an access, in words of 64 bits
-abbrev pub made_by : Access → ℕ → ℕ
-made_by Load n = n
-made_by (Store x) n = x
-made_by (Exchange old new) n = either (n == old) new n
-made_by (Add x) n = (n + x) % 2 ^ 64
-made_by (Subtract x) n = (n + (2 ^ 64 - x)) % 2 ^ 64
-made_by Flip n = bit_xor n 1
-
-makes : (a : Access) (n : ℕ) → n < 18446744073709551616 → StaysWord a n → made_by a n ≡ left_by a n
-makes Load n small fits = refl
-makes (Store x) n small fits = refl
-makes (Exchange old new) n small fits = either_is (n == old) new n
-makes (Add x) n small fits = let sum : n + x < 18446744073709551616 = fits in omega arith
-makes (Subtract x) n small fits = let there : x ≤ n = fits in omega arith
-makes Flip n small fits = last_turned n
 
 module _ (k : Shape) (slots id : ℕ) (me : Me Nothing View) (c : Act) (word : ℕ) (is : is_field k (field_of me.0.allowance.place c) ≡ true)
     (at_word : word ≡ word_of k (field_of me.0.allowance.place c)) (works : Works me.0) (asks : Asks k me.0 c) where

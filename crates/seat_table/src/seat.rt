@@ -19,9 +19,9 @@ use crate::table::CitrusTable;
 use crate::told::{Cut, Glue};
 use crate::waiter::WaitWords;
 use arrayvec::ArrayVec;
-use core_acts::{Access, Act};
+use core_acts::Act;
 use core_state::{Field, View};
-use prcu_marks::Share;
+use prcu_marks::{Access, Share};
 use std::marker::{Brand, Model, PhantomData};
 
 /// How many slots that its place freed a seat notes.
