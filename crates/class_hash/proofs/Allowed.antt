@@ -13,13 +13,16 @@ use Rattle.hash_core.specs.declared.words.Field.{Field}
 use Rattle.hash_core.specs.declared.view.View.{View}
 use Rattle.hash_core.specs.Memory.{Memory, word_of, is_field, memory_of, stored}
 use Rattle.hash_core.specs.Rule.{MemoryRule, Rule}
-use Rattle.hash_core.specs.Acts.{Access, loads, stores, exchanges, adds, subtracts, field_of, access_of, left_by, said_by, Needs, marks_of, done}
+use Rattle.prcu_marks.specs.Accesses.{left_by, said_by, StaysWord}
+use Rattle.prcu_marks.specs.declared.access.Access.{Access}
+use Rattle.prcu_marks.specs.declared.access.Access.TheVariants.{Load, Store, Exchange, Add, Subtract}
+use Rattle.hash_core.specs.Acts.{field_of, access_of, Needs, marks_of, done}
 use Rattle.hash_core.proofs.Acting.{acts_keep}
 use Rattle.hash_core.proofs.Memories.{memory-word, memory-stored}
 use Rattle.class_hash.specs.declared.rule.Nothing.{Nothing}
 use Rattle.class_hash.specs.Seats.{TableAt}
 use Rattle.class_hash.specs.Told.{Touches, tells}
-use Rattle.class_hash.proofs.Facts.{informed, has_room, Fits, fits, field_there, still_places}
+use Rattle.class_hash.proofs.Facts.{informed, has_room, fits, field_there, still_places}
 use Rattle.class_hash.proofs.Gained.{gains}
 
 either_is : (b : Bool) (x y : ℕ) → either b x y ≡ cond b x y
@@ -34,7 +37,7 @@ module _ (k : Shape) (t : TableAt) (slots id : ℕ) (me : Me Nothing View) (a : 
   abbrev here : TableAt
   here = record t { capacities = k.capacities.items; places = k.places }
 
-  allows : (f : ℕ → ℕ) → ((n : ℕ) → n < 18446744073709551616 → Fits (access_of me.0 a) n → f n ≡ left_by (access_of me.0 a) n)
+  allows : (f : ℕ → ℕ) → ((n : ℕ) → n < 18446744073709551616 → StaysWord (access_of me.0 a) n → f n ≡ left_by (access_of me.0 a) n)
       → Allows Holds slots id me (word_of (field_of me.0 a)) f
       (λ n. tells (record t { capacities = k.capacities.items; places = k.places }) a me (said_by (access_of me.0 a) n))
   allows f same s r len at below =
@@ -87,37 +90,37 @@ module _ (k : Shape) (t z : TableAt) (b a : Act) (slots id : ℕ) (me : Me Nothi
   same_table : record t { capacities = k.capacities.items; places = k.places } ≡ z
   same_table = (λ i. record t { capacities = sym capacities i; places = sym places i }) ∙ sym table_is
 
-  allows_it : (f : ℕ → ℕ) → ((n : ℕ) → n < 18446744073709551616 → Fits access n → f n ≡ left_by access n)
+  allows_it : (f : ℕ → ℕ) → ((n : ℕ) → n < 18446744073709551616 → StaysWord access n → f n ≡ left_by access n)
       → Allows (λ (s : State Nothing View). Rule k s.words s.views) slots id me word f (λ n. tells z b me (said_by access n))
   allows_it f same =
       let allowed = allows k t slots id me a (field_there k.capacities.items me.0 touches.place a needs) touches.place.works needs f
-      (subst (λ x. (n : ℕ) → n < 18446744073709551616 → Fits x n → f n ≡ left_by x n) (sym touches.does) same) in
+      (subst (λ x. (n : ℕ) → n < 18446744073709551616 → StaysWord x n → f n ≡ left_by x n) (sym touches.does) same) in
       subst (λ (x : ℕ × TableAt × Act × Access). Allows (λ (s : State Nothing View). Rule k s.words s.views) slots id me x.0 f
       (λ n. tells x.1 x.2 me (said_by x.3 n)))
       (λ i. (sym touches.at i, same_table i, sym act_is i, touches.does i)) allowed
 
 module _ (k : Shape) (t z : TableAt) (b a : Act) (slots id : ℕ) (me : Me Nothing View) (word : ℕ)
     (capacities : t.capacities ≡ k.capacities.items) (places : t.places ≡ k.places) (table_is : z ≡ t) (act_is : b ≡ a) where
-  pub allows_load : Touches t me.0 a loads word
+  pub allows_load : Touches t me.0 a Load word
       → Allows (λ (s : State Nothing View). Rule k s.words s.views) slots id me word (λ n. n) (tells z b me)
-  allows_load touches = allows_it k t z b a slots id me word loads touches capacities places table_is act_is (λ n. n) (λ n small fits. refl)
+  allows_load touches = allows_it k t z b a slots id me word Load touches capacities places table_is act_is (λ n. n) (λ n small fits. refl)
 
-  pub allows_store : (x : ℕ) → Touches t me.0 a (stores x) word
+  pub allows_store : (x : ℕ) → Touches t me.0 a (Store x) word
       → Allows (λ (s : State Nothing View). Rule k s.words s.views) slots id me word (λ _. x) (λ _. tells z b me x)
-  allows_store x touches = allows_it k t z b a slots id me word (stores x) touches capacities places table_is act_is (λ _. x)
+  allows_store x touches = allows_it k t z b a slots id me word (Store x) touches capacities places table_is act_is (λ _. x)
       (λ n small fits. refl)
 
-  pub allows_exchange : (old new : ℕ) → Touches t me.0 a (exchanges old new) word
+  pub allows_exchange : (old new : ℕ) → Touches t me.0 a (Exchange old new) word
       → Allows (λ (s : State Nothing View). Rule k s.words s.views) slots id me word (λ n. either (n == old) new n) (tells z b me)
-  allows_exchange old new touches = allows_it k t z b a slots id me word (exchanges old new) touches capacities places table_is act_is
+  allows_exchange old new touches = allows_it k t z b a slots id me word (Exchange old new) touches capacities places table_is act_is
       (λ n. either (n == old) new n) (λ n small fits. either_is (n == old) new n)
 
-  pub allows_add : (x : ℕ) → Touches t me.0 a (adds x) word
+  pub allows_add : (x : ℕ) → Touches t me.0 a (Add x) word
       → Allows (λ (s : State Nothing View). Rule k s.words s.views) slots id me word (λ n. (n + x) % 2 ^ 64) (tells z b me)
-  allows_add x touches = allows_it k t z b a slots id me word (adds x) touches capacities places table_is act_is (λ n. (n + x) % 2 ^ 64)
+  allows_add x touches = allows_it k t z b a slots id me word (Add x) touches capacities places table_is act_is (λ n. (n + x) % 2 ^ 64)
       (λ n small fits. omega arith)
 
-  pub allows_subtract : (x : ℕ) → x ≤ 1 → Touches t me.0 a (subtracts x) word
+  pub allows_subtract : (x : ℕ) → x ≤ 1 → Touches t me.0 a (Subtract x) word
       → Allows (λ (s : State Nothing View). Rule k s.words s.views) slots id me word (λ n. (n + (2 ^ 64 - x)) % 2 ^ 64) (tells z b me)
-  allows_subtract x one touches = allows_it k t z b a slots id me word (subtracts x) touches capacities places table_is act_is
+  allows_subtract x one touches = allows_it k t z b a slots id me word (Subtract x) touches capacities places table_is act_is
       (λ n. (n + (2 ^ 64 - x)) % 2 ^ 64) (λ n small fits. omega arith)

@@ -1,6 +1,6 @@
 //! The accesses to a word: each step is one of them.
 ghost use Rattle.std.specs.Prelude.{◌≡◌, ◌≤◌};
-ghost use Rattle.hash_core.specs.Acts.{loads, stores, exchanges, adds, subtracts};
+ghost use Rattle.prcu_marks.specs.declared.access.Access.TheVariants.{Load, Store, Exchange, Add, Subtract};
 ghost use Rattle.class_hash.specs.Seats.{HasRoom};
 ghost use Rattle.class_hash.specs.Told.{Touches, Told};
 
@@ -16,7 +16,7 @@ type Token = Seat<Nothing, View>;
 fn loads_it<A: Detail>(table: &HashTable, seat: &mut Token, act: Act, word: usize) -> u64
     requires picked { (A.table ≡ table.now) × (A.act ≡ act) }
     requires table { seat.old.table_id ≡ table.now.id }
-    requires asks { Touches table.now seat.old.me.0 act loads word }
+    requires asks { Touches table.now seat.old.me.0 act Load word }
     ensures seat { (seat.new.table_id ≡ seat.old.table_id) × (seat.new.me.1 ≡ seat.old.me.1) }
     ensures told { Told table.now seat.old.me.0 act result seat.new.me.0 }
     ensures room { HasRoom seat.new.me.0 }
@@ -27,7 +27,7 @@ fn loads_it<A: Detail>(table: &HashTable, seat: &mut Token, act: Act, word: usiz
 /// A load.
 pub(crate) fn load(table: &HashTable, seat: &mut Token, act: Act, word: usize) -> u64
     requires table { seat.old.table_id ≡ table.now.id }
-    requires asks { Touches table.now seat.old.me.0 act loads word }
+    requires asks { Touches table.now seat.old.me.0 act Load word }
     ensures seat { (seat.new.table_id ≡ seat.old.table_id) × (seat.new.me.1 ≡ seat.old.me.1) }
     ensures told { Told table.now seat.old.me.0 act result seat.new.me.0 }
     ensures room { HasRoom seat.new.me.0 }
@@ -38,7 +38,7 @@ pub(crate) fn load(table: &HashTable, seat: &mut Token, act: Act, word: usize) -
 fn stores_it<A: Detail>(table: &HashTable, seat: &mut Token, act: Act, word: usize, number: u64)
     requires picked { (A.table ≡ table.now) × (A.act ≡ act) }
     requires table { seat.old.table_id ≡ table.now.id }
-    requires asks { Touches table.now seat.old.me.0 act (stores number) word }
+    requires asks { Touches table.now seat.old.me.0 act (Store number) word }
     ensures seat { (seat.new.table_id ≡ seat.old.table_id) × (seat.new.me.1 ≡ seat.old.me.1) }
     ensures told { Told table.now seat.old.me.0 act number seat.new.me.0 }
     ensures room { HasRoom seat.new.me.0 }
@@ -49,7 +49,7 @@ fn stores_it<A: Detail>(table: &HashTable, seat: &mut Token, act: Act, word: usi
 /// A store.
 pub(crate) fn store(table: &HashTable, seat: &mut Token, act: Act, word: usize, number: u64)
     requires table { seat.old.table_id ≡ table.now.id }
-    requires asks { Touches table.now seat.old.me.0 act (stores number) word }
+    requires asks { Touches table.now seat.old.me.0 act (Store number) word }
     ensures seat { (seat.new.table_id ≡ seat.old.table_id) × (seat.new.me.1 ≡ seat.old.me.1) }
     ensures told { Told table.now seat.old.me.0 act number seat.new.me.0 }
     ensures room { HasRoom seat.new.me.0 }
@@ -67,7 +67,7 @@ fn exchanges_it<A: Detail>(
 ) -> u64
     requires picked { (A.table ≡ table.now) × (A.act ≡ act) }
     requires table { seat.old.table_id ≡ table.now.id }
-    requires asks { Touches table.now seat.old.me.0 act (exchanges old new) word }
+    requires asks { Touches table.now seat.old.me.0 act (Exchange old new) word }
     ensures seat { (seat.new.table_id ≡ seat.old.table_id) × (seat.new.me.1 ≡ seat.old.me.1) }
     ensures told { Told table.now seat.old.me.0 act result seat.new.me.0 }
     ensures room { HasRoom seat.new.me.0 }
@@ -88,7 +88,7 @@ pub(crate) fn exchange(
     new: u64,
 ) -> u64
     requires table { seat.old.table_id ≡ table.now.id }
-    requires asks { Touches table.now seat.old.me.0 act (exchanges old new) word }
+    requires asks { Touches table.now seat.old.me.0 act (Exchange old new) word }
     ensures seat { (seat.new.table_id ≡ seat.old.table_id) × (seat.new.me.1 ≡ seat.old.me.1) }
     ensures told { Told table.now seat.old.me.0 act result seat.new.me.0 }
     ensures room { HasRoom seat.new.me.0 }
@@ -105,7 +105,7 @@ fn adds_it<A: Detail>(
 ) -> u64
     requires picked { (A.table ≡ table.now) × (A.act ≡ act) }
     requires table { seat.old.table_id ≡ table.now.id }
-    requires asks { Touches table.now seat.old.me.0 act (adds number) word }
+    requires asks { Touches table.now seat.old.me.0 act (Add number) word }
     ensures seat { (seat.new.table_id ≡ seat.old.table_id) × (seat.new.me.1 ≡ seat.old.me.1) }
     ensures told { Told table.now seat.old.me.0 act result seat.new.me.0 }
     ensures room { HasRoom seat.new.me.0 }
@@ -116,7 +116,7 @@ fn adds_it<A: Detail>(
 /// An addition.
 pub(crate) fn add(table: &HashTable, seat: &mut Token, act: Act, word: usize, number: u64) -> u64
     requires table { seat.old.table_id ≡ table.now.id }
-    requires asks { Touches table.now seat.old.me.0 act (adds number) word }
+    requires asks { Touches table.now seat.old.me.0 act (Add number) word }
     ensures seat { (seat.new.table_id ≡ seat.old.table_id) × (seat.new.me.1 ≡ seat.old.me.1) }
     ensures told { Told table.now seat.old.me.0 act result seat.new.me.0 }
     ensures room { HasRoom seat.new.me.0 }
@@ -134,7 +134,7 @@ fn subtracts_it<A: Detail>(
     requires picked { (A.table ≡ table.now) × (A.act ≡ act) }
     requires table { seat.old.table_id ≡ table.now.id }
     requires one { number ≤ 1 }
-    requires asks { Touches table.now seat.old.me.0 act (subtracts number) word }
+    requires asks { Touches table.now seat.old.me.0 act (Subtract number) word }
     ensures seat { (seat.new.table_id ≡ seat.old.table_id) × (seat.new.me.1 ≡ seat.old.me.1) }
     ensures told { Told table.now seat.old.me.0 act result seat.new.me.0 }
     ensures room { HasRoom seat.new.me.0 }
@@ -152,7 +152,7 @@ pub(crate) fn subtract(
 ) -> u64
     requires table { seat.old.table_id ≡ table.now.id }
     requires one { number ≤ 1 }
-    requires asks { Touches table.now seat.old.me.0 act (subtracts number) word }
+    requires asks { Touches table.now seat.old.me.0 act (Subtract number) word }
     ensures seat { (seat.new.table_id ≡ seat.old.table_id) × (seat.new.me.1 ≡ seat.old.me.1) }
     ensures told { Told table.now seat.old.me.0 act result seat.new.me.0 }
     ensures room { HasRoom seat.new.me.0 }

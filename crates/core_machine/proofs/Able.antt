@@ -21,7 +21,8 @@ use Rattle.core_points.specs.declared.stage.Update.TheVariants as update
 use Rattle.core_points.specs.declared.stage.Waits.TheVariants.{Reuse, Move}
 use Rattle.core_points.specs.declared.stage.Stage.{Stage}
 use Rattle.core_points.specs.declared.stage.Stage.TheVariants as at
-use Rattle.core_acts.specs.Acts.{access_of, said_by}
+use Rattle.prcu_marks.specs.Accesses.{said_by}
+use Rattle.core_acts.specs.Acts.{access_of}
 use Rattle.core_points.specs.Acts.{Act, Needs, field_of, left_of}
 use Rattle.core_points.specs.Callers.{Own, is_none_left, is_some}
 use Rattle.core_points.specs.DeletePlan.{target_locks}

@@ -20,7 +20,8 @@ use Rattle.core_points.specs.Laws.{is_finished}
 use Rattle.core_machine.specs.declared.caller.Caller.{Caller}
 use Rattle.core_machine.specs.declared.machine.Stepped.{Stepped}
 use Rattle.core_machine.specs.declared.machine.Stepped.TheVariants.{Finished}
-use Rattle.core_acts.specs.Acts.{access_of, left_by, noted}
+use Rattle.prcu_marks.specs.Accesses.{left_by}
+use Rattle.core_acts.specs.Acts.{access_of, noted}
 use Rattle.core_machine.specs.Runs.{Core, core, told_in, moved, moved_by, new_core, shape_of, step}
 use Rattle.core_machine.specs.Laws.{IsMachine}
 use Rattle.core_machine.specs.Stepped.{Answer, answer_of, answers, blocked, has_ended, own_answers}

@@ -19,7 +19,8 @@ use Rattle.core_points.proofs.All.{trails_are_free}
 use Rattle.core_points.specs.declared.stage.Update.TheVariants as update
 use Rattle.core_points.specs.declared.stage.Stage.{Stage}
 use Rattle.core_points.specs.declared.stage.Stage.TheVariants as at
-use Rattle.core_acts.specs.Acts.{access_of, left_by, said_by, noted, StaysWord}
+use Rattle.prcu_marks.specs.Accesses.{left_by, said_by, StaysWord}
+use Rattle.core_acts.specs.Acts.{access_of, noted}
 use Rattle.core_acts.proofs.Acting.{has_word, op_of, updates_by, updates_made}
 use Rattle.core_points.specs.Acts.{Act, kind_of, field_of, left_of, marks_of, view_after}
 use Rattle.core_points.specs.Callers.{Own, is_some as has_slot}

@@ -48,7 +48,8 @@ use Rattle.core_points.specs.declared.stage.Stage.{Stage}
 use Rattle.core_points.specs.declared.stage.Stage.TheVariants as at
 use Rattle.prcu_marks.specs.declared.mark.Side.{Side}
 use Rattle.prcu_marks.specs.declared.mark.Side.TheVariants.{Left, Right}
-use Rattle.core_acts.specs.Acts.{in_slot, access_of, said_by, noted, section_of, wait_of}
+use Rattle.prcu_marks.specs.Accesses.{said_by}
+use Rattle.core_acts.specs.Acts.{in_slot, access_of, noted, section_of, wait_of}
 use Rattle.core_acts.specs.declared.act.Act.TheVariants.{LeaveByStamp}
 use Rattle.core_acts.proofs.Acting.{section_is}
 use Rattle.core_points.specs.Acts.{Act, field_of, marks_of, view_after}

@@ -22,9 +22,10 @@ use Rattle.core_state.specs.Invariant.{Invariant, Rule}
 use Rattle.seat_table.specs.declared.rule.Nothing.{Nothing}
 use Rattle.seat_table.specs.Seats.{TableAt, way_of, with_way, shape_of}
 use Rattle.core_acts.specs.declared.act.Act.{Act}
-use Rattle.core_acts.specs.declared.access.Access.{Access}
-use Rattle.core_acts.specs.declared.access.Access.TheVariants.{Load, Store, Exchange, Add, Subtract, Flip}
-use Rattle.core_acts.specs.Acts.{StaysWord, field_of, access_of, left_by, said_by, Asks}
+use Rattle.prcu_marks.specs.declared.access.Access.{Access}
+use Rattle.prcu_marks.specs.declared.access.Access.TheVariants.{Load, Store, Exchange, Add, Subtract, Flip}
+use Rattle.prcu_marks.specs.Accesses.{left_by, said_by, StaysWord}
+use Rattle.core_acts.specs.Acts.{field_of, access_of, Asks}
 use Rattle.core_acts.specs.Laws.{done, marks}
 use Rattle.core_acts.proofs.Acting.{has_word, acts_keep}
 use Rattle.seat_table.specs.Told.{Touches, tells}

@@ -1,7 +1,7 @@
 //! The access to a word that a step of any kind makes.
 ghost use Rattle.std.specs.Prelude.{◌≡◌};
 ghost use Rattle.core_state.specs.memory.Memory.{word_of};
-ghost use Rattle.core_acts.specs.Acts.{said_by};
+ghost use Rattle.prcu_marks.specs.Accesses.{said_by};
 ghost use Rattle.seat_table.specs.Seats.{shape_of};
 ghost use Rattle.seat_table.specs.Gains.{TellsNow};
 ghost use Rattle.seat_table.specs.Told.{Touches, Told};
@@ -11,8 +11,9 @@ use crate::table::CitrusTable;
 use crate::told::{Detail, Told as Tells};
 use crate::waiter::{WaitWords, waiter_of};
 use atomic_table::Seat;
-use core_acts::{Access, Act, index_of};
+use core_acts::{Act, index_of};
 use core_state::{Field, View};
+use prcu_marks::Access;
 use std::marker::Brand;
 
 type Token = Seat<Nothing, View>;

@@ -19,8 +19,9 @@ use crate::table::CitrusTable;
 use crate::told::{Cut, Glue, Share};
 use crate::waiter::WaitWords;
 use arrayvec::ArrayVec;
-use core_acts::{Access, Act};
+use core_acts::Act;
 use core_state::{Field, View};
+use prcu_marks::Access;
 use std::marker::{Brand, Model, PhantomData};
 
 /// How many slots that its place freed a seat notes.

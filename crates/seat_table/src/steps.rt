@@ -13,10 +13,10 @@ use crate::seat::Seat;
 use crate::table::CitrusTable;
 use crate::waiter::WaitWords;
 use arrayvec::ArrayVec;
-use core_acts::{Access, Act, Part, in_slot};
+use core_acts::{Act, Part, in_slot};
 use core_state::Field;
 use key_interval::{Keys, class_of};
-use prcu_marks::Side;
+use prcu_marks::{Access, Side};
 
 // Takes a slot off the list of retired slots.
 fn take_off(listed: &mut ArrayVec<u32, 16>, slot: u32)

@@ -1,5 +1,5 @@
 use Rattle.std.proofs.Common.{rules}
-use Rattle.core_acts.specs.declared.access.Access.TheVariants.{Load, Store, Exchange, Add, Subtract, Flip}
+use Rattle.prcu_marks.specs.declared.access.Access.TheVariants.{Load, Store, Exchange, Add, Subtract, Flip}
 use Rattle.seat_table.proofs.Allowed.{allowed}
 use Rattle.seat_table.proofs.access.touches_it.Goals as goal
 
