@@ -228,7 +228,8 @@ module _ (k : Shape) (h : List Mark) (o : Own) (v : View) (n : ℕ) where
       let slot : ℕ = first_or_root o.retired in
       let is : slot ≡ r.slot = ap first_or_root e in
       let left : without_retired slot v.hands.retired ≡ q.rest =
-      ap (without_retired slot) q.are ∙ without_first slot r q.rest (sym is) (subst (λ s. IsAlone s q.rest) (sym is) (alone r q.rest q.are)) in
+      ap (without_retired slot) q.are
+      ∙ without_first slot r q.rest (sym is) (subst (λ s. IsAlone s q.rest) (sym is) (alone r q.rest q.are)) in
       let i = (f.point).idle in
       let b = i.bare in record {
         owns = owns_retired o v f.owns _ _ (ap (map (λ (r : Retired). r.slot)) left ∙ sym (ap but_first e));
