@@ -149,7 +149,7 @@ module _ (k : Shape) (shape : IsShape k) (o : Own) (v w : View) (h h' : List Mar
   able (at.LookStamp (Reuse aim) clock p key) n f word left next = (f.point).2
   able (at.LookStamp (Move move) clock p key) n f word left next = ((f.point).3).0
   able (at.OldRaise aim life) n f word left next = let has = (f.point).3 in
-      first_kept v.hands.retired has.0 o.retired has.1 has.2 f.owns.retired_are
+      first_kept v.hands.retired has.first o.retired has.rest has.are f.owns.retired_are
   able (at.OldFree aim) n f word left next = let has = (f.point).first in
       first_kept v.hands.retired has.first o.retired has.rest has.are f.owns.retired_are
   able (at.OldCount aim) n f word left next = omega arith

@@ -129,22 +129,25 @@ stands_at o v h n (at.AtKey s parent b) x y f is e = let i = (f.point).1 in
     is ∙ loads_stay (noted_at o v n (at.AtKey s parent b)) h (Key s) n i.section i.is (key_keeps _ s parent b n i.stands.state_is) ∙ sym e
 stands_at o v h n (at.Leave next) x y f is e = is ∙ sym e
 stands_at o v h n (at.Value s) x y f is e = let i = (f.point.2).2 in
-    is ∙ loads_stay (noted_at o v n (at.Value s)) h (Value s) n i.section i.is (value_keeps _ s (f.point.2).0 (f.point.2).1 None n i.stands.state_is)
-    ∙ sym e
+    is ∙ loads_stay (noted_at o v n (at.Value s)) h (Value s) n i.section i.is
+    (value_keeps _ s (f.point.2).0 (f.point.2).1 None n i.stands.state_is) ∙ sym e
 stands_at o v h n (at.SpotTag s b) x y f is e = let i = (f.point).2 in
-    is ∙ loads_stay (noted_at o v n (at.SpotTag s b)) h (Tag s b) n i.section i.is (missed_keeps _ s b (Tag s b) n i.stands.state_is) ∙ sym e
+    is ∙ loads_stay (noted_at o v n (at.SpotTag s b)) h (Tag s b) n i.section i.is
+    (missed_keeps _ s b (Tag s b) n i.stands.state_is) ∙ sym e
 stands_at o v h n (at.SpotLife s b tag) x y f is e = let i = (f.point).2 in
-    is ∙ loads_stay (noted_at o v n (at.SpotLife s b tag)) h (Life s) n i.section i.is (missed_keeps _ s b (Life s) n i.stands.state_is) ∙ sym e
+    is ∙ loads_stay (noted_at o v n (at.SpotLife s b tag)) h (Life s) n i.section i.is
+    (missed_keeps _ s b (Life s) n i.stands.state_is) ∙ sym e
 stands_at o v h n (at.OldRaise aim life) x y f is e =
     is ∙ stay (noted_at o v n (at.OldRaise aim life)) h n (act_at o (at.OldRaise aim life)) (either_other (has_slot o.spare) _ _ refl refl)
     ∙ sym e
 stands_at o v h n (at.Store update front) x y f is e =
     is ∙ stay (noted_at o v n (at.Store update front)) h n (store_act o update) (store_other o update) ∙ sym e
 stands_at o v h n (at.SetLife s) x y f is e = let i = (f.point.2).2 in
-    is ∙ loads_stay (noted_at o v n (at.SetLife s)) h (Life s) n i.section i.is (life_keeps _ s (f.point.2).0 (f.point.2).1 None s n i.stands.state_is)
-    ∙ sym e
+    is ∙ loads_stay (noted_at o v n (at.SetLife s)) h (Life s) n i.section i.is
+    (life_keeps _ s (f.point.2).0 (f.point.2).1 None s n i.stands.state_is) ∙ sym e
 stands_at o v h n (at.ParentLife p b d) x y f is e = let i = (f.point).2 in
-    is ∙ loads_stay (noted_at o v n (at.ParentLife p b d)) h (Life p) n i.section i.is (life_keeps _ d p b None p n i.stands.state_is) ∙ sym e
+    is ∙ loads_stay (noted_at o v n (at.ParentLife p b d)) h (Life p) n i.section i.is
+    (life_keeps _ d p b None p n i.stands.state_is) ∙ sym e
 stands_at o v h n (at.NodeLife d) x y f is e = let i = (f.point).2 in
     is ∙ loads_stay (noted_at o v n (at.NodeLife d)) h (Life d.node) n i.section i.is
     (life_keeps _ d.node d.parent d.side None d.node n i.stands.state_is) ∙ sym e

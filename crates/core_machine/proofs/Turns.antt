@@ -644,9 +644,10 @@ module _ (k : Shape) (m : Memory) (vs : List View) (h : List Mark) (i : ℕ) (o 
     turn (at.SetValue s) going f t = quiet (at.SetValue s) t refl (λ e. absurd (cc)) _ _ (refl, refl, inl refl)
     turn (at.ParentLife p b d) going f t = loads (at.ParentLife p b d) t refl (f.point).2.section (f.point).2.is (Life p)
         (act_at o (at.ParentLife p b d)) (m (Life p)) _ (refl, refl, inl refl)
-    turn (at.NodeLife d) going f t = loads (at.NodeLife d) t refl (f.point).2.section (f.point).2.is (Life d.node) (act_at o (at.NodeLife d))
+    turn (at.NodeLife d) going f t = loads (at.NodeLife d) t refl f.point.2.section f.point.2.is (Life d.node) (act_at o (at.NodeLife d))
         (m (Life d.node)) _ (refl, refl, inl refl)
-    turn (at.NodeLeft d) going f t = loads (at.NodeLeft d) t refl (f.point).2.section (f.point).2.is (Link d.node Left) (act_at o (at.NodeLeft d))
+    turn (at.NodeLeft d) going f t =
+        loads (at.NodeLeft d) t refl (f.point).2.section (f.point).2.is (Link d.node Left) (act_at o (at.NodeLeft d))
         (m (Link d.node Left)) _ (refl, refl, inl refl)
     turn (at.NodeRight d) going f t = let n : ℕ = m (Link d.node Right) in
         loads (at.NodeRight d) t refl (f.point).2.section (f.point).2.is (Link d.node Right) (act_at o (at.NodeRight d)) n

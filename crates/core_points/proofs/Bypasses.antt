@@ -208,7 +208,8 @@ module _ (k : Shape) (h : List Mark) (o : Own) (v : View) (n : ℕ) where
         d.right,
         record {
           has_commit = record { commit_is = (p.quiet).turn_is; unmade = refl; ticket = (let t = f.tickets in omega arith) };
-          room = (let room = ((p.deleting).1).room (p.deleting).0 in let long = same_length v.hands.retired o.retired f.owns.retired_are in omega arith);
+          room = (let room = ((p.deleting).1).room (p.deleting).0 in
+              let long = same_length v.hands.retired o.retired f.owns.retired_are in omega arith);
           records = few_children v r d few.2 few.3;
           marked = marked_node v r d few.2 p.marked;
           child_is = p.child_is;

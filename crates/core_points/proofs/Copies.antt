@@ -369,7 +369,8 @@ module _ (k : Shape) (h : List Mark) (o : Own) (v : View) (n : ℕ) where
   -- the lock of the copy
   pub needs_copy_lock : (d : Node) (u : Successor) (next_key : ℕ) → Fits o (at.CopyLock d u next_key) v
       → Needs k v n (act_at o (at.CopyLock d u next_key))
-  needs_copy_lock d u next_key f = let p = (f.point).0 in let few = p.few in record { outside = ((p.copying).quiet).outside; few = omega arith }
+  needs_copy_lock d u next_key f = let p = (f.point).0 in
+      let few = p.few in record { outside = ((p.copying).quiet).outside; few = omega arith }
 
   under_new : (copy t : ℕ) (ls : List HeldLock) → copy ≢ t → under (new_lock copy ∷ ls) t ≡ under ls t
   under_new copy t ls ne = ap (λ b. known_of (cond b (Some (new_lock copy)) (lock_of ls t))) (ne_eqb copy t ne)
@@ -518,7 +519,8 @@ module _ (k : Shape) (h : List Mark) (o : Own) (v : View) (n : ℕ) where
         x.value,
         record {
           has_commit = record { commit_is = (c.quiet).turn_is; unmade = refl; ticket = (let t = f.tickets in omega arith) };
-          room = (let room = ((c.deleting).1).room (c.deleting).0 in let long = same_length v.hands.retired o.retired f.owns.retired_are in omega arith);
+          room = (let room = ((c.deleting).1).room (c.deleting).0 in
+              let long = same_length v.hands.retired o.retired f.owns.retired_are in omega arith);
           records = both_children v r d u both.2 both.3;
           marked = marked_node v r d both.2 p.marked;
           spare_is = (has.spare_is, has.slot_is);

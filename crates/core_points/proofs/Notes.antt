@@ -149,8 +149,8 @@ pub stands_on : {section : Section} {key : ℕ} {state state' : SearchState} (r 
 stands_on r same is here s = record { searches = s.searches; key_is = s.key_is; sought = same ∙ s.sought; state_is = is; here = here }
 
 -- what is quiet stays so when the front is turned, and before locks are given up
-pub quiet_turned : {commit turn now here : Option Commit} {o_hand : Option ℕ} {section : Option Section} {moving : Option Move} {reserved owes : Bool}
-    {hand : Option Held} → here ≡ now → QuietParts commit o_hand section turn moving reserved owes hand
+pub quiet_turned : {commit turn now here : Option Commit} {o_hand : Option ℕ} {section : Option Section} {moving : Option Move}
+    {reserved owes : Bool} {hand : Option Held} → here ≡ now → QuietParts commit o_hand section turn moving reserved owes hand
     → QuietParts now o_hand section here moving reserved owes hand
 quiet_turned e q = record {
   outside = q.outside;

@@ -104,13 +104,13 @@ module _ (k : Shape) (h : List Mark) (o : Own) (v : View) (n : ℕ) where
           (f.point).1,
           each_map (changed_at slot to) (λ (r : Retired). r.waited ≡ true) (λ (r : Retired). r.waited ≡ true) v.hands.retired
               (λ r p. fact_kept (λ (r : Retired). r.waited ≡ true) to (λ r q. q) r (r.slot == slot) p) (f.point).3,
-          (
-            to r,
-            change_retired slot to x.1,
-            ap (change_retired slot to) x.2
-                ∙ ap (λ b. cond b (to r) r ∷ change_retired slot to x.1) (eq-eqb r.slot slot (sym x.3)),
-            refl,
-          ),
+          record {
+            first = to r;
+            rest = change_retired slot to x.1;
+            are = ap (change_retired slot to) x.2
+                ∙ ap (λ b. cond b (to r) r ∷ change_retired slot to x.1) (eq-eqb r.slot slot (sym x.3));
+            loaded = refl;
+          },
         );
       }
 
@@ -122,32 +122,32 @@ module _ (k : Shape) (h : List Mark) (o : Own) (v : View) (n : ℕ) where
   pub needs_old_raise : (aim : Aim) (life : ℕ) → Fits o (at.OldRaise aim life) v → Needs k v n (act_at o (at.OldRaise aim life))
   needs_old_raise aim life f =
       let q = (f.point).3 in
-      let r : Retired = q.0 in
-      let e = first_slot r q.1 f.owns q.2 in
+      let r : Retired = q.first in
+      let e = first_slot r q.rest f.owns q.are in
       let b = ((f.point).0).bare in
       let number : ℕ = 2 * (life / 2 + 1) in
       by_spare (is_some o.spare) refl (ap first_or_root e)
       (λ slot is. record {
-        retired = (ap (λ xs. get_elem? xs 0) q.2, sym is);
-        unraised = head_each (λ (r : Retired). r.raised ≡ false) r q.1 v.hands.retired q.2 (f.unraised refl);
+        retired = (ap (λ xs. get_elem? xs 0) q.are, sym is);
+        unraised = head_each (λ (r : Retired). r.raised ≡ false) r q.rest v.hands.retired q.are (f.unraised refl);
         unlocked = λ l. absurd (let z : None ≡ Some l.0 = ap (λ ls. lock_of ls slot) (sym b.locks_are) ∙ l.1 in cc);
-        waited = head_each (λ (r : Retired). r.waited ≡ true) r q.1 v.hands.retired q.2 (f.point).2;
-        loaded = q.3;
+        waited = head_each (λ (r : Retired). r.waited ≡ true) r q.rest v.hands.retired q.are (f.point).2;
+        loaded = q.loaded;
         next = refl;
       })
     where
-      by_spare : (z : Bool) → is_some o.spare ≡ z → first_or_root o.retired ≡ (((f.point).3).0).slot
-          → ((slot : ℕ) → slot ≡ (((f.point).3).0).slot → NeedsRaiseRetired v 0 ((f.point).3).0 slot life (2 * (life / 2 + 1)))
+      by_spare : (z : Bool) → is_some o.spare ≡ z → first_or_root o.retired ≡ (((f.point).3).first).slot
+          → ((slot : ℕ) → slot ≡ (((f.point).3).first).slot → NeedsRaiseRetired v 0 ((f.point).3).first slot life (2 * (life / 2 + 1)))
           → Needs k v n (cond z (RaiseRetired (first_or_root o.retired) (2 * (life / 2 + 1)))
           (RaiseToSpare (first_or_root o.retired) (2 * (life / 2 + 1))))
       by_spare true e is make = (
         0,
         life,
-        ((f.point).3).0,
+        ((f.point).3).first,
         make _ is,
         (λ none. absurd (let q : false ≡ true = ap is_some (ap spare_slot (sym none) ∙ f.owns.spare_is) ∙ e in cc)),
       )
-      by_spare false e is make = (0, life, ((f.point).3).0, make _ is, no_spare v.hands.spare o.spare f.owns.spare_is e)
+      by_spare false e is make = (0, life, ((f.point).3).first, make _ is, no_spare v.hands.spare o.spare f.owns.spare_is e)
 
   pub next_old_raise : (aim : Aim) (life : ℕ) → TellsAlone v → Fits o (at.OldRaise aim life) v
       → Fits (after o n (at.OldRaise aim life)) (after o n (at.OldRaise aim life)).stage
@@ -163,9 +163,9 @@ module _ (k : Shape) (h : List Mark) (o : Own) (v : View) (n : ℕ) where
           (RaiseToSpare (first_or_root o.retired) (2 * (life / 2 + 1)))))
       by_spare true some_spare =
           let q = (f.point).3 in
-          let r : Retired = q.0 in
+          let r : Retired = q.first in
           let slot : ℕ = first_or_root o.retired in
-          let is : slot ≡ r.slot = ap first_or_root (first_slot r q.1 f.owns q.2) in
+          let is : slot ≡ r.slot = ap first_or_root (first_slot r q.rest f.owns q.are) in
           let to : Retired → Retired = λ r. record r { raised = true } in record {
             owns = owns_retired o v f.owns _ _ (same_slots (changed_at slot to)
                 (λ r. slot_kept to (λ r. refl) r (r.slot == slot)) v.hands.retired ∙ f.owns.retired_are);
@@ -178,24 +178,25 @@ module _ (k : Shape) (h : List Mark) (o : Own) (v : View) (n : ℕ) where
                   (λ r p. fact_kept (λ (r : Retired). r.waited ≡ true) to (λ r q. q) r (r.slot == slot) p) (f.point).2;
               first = record {
                 first = to r;
-                rest = q.1;
-                are = ap (change_retired slot to) q.2
-                    ∙ change_first slot to r q.1 (sym is) (subst (λ s. IsAlone s q.1) (sym is) (alone r q.1 q.2));
+                rest = q.rest;
+                are = ap (change_retired slot to) q.are
+                    ∙ change_first slot to r q.rest (sym is) (subst (λ s. IsAlone s q.rest) (sym is) (alone r q.rest q.are));
                 raised = refl;
-                others = tail_each (λ (r : Retired). r.raised ≡ false) r q.1 v.hands.retired q.2 (f.unraised refl);
+                others = tail_each (λ (r : Retired). r.raised ≡ false) r q.rest v.hands.retired q.are (f.unraised refl);
               };
               has_spare = some_spare;
             };
           }
       by_spare false none =
           let q = (f.point).3 in
-          let r : Retired = q.0 in
-          let e = first_slot r q.1 f.owns q.2 in
+          let r : Retired = q.first in
+          let e = first_slot r q.rest f.owns q.are in
           let slot : ℕ = first_or_root o.retired in
           let is : slot ≡ r.slot = ap first_or_root e in
           let number : ℕ = 2 * (life / 2 + 1) in
-          let left : without_retired slot v.hands.retired ≡ q.1 =
-          ap (without_retired slot) q.2 ∙ without_first slot r q.1 (sym is) (subst (λ s. IsAlone s q.1) (sym is) (alone r q.1 q.2)) in
+          let left : without_retired slot v.hands.retired ≡ q.rest =
+          ap (without_retired slot) q.are
+          ∙ without_first slot r q.rest (sym is) (subst (λ s. IsAlone s q.rest) (sym is) (alone r q.rest q.are)) in
           giving_fits (record o { spare = Some slot; retired = but_first o.retired }) aim (after_raise_to_spare v slot number h)
           (λ none. cc)
           (owns_retired (record o { spare = Some slot }) (record v { hands = record v.hands { spare = Some (new_spare slot number) } })
@@ -203,9 +204,9 @@ module _ (k : Shape) (h : List Mark) (o : Own) (v : View) (n : ℕ) where
           (ap (map (λ (r : Retired). r.slot)) left ∙ sym (ap but_first e)))
           (f.point).0 (f.point).1 f.tickets
           (subst (λ xs. Each xs (λ (r : Retired). r.raised ≡ false)) (sym left)
-          (tail_each (λ (r : Retired). r.raised ≡ false) r q.1 v.hands.retired q.2 (f.unraised refl)))
+          (tail_each (λ (r : Retired). r.raised ≡ false) r q.rest v.hands.retired q.are (f.unraised refl)))
           (subst (λ xs. Each xs (λ (r : Retired). r.waited ≡ true)) (sym left)
-          (tail_each (λ (r : Retired). r.waited ≡ true) r q.1 v.hands.retired q.2 (f.point).2))
+          (tail_each (λ (r : Retired). r.waited ≡ true) r q.rest v.hands.retired q.are (f.point).2))
 
   pub needs_old_free : (aim : Aim) → Fits o (at.OldFree aim) v → Needs k v n (act_at o (at.OldFree aim))
   needs_old_free aim f =
@@ -228,7 +229,8 @@ module _ (k : Shape) (h : List Mark) (o : Own) (v : View) (n : ℕ) where
       let slot : ℕ = first_or_root o.retired in
       let is : slot ≡ r.slot = ap first_or_root e in
       let left : without_retired slot v.hands.retired ≡ q.rest =
-      ap (without_retired slot) q.are ∙ without_first slot r q.rest (sym is) (subst (λ s. IsAlone s q.rest) (sym is) (alone r q.rest q.are)) in
+      ap (without_retired slot) q.are
+      ∙ without_first slot r q.rest (sym is) (subst (λ s. IsAlone s q.rest) (sym is) (alone r q.rest q.are)) in
       let i = (f.point).idle in
       let b = i.bare in record {
         owns = owns_retired o v f.owns _ _ (ap (map (λ (r : Retired). r.slot)) left ∙ sym (ap but_first e));

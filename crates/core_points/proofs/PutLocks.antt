@@ -110,11 +110,12 @@ module _ (k : Shape) (h : List Mark) (o : Own) (v : View) (n : ℕ) where
           outside = (f.point).outside;
           taken = (s, is);
           bare = bare_noted v s (Link s Right) 0 true [] [] None false (f.point).bare refl;
-          hand = subst (λ x. HandFits x o.hand_life (key_now o) (value_in o.op) (note_option s (stored_at (Link s Right) 0) v.hands.hand)) (sym is) (
-            leaf_held s o.hand_life (key_now o) (value_in o.op) 4,
-            put_hand s 3 4 (Link s Right) 0 e refl,
-            leaf_is s o.hand_life (key_now o) (value_in o.op),
-          );
+          hand = subst (λ x. HandFits x o.hand_life (key_now o) (value_in o.op) (note_option s (stored_at (Link s Right) 0) v.hands.hand))
+              (sym is) (
+                leaf_held s o.hand_life (key_now o) (value_in o.op) 4,
+                put_hand s 3 4 (Link s Right) 0 e refl,
+                leaf_is s o.hand_life (key_now o) (value_in o.op),
+              );
           has_spot = (f.point).has_spot;
           puts = (f.point).puts;
         };

@@ -206,7 +206,8 @@ module _ (k : Shape) (h : List Mark) (o : Own) (v : View) (n : ℕ) where
       by_last true e =
           let b = idle.bare in
           giving_fits o aim (ending v (with_excused wait field) h) comes
-          (owns_retired o v owns _ _ (same_slots (waited_retired (with_excused wait field)) (λ r. refl) v.hands.retired ∙ owns.retired_are)) (record {
+          (owns_retired o v owns _ _ (same_slots (waited_retired (with_excused wait field)) (λ r. refl) v.hands.retired ∙ owns.retired_are))
+          (record {
             outside = idle.outside;
             bare = record {
               locks_are = b.locks_are;

@@ -278,6 +278,13 @@ pub record HasRaised (o_hand : Option ℕ) (hand : Option Held) : Type 0 where
   pub raised : held.raised ≡ true
   pub in_hand : hand ≡ Some held
 
+-- the life of the first retired slot was loaded
+pub record FirstAged (retired : List Retired) (life : ℕ) : Type 0 where
+  pub first : Retired
+  pub rest : List Retired
+  pub are : retired ≡ first ∷ rest
+  pub loaded : first.life ≡ Some life
+
 -- the life of the first retired slot was raised, and of no other
 pub record FirstRaised (retired : List Retired) : Type 0 where
   pub first : Retired

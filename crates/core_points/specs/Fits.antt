@@ -1,6 +1,6 @@
 -- What the view of a caller knows at each point of its program: enough for the step that it makes there.
 -- Source: docs/TREE_CALLS.md, "The calls".
-use Rattle.std.specs.Prelude.{◌≡◌, ◌≢◌, ℕ, ◌+◌, ◌*◌, ◌%◌, ◌<◌, ◌≤◌, ◌==◌, Bool, true, false, List, [], ◌∷◌, length, Option, Some, None}
+use Rattle.std.specs.Prelude.{◌≡◌, ◌≢◌, ℕ, ◌+◌, ◌*◌, ◌%◌, ◌<◌, ◌≤◌, ◌==◌, Bool, true, false, [], ◌∷◌, length, Option, Some, None}
 use Rattle.prcu_marks.specs.declared.mark.Side.{Side}
 use Rattle.prcu_marks.specs.declared.mark.Side.TheVariants.{Left, Right}
 use Rattle.prcu_model.specs.declared.operation.Op.TheVariants.{Get}
@@ -23,7 +23,7 @@ use Rattle.core_points.specs.declared.stage.Stage.{Stage}
 use Rattle.core_points.specs.declared.stage.Stage.TheVariants as at
 use Rattle.core_points.specs.declared.stage.Moving.{Moving}
 use Rattle.core_points.specs.Callers.{Own, key_now, or_root, is_none_left}
-use Rattle.core_points.specs.Facts.{is_put, is_delete, is_set, read_at, Bare, Inside, Nothing, one_lock, spot_known, AreClear, Owns, Ready, Hand, Calm, Putting, Idle, ForAim, Reserving, Seizing, Aging, Filling, Keeping, HasRaised, GivingBack, Outlasting, Owing, Quiet, HasLocks, Unlocking, Setting, set_known}
+use Rattle.core_points.specs.Facts.{is_put, is_delete, is_set, read_at, Bare, Inside, Nothing, one_lock, spot_known, AreClear, Owns, Ready, Hand, Calm, Putting, Idle, ForAim, Reserving, Seizing, Aging, Filling, Keeping, HasRaised, FirstAged, GivingBack, Outlasting, Owing, Quiet, HasLocks, Unlocking, Setting, set_known}
 use Rattle.core_points.specs.Tickets.{owed}
 use Rattle.core_points.specs.DeleteFacts.{ReadsLives, WalksTo, ReadsParent, ReadsChildren, AreApart, OnNode, under, ClearButMark, Bypassing, IsAside, BeforeCopy, CopyFilling, IsFilled, BothMarking, CopyMaking, Shifting, HoldsOld, OutlastingMove, Emptied, Anything, Relinked, TargetLocking, TargetLoading, FewMarking}
 
@@ -99,7 +99,7 @@ Point o (at.LookStamp (Reuse aim) clock p key) v = Idle o v × ForAim o v aim ×
 Point o (at.OldAge aim) v = Idle o v × ForAim o v aim × (is_none_left o.retired ≡ false)
     × Each v.hands.retired (λ (r : Retired). r.waited ≡ true)
 Point o (at.OldRaise aim life) v = Idle o v × ForAim o v aim × Each v.hands.retired (λ (r : Retired). r.waited ≡ true)
-    × ((r : Retired) × (rs : List Retired) × (v.hands.retired ≡ r ∷ rs) × (r.life ≡ Some life))
+    × FirstAged v.hands.retired life
 Point o (at.OldFree aim) v = GivingBack o v aim
 Point o (at.OldCount aim) v = Owing o v × ForAim o v aim × Each v.hands.retired (λ (r : Retired). r.waited ≡ true)
 -- a spare is taken

@@ -109,7 +109,7 @@ pub passes_set_lock_busy : {k : Shape} {op : Op} {kept n : ℕ} {v w : View} {s 
     → IsAt k op kept (at.SetLock s generation) v → Told k v (acts.Lock s) n w → IsAt k op kept at.EnterClock w
 passes_set_lock_busy {n = n} {v = v} {s = s} {generation = generation} busy a t =
     passes_as (at.SetLock s generation) at.EnterClock (acts.Lock s) a refl refl
-    (busy_stage a.own s n (at.SetCheck s generation) true busy (ap is_none_left (no_locks a.own v (a.fits).owns ((a.fits).point).locks_are))) t
+    (busy_stage a.own s n (at.SetCheck s generation) true busy (ap is_none_left (no_locks a.own v a.fits.owns a.fits.point.locks_are))) t
 
 -- the locks of a delete
 pub needs_target_lock : {k : Shape} {op : Op} {kept i : ℕ} {v : View} {t : Target} → IsAt k op kept (at.TargetLock t i) v → TellsNow k v

@@ -69,7 +69,8 @@ module _ (o : Own) (v w : View) (aim : Aim) (f : Fits o (at.Begin (Reuse aim)) v
   }
 
   enters_again : (m : ℕ) → owed_op o.op o.hand [] ≤ m → m + 4 * length o.rest + o.kept ≤ w.allowance.tickets → Fits new at.EnterClock w
-  enters_again m few paid = record { owns = owns; tickets = omega arith; unraised = λ z. unraised; point = (r.section ∙ idle.outside, ready) }
+  enters_again m few paid =
+      record { owns = owns; tickets = omega arith; unraised = λ z. unraised; point = (r.section ∙ idle.outside, ready) }
 
 two_owed : {k : Shape} {kept key : ℕ} {stage : Stage} {v : View} (a : IsAt k (Del key) kept stage v) → owed_op a.own.op a.own.hand [] ≤ 2
 two_owed a = subst (λ (x : Op). owed_op x a.own.hand [] ≤ 2) (sym a.op_is) (omega arith)
