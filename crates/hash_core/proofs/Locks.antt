@@ -32,7 +32,7 @@ use Rattle.list_laws.proofs.Lists.{at_below, at_one, each_set, total_set, total_
 use Rattle.hash_core.proofs.Frames.{SameSlots, SameSection, SameHold, SameView, still_answer}
 use Rattle.hash_core.proofs.Stores.{same_words, lock_words, front_words, stored_here, same_self, same_is}
 use Rattle.hash_core.proofs.SeatFrames.{seen_same, seen_whole, apart_same, owned_same, open_same, held_still, turned_same}
-use Rattle.hash_core.proofs.Quiet.{same_marks, same_section, same_hold, seats_same, section_back, section_forth, tickets_same, no_marks}
+use Rattle.hash_core.proofs.Quiet.{same_marks, same_section, same_hold, seats_same, section_back, section_forth, tickets_same, no_marks, seat_holds}
 use Rattle.hash_core.proofs.Whole.{SeatsRule, after_step, after_quiet}
 
 -- the parts on a class that read views, where another view has the same section
@@ -119,18 +119,8 @@ module _ (capacities : List ℕ) (places tickets : ℕ) (m : Memory) (vs : List 
 
     seats6 : SeatsRule capacities places tickets m6 (set vs id w6) h
     seats6 = seats_same capacities places tickets m vs h r id v w6 at m6
-        (record {
-          places = record { place = refl; places = refl; joined = refl };
-          tickets = refl;
-          sections = refl;
-          back = section_back v w6 refl;
-          forth = section_forth v w6 refl;
-          commit = refl;
-          kept = λ commit hold is held. (fresh_hold c, refl);
-          held = λ hold is. let e : fresh_hold c ≡ hold = cc in (subst (λ (z : Hold). z.class < 64) e small, place);
-          own = refl;
-          heard = refl;
-        }) refl refl
+        (seat_holds v (Some (fresh_hold c)) v.trail (λ commit hold is held. (fresh_hold c, refl))
+        (λ hold is. let e : fresh_hold c ≡ hold = cc in (subst (λ (z : Hold). z.class < 64) e small, place))) refl refl
 
     bucket6 : c < 64 → BucketRule capacities c m6 h (updates_of h) (set vs id w6) b6
     bucket6 _ =
@@ -203,18 +193,8 @@ module _ (capacities : List ℕ) (places tickets : ℕ) (m : Memory) (vs : List 
 
     seats7 : SeatsRule capacities places tickets m7 (set vs id w7) h
     seats7 = seats_same capacities places tickets m vs h r id v w7 at m7
-        (record {
-          places = record { place = refl; places = refl; joined = refl };
-          tickets = refl;
-          sections = refl;
-          back = section_back v w7 refl;
-          forth = section_forth v w7 refl;
-          commit = refl;
-          kept = λ commit held is mine. absurd (let z : Some commit ≡ None = sym is ∙ needs.even in cc);
-          held = λ other is. absurd (cc);
-          own = refl;
-          heard = refl;
-        }) refl refl
+        (seat_holds v None v.trail (λ commit held is mine. absurd (let z : Some commit ≡ None = sym is ∙ needs.even in cc))
+        (λ other is. absurd (cc))) refl refl
 
     bucket7 : hold.class < 64 → BucketRule capacities hold.class m7 h (updates_of h) (set vs id w7) b7
     bucket7 small =
@@ -372,18 +352,8 @@ module _ (capacities : List ℕ) (places tickets : ℕ) (m : Memory) (vs : List 
     pub law8 : MemoryRule capacities places tickets m (set vs id w8) h
     law8 = after_step capacities places tickets m vs h r id v w8 at m h
         (seats_same capacities places tickets m vs h r id v w8 at m
-        (record {
-          places = record { place = refl; places = refl; joined = refl };
-          tickets = refl;
-          sections = refl;
-          back = section_back v w8 refl;
-          forth = section_forth v w8 refl;
-          commit = refl;
-          kept = λ commit held is had. (new8, refl);
-          held = λ other is. let e : new8 ≡ other = cc in (subst (λ (z : Hold). z.class < 64) e (class_small hold mine), works hold mine);
-          own = refl;
-          heard = refl;
-        }) refl refl)
+        (seat_holds v (Some new8) v.trail (λ commit held is had. (new8, refl))
+        (λ other is. let e : new8 ≡ other = cc in (subst (λ (z : Hold). z.class < 64) e (class_small hold mine), works hold mine))) refl refl)
         hold.class (held_bucket hold new8)
         (holder_learns hold mine hold.known true v.seen (λ field number old. old field number)
         (λ small yes s of p j u section gone there inside class. absurd (no_section small j u section there inside class)))
