@@ -27,9 +27,9 @@ use Rattle.prcu_marks.specs.Commits.{updates_by}
 use Rattle.hash_core.specs.Seats.{HasNoCommit, IsTurned, AreOwned, AreSeen}
 use Rattle.hash_core.specs.Steps.{IsQuiet, fresh_hold, NeedsUnlock, after_unlock, NeedsCommit, NeedsEven, after_even}
 use Rattle.hash_core.specs.Rule.{BucketRule, MemoryRule}
-use Rattle.prcu_model.proofs.ListFacts.{prefix_self, all_map}
+use Rattle.prcu_model.proofs.ListFacts.{prefix_self}
 use Rattle.list_laws.proofs.Lists.{at_below, at_one, each_set, total_set, total_part}
-use Rattle.hash_core.proofs.Frames.{SameSlots, SameSection, SameHold, SameView, still_answer}
+use Rattle.hash_core.proofs.Frames.{SameSlots, SameSection, SameHold, SameView, still_answer, clean_by}
 use Rattle.hash_core.proofs.Stores.{same_words, lock_words, front_words, stored_here, same_self, same_is}
 use Rattle.hash_core.proofs.SeatFrames.{seen_same, seen_whole, apart_same, owned_same, open_same, held_still, turned_same}
 use Rattle.hash_core.proofs.Quiet.{same_marks, same_section, same_hold, seats_same, section_back, section_forth, tickets_same, no_marks, seat_holds}
@@ -91,13 +91,8 @@ module _ (capacities : List ℕ) (places tickets : ℕ) (m : Memory) (vs : List 
   pub clean_still : (c : ℕ) (w : View) → w.section ≡ v.section → (b : Bucket) → (new : Option Hold)
       → ((hold : Hold) → new ≡ Some hold → hold.clear ≡ true → (s : ℕ) → is_slot_of capacities c s ≡ true → IsFreeOfReaders c h vs s)
       → AreClean capacities c h vs b → AreClean capacities c h (set vs id w) (record b { hold = new })
-  clean_still c w section b new clear clean = record {
-    free = all_map (IsFreeOfReaders c h vs) (IsFreeOfReaders c h (set vs id w)) b.free
-        (free_still capacities c m h vs id v w at section) clean.free;
-    moved = all_map (IsFreeOfReaders c h vs) (IsFreeOfReaders c h (set vs id w)) b.moved
-        (free_still capacities c m h vs id v w at section) clean.moved;
-    clear = λ hold is yes s of. free_still capacities c m h vs id v w at section s (clear hold is yes s of);
-  }
+  clean_still c w section b new = clean_by capacities c h h vs (set vs id w) b (record b { hold = new })
+      (free_still capacities c m h vs id v w at section) refl refl
 
   -- H6, where the lock was free
   module _ (c : ℕ) (small : c < 64) (quiet : IsQuiet v) (place : 1 ≤ v.places) (free : m (Lock c) ≡ 0) where
