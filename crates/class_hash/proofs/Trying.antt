@@ -45,6 +45,10 @@ still_quiet v w key quiet t = (ap (λ (z : View). z.section) t.view ∙ quiet.0,
 pub looked_quiet : (w x : View) (key : ℕ) (answer : Option ℕ) → IsQuiet w → Looked w key answer x → IsQuiet x
 looked_quiet w x key answer quiet l = (ap (λ (z : View). z.section) l.view, ap (λ (z : View). z.hold) l.view ∙ quiet.1)
 
+-- a bucket that was locked is held
+pub locked_holds : {v w : View} {class : ℕ} → HasLocked v class w → w.hold ≡ Some (fresh_hold class)
+locked_holds k = ap (λ (u : View). u.hold) k.view
+
 -- from the search to the walk
 module _ {v w x y z : View} {key class : ℕ} {answer : Option ℕ} {new : Hold} (quiet : IsQuiet v) (t : HasTried v key w)
     (l : Looked w key answer x) (k : HasLocked x class y)

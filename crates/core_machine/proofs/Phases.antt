@@ -1,6 +1,6 @@
 -- How far a call is, by what its marks say: it searches, it is in a section, it has left one, it found its key present, or it has made
 -- its update.
-use Rattle.std.proofs.Common.{◌≡◌, ◌⊎◌, ℕ, zero, suc, ◌+◌, ◌-◌, ◌/◌, ◌≤◌, nat_le, ◌^◌, cond, Bool, true, false, MatchBool, List, [], ◌∷◌, ◌++◌, length, Option, Some, None, refl, sym, ap, subst, ◌∙◌, ⊎_elim, inr, arith, append_assoc, append-nil, length-append}
+use Rattle.std.proofs.Common.{◌≡◌, ◌⊎◌, ℕ, ◌+◌, ◌-◌, ◌/◌, ◌≤◌, nat_le, ◌^◌, cond, Bool, true, false, MatchBool, List, [], ◌∷◌, ◌++◌, length, Option, Some, None, refl, sym, ap, subst, ◌∙◌, ⊎_elim, inr, arith, append_assoc, append-nil, length-append}
 use Rattle.std.specs.List.{AllByRecursion, slice_get}
 use mathlib.Core.List.{IsPrefix}
 use Rattle.std.proofs.lemmas.Option.{slice_get_within}
@@ -14,7 +14,7 @@ use Rattle.prcu_model.specs.declared.operation.Told.{Told}
 use Rattle.prcu_model.specs.declared.operation.Update.{Update}
 use Rattle.prcu_model.specs.Dictionary.{key_of, map_at}
 use Rattle.prcu_model.specs.Replies.{Room, Explains, Confirms, tells_update}
-use Rattle.prcu_marks.specs.Marks.{updates_of, own_of, is_of}
+use Rattle.prcu_marks.specs.Marks.{updates_of, own_of}
 use Rattle.prcu_marks.specs.Callers.{Caller, IsLeftBy, entered_for, WaitsFor, IsMoveWait, HasMadeUpdate, WasExplained, HasAnswered}
 use Rattle.prcu_model.proofs.ListFacts.{prefix_self, prefix_more, all_map, all_append}
 use Rattle.prcu_marks.proofs.MarkLists.{updates_of-append, own_of-append, updates_below}
