@@ -63,9 +63,10 @@ ended_is m n g map x e h p bound i z None q = answer-none m x e (λ ne k. not_th
     not_there m n g map x e h p i q ne k (inr o) = let s = p.sound e i.linked ne o in cc (ap map k)
 ended_is m n g map x e h p bound i z (Some v) q =
     let s = p.complete x v q in
-    let k = h.keyed s.0 s.1 s.2 s.3 in
-    let j : IsInRange g x s.0 = record { linked = s.1; low = omega (arith, k.low, s.4); high = omega (arith, k.high, s.4) } in
-    ap (answer_at m x) (one_end m n g x e s.0 h bound i z j (next-here m x s.0 s.2 s.4)) ∙ answer-here m x s.0 v s.2 s.4 s.5
+    let k = h.keyed s.slot s.linked s.some_slot s.young in
+    let j : IsInRange g x s.slot = record { linked = s.linked; low = omega (arith, k.low, s.key); high = omega (arith, k.high, s.key) } in
+    ap (answer_at m x) (one_end m n g x e s.slot h bound i z j (next-here m x s.slot s.some_slot s.key))
+    ∙ answer-here m x s.slot v s.some_slot s.key s.value
 
 -- a search that stands at a slot with x in its range answers as the map
 pub answer_is : (m : Memory) (n : ℕ) (g : Chart) (map : ℕ → Option ℕ) (x a : ℕ) → IsShaped m n g → HoldsMap m g map → x < 2 ^ 64
