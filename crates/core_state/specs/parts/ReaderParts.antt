@@ -130,9 +130,13 @@ pub record IsRecord (m : Memory) (g : Chart) (vs : List View) (r : Reading) : Ty
       → SaysOfWalk m g r node walk
 
 -- some section is open that was entered before this mark
-abbrev pub IsMetBefore : List View → ℕ → Type 0
-IsMetBefore vs at = (id : ℕ) × (v : View) × (section : Section) × (get_elem? vs id ≡ some v) × (v.section ≡ Some section)
-    × (section.entered < at)
+pub record IsMetBefore (vs : List View) (at : ℕ) : Type 0 where
+  pub id : ℕ
+  pub view : View
+  pub section : Section
+  pub there : get_elem? vs id ≡ some view
+  pub inside : view.section ≡ Some section
+  pub before : section.entered < at
 
 -- A link of an unlinked slot that a section may still meet is 0, or leads to a linked slot, or to one that was unlinked later.
 abbrev pub AreAged : Memory → Chart → List View → List Mark → Type 0

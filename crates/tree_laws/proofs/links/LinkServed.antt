@@ -189,8 +189,16 @@ module _ (z : LinkStep) where
     met_back : (at : ℕ) → IsMetBefore (views_after z) at → IsMetBefore vs at
     met_back at y =
         each_set (λ j u. (section : Section) → u.section ≡ Some section → section.entered < at → IsMetBefore vs at) vs id w
-        (λ section is lt. (id, v, section, there, sym z.same.section ∙ is, lt))
-        (λ j u ne e section is lt. (j, u, section, e, is, lt)) y.0 y.1 y.3 y.2 y.4 y.5
+        (λ section is lt. record {
+          id = id;
+          view = v;
+          section = section;
+          there = there;
+          inside = sym z.same.section ∙ is;
+          before = lt;
+        })
+        (λ j u ne e section is lt. record { id = j; view = u; section = section; there = e; inside = is; before = lt })
+        y.id y.view y.there y.section y.inside y.before
 
     aged_after : AreAged (words_after z) to (views_after z) hs
     aged_after s at y a gone met link nz = ⊎_elim (λ (e : s ≡ d). at_gone e (cases_eq d 0)) (λ ne. other (λ e. absurd (ne e)))

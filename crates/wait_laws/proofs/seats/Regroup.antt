@@ -253,8 +253,14 @@ module _ (vs us : List View) (id : ℕ) (v a b : View) (r : Regroups vs us id v 
           (λ i. subst (λ (z : Remains). Each z.records (IsRecord m g us)) (sym r.rest)
           (λ j x e. record_by m m (same_slots m).nodes g vs us h h (quiet_same h) see x (i j x e)))
           (each_empty (IsRecord m g us) b.records (λ n. (r.bare n).left.records)) t.records;
-      ages = λ s at c side gone met link ne. t.ages s at c side gone
-          (met.0, met.1, met.2, inside_back met.0 met.1 met.2 met.3 met.4, met.4, met.5) link ne;
+      ages = λ s at c side gone met link ne. t.ages s at c side gone (record {
+        id = met.id;
+        view = met.view;
+        section = met.section;
+        there = inside_back met.id met.view met.section met.there met.inside;
+        inside = met.inside;
+        before = met.before;
+      }) link ne;
     }
 
     odd_regroup : (n : ℕ) → IsOddBy m vs n → IsTurned m us n
