@@ -29,7 +29,7 @@ use Rattle.core_frames.proofs.frames.ReaderFrame.{emptied_still, readers_stay, s
 use Rattle.core_frames.proofs.marks.MarkFacts.{quiet_same}
 use Rattle.core_frames.proofs.frames.LockFrame.{lock_frame}
 use Rattle.core_frames.proofs.frames.SlotFrame.{slots_by}
-use Rattle.core_frames.proofs.frames.TreeFrame.{IsForm, tree_by, moving_by, SameMoves}
+use Rattle.core_frames.proofs.frames.TreeFrame.{IsForm, tree_by, moving_by, SameMoves, HadMove, same_form}
 use Rattle.core_state.specs.declared.shape.Shape.{Shape}
 use Rattle.core_frames.proofs.frames.WholeFrame.{SlotHalf}
 
@@ -149,31 +149,37 @@ module _ (vs : List View) (id : ℕ) (v : View) (there : get_elem? vs id ≡ som
     moving_noted z b = moving_by m m (same_slots m).nodes g h h v w z b z.copy.known (λ n x e. e) refl (λ s which. refl) (λ r x. x)
         (λ r x. x)
 
+    form : (a b : Move) → bare b ≡ bare a → IsForm a b
+    form a b e = record {
+      key = ap (λ (z : Move). z.key) e;
+      next_key = ap (λ (z : Move). z.next_key) e;
+      copy = ap (λ (z : Move). z.copy.slot) e;
+      old = ap (λ (z : Move). z.old) e;
+      made = ap (λ (z : Move). z.made) e;
+    }
+
     -- a view that has a move now had one, of the same old successor and copy
-    had_move : (j : ℕ) (u : View) (move : Move) → get_elem? (set vs id w) j ≡ some u → u.moving ≡ Some move
-        → (x : View) × (z : Move) × (get_elem? vs j ≡ some x) × (x.moving ≡ Some z) × (bare move ≡ bare z)
+    had_move : (j : ℕ) (u : View) (move : Move) → get_elem? (set vs id w) j ≡ some u → u.moving ≡ Some move → HadMove vs j move
     had_move j u move e is =
         ⊎_elim
-        (λ (t : (j ≡ id) × (w ≡ u)). let x = move_back wait v.moving move (ap (λ (y : View). y.moving) t.1 ∙ is) in
-        (v, x.0, subst (λ n. get_elem? vs n ≡ some v) (sym t.0) there, x.2, ap bare (sym x.3)))
-        (λ (t : (j ≢ id) × (get_elem? vs j ≡ some u)). (u, move, t.1, is, refl))
+        (λ (t : (j ≡ id) × (w ≡ u)). let x = move_back wait v.moving move (ap (λ (y : View). y.moving) t.1 ∙ is) in record {
+          view = v;
+          before = x.0;
+          stands = subst (λ n. get_elem? vs n ≡ some v) (sym t.0) there;
+          has_it = x.2;
+          form = form x.0 move (ap bare (sym x.3));
+        })
+        (λ (t : (j ≢ id) × (get_elem? vs j ≡ some u)). record {
+          view = u;
+          before = move;
+          stands = t.1;
+          has_it = is;
+          form = same_form move;
+        })
         (at_set vs id j w u e)
 
     forms_noted : SameMoves vs (set vs id w)
-    forms_noted = record {
-      forth = λ a p. (let x = pending_on a p in (x.0, x.1, form a x.0 x.2));
-      back = λ j u a e is. (let x = had_move j u a e is in
-          record { view = x.0; before = x.1; stands = x.2; has_it = x.3; form = form x.1 a x.4 });
-    }
-      where
-        form : (a b : Move) → bare b ≡ bare a → IsForm a b
-        form a b e = record {
-          key = ap (λ (z : Move). z.key) e;
-          next_key = ap (λ (z : Move). z.next_key) e;
-          copy = ap (λ (z : Move). z.copy.slot) e;
-          old = ap (λ (z : Move). z.old) e;
-          made = ap (λ (z : Move). z.made) e;
-        }
+    forms_noted = record { forth = λ a p. (let x = pending_on a p in (x.0, x.1, form a x.0 x.2)); back = had_move }
 
     -- so a step that notes it keeps all of them
     pub noted_half : (k : Shape) → SlotHalf k m g vs h → SlotHalf k m g (set vs id w) h
