@@ -34,7 +34,7 @@ module _ (m new : Memory) (n : ℕ) (g : Chart) (q : ℕ) (b : Side) (u r : ℕ)
   pub splice : Splices m new n g q b u r (λ x. x) (λ x. x)
   splice = record {
     replaces = k.replaces;
-    only = (Right, Left, (λ e. cc), k.right, displaced.left);
+    only = record { side = Right; beside = Left; apart = λ e. cc; leads = k.right; empty = displaced.left };
     after_stays = λ s l not. refl;
     key_stays = λ s l not ne. refl;
     falls = λ x. omega arith;

@@ -4,7 +4,7 @@ use Rattle.std.specs.Prelude.{Option, Some, None}
 use Rattle.std.proofs.lemmas.Bool.{cases_eq}
 use Rattle.prcu_marks.specs.declared.mark.Side.{Side}
 use Rattle.prcu_marks.specs.declared.mark.Side.TheVariants.{Left, Right}
-use Rattle.core_state.specs.declared.words.Field.TheVariants.{Key, Link}
+use Rattle.core_state.specs.declared.words.Field.TheVariants.{Key}
 use Rattle.core_state.specs.memory.Memory.{Memory}
 use Rattle.core_state.specs.tree.Nodes.{after}
 use Rattle.core_state.specs.tree.Chart.{Chart, low_of, high_of, IsBelow, IsKeyed, IsShaped, HoldsMap, HoldsPair}
@@ -13,13 +13,13 @@ use Rattle.core_frames.proofs.chart.Ranges.{bool_cases, after-node}
 use Rattle.core_frames.proofs.chart.Unique.{key_bound, one_key}
 use Rattle.tree_laws.proofs.chart.ChangedFunctions.{put, moved, put-same, put-other, moved_tells, moved-other}
 use Rattle.tree_laws.proofs.chart.ChartChanges.{map_after}
-use Rattle.tree_laws.proofs.chart.Splices.{Replaces, Splices, spliced, was_linked, still_linked, child_linked, changes}
+use Rattle.tree_laws.proofs.chart.Splices.{Replaces, Splices, spliced, was_linked, still_linked, child_linked, changes, OnlyChild}
 
 -- a bypass: side b of slot p, which led to d, now leads to d's only child, or nowhere
 pub record Bypasses (m new : Memory) (g : Chart) (p : ℕ) (b : Side) (d c : ℕ) : Type 0 where
   pub replaces : Replaces m new g p b d c
   pub young : g.old d ≡ false
-  pub only : (e f : Side) × (e ≢ f) × (m (Link d e) ≡ c) × (m (Link d f) ≡ 0)
+  pub only : OnlyChild m d c
   pub single : (s : ℕ) → g.linked s ≡ true → g.old s ≡ true → m (Key s) ≢ m (Key d)
 
 -- where ranges ended at the key that goes, they end with its slot's range
@@ -80,8 +80,8 @@ module _ (m new : Memory) (n : ℕ) (g : Chart) (p : ℕ) (b : Side) (d c : ℕ)
         (λ e. omega (arith, e, key_bound m n g d h at.linked k.replaces.node k.young));
     own_low = child_low Left;
     own_high = child_high Right;
-    child_low = λ _. child_low k.only.0;
-    child_high = λ _. child_high k.only.0;
+    child_low = λ _. child_low k.only.side;
+    child_high = λ _. child_high k.only.side;
   }
 
   pub bypass_map : (map : ℕ → Option ℕ) → HoldsMap m g map → HoldsMap new (bypassed m g p b d c) (put map (m (Key d)) None)
