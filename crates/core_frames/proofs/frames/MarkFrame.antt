@@ -13,7 +13,7 @@ use Rattle.prcu_model.proofs.ListFacts.{prefix_self, prefix_trans}
 use Rattle.core_state.specs.declared.view.Waiting.{Waiting}
 use Rattle.core_state.specs.declared.view.View.{View}
 use Rattle.core_state.specs.Marks.{begun, AreMarks, IsNextSection, BeganBefore, IsNextWait}
-use Rattle.core_state.specs.parts.MarkParts.{HasEnded, WaitStands, MarkParts}
+use Rattle.core_state.specs.parts.MarkParts.{HasEnded, WaitStands, MarkParts, HasSeenAll}
 use Rattle.list_laws.proofs.Lists.{at_below, at_end, past_snoc, each_change, each_set}
 use Rattle.core_frames.proofs.views.Same.{still}
 use Rattle.core_state.specs.views.Views.{Works}
@@ -92,10 +92,10 @@ module _ (places : ℕ) (vs : List View) (id : ℕ) (v w : View) (h h' : List Ma
   seen_by i (inl all) = subst (λ s. IsPrefix s h') (sym all) (prefix_self h')
   seen_by i (inr none) = subst (λ s. IsPrefix s h') (sym none.1) (prefix_trans v.seen h h' i grows)
 
-  longest_by : Sees h h' v w → (j : ℕ) × (u : View) × (get_elem? (set vs id w) j ≡ some u) × (u.seen ≡ h')
-  longest_by (inl all) = (id, w, set_here vs id w (at_below vs id v there), all)
-  longest_by (inr none) = let l = t.seen.longest in let z = still (λ (u : View). u.seen) vs id v w there none.1 l.0 l.1 l.2 in
-      (l.0, z.0, z.1, z.2 ∙ l.3 ∙ sym none.0)
+  longest_by : Sees h h' v w → HasSeenAll (set vs id w) h'
+  longest_by (inl all) = record { id = id; view = w; there = set_here vs id w (at_below vs id v there); all = all }
+  longest_by (inr none) = let l = t.seen.longest in let z = still (λ (u : View). u.seen) vs id v w there none.1 l.id l.view l.there in
+      record { id = l.id; view = z.0; there = z.1; all = z.2 ∙ l.all ∙ sym none.0 }
 
   -- the step says how its own wait stands, and that the others do
   pub mark_frame_by : ((wait : Waiting) → w.wait ≡ Some wait → WaitStands h' w wait)

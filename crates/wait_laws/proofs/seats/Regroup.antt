@@ -27,7 +27,7 @@ use Rattle.core_state.specs.views.Known.{lock_of}
 use Rattle.core_state.specs.tree.Chart.{Chart}
 use Rattle.core_state.specs.views.Views.{Works, places_of, slots_of, open_reading, readings_of, retired_of, unraised_of, emptied_among, IsQuiet, joined_retired}
 use Rattle.core_state.specs.steps.Seating.{spent_view}
-use Rattle.core_state.specs.parts.MarkParts.{WaitStands, MarkParts}
+use Rattle.core_state.specs.parts.MarkParts.{WaitStands, MarkParts, HasSeenAll}
 use Rattle.core_state.specs.parts.SeatParts.{IsOwned, IsCounted, SeatParts}
 use Rattle.core_state.specs.parts.WaiterParts.{IsClocked, inside_count, WaiterParts}
 use Rattle.core_state.specs.parts.SlotParts.{HasFewSlots, IsRetired, IsRetiredOf, AreHandsKnown, SlotParts}
@@ -444,7 +444,7 @@ module _ (vs us : List View) (id : ℕ) (v a b : View) (r : Regroups vs us id v 
   }
 
   marks_regroup : (places : ℕ) (h : List Mark) → Works a → a.counts.waits ≡ v.counts.waits → IsPrefix a.seen h → IsPrefix b.seen h
-      → ((j : ℕ) × (u : View) × (get_elem? us j ≡ some u) × (u.seen ≡ h)) → MarkParts places vs h → MarkParts places us h
+      → HasSeenAll us h → MarkParts places vs h → MarkParts places us h
   marks_regroup places h works_a waits seen_a seen_b longest t = record {
     seen = record {
       begins = each_regroup (λ (u : View). IsPrefix u.seen h) (λ (u : View). IsPrefix u.seen h) (λ u i. i)
@@ -465,7 +465,7 @@ module _ (vs us : List View) (id : ℕ) (v a b : View) (r : Regroups vs us id v 
     pub waits : a.counts.waits ≡ v.counts.waits
     pub seen_a : IsPrefix a.seen h
     pub seen_b : IsPrefix b.seen h
-    pub longest : (j : ℕ) × (u : View) × (get_elem? us j ≡ some u) × (u.seen ≡ h)
+    pub longest : HasSeenAll us h
     pub spent_b : b.allowance.places ≡ 0 → b ≡ spent_view
     pub owned_a : IsOwned h a
     pub owned_b : IsOwned h b
