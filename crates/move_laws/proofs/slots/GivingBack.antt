@@ -112,10 +112,15 @@ module _ (k : Shape) (m : Memory) (vs : List View) (h : List Mark) (id : ℕ) (v
 
   pub frees_retired : IsKept k m h (stored m (State slot) 0) (set vs id w) (h ++ Freed slot ∷ [])
   frees_retired = restated k m vs h id v inv there works step (record {
-    unraised = λ t y. (
-      (λ e. unraised_else y.0 y.1 y.3 (y.2 ∙ e)),
-      (y.0, without_in slot v.hands.retired y.0 y.1 (unraised_else y.0 y.1 y.3), y.2, y.3),
-    );
+    unraised = λ t y. (let else = unraised_else y.retired y.has y.unraised in (
+      (λ e. else (y.slot ∙ e)),
+      record {
+        retired = y.retired;
+        has = without_in slot v.hands.retired y.retired y.has else;
+        slot = y.slot;
+        unraised = y.unraised;
+      },
+    ));
     role = (let a = slots_count w slot in let b = slots_count v slot in let c = retired_count w slot in let d = retired_count v slot in
         let e = without_none slot v.hands.retired in
         omega (

@@ -221,7 +221,12 @@ module _ (z : RaiseStep) where
     seen = z.who.h ++ Given z.r.slot ∷ [];
     hs = z.who.h ++ Given z.r.slot ∷ [];
     marks = used_marks true z.r.slot z.who.h;
-    unraised = λ t ne i. (i.0, without_in s v.hands.retired i.0 i.1 (λ e. ne (sym i.2 ∙ e)), i.2, i.3);
+    unraised = λ t ne i. record {
+      retired = i.retired;
+      has = without_in s v.hands.retired i.retired i.has (λ e. ne (sym i.slot ∙ e));
+      slot = i.slot;
+      unraised = i.unraised;
+    };
   }
 
   -- the slot becomes the spare: the mark says that it is given
@@ -293,9 +298,9 @@ module _ (z : RaiseStep) where
     hs = z.who.h;
     marks = no_marks z.r.slot z.who.h;
     unraised = λ t ne i.
-        (let c = change_in s v.hands.retired i.0 i.1 in
-        let same : c.0 ≡ i.0 = c.3 (λ e. ne (sym i.2 ∙ e)) in
-        (c.0, c.1, c.2 ∙ i.2, ap (λ (x : Retired). x.raised) same ∙ i.3));
+        (let c = change_in s v.hands.retired i.retired i.has in
+        let same : c.0 ≡ i.retired = c.3 (λ e. ne (sym i.slot ∙ e)) in
+        record { retired = c.0; has = c.1; slot = c.2 ∙ i.slot; unraised = ap (λ (x : Retired). x.raised) same ∙ i.unraised });
   }
 
   -- the slot stays retired: no mark is left
