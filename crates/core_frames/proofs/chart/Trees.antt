@@ -150,9 +150,9 @@ module _ (m : Memory) (n : ℕ) (g : Chart) (h : IsShaped m n g) where
         λ x i. let v = in_under fuel (m (Link (suc s) Left)) x l i in
             key_below x (m (Key (suc s))) v.linked v.some_slot (omega
             (arith, (nested (m (Link (suc s) Left)) x v.under).1, (h.below (suc s) (m (Link (suc s) Left)) Left w.0 refl v.some_top).high)),
-        λ x i. let v = in_under fuel (m (Link (suc s) Right)) x r i in
+        λ x i. let v = in_under fuel (m (Link (suc s) Right)) x r i in let within = nested (m (Link (suc s) Right)) x v.under in
             key_above x (m (Key (suc s))) v.linked v.some_slot (omega
-            (arith, (nested (m (Link (suc s) Right)) x v.under).0, (h.below (suc s) (m (Link (suc s) Right)) Right w.0 refl v.some_top).low)),
+            (arith, within.0, (h.below (suc s) (m (Link (suc s) Right)) Right w.0 refl v.some_top).low)),
         ordered fuel (m (Link (suc s) Left)) l,
         ordered fuel (m (Link (suc s) Right)) r,
       )
