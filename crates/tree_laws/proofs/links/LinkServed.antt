@@ -111,7 +111,7 @@ module _ (z : LinkStep) where
         walking = λ node parent a value walk found on.
             (let q = was.walking node parent a value walk found on in
             let here : IsIn section.reading.stood node = subst (IsIn section.reading.stood) (ap state_slot found) reading.stands in
-            let names = reading.walk walk on in
+            let walked = reading.walk walk on in
             record {
               walks = λ t. (let l = stood_linked node here t in
                   walks_after m (words_after z) n g to p b d c lower upper i.tree.shape changes node live later (λ s y. y.out)
@@ -119,7 +119,7 @@ module _ (z : LinkStep) where
               parent = λ t t'. (let l = stood_linked node here t in
                   ⊎_elim (λ o. inl o) (λ way. inr (path_after m
                   (words_after z) n g to p b d c lower upper i.tree.shape changes node walk.parent l way
-                  (not_gone z walk.parent (inl t')))) (q.parent l (stood_linked walk.parent names.3 t')));
+                  (not_gone z walk.parent (inl t')))) (q.parent l (stood_linked walk.parent walked.parent_stood t')));
             });
         stood = λ s has. (let q = was.stood s has in record {
           here = ⊎_elim
