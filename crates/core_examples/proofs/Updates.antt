@@ -157,15 +157,15 @@ mark_few node life = record {
   met = λ v t. (
     lock_now v node.slot,
     why_mark v node.slot life (t 0)
-        (inl (
-          reading_now v,
-          node.parent,
-          node.left,
-          node.right,
-          node.side,
-          recorded_is v node.slot (t 1),
-          inl (few_children v node.parent node.side node.slot node.left node.right (t 2)),
-        )),
+        (inl (record {
+          reading = reading_now v;
+          parent = node.parent;
+          left = node.left;
+          right = node.right;
+          side = node.side;
+          unmarked = recorded_is v node.slot (t 1);
+          children = inl (few_children v node.parent node.side node.slot node.left node.right (t 2));
+        })),
   );
 }
 
@@ -177,15 +177,15 @@ mark_both node life old_parent old = record {
   met = λ v t. (
     lock_now v node.slot,
     why_mark v node.slot life (t 0)
-        (inl (
-          reading_now v,
-          node.parent,
-          node.left,
-          node.right,
-          node.side,
-          recorded_is v node.slot (t 1),
-          inr (old_parent, old, both_children v node.parent node.side node.slot node.left node.right old_parent old (t 2)),
-        )),
+        (inl (record {
+          reading = reading_now v;
+          parent = node.parent;
+          left = node.left;
+          right = node.right;
+          side = node.side;
+          unmarked = recorded_is v node.slot (t 1);
+          children = inr (old_parent, old, both_children v node.parent node.side node.slot node.left node.right old_parent old (t 2));
+        })),
   );
 }
 

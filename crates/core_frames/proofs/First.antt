@@ -173,7 +173,7 @@ module _ (k : Shape) (m : Memory) (table : IsShape k) (fresh : IsFresh k m) wher
     marks = record {
       seen = record {
         begins = each_one (λ (u : View). IsPrefix u.seen []) (first_view k) ([], refl);
-        longest = (0, first_view k, refl, refl);
+        longest = record { id = 0; view = first_view k; there = refl; all = refl };
       };
       marks = record {
         entered = λ j p c x e. absurd (cc);

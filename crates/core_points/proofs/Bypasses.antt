@@ -165,7 +165,15 @@ module _ (k : Shape) (h : List Mark) (o : Own) (v : View) (n : ℕ) where
           locked = held.1;
           life_now = held.2;
           unmarked = omega arith;
-          why = inl (r, d.parent, d.left, d.right, d.side, (d.generation, (few.2).recorded, p.unmarked), inl (few_children v r d few.2 few.3));
+          why = inl (record {
+            reading = r;
+            parent = d.parent;
+            left = d.left;
+            right = d.right;
+            side = d.side;
+            unmarked = (d.generation, (few.2).recorded, p.unmarked);
+            children = inl (few_children v r d few.2 few.3);
+          });
         },
       )
 

@@ -439,15 +439,15 @@ module _ (k : Shape) (h : List Mark) (o : Own) (v : View) (n : ℕ) where
           locked = held.1;
           life_now = held.2;
           unmarked = omega arith;
-          why = inl (
-            r,
-            d.parent,
-            d.left,
-            d.right,
-            d.side,
-            (d.generation, (both.2).recorded, p.unmarked),
-            inr (u.parent, u.slot, both_children v r d u both.2 both.3),
-          );
+          why = inl (record {
+            reading = r;
+            parent = d.parent;
+            left = d.left;
+            right = d.right;
+            side = d.side;
+            unmarked = (d.generation, (both.2).recorded, p.unmarked);
+            children = inr (u.parent, u.slot, both_children v r d u both.2 both.3);
+          });
         },
       )
 

@@ -9,24 +9,30 @@ use Rattle.core_frames.proofs.chart.Hops.{above, above_less, ends, last_of-ends,
 use Rattle.core_state.specs.declared.words.Field.TheVariants.{Key, Value}
 use Rattle.core_state.specs.memory.Memory.{Memory}
 
+-- a search for x from a slot ends at this one, with x in its range
+pub record EndsAt (m : Memory) (n : ℕ) (g : Chart) (x a : ℕ) : Type 0 where
+  pub slot : ℕ
+  pub is : last_of m x n a ≡ slot
+  pub last : next m x slot ≡ 0
+  pub met : IsInRange g x slot
+
 -- where a search that stands at a linked slot with x in its range ends
-pub end_of_range : (m : Memory) (n : ℕ) (g : Chart) (x a : ℕ) → IsShaped m n g → IsInRange g x a
-    → (e : ℕ) × (last_of m x n a ≡ e) × (next m x e ≡ 0) × IsInRange g x e
+pub end_of_range : (m : Memory) (n : ℕ) (g : Chart) (x a : ℕ) → IsShaped m n g → IsInRange g x a → EndsAt m n g x a
 end_of_range m n g x a h i =
     let r = ends m x n g.rank (IsInRange g x) (λ s v. h.within s v.linked) (λ s v ne. step m n g x s h v ne)
-    (suc (above g.rank (g.rank a) n)) a (omega arith) i in (
-      r.slot,
-      last_of-ends m x r.hops n a r.slot r.way r.last (omega (arith, r.bound, above_less g.rank n a (h.within a i.linked))),
-      r.last,
-      r.met,
-    )
+    (suc (above g.rank (g.rank a) n)) a (omega arith) i in record {
+      slot = r.slot;
+      is = last_of-ends m x r.hops n a r.slot r.way r.last (omega (arith, r.bound, above_less g.rank n a (h.within a i.linked)));
+      last = r.last;
+      met = r.met;
+    }
   where
     step : (m : Memory) (n : ℕ) (g : Chart) (x s : ℕ) → IsShaped m n g → IsInRange g x s → next m x s ≢ 0
         → IsInRange g x (next m x s) × (g.rank s < g.rank (next m x s))
     step m n g x s h i ne =
         let w = next_goes m g x s (next m x s) i refl ne in
-        let k = h.below s (next m x s) w.0 i.linked w.1 ne in
-        (record { linked = k.linked; low = omega (arith, k.low, w.2); high = omega (arith, k.high, w.3) }, k.rank)
+        let k = h.below s (next m x s) w.side i.linked w.link ne in
+        (record { linked = k.linked; low = omega (arith, k.low, w.low); high = omega (arith, k.high, w.high) }, k.rank)
 
 -- there is one slot at which a search for x can end
 pub one_end : (m : Memory) (n : ℕ) (g : Chart) (x d e : ℕ) → IsShaped m n g → x < 2 ^ 64 → IsInRange g x d → next m x d ≡ 0
@@ -42,7 +48,7 @@ pub same_end : (m : Memory) (n : ℕ) (g : Chart) (x a : ℕ) → IsShaped m n g
 same_end m n g x a h bound i =
     let r = end_of_range m n g x a h i in
     let o = end_of_range m n g x 0 h (range_on_path m n g x h bound 0 root) in
-    r.1 ∙ one_end m n g x r.0 o.0 h bound r.3 r.2 o.3 o.2 ∙ sym o.1
+    r.is ∙ one_end m n g x r.slot o.slot h bound r.met r.last o.met o.last ∙ sym o.is
 
 pub answer-here : (m : Memory) (x s v : ℕ) → s ≢ 0 → m (Key s) ≡ x → m (Value s) ≡ v → answer_at m x s ≡ Some v
 answer-here m x zero v ne k e = absurd (ne refl)
@@ -63,13 +69,14 @@ ended_is m n g map x e h p bound i z None q = answer-none m x e (λ ne k. not_th
     not_there m n g map x e h p i q ne k (inr o) = let s = p.sound e i.linked ne o in cc (ap map k)
 ended_is m n g map x e h p bound i z (Some v) q =
     let s = p.complete x v q in
-    let k = h.keyed s.0 s.1 s.2 s.3 in
-    let j : IsInRange g x s.0 = record { linked = s.1; low = omega (arith, k.low, s.4); high = omega (arith, k.high, s.4) } in
-    ap (answer_at m x) (one_end m n g x e s.0 h bound i z j (next-here m x s.0 s.2 s.4)) ∙ answer-here m x s.0 v s.2 s.4 s.5
+    let k = h.keyed s.slot s.linked s.some_slot s.young in
+    let j : IsInRange g x s.slot = record { linked = s.linked; low = omega (arith, k.low, s.key); high = omega (arith, k.high, s.key) } in
+    ap (answer_at m x) (one_end m n g x e s.slot h bound i z j (next-here m x s.slot s.some_slot s.key))
+    ∙ answer-here m x s.slot v s.some_slot s.key s.value
 
 -- a search that stands at a slot with x in its range answers as the map
 pub answer_is : (m : Memory) (n : ℕ) (g : Chart) (map : ℕ → Option ℕ) (x a : ℕ) → IsShaped m n g → HoldsMap m g map → x < 2 ^ 64
     → IsInRange g x a → follow m n a x ≡ map x
 answer_is m n g map x a h p bound i =
     let r = end_of_range m n g x a h i in
-    ap (answer_at m x) r.1 ∙ ended_is m n g map x r.0 h p bound r.3 r.2 (map x) refl
+    ap (answer_at m x) r.is ∙ ended_is m n g map x r.slot h p bound r.met r.last (map x) refl

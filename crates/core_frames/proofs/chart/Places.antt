@@ -17,8 +17,8 @@ pub range_hop : (m : Memory) (n : ℕ) (g : Chart) (x s c : ℕ) → IsShaped m 
     → IsInRange g x c × (g.rank s < g.rank c)
 range_hop m n g x s c h i e ne =
     let w = next_goes m g x s c i e ne in
-    let k = h.below s c w.0 i.linked w.1 ne in
-    (record { linked = k.linked; low = omega (arith, k.low, w.2); high = omega (arith, k.high, w.3) }, k.rank)
+    let k = h.below s c w.side i.linked w.link ne in
+    (record { linked = k.linked; low = omega (arith, k.low, w.low); high = omega (arith, k.high, w.high) }, k.rank)
 
 pub not_root : (m : Memory) (n : ℕ) (g : Chart) (s c : ℕ) → IsShaped m n g → m (Link s Left) ≡ c → c ≢ 0 → s ≢ 0
 not_root m n g s c h e ne z = ne (sym e ∙ ap (λ y. m (Link y Left)) z ∙ h.root_left)

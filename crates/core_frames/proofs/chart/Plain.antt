@@ -158,7 +158,7 @@ ends_there m n g x s b h fits l root empty belongs =
     let here = range_of_side m n g x s b h l root belongs in
     let a = same_end m n g x s h fits here in
     let e = end_of_range m n g x s h here in
-    sym a ∙ e.1 ∙ one_end m n g x e.0 s h fits e.3 e.2 here (stops m n g x s b h l root empty belongs)
+    sym a ∙ e.is ∙ one_end m n g x e.slot s h fits e.met e.last here (stops m n g x s b h l root empty belongs)
 
 -- what a reading of a view says of an empty side, be its section open or not
 reading_says : (k : Shape) (m : Memory) (vs : List View) (h : List Mark) (i : HoldsNow k m vs h) (id : ℕ) (v : View) (r : Reading)

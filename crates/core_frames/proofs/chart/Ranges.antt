@@ -37,18 +37,28 @@ next-side m n g x zero Right h ne lo hi = refl
 next-side m n g x (suc s) Left h ne lo hi = next-left m x (suc s) (omega arith) hi
 next-side m n g x (suc s) Right h ne lo hi = next-right m x (suc s) (omega arith) (omega arith)
 
+-- a side of a slot leads to c, and x belongs below it
+pub record LeadsTo (m : Memory) (g : Chart) (x s c : ℕ) : Type 0 where
+  pub side : Side
+  pub link : m (Link s side) ≡ c
+  pub low : low_of m g s side ≤ x
+  pub high : x < high_of m g s side
+
 -- a search that goes on goes to the side below which x belongs
-pub next_goes : (m : Memory) (g : Chart) (x s c : ℕ) → IsInRange g x s → next m x s ≡ c → c ≢ 0
-    → (b : Side) × (m (Link s b) ≡ c) × (low_of m g s b ≤ x) × (x < high_of m g s b)
-next_goes m g x zero c i e ne = (Right, e, omega arith, i.high)
+pub next_goes : (m : Memory) (g : Chart) (x s c : ℕ) → IsInRange g x s → next m x s ≡ c → c ≢ 0 → LeadsTo m g x s c
+next_goes m g x zero c i e ne = record { side = Right; link = e; low = omega arith; high = i.high }
 next_goes m g x (suc s) c i e ne = goes_on m g x (suc s) c i e ne (omega arith) (cases_order x (m (Key (suc s))))
   where
     goes_on : (m : Memory) (g : Chart) (x s c : ℕ) → IsInRange g x s → next m x s ≡ c → c ≢ 0 → s ≢ 0
-        → (x ≡ m (Key s)) ⊎ ((x < m (Key s)) ⊎ (m (Key s) < x))
-        → (b : Side) × (m (Link s b) ≡ c) × (low_of m g s b ≤ x) × (x < high_of m g s b)
-    goes_on m g x s c i e ne nz (inr (inl lt)) = (Left, sym (next-left m x s nz lt) ∙ e, i.low, lt)
+        → (x ≡ m (Key s)) ⊎ ((x < m (Key s)) ⊎ (m (Key s) < x)) → LeadsTo m g x s c
+    goes_on m g x s c i e ne nz (inr (inl lt)) = record { side = Left; link = sym (next-left m x s nz lt) ∙ e; low = i.low; high = lt }
     goes_on m g x s c i e ne nz (inl same) = absurd (ne (sym e ∙ next-here m x s nz (sym same)))
-    goes_on m g x s c i e ne nz (inr (inr gt)) = (Right, sym (next-right m x s nz gt) ∙ e, rw after-node (omega arith), i.high)
+    goes_on m g x s c i e ne nz (inr (inr gt)) = record {
+      side = Right;
+      link = sym (next-right m x s nz gt) ∙ e;
+      low = rw after-node (omega arith);
+      high = i.high;
+    }
 
 -- the ranges below a side lie in the slot's; below the root nothing is on the left
 pub side_within : (m : Memory) (n : ℕ) (g : Chart) (s : ℕ) (b : Side) → IsShaped m n g → g.linked s ≡ true → (s ≡ 0 → b ≡ Right)
@@ -84,8 +94,8 @@ range_on_path m n g x h bound s (down {s = p} p_on e ne) = one_more m n g x h p 
         → IsInRange g x c
     one_more m n g x h p c i e ne =
         let w = next_goes m g x p c i e ne in
-        let k = h.below p c w.0 i.linked w.1 ne in
-        record { linked = k.linked; low = omega (arith, k.low, w.2); high = omega (arith, k.high, w.3) }
+        let k = h.below p c w.side i.linked w.link ne in
+        record { linked = k.linked; low = omega (arith, k.low, w.low); high = omega (arith, k.high, w.high) }
 
 -- and each of them, by induction on the rank
 pub path_of_range : (m : Memory) (n : ℕ) (g : Chart) (x : ℕ) → IsShaped m n g → (fuel s : ℕ) → g.rank s < fuel → IsInRange g x s

@@ -57,19 +57,33 @@ module _ (m : Memory) (n : ℕ) (g : Chart) (h : IsShaped m n g) where
       lower (ap g.linked e ∙ k.linked) (λ z. nz (sym e ∙ z)) (same (ap g.up e ∙ k.up))
   below_up s b x l nz (lower lx ne u) = lower lx ne (below_up s b (g.up x) l nz u)
 
-  in_under : (fuel s x : ℕ) → Enough fuel s → In x (tree_of m fuel s) → (g.linked x ≡ true) × (x ≢ 0) × Under g s x × (s ≢ 0)
+  -- a slot of the tree below another
+  record InUnder (s x : ℕ) : Type 0 where
+    pub linked : g.linked x ≡ true
+    pub some_slot : x ≢ 0
+    pub under : Under g s x
+    pub some_top : s ≢ 0
+
+  in_under : (fuel s x : ℕ) → Enough fuel s → In x (tree_of m fuel s) → InUnder s x
   unfolding Enough
   in_under zero s x k i = absurd i
   in_under (suc fuel) zero x k i = absurd i
-  in_under (suc fuel) (suc s) x k (inr (inl e)) = (ap g.linked e ∙ (k (omega arith)).0, omega (arith, e), same e, omega arith)
+  in_under (suc fuel) (suc s) x k (inr (inl e)) = record {
+    linked = ap g.linked e ∙ (k (omega arith)).0;
+    some_slot = omega (arith, e);
+    under = same e;
+    some_top = omega arith;
+  }
   in_under (suc fuel) (suc s) x k (inl i) =
       let w = k (omega arith) in
       let r = in_under fuel (m (Link (suc s) Left)) x (child fuel (suc s) Left w.0 w.1) i in
-      (r.0, r.1, below_up (suc s) Left x w.0 r.3 r.2, omega arith)
+      let under = below_up (suc s) Left x w.0 r.some_top r.under in
+      record { linked = r.linked; some_slot = r.some_slot; under = under; some_top = omega arith }
   in_under (suc fuel) (suc s) x k (inr (inr i)) =
       let w = k (omega arith) in
       let r = in_under fuel (m (Link (suc s) Right)) x (child fuel (suc s) Right w.0 w.1) i in
-      (r.0, r.1, below_up (suc s) Right x w.0 r.3 r.2, omega arith)
+      let under = below_up (suc s) Right x w.0 r.some_top r.under in
+      record { linked = r.linked; some_slot = r.some_slot; under = under; some_top = omega arith }
 
   -- of two slots above one, one is above the other
   chain : (s t x : ℕ) → Under g s x → Under g t x → Under g s t ⊎ Under g t s
@@ -100,10 +114,10 @@ module _ (m : Memory) (n : ℕ) (g : Chart) (h : IsShaped m n g) where
       let w = k (omega arith) in
       let l = child fuel (suc s) Left w.0 w.1 in
       let r = child fuel (suc s) Right w.0 w.1 in (
-        λ i. let v = in_under fuel (m (Link (suc s) Left)) (suc s) l i in not_self (suc s) Left w.0 v.3 v.2,
-        λ i. let v = in_under fuel (m (Link (suc s) Right)) (suc s) r i in not_self (suc s) Right w.0 v.3 v.2,
+        λ i. let v = in_under fuel (m (Link (suc s) Left)) (suc s) l i in not_self (suc s) Left w.0 v.some_top v.under,
+        λ i. let v = in_under fuel (m (Link (suc s) Right)) (suc s) r i in not_self (suc s) Right w.0 v.some_top v.under,
         λ x i j. let v = in_under fuel (m (Link (suc s) Left)) x l i in let y = in_under fuel (m (Link (suc s) Right)) x r j in
-            apart (suc s) x w.0 v.3 y.3 v.2 y.2,
+            apart (suc s) x w.0 v.some_top y.some_top v.under y.under,
         distinct fuel (m (Link (suc s) Left)) l,
         distinct fuel (m (Link (suc s) Right)) r,
       )
@@ -134,11 +148,11 @@ module _ (m : Memory) (n : ℕ) (g : Chart) (h : IsShaped m n g) where
       let l = child fuel (suc s) Left w.0 w.1 in
       let r = child fuel (suc s) Right w.0 w.1 in (
         λ x i. let v = in_under fuel (m (Link (suc s) Left)) x l i in
-            key_below x (m (Key (suc s))) v.0 v.1 (omega
-            (arith, (nested (m (Link (suc s) Left)) x v.2).1, (h.below (suc s) (m (Link (suc s) Left)) Left w.0 refl v.3).high)),
-        λ x i. let v = in_under fuel (m (Link (suc s) Right)) x r i in
-            key_above x (m (Key (suc s))) v.0 v.1 (omega
-            (arith, (nested (m (Link (suc s) Right)) x v.2).0, (h.below (suc s) (m (Link (suc s) Right)) Right w.0 refl v.3).low)),
+            key_below x (m (Key (suc s))) v.linked v.some_slot (omega
+            (arith, (nested (m (Link (suc s) Left)) x v.under).1, (h.below (suc s) (m (Link (suc s) Left)) Left w.0 refl v.some_top).high)),
+        λ x i. let v = in_under fuel (m (Link (suc s) Right)) x r i in let within = nested (m (Link (suc s) Right)) x v.under in
+            key_above x (m (Key (suc s))) v.linked v.some_slot (omega
+            (arith, within.0, (h.below (suc s) (m (Link (suc s) Right)) Right w.0 refl v.some_top).low)),
         ordered fuel (m (Link (suc s) Left)) l,
         ordered fuel (m (Link (suc s) Right)) r,
       )
@@ -189,6 +203,6 @@ module _ (m : Memory) (n : ℕ) (g : Chart) (h : IsShaped m n g) where
         left = h.root_left;
         distinct = distinct fuel (m (Link 0 Right)) k;
         ordered = ordered fuel (m (Link 0 Right)) k;
-        sound = λ s i. let w = in_under fuel (m (Link 0 Right)) s k i in (w.0, w.1);
+        sound = λ s i. let w = in_under fuel (m (Link 0 Right)) s k i in (w.linked, w.some_slot);
         complete = λ s l nz. all_in (tree_of m fuel (m (Link 0 Right))) r (suc (g.rank s)) s (omega arith) l nz;
       }

@@ -1,12 +1,12 @@
 -- A step that leaves keys, values and links of slots, be it of all or of all but some: what that leaves of the tree, of paths and of
 -- places.
-use Rattle.std.proofs.Common.{◌≡◌, ◌≢◌, ℕ, zero, suc, ◌+◌, ◌==◌, nat_lt, if◌then◌else◌, true, Option, Some, None, refl, sym, ap, subst, ◌∙◌, arith}
+use Rattle.std.proofs.Common.{◌≡◌, ◌≢◌, ℕ, zero, suc, ◌+◌, ◌==◌, nat_lt, if◌then◌else◌, true, Option, Some, None, refl, sym, ap, subst, ◌∙◌, arith, false}
 use Rattle.prcu_marks.specs.declared.mark.Side.{Side}
 use Rattle.prcu_marks.specs.declared.mark.Side.TheVariants.{Left, Right}
 use Rattle.core_state.specs.declared.words.Field.TheVariants.{Key, Value, Link}
 use Rattle.core_state.specs.memory.Memory.{Memory}
 use Rattle.core_state.specs.tree.Nodes.{after, next, answer_at, OnRightLeft, first, further}
-use Rattle.core_state.specs.tree.Chart.{Chart, low_of, high_of, Belongs, IsShaped, HoldsMap}
+use Rattle.core_state.specs.tree.Chart.{Chart, low_of, high_of, Belongs, IsShaped, HoldsMap, HoldsPair}
 use Rattle.core_state.specs.tree.Readers.{Spine, bottom, more, Place, in_range, at_old, Walks, at_linked, at_stop, at_live}
 use Rattle.core_frames.proofs.chart.Places.{carry}
 use Rattle.core_frames.proofs.views.Same.{SameNodes}
@@ -24,6 +24,18 @@ any s = Unit {0}
 
 pub all_same : (m m' : Memory) → SameNodes m m' → SameContents m m' any any
 all_same m m' nodes = record { key = λ s p. nodes.key s; link = λ s b p. nodes.link s b; value = λ s q. nodes.value s }
+
+-- a slot that is linked and young holds its pair where its words are the same
+pub pair_by : {m m' : Memory} {g to : Chart} {x v : ℕ} (w : HoldsPair m g x v) → to.linked w.slot ≡ true → to.old w.slot ≡ false
+    → m' (Key w.slot) ≡ m (Key w.slot) → m' (Value w.slot) ≡ m (Value w.slot) → HoldsPair m' to x v
+pair_by w linked young key value = record {
+  slot = w.slot;
+  linked = linked;
+  some_slot = w.some_slot;
+  young = young;
+  key = key ∙ w.key;
+  value = value ∙ w.value;
+}
 
 -- Linked slots are of the first kind.
 module _ (m m' : Memory) (P Q : ℕ → Type 0) (same : SameContents m m' P Q) (g : Chart) (on : (s : ℕ) → g.linked s ≡ true → P s) where
@@ -43,7 +55,7 @@ module _ (m m' : Memory) (P Q : ℕ → Type 0) (same : SameContents m m' P Q) (
   map_same valued map i = record {
     sound = λ s l ne o. ap map (same.key s (on s l)) ∙ i.sound s l ne o ∙ ap Some (sym (same.value s (valued s l)));
     complete = λ x v e. (let w = i.complete x v e in
-        (w.0, w.1, w.2, w.3, same.key w.0 (on w.0 w.1) ∙ w.4, same.value w.0 (valued w.0 w.1) ∙ w.5));
+        pair_by w w.linked w.young (same.key w.slot (on w.slot w.linked)) (same.value w.slot (valued w.slot w.linked)));
   }
 
   next_same : (x s : ℕ) → P s → next m' x s ≡ next m x s

@@ -1,6 +1,6 @@
 -- The parts on marks and waits read what views have seen, their places and waits, and the marks. One more mark keeps them where it
 -- stands in order.
-use Rattle.std.proofs.Common.{◌≡◌, ℕ, ◌+◌, ◌^◌, ◌<◌, ◌≤◌, List, [], ◌∷◌, ◌++◌, length, set, Some, None, refl, sym, ap, subst, ◌∙◌, ⊎_elim, arith, ◌≢◌, ◌⊎◌, inl, inr}
+use Rattle.std.proofs.Common.{◌≡◌, ℕ, ◌+◌, ◌≤◌, List, [], ◌∷◌, ◌++◌, length, set, Some, refl, sym, ap, subst, ◌∙◌, ⊎_elim, arith, ◌≢◌, ◌⊎◌, inl, inr}
 use mathlib.Core.Option.{some}
 use mathlib.Core.List.{IsPrefix}
 use lib.ListN.{get_elem?}
@@ -8,12 +8,12 @@ use Rattle.atomic_table.proofs.Lists.{at_longer, set_here}
 use Rattle.prcu_marks.specs.declared.mark.Mark.{Mark}
 use Rattle.prcu_marks.specs.declared.mark.Mark.TheVariants.{Entered, Left, Began, Ended, Done}
 use Rattle.prcu_model.specs.declared.operation.Op.TheVariants.{Del}
-use Rattle.prcu_marks.specs.Marks.{Open, open_at, entered_at}
+use Rattle.prcu_marks.specs.Marks.{Open, open_at}
 use Rattle.prcu_model.proofs.ListFacts.{prefix_self, prefix_trans}
 use Rattle.core_state.specs.declared.view.Waiting.{Waiting}
 use Rattle.core_state.specs.declared.view.View.{View}
-use Rattle.core_state.specs.Marks.{begun, begun_at, AreMarks}
-use Rattle.core_state.specs.parts.MarkParts.{HasEnded, WaitStands, MarkParts}
+use Rattle.core_state.specs.Marks.{begun, AreMarks, IsNextSection, BeganBefore, IsNextWait}
+use Rattle.core_state.specs.parts.MarkParts.{HasEnded, WaitStands, MarkParts, HasSeenAll}
 use Rattle.list_laws.proofs.Lists.{at_below, at_end, past_snoc, each_change, each_set}
 use Rattle.core_frames.proofs.views.Same.{still}
 use Rattle.core_state.specs.views.Views.{Works}
@@ -21,10 +21,10 @@ use Rattle.core_frames.proofs.marks.MoreMarks.{QuietWaits, cut_at, longer_at, wa
 
 -- what a new mark has to meet, after these
 abbrev pub NewMark : ℕ → List Mark → Mark → Type 0
-NewMark places h (Entered p c x) = (p < places) × (x < 2 ^ 64) × (c ≡ entered_at p h) × (open_at p h ≡ None)
+NewMark places h (Entered p c x) = IsNextSection places h p c x
 NewMark places h (Left p c) = (o : Open) × (open_at p h ≡ Some o) × (o.count ≡ c)
-NewMark places h (Began p n low high) = (p < places) × (n ≡ begun_at p h) × (low ≤ high) × (high < 2 ^ 64)
-NewMark places h (Ended p n) = (i low high : ℕ) × (i < length h) × (get_elem? h i ≡ some (Began p n low high))
+NewMark places h (Began p n low high) = IsNextWait places h p n low high
+NewMark places h (Ended p n) = BeganBefore h (length h) p n
 NewMark places h (Done u) = ⊥
 NewMark places h _ = Unit {0}
 
@@ -34,9 +34,16 @@ marks_snoc places h m new t = record {
   left = λ j p c. past_snoc (NewMark places) h m (Left p c) new (λ i. t.left i p c) j;
   began = λ j p c low high. past_snoc (NewMark places) h m (Began p c low high) new (λ i. t.began i p c low high) j;
   ended = λ j p c e. ⊎_elim
-      (λ (o : get_elem? h j ≡ some (Ended p c)). (let r = t.ended j p c o in (r.0, r.1, r.2, r.3, at_longer h (m ∷ []) r.0 _ r.4)))
-      (λ n. (let r = subst (NewMark places h) n.1 new in let lt = r.3 in let at = n.0 in
-      (r.0, r.1, r.2, (omega arith), at_longer h (m ∷ []) r.0 _ r.4)))
+      (λ (o : get_elem? h j ≡ some (Ended p c)). (let r = t.ended j p c o in
+      record { at = r.at; low = r.low; high = r.high; before = r.before; begins = at_longer h (m ∷ []) r.at _ r.begins }))
+      (λ n. (let r : BeganBefore h (length h) p c = subst (NewMark places h) n.1 new in
+      record {
+        at = r.at;
+        low = r.low;
+        high = r.high;
+        before = omega (arith, r.before, n.0);
+        begins = at_longer h (m ∷ []) r.at _ r.begins;
+      }))
       (at_end h m (Ended p c) j e);
   deleted = λ j p x e. ⊎_elim
       (λ (o : get_elem? h j ≡ some (Done (record { caller = p; op = Del x }))). (let r = t.deleted j p x o in
@@ -85,10 +92,10 @@ module _ (places : ℕ) (vs : List View) (id : ℕ) (v w : View) (h h' : List Ma
   seen_by i (inl all) = subst (λ s. IsPrefix s h') (sym all) (prefix_self h')
   seen_by i (inr none) = subst (λ s. IsPrefix s h') (sym none.1) (prefix_trans v.seen h h' i grows)
 
-  longest_by : Sees h h' v w → (j : ℕ) × (u : View) × (get_elem? (set vs id w) j ≡ some u) × (u.seen ≡ h')
-  longest_by (inl all) = (id, w, set_here vs id w (at_below vs id v there), all)
-  longest_by (inr none) = let l = t.seen.longest in let z = still (λ (u : View). u.seen) vs id v w there none.1 l.0 l.1 l.2 in
-      (l.0, z.0, z.1, z.2 ∙ l.3 ∙ sym none.0)
+  longest_by : Sees h h' v w → HasSeenAll (set vs id w) h'
+  longest_by (inl all) = record { id = id; view = w; there = set_here vs id w (at_below vs id v there); all = all }
+  longest_by (inr none) = let l = t.seen.longest in let z = still (λ (u : View). u.seen) vs id v w there none.1 l.id l.view l.there in
+      record { id = l.id; view = z.0; there = z.1; all = z.2 ∙ l.all ∙ sym none.0 }
 
   -- the step says how its own wait stands, and that the others do
   pub mark_frame_by : ((wait : Waiting) → w.wait ≡ Some wait → WaitStands h' w wait)

@@ -210,9 +210,17 @@ module _ (m m' : Memory) (nodes : SameNodes m m') (g : Chart) (vs : List View) (
         (λ i. subst (λ rs. Each rs (IsRecord m' g (set vs id w))) (sym records) (λ j r e. record_stays r (i j r e)))
         (λ u i j r e. record_stays r (i j r e)) t.records;
     ages = λ s at c b gone met link ne.
-        (let z = was (λ (u : View). u.section) vs id v w there section met.0 met.1 met.3 in
+        (let z = was (λ (u : View). u.section) vs id v w there section met.id met.view met.there in
+        let before : IsMetBefore vs at = record {
+          id = met.id;
+          view = z.0;
+          section = met.section;
+          there = z.1;
+          inside = sym z.2 ∙ met.inside;
+          before = met.before;
+        } in
         ⊎_elim (λ l. inl l) (λ (x : (later : ℕ) × (gone_at c h ≡ Some later) × (at < later)). inr (x.0, quiet.gone c ∙ x.1, x.2))
-        (t.ages s at c b (sym (quiet.gone s) ∙ gone) (met.0, z.0, met.2, z.1, sym z.2 ∙ met.4, met.5) (sym (nodes.link s b) ∙ link) ne));
+        (t.ages s at c b (sym (quiet.gone s) ∙ gone) before (sym (nodes.link s b) ∙ link) ne));
   }
 
 module _ (m m' : Memory) (nodes : SameNodes m m') (g : Chart) (vs : List View) (id : ℕ) (v w : View) (h h' : List Mark)
@@ -235,15 +243,16 @@ module _ (m m' : Memory) (nodes : SameNodes m m') (g : Chart) (vs : List View) (
   met_back own at small i =
       each_set (λ j u. (section : Section) → u.section ≡ Some section → section.entered < at → IsMetBefore vs at) vs id w
       (λ section is lt. ⊎_elim (λ late. absurd (omega arith))
-      (λ (z : (z : Section) × (v.section ≡ Some z) × (z.entered ≡ section.entered)). (
-        id,
-        v,
-        z.0,
-        there,
-        z.1,
-        (let e = z.2 in omega arith),
-      )) (own.older section is))
-      (λ j u other e section is lt. (j, u, section, e, is, lt)) i.0 i.1 i.3 i.2 i.4 i.5
+      (λ (z : (z : Section) × (v.section ≡ Some z) × (z.entered ≡ section.entered)). record {
+        id = id;
+        view = v;
+        section = z.0;
+        there = there;
+        inside = z.1;
+        before = (let e = z.2 in omega arith);
+      }) (own.older section is))
+      (λ j u other e section is lt. record { id = j; view = u; section = section; there = e; inside = is; before = lt })
+      i.id i.view i.there i.section i.inside i.before
 
   pub reader_frame : OwnReaders → ReaderParts m g vs h → ReaderParts m' g (set vs id w) h'
   reader_frame own t = record {

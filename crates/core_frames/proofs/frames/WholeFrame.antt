@@ -38,7 +38,7 @@ use Rattle.core_state.specs.parts.FrontParts.{FrontParts}
 use Rattle.core_state.specs.parts.GraceParts.{GraceParts}
 use Rattle.core_state.specs.declared.view.HeldLock.{HeldLock}
 use Rattle.core_state.specs.parts.ListingParts.{ListingParts}
-use Rattle.core_state.specs.parts.LockParts.{LockParts}
+use Rattle.core_state.specs.parts.LockParts.{LockParts, IsUnraisedOf}
 use Rattle.core_state.specs.parts.MarkParts.{MarkParts, WaitStands}
 use Rattle.core_state.specs.declared.view.Retired.{Retired}
 use Rattle.core_state.specs.parts.SeatParts.{SeatParts}
@@ -137,7 +137,7 @@ module _ (k : Shape) (m : Memory) (vs : List View) (h : List Mark) (id : ℕ) (v
         locks = lock_frame m m' (slot_count k) i.chart vs id v w there slots (record {
           place = place;
           locks = locks;
-          unraised = λ s x. (x.0, subst (λ (y : SlotSide). IsIn y.own.retired x.0) (sym same) x.1, x.2, x.3);
+          unraised = λ s x. subst (λ (y : SlotSide). IsUnraisedOf y.own.retired s) (sym same) x;
           settled = λ e. moving ∙ e;
           outside = λ s is. (i.locks.few id v there).outside s (sym section ∙ is);
           readings = λ r has. inl (subst (λ rs. IsIn rs r) (λ n. open_reading (section n) ++ records n) has);

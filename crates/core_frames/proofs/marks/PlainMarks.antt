@@ -10,7 +10,7 @@ use Rattle.prcu_marks.specs.declared.mark.Mark.TheVariants.{Entered, Left, Began
 use Rattle.prcu_marks.specs.Marks.{gone_at, open_at, own_of, entered_at, last_unlinked}
 use Rattle.prcu_model.proofs.ListFacts.{prefix_self, prefix_more, prefix_trans}
 use Rattle.prcu_marks.proofs.MarkLists.{open_at-snoc, own_of-append, entered_at-append}
-use Rattle.core_state.specs.Marks.{begun, begun_at, AreMarks}
+use Rattle.core_state.specs.Marks.{begun, begun_at, AreMarks, IsNextSection, IsNextWait}
 use Rattle.list_laws.proofs.Lists.{at_end, at_below}
 use Rattle.core_frames.proofs.marks.MarkFacts.{begun-append, begun_at-append}
 use Rattle.prcu_model.specs.declared.operation.Op.TheVariants.{Del}
@@ -115,13 +115,13 @@ module _ (place : ℕ) (h h' : List Mark) (more : PlainMarks place h h') where
       → (s : ℕ) × (get_elem? h' (j + 1) ≡ some (Unlinked s))) → AreMarks places h → AreMarks places h'
   marks_plain places deleted t = record {
     entered = λ j p c x e. (let o = more.entered j p c x e in let r = t.entered j p c x o in
-        let b = sym (more.cut j (let l = at_below h j _ o in omega arith)) in
-        (r.0, r.1, r.2 ∙ ap (entered_at p) b, ap (open_at p) (sym b) ∙ r.3));
+        subst (λ z. IsNextSection places z p c x) (sym (more.cut j (let l = at_below h j _ o in omega arith))) r);
     left = λ j p c e. (let o = more.left j p c e in let r = t.left j p c o in
         (r.0, ap (open_at p) (more.cut j (let l = at_below h j _ o in omega arith)) ∙ r.1, r.2));
     began = λ j p c low high e. (let o = more.began j p c low high e in let r = t.began j p c low high o in
-        (r.0, r.1 ∙ ap (begun_at p) (sym (more.cut j (let l = at_below h j _ o in omega arith))), r.2, r.3));
-    ended = λ j p c e. (let r = t.ended j p c (more.ended j p c e) in (r.0, r.1, r.2, r.3, more.longer r.0 _ r.4));
+        subst (λ z. IsNextWait places z p c low high) (sym (more.cut j (let l = at_below h j _ o in omega arith))) r);
+    ended = λ j p c e. (let r = t.ended j p c (more.ended j p c e) in
+        record { at = r.at; low = r.low; high = r.high; before = r.before; begins = more.longer r.at _ r.begins });
     deleted = deleted;
   }
 

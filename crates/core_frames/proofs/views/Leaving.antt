@@ -110,12 +110,12 @@ record_of m n g vs h section shape reading sought fits served = record {
   key_fits = subst (λ x. x < 2 ^ 64) (sym sought) fits;
   side = λ s tag b missed life known empty same settled. side_case section.listing refl s b missed life empty;
   walk = λ node parent b value walk found walks.
-      (let names = reading.walk walk walks in
+      (let walked = reading.walk walk walks in
       let w = served.walking node parent b value walk found walks in
       record {
-        parent = λ x y. w.parent x.linked (linked_now m g h section walk.parent (served.stood walk.parent names.3) y);
+        parent = λ x y. w.parent x.linked (linked_now m g h section walk.parent (served.stood walk.parent walked.parent_stood) y);
         slot = λ x y. walk_path m g node (IsHeldBack g h section.entered) walk.slot (λ s live. live.out)
-            (linked_now m g h section walk.slot (served.stood walk.slot names.2) y) (w.walks x.linked);
+            (linked_now m g h section walk.slot (served.stood walk.slot walked.slot_stood) y) (w.walks x.linked);
       });
 }
   where

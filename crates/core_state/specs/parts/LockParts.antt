@@ -36,9 +36,16 @@ pub record HasFewLocks (v : View) : Type 0 where
   pub few : length v.locks ≤ 5
   pub outside : (section : Section) → v.section ≡ Some section → (v.locks ≡ []) × (v.moving ≡ None)
 
--- the slot is a retired one of the view, with a generation that wasn't raised
+-- the slot is one of these retired ones, with a generation that wasn't raised
+pub record IsUnraisedOf (rs : List Retired) (s : ℕ) : Type 0 where
+  pub retired : Retired
+  pub has : IsIn rs retired
+  pub slot : retired.slot ≡ s
+  pub unraised : retired.raised ≡ false
+
+-- and a retired one of the view
 abbrev pub IsUnraised : View → ℕ → Type 0
-IsUnraised v s = (r : Retired) × IsIn v.hands.retired r × (r.slot ≡ s) × (r.raised ≡ false)
+IsUnraised v s = IsUnraisedOf v.hands.retired s
 
 -- A view's lock says that the view marked the slot, just where the slot is linked and marked; and which sides it emptied: these are
 -- empty, and the slot is linked or an unraised retired one of the view.

@@ -12,10 +12,17 @@ use Rattle.list_laws.specs.Counts.{Each}
 use Rattle.core_state.specs.Marks.{begun, AreMarks}
 use Rattle.core_state.specs.views.Views.{Works}
 
+-- a view has seen all of the marks
+pub record HasSeenAll (vs : List View) (h : List Mark) : Type 0 where
+  pub id : ℕ
+  pub view : View
+  pub there : get_elem? vs id ≡ some view
+  pub all : view.seen ≡ h
+
 -- Each view has seen a beginning of the marks, and one view has seen them all.
 pub record AreSeen (vs : List View) (h : List Mark) : Type 0 where
   pub begins : Each vs (λ v. IsPrefix v.seen h)
-  pub longest : (id : ℕ) × (v : View) × (get_elem? vs id ≡ some v) × (v.seen ≡ h)
+  pub longest : HasSeenAll vs h
 
 -- the wait has its end among the marks
 abbrev pub HasEnded : List Mark → ℕ → ℕ → Type 0

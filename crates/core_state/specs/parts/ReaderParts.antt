@@ -54,13 +54,20 @@ StandsWell r (Unread s parent b) = IsReached r s parent b × (r.walk ≡ None)
 StandsWell r (Found s parent b value) = IsReached r s parent b × (known_in r.loads (Key s) ≡ Some r.key)
 StandsWell r (Missed s b) = GoesTo r s b × (r.walk ≡ None)
 
+-- a walk stands at slots at which the search stood, and neither is the root
+pub record HasWalked (stood : List ℕ) (walk : Walk) : Type 0 where
+  pub some_slot : walk.slot ≢ 0
+  pub some_parent : walk.parent ≢ 0
+  pub slot_stood : IsIn stood walk.slot
+  pub parent_stood : IsIn stood walk.parent
+
 -- What a section found out, by itself: it began at the root, stood at all slots that it names, and loaded at such slots alone. Before
 -- its first load it stands at the root.
 pub record IsReading (r : Reading) : Type 0 where
   pub root : IsIn r.stood 0
   pub stands : IsIn r.stood (state_slot r.state)
   pub well : StandsWell r r.state
-  pub walk : (walk : Walk) → r.walk ≡ Some walk → (walk.slot ≢ 0) × (walk.parent ≢ 0) × IsIn r.stood walk.slot × IsIn r.stood walk.parent
+  pub walk : (walk : Walk) → r.walk ≡ Some walk → HasWalked r.stood walk
   pub loads : (field : Field) (number : ℕ) → known_in r.loads field ≡ Some number → (s : ℕ) × IsIn r.stood s × IsLoadable s field
   pub first : r.loads ≡ [] → r ≡ fresh_reading r.key
 
@@ -130,9 +137,13 @@ pub record IsRecord (m : Memory) (g : Chart) (vs : List View) (r : Reading) : Ty
       → SaysOfWalk m g r node walk
 
 -- some section is open that was entered before this mark
-abbrev pub IsMetBefore : List View → ℕ → Type 0
-IsMetBefore vs at = (id : ℕ) × (v : View) × (section : Section) × (get_elem? vs id ≡ some v) × (v.section ≡ Some section)
-    × (section.entered < at)
+pub record IsMetBefore (vs : List View) (at : ℕ) : Type 0 where
+  pub id : ℕ
+  pub view : View
+  pub section : Section
+  pub there : get_elem? vs id ≡ some view
+  pub inside : view.section ≡ Some section
+  pub before : section.entered < at
 
 -- A link of an unlinked slot that a section may still meet is 0, or leads to a linked slot, or to one that was unlinked later.
 abbrev pub AreAged : Memory → Chart → List View → List Mark → Type 0

@@ -123,10 +123,15 @@ pub record BothChildren (v : View) (r : Reading) (parent : ℕ) (b : Side) (node
   pub old_left : loaded_in (known_under v old) (Link old Left) ≡ Some 0
 
 -- K22: a locked slot is marked. It is the node of a delete whose records hold, or the old successor of the view's own move.
-abbrev pub IsNodeOfDelete : View → ℕ → Type 0
-IsNodeOfDelete v node =
-    (r : Reading) × (parent left right : ℕ) × (b : Side) × IsUnmarkedNode v r node
-    × (FewChildren v r parent b node left right ⊎ ((old_parent old : ℕ) × BothChildren v r parent b node left right old_parent old))
+pub record IsNodeOfDelete (v : View) (node : ℕ) : Type 0 where
+  pub reading : Reading
+  pub parent : ℕ
+  pub left : ℕ
+  pub right : ℕ
+  pub side : Side
+  pub unmarked : IsUnmarkedNode v reading node
+  pub children : FewChildren v reading parent side node left right
+      ⊎ ((old_parent old : ℕ) × BothChildren v reading parent side node left right old_parent old)
 
 abbrev pub IsOldOfMove : View → ℕ → Type 0
 IsOldOfMove v slot = (move : Move) × (v.moving ≡ Some move) × (move.old ≡ slot)

@@ -78,8 +78,16 @@ pub record IsShaped (m : Memory) (n : ℕ) (g : Chart) : Type 0 where
   pub displaced : (s : ℕ) → g.linked s ≡ true → g.old s ≡ true → IsDisplaced m g s
   pub within : (s : ℕ) → g.linked s ≡ true → s < n
 
+-- a linked slot, neither the root nor an old successor, holds the pair
+pub record HoldsPair (m : Memory) (g : Chart) (x v : ℕ) : Type 0 where
+  pub slot : ℕ
+  pub linked : g.linked slot ≡ true
+  pub some_slot : slot ≢ 0
+  pub young : g.old slot ≡ false
+  pub key : m (Key slot) ≡ x
+  pub value : m (Value slot) ≡ v
+
 -- The linked slots but the root and the old successors hold just the pairs of the map.
 pub record HoldsMap (m : Memory) (g : Chart) (map : ℕ → Option ℕ) : Type 0 where
   pub sound : (s : ℕ) → g.linked s ≡ true → s ≢ 0 → g.old s ≡ false → map (m (Key s)) ≡ Some (m (Value s))
-  pub complete : (x v : ℕ) → map x ≡ Some v → (s : ℕ) × (g.linked s ≡ true) × (s ≢ 0) × (g.old s ≡ false) × (m (Key s) ≡ x)
-      × (m (Value s) ≡ v)
+  pub complete : (x v : ℕ) → map x ≡ Some v → HoldsPair m g x v

@@ -33,15 +33,21 @@ module _ (z : CopyStep) where
   move_now = new_move z.held z.r.key z.next_key z.d z.u z.q (length h)
 
   -- where the parent of the old successor stands
-  up_is : (g.up z.u ≡ z.q) × (g.side z.u ≡ cond (z.q == z.d) Right Left) × (z.q ≢ c) × HasLock v z.q
+  record HangsFrom : Type 0 where
+    pub parent : g.up z.u ≡ z.q
+    pub on : g.side z.u ≡ cond (z.q == z.d) Right Left
+    pub apart : z.q ≢ c
+    pub locked : HasLock v z.q
+
+  up_is : HangsFrom
   up_is = ⊎_elim
       (λ (e : (z.q ≡ z.d) × (z.right ≡ z.u)).
-      (let i = inv.tree.shape.below z.d z.u Right (node_marked (deletion z)).0 (right_is (deletion z) ∙ e.1) (old_some z) in (
-        i.up ∙ sym e.0,
-        i.side ∙ ap (λ t. cond t Right Left) (sym (eq-eqb z.q z.d e.0)),
-        (λ f. node_not_copy z (sym e.0 ∙ f)),
-        subst (HasLock v) (sym e.0) (node_lock (deletion z)),
-      )))
+      (let i = inv.tree.shape.below z.d z.u Right (node_marked (deletion z)).0 (right_is (deletion z) ∙ e.1) (old_some z) in record {
+        parent = i.up ∙ sym e.0;
+        on = i.side ∙ ap (λ t. cond t Right Left) (sym (eq-eqb z.q z.d e.0));
+        apart = λ f. node_not_copy z (sym e.0 ∙ f);
+        locked = subst (HasLock v) (sym e.0) (node_lock (deletion z));
+      }))
       (λ (e : (z.q ≢ z.d) × ((generation : ℕ) × LoadedGeneration z.r z.q generation
       × (loaded_in (known_under v z.q) (Life z.q) ≡ Some (2 * generation)))
       × (loaded_in (known_under v z.q) (Link z.q Left) ≡ Some z.u)).
@@ -51,7 +57,12 @@ module _ (z : CopyStep) where
       let link = alive_field k m vs h inv id v there z.r z.q (kept (deletion z)) a (Link z.q Left) z.u
       (loaded_known (known_under v z.q) (Link z.q Left) z.u e.2) in
       let i = inv.tree.shape.below z.q z.u Left a.on link (old_some z) in
-      (i.up, i.side ∙ ap (λ t. cond t Right Left) (sym (ne_eqb z.q z.d e.0)), (λ f. not_c (copy_link z) z.q a.on f), (a.lock, a.locked))))
+      record {
+        parent = i.up;
+        on = i.side ∙ ap (λ t. cond t Right Left) (sym (ne_eqb z.q z.d e.0));
+        apart = λ f. not_c (copy_link z) z.q a.on f;
+        locked = (a.lock, a.locked);
+      }))
       z.needs.records.link
 
   pub old_not_copy : z.u ≢ c
@@ -61,15 +72,15 @@ module _ (z : CopyStep) where
   parent_is = ⊎_elim
       (λ (e : z.q ≡ z.d).
       (let is : move_now.parent ≡ c = ap (λ t. cond t c z.q) (eq-eqb z.q z.d e) in (
-        up ∙ ap (λ x. moved z.d c x) up_is.0 ∙ moved-same z.d c z.q e ∙ sym is,
-        side ∙ up_is.1 ∙ ap (λ t. cond t Right Left) (eq-eqb z.q z.d e ∙ sym (eq-eqb move_now.parent c is)),
+        up ∙ ap (λ x. moved z.d c x) up_is.parent ∙ moved-same z.d c z.q e ∙ sym is,
+        side ∙ up_is.on ∙ ap (λ t. cond t Right Left) (eq-eqb z.q z.d e ∙ sym (eq-eqb move_now.parent c is)),
         subst (HasLock w) (sym is) (still_locked z c z.needs.locked),
       )))
       (λ ne.
       (let is : move_now.parent ≡ z.q = ap (λ t. cond t c z.q) (ne_eqb z.q z.d ne) in (
-        up ∙ ap (λ x. moved z.d c x) up_is.0 ∙ moved-other z.d c z.q ne ∙ sym is,
-        side ∙ up_is.1 ∙ ap (λ t. cond t Right Left) (ne_eqb z.q z.d ne ∙ sym (ne_eqb move_now.parent c (λ f. up_is.2 (sym is ∙ f)))),
-        subst (HasLock w) (sym is) (still_locked z z.q up_is.3),
+        up ∙ ap (λ x. moved z.d c x) up_is.parent ∙ moved-other z.d c z.q ne ∙ sym is,
+        side ∙ up_is.on ∙ ap (λ t. cond t Right Left) (ne_eqb z.q z.d ne ∙ sym (ne_eqb move_now.parent c (λ f. up_is.apart (sym is ∙ f)))),
+        subst (HasLock w) (sym is) (still_locked z z.q up_is.locked),
       )))
       (cases_eq z.q z.d)
     where

@@ -122,7 +122,7 @@ module _ (z : CopyStep) where
       (old_alive.generation, old_alive.recorded, old_alive.life)
 
   pub old_some : z.u ≢ 0
-  old_some = ((reading deletion).walk (record { parent = z.q; slot = z.u }) z.needs.records.walk).0
+  old_some = ((reading deletion).walk (record { parent = z.q; slot = z.u }) z.needs.records.walk).some_slot
 
   pub old_low : g.low z.u ≡ m (Key z.d) + 1
   old_low = (right_left_low m n g z.d z.u inv.tree.shape (node_marked deletion).0 (some_node deletion) on_path).1

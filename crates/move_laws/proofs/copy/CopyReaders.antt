@@ -26,7 +26,7 @@ module _ (k : CopyLink) where
   -- a search for what lies between the keys goes left until it is at the successor
   next_low : (x s y : ℕ) → m (Key d) < x → x ≤ m (Key u) → IsInRange g x s → g.low s ≡ m (Key d) + 1 → next m x s ≡ y → y ≢ 0
       → (x < m (Key s)) × (m (Link s Left) ≡ y) × (g.low y ≡ m (Key d) + 1)
-  next_low x s y lo hi i e f ne = go (next_goes m g x s y i f ne)
+  next_low x s y lo hi i e f ne = let w = next_goes m g x s y i f ne in side w.side w.link w.low w.high
     where
       nz : s ≢ 0
       nz z = omega (arith, e, ap g.low z, h.root_low)
@@ -36,14 +36,10 @@ module _ (k : CopyLink) where
       right gt (inr o) = let w = none_between k s i.linked nz o (omega (arith, e, (h.keyed s i.linked nz o).low)) (omega arith) in
           omega (arith, gt, hi, ap (λ v. m (Key v)) w)
 
-      go : (a : Side) × (m (Link s a) ≡ y) × (low_of m g s a ≤ x) × (x < high_of m g s a)
+      side : (a : Side) → m (Link s a) ≡ y → low_of m g s a ≤ x → x < high_of m g s a
           → (x < m (Key s)) × (m (Link s Left) ≡ y) × (g.low y ≡ m (Key d) + 1)
-      go w = side w.0 w.1 w.2 w.3
-        where
-          side : (a : Side) → m (Link s a) ≡ y → low_of m g s a ≤ x → x < high_of m g s a
-              → (x < m (Key s)) × (m (Link s Left) ≡ y) × (g.low y ≡ m (Key d) + 1)
-          side Left v l r = (r, v, (h.below s y Left i.linked v ne).low ∙ e)
-          side Right v l r = absurd (right (omega (arith, l, after-node m s nz)) (bool_cases (g.old s)))
+      side Left v l r = (r, v, (h.below s y Left i.linked v ne).low ∙ e)
+      side Right v l r = absurd (right (omega (arith, l, after-node m s nz)) (bool_cases (g.old s)))
 
   spine_of_hops : (x : ℕ) → m (Key d) < x → x ≤ m (Key u) → (hops s : ℕ) → IsInRange g x s → g.low s ≡ m (Key d) + 1 → Hops m x hops s u
       → Spine m g x u s

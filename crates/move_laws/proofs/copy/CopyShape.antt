@@ -5,7 +5,8 @@ use Rattle.prcu_marks.specs.declared.mark.Side.{Side}
 use Rattle.prcu_marks.specs.declared.mark.Side.TheVariants.{Left, Right}
 use Rattle.core_state.specs.declared.words.Field.TheVariants.{Key, Value, Link}
 use Rattle.core_state.specs.tree.Nodes.{after, next}
-use Rattle.core_state.specs.tree.Chart.{low_of, high_of, IsBelow, Hangs, IsKeyed, IsDisplaced, HoldsMap, IsInRange}
+use Rattle.core_state.specs.tree.Chart.{low_of, high_of, IsBelow, Hangs, IsKeyed, IsDisplaced, HoldsMap, IsInRange, HoldsPair}
+use Rattle.core_frames.proofs.frames.Contents.{pair_by}
 use Rattle.core_frames.proofs.chart.Ranges.{after-node, next-left, next-here}
 use Rattle.core_frames.proofs.chart.Endings.{one_end}
 use Rattle.core_frames.proofs.chart.Unique.{high_within, key_bound}
@@ -289,21 +290,21 @@ module _ (k : CopyLink) where
       (λ e. omega (arith, e, k.next_low, next_keyed.low)) ∙ q.sound u k.next_on next_not_root k.next_young ∙ ap Some (sym k.value))
       complete
     where
-      complete : (x v : ℕ) → put map (m (Key d)) None x ≡ Some v
-          → (s : ℕ) × (to.linked s ≡ true) × (s ≢ 0) × (to.old s ≡ false) × (m (Key s) ≡ x) × (m (Value s) ≡ v)
+      complete : (x v : ℕ) → put map (m (Key d)) None x ≡ Some v → HoldsPair m to x v
       complete x v e =
-          let w = pair_else m n g d h at.linked k.node k.young k.single map q x v e in
+          let a = pair_else m n g d h at.linked k.node k.young k.single map q x v e in
+          let w = a.0 in
           ⊎_elim
-          (λ (i : w.0 ≡ u). (
-            c,
-            c_linked,
-            k.some,
-            c_young,
-            k.key ∙ ap (λ y. m (Key y)) (sym i) ∙ w.5,
-            k.value ∙ ap (λ y. m (Value y)) (sym i) ∙ w.6,
-          ))
-          (λ i. (w.0, still_linked w.0 w.1 w.2, w.3, was_old w.0 w.1 i ∙ w.4, w.5, w.6))
-          (cases_eq w.0 u)
+          (λ (i : w.slot ≡ u). record {
+            slot = c;
+            linked = c_linked;
+            some_slot = k.some;
+            young = c_young;
+            key = k.key ∙ ap (λ y. m (Key y)) (sym i) ∙ w.key;
+            value = k.value ∙ ap (λ y. m (Value y)) (sym i) ∙ w.value;
+          })
+          (λ i. pair_by w (still_linked w.slot w.linked a.1) (was_old w.slot w.linked i ∙ w.young) refl refl)
+          (cases_eq w.slot u)
 
   -- a bound passes nothing, but for what lies between the two keys
   pub low_in : (x low : ℕ) → (m (Key d) < x → x ≤ m (Key u) → low ≢ m (Key d) + 1) → low ≤ x → lower low ≤ x

@@ -44,9 +44,9 @@ module _ (z : CopyStep) where
       let s = inv.tree.map.complete other value has in
       let key = node_key (deletion z) in
       let last = old_key z in
-      let at : m (Key s.0) ≡ other = s.4 in
-      let same : s.0 ≡ u = none_between (copy_link z) s.0 s.1 s.2 s.3 (omega arith) (omega arith) in
-      let one : m (Key s.0) ≡ m (Key u) = ap (λ t. m (Key t)) same in
+      let at : m (Key s.slot) ≡ other = s.key in
+      let same : s.slot ≡ u = none_between (copy_link z) s.slot s.linked s.some_slot s.young (omega arith) (omega arith) in
+      let one : m (Key s.slot) ≡ m (Key u) = ap (λ t. m (Key t)) same in
       absurd (omega arith))
 
   next_of : IsNextKey (map_of (updates_of h)) r.key next_key

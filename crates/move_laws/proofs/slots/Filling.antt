@@ -170,7 +170,8 @@ module _ (k : Shape) (m : Memory) (vs : List View) (h : List Mark) (id : ℕ) (v
         };
         lock_back = λ t l' is. (let q = noted_back s known v.locks t l' is in (q.0, q.1, noted t q.0 l' q.2));
         lock_forth = λ t l is. (let q = noted_forth s known v.locks t l is in (q.0, q.1, noted t l q.0 q.2));
-        unraised = λ t lock x. ((λ e. not_retired x.0 (in_first v.hands.retired (joined_retired v.allowance.joined) x.0 x.1) (x.2 ∙ e)), x);
+        unraised = λ t lock x. (let has = in_first v.hands.retired (joined_retired v.allowance.joined) x.retired x.has in
+            ((λ e. not_retired x.retired has (x.slot ∙ e)), x));
         marks = no_marks s h;
       }
         where

@@ -50,8 +50,15 @@ module _ (k : Shape) (m : Memory) (vs : List View) (h : List Mark) (id : ℕ) (v
   gone_then = ap (λ s. gone_at s h) (sym needs.retired.1) ∙ is.unlinked
 
   -- the slot's one role is that of this retired one
-  stands_once : (flag (m (State slot) == 0) ≡ 0) × (flag (inv.chart.linked slot) ≡ 0) × (times slot (held_list v.hands.hand) ≡ 0)
-      × (times slot (spares_of v) ≡ 0) × (times slot (slots_in v.hands.retired) ≡ 1) × (times slot (slots_in joined) ≡ 0)
+  record StandsOnce : Type 0 where
+    pub not_free : flag (m (State slot) == 0) ≡ 0
+    pub unlinked : flag (inv.chart.linked slot) ≡ 0
+    pub not_held : times slot (held_list v.hands.hand) ≡ 0
+    pub not_spare : times slot (spares_of v) ≡ 0
+    pub retired : times slot (slots_in v.hands.retired) ≡ 1
+    pub not_joined : times slot (slots_in joined) ≡ 0
+
+  stands_once : StandsOnce
   stands_once =
       let a = inv.slots.roles.once slot small in
       let p = total_part (λ (u : View). times slot (slots_of u)) vs id v there in
@@ -59,10 +66,17 @@ module _ (k : Shape) (m : Memory) (vs : List View) (h : List Mark) (id : ℕ) (v
       let c = retired_count v slot in
       let d = subst (λ s. 1 ≤ times s (slots_in v.hands.retired)) needs.retired.1
       (times_in (λ (x : Retired). x.slot) v.hands.retired r mine) in
-      (omega arith, omega arith, omega arith, omega arith, omega arith, omega arith)
+      record {
+        not_free = omega arith;
+        unlinked = omega arith;
+        not_held = omega arith;
+        not_spare = omega arith;
+        retired = omega arith;
+        not_joined = omega arith;
+      }
 
   among : 1 ≤ times slot (slots_of v)
-  among = let a = slots_count v slot in let b = retired_count v slot in let c = stands_once.4 in omega arith
+  among = let a = slots_count v slot in let b = retired_count v slot in let c = stands_once.retired in omega arith
 
   clear : (a : ℕ) → last_unlinked slot h ≡ Some a → IsClear vs a 0 greatest_key
   clear a last =
@@ -74,13 +88,13 @@ module _ (k : Shape) (m : Memory) (vs : List View) (h : List Mark) (id : ℕ) (v
   -- a retired slot whose generation wasn't raised is another
   unraised_else : (x : Retired) → IsIn v.hands.retired x → x.raised ≡ false → x.slot ≢ slot
   unraised_else x has unraised same =
-      let once = stands_once.4 in
+      let once = stands_once.retired in
       let q : x ≡ r = one_in slot v.hands.retired x r (omega arith) has mine same needs.retired.1 in
       absurd (let f : false ≡ true = sym unraised ∙ ap (λ (y : Retired). y.raised) q ∙ needs.raised in cc)
 
   joined_else : (x : Retired) → IsIn joined x → x.slot ≢ slot
   joined_else x has same = let a = times_in (λ (y : Retired). y.slot) joined x has in let b = ap (λ s. times s (slots_in joined)) same in
-      let c = stands_once.5 in absurd (omega arith)
+      let c = stands_once.not_joined in absurd (omega arith)
 
   abbrev step : StateStep k m vs h id v inv there works
   step = record {
@@ -98,14 +112,25 @@ module _ (k : Shape) (m : Memory) (vs : List View) (h : List Mark) (id : ℕ) (v
 
   pub frees_retired : IsKept k m h (stored m (State slot) 0) (set vs id w) (h ++ Freed slot ∷ [])
   frees_retired = restated k m vs h id v inv there works step (record {
-    unraised = λ t y. (
-      (λ e. unraised_else y.0 y.1 y.3 (y.2 ∙ e)),
-      (y.0, without_in slot v.hands.retired y.0 y.1 (unraised_else y.0 y.1 y.3), y.2, y.3),
-    );
+    unraised = λ t y. (let else = unraised_else y.retired y.has y.unraised in (
+      (λ e. else (y.slot ∙ e)),
+      record {
+        retired = y.retired;
+        has = without_in slot v.hands.retired y.retired y.has else;
+        slot = y.slot;
+        unraised = y.unraised;
+      },
+    ));
     role = (let a = slots_count w slot in let b = slots_count v slot in let c = retired_count w slot in let d = retired_count v slot in
         let e = without_none slot v.hands.retired in
-        let f0 = stands_once.0 in let f2 = stands_once.2 in let f3 = stands_once.3 in let f4 = stands_once.4 in let f5 = stands_once.5 in
-        omega arith);
+        omega (
+          arith,
+          stands_once.not_free,
+          stands_once.not_held,
+          stands_once.not_spare,
+          stands_once.retired,
+          stands_once.not_joined,
+        ));
     roles = λ t ne. (let a = slots_count w t in let b = slots_count v t in let c = retired_count w t in let d = retired_count v t in
         let e = without_else slot t ne v.hands.retired in omega arith);
     few = (let f = inv.slots.few id v there in let l = without_length slot v.hands.retired in record {
@@ -117,11 +142,11 @@ module _ (k : Shape) (m : Memory) (vs : List View) (h : List Mark) (id : ℕ) (v
       next_spare = λ has none. (let x = f.next_spare has none in
           (x.0, without_in slot v.hands.retired x.0 x.1 (unraised_else x.0 x.1 x.2), x.2));
     });
-    known = state_hands k m vs h id v inv there works step w refl refl refl stands_once.3
+    known = state_hands k m vs h id v inv there works step w refl refl refl stands_once.not_spare
         (λ held is_held. (let i = (inv.slots.hands id v there).hand held is_held in (
           held_beside m (stored m (State slot) 0) slot (stores_in m slot (State slot) 0 refl) held
               (λ same. (let a = held_there v.hands.hand held is_held in let b = ap (λ s. times s (held_list v.hands.hand)) same in
-              let c = stands_once.2 in omega arith)) i.0,
+              let c = stands_once.not_held in omega arith)) i.0,
           i.1,
         )));
     retired = λ x has. ⊎_elim (λ (o : IsIn (without_retired slot v.hands.retired) x). (let q = in_without slot v.hands.retired x o in
@@ -132,7 +157,7 @@ module _ (k : Shape) (m : Memory) (vs : List View) (h : List Mark) (id : ℕ) (v
         (without_in slot v.hands.retired x o ne)) (λ (o : IsIn joined x). in_second (without_retired slot v.hands.retired) joined x o)
         (in_append v.hands.retired joined x has);
     came = λ x has. (in_without slot v.hands.retired x has).0;
-    counted = (let a = ap flag needs.paid in let b = stands_once.0 in omega arith);
+    counted = (let a = ap flag needs.paid in let b = stands_once.not_free in omega arith);
     raised = (let a = unraised_append (without_retired slot v.hands.retired) joined in let b = unraised_append v.hands.retired joined in
         let c = without_raised slot v.hands.retired in omega arith);
   })

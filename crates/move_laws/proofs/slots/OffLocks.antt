@@ -34,9 +34,9 @@ module _ (z : OffStep) where
 
   unraised_else : (j : ℕ) (u : View) → j ≢ id → get_elem? vs j ≡ some u → (t : ℕ) → IsUnraised u t → (t ≢ s) × IsUnraised u t
   unraised_else j u ne e t i =
-      let among = in_first u.hands.retired (joined_retired u.allowance.joined) i.0 i.1 in (
-        (λ same. (let none = z.others j u ne e in let one = retired_own u i.0 among in
-            let a = ap (λ x. times x (slots_of u)) (i.2 ∙ same) in
+      let among = in_first u.hands.retired (joined_retired u.allowance.joined) i.retired i.has in (
+        (λ same. (let none = z.others j u ne e in let one = retired_own u i.retired among in
+            let a = ap (λ x. times x (slots_of u)) (i.slot ∙ same) in
             absurd (omega arith))),
         i,
       )

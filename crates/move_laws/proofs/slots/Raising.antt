@@ -91,17 +91,23 @@ module _ (z : RaiseStep) where
   stores = stores_in m s (Life s) number refl
 
   -- the slot stands once among the view's, as a retired one
-  one_role : (times s (held_list v.hands.hand) ≡ 0) × (times s (spares_of v) ≡ 0) × (times s (slots_in v.hands.retired) ≡ 1)
-      × (times s (slots_in (joined_retired v.allowance.joined)) ≡ 0)
+  record OneRole : Type 0 where
+    pub not_held : times s (held_list v.hands.hand) ≡ 0
+    pub not_spare : times s (spares_of v) ≡ 0
+    pub retired : times s (slots_in v.hands.retired) ≡ 1
+    pub not_joined : times s (slots_in (joined_retired v.allowance.joined)) ≡ 0
+
+  one_role : OneRole
   one_role =
       let a = own_once m n inv.chart vs h inv.slots id v there s in
       let b = slots_count v s in
       let c = retired_count v s in
       let d = times_in (λ (x : Retired). x.slot) v.hands.retired z.r mine in
-      (omega arith, omega arith, omega arith, omega arith)
+      record { not_held = omega arith; not_spare = omega arith; retired = omega arith; not_joined = omega arith }
 
   joined_apart : (y : Retired) → IsIn (joined_retired v.allowance.joined) y → y.slot ≢ s
-  joined_apart y has same = let a = times_in (λ (x : Retired). x.slot) (joined_retired v.allowance.joined) y has in let b = one_role.3 in
+  joined_apart y has same = let a = times_in (λ (x : Retired). x.slot) (joined_retired v.allowance.joined) y has in
+      let b = one_role.not_joined in
       let c = ap (λ x. times x (slots_in (joined_retired v.allowance.joined))) same in omega arith
 
   lives_more : generations_in m' n ≡ generations_in m n + 1
@@ -179,7 +185,7 @@ module _ (z : RaiseStep) where
       few = d.few;
       hands = record {
         hand = λ held q. (let a = (inv.slots.hands id v there).hand held q in
-            let ne : held.slot ≢ s = (λ e. (let b = one_role.0 in let x = held_there v.hands.hand held q in
+            let ne : held.slot ≢ s = (λ e. (let b = one_role.not_held in let x = held_there v.hands.hand held q in
             let y = ap (λ o. times o (held_list v.hands.hand)) e in omega arith)) in
             (held_away step held ne a.0, even_away step held.slot ne a.1));
         spare = d.spare;
@@ -221,7 +227,12 @@ module _ (z : RaiseStep) where
     seen = z.who.h ++ Given z.r.slot ∷ [];
     hs = z.who.h ++ Given z.r.slot ∷ [];
     marks = used_marks true z.r.slot z.who.h;
-    unraised = λ t ne i. (i.0, without_in s v.hands.retired i.0 i.1 (λ e. ne (sym i.2 ∙ e)), i.2, i.3);
+    unraised = λ t ne i. record {
+      retired = i.retired;
+      has = without_in s v.hands.retired i.retired i.has (λ e. ne (sym i.slot ∙ e));
+      slot = i.slot;
+      unraised = i.unraised;
+    };
   }
 
   -- the slot becomes the spare: the mark says that it is given
@@ -250,7 +261,7 @@ module _ (z : RaiseStep) where
           let all = in_first v.hands.retired (joined_retired v.allowance.joined) y x.0 in
           retired_away (step to_spare) y x.1 (inv.slots.retired id v there all.0 y all.1));
       kept = λ t p y gone has at. (y, without_in s v.hands.retired y has (λ e. (used_back true s h t p gone).0 (sym at ∙ e)), at);
-      fewer = without_unraised s v.hands.retired z.r mine refl z.needs.unraised (let a = one_role.2 in omega arith);
+      fewer = without_unraised s v.hands.retired z.r mine refl z.needs.unraised (let a = one_role.retired in omega arith);
     }) (outer_marked k m m' vs h id v (w to_spare) inv there works stores.beside (same_outside to_spare) (Given s) tt tt refl)
         (grace_used k m vs h id v (w to_spare) inv there (same_outside to_spare)
         (λ y has. (y, (in_without s v.hands.retired y has).0, refl, refl)) true s clear);
@@ -274,7 +285,7 @@ module _ (z : RaiseStep) where
           (λ (e : t ≡ s).
           (let x = in_one t s e in
           let y = ap (λ o. times o (slots_in (without_retired s v.hands.retired))) e ∙ without_none s v.hands.retired in
-          let o = ap (λ x. times x (slots_in v.hands.retired)) e ∙ one_role.2 in
+          let o = ap (λ x. times x (slots_in v.hands.retired)) e ∙ one_role.retired in
           omega arith))
           (λ ne. (let x = not_one t s ne in let y = without_else s t ne v.hands.retired in omega arith))
           (cases_eq t s)
@@ -293,9 +304,9 @@ module _ (z : RaiseStep) where
     hs = z.who.h;
     marks = no_marks z.r.slot z.who.h;
     unraised = λ t ne i.
-        (let c = change_in s v.hands.retired i.0 i.1 in
-        let same : c.0 ≡ i.0 = c.3 (λ e. ne (sym i.2 ∙ e)) in
-        (c.0, c.1, c.2 ∙ i.2, ap (λ (x : Retired). x.raised) same ∙ i.3));
+        (let c = change_in s v.hands.retired i.retired i.has in
+        let same : c.0 ≡ i.retired = c.3 (λ e. ne (sym i.slot ∙ e)) in
+        record { retired = c.0; has = c.1; slot = c.2 ∙ i.slot; unraised = ap (λ (x : Retired). x.raised) same ∙ i.unraised });
   }
 
   -- the slot stays retired: no mark is left
@@ -315,12 +326,12 @@ module _ (z : RaiseStep) where
             next_spare = λ _ none. absurd (some_spare none);
           });
       spare = λ held q. held_away (step to_raised) held
-          (λ e. (let b = one_role.1 in let c = spare_among v held q in let d = ap (λ x. times x (spares_of v)) e in omega arith))
+          (λ e. (let b = one_role.not_spare in let c = spare_among v held q in let d = ap (λ x. times x (spares_of v)) e in omega arith))
           ((inv.slots.hands id v there).spare held q);
       spares = λ t ne has. has;
       retired = changed_is;
       kept = λ t p y gone has at. (let c = change_in s v.hands.retired y has in (c.0, c.1, c.2 ∙ at));
-      fewer = change_unraised s v.hands.retired z.r mine refl z.needs.unraised (let a = one_role.2 in omega arith);
+      fewer = change_unraised s v.hands.retired z.r mine refl z.needs.unraised (let a = one_role.retired in omega arith);
     }) (outer_same k m m' vs h id v (w to_raised) inv there works stores.beside (same_outside to_raised) refl)
         (grace_same k m vs h id v (w to_raised) inv there (same_outside to_raised)
         (λ y has. (let x = in_change s v.hands.retired y has in let q = was_same x.0 y x.2 in (x.0, x.1, q.0, q.1))));
@@ -349,7 +360,7 @@ module _ (z : RaiseStep) where
             stays = λ field number f c q. absurd (cc);
             unmarked = λ f. subst (λ o. IsEven (m' (Life o))) (sym t.0) (let a = here in let o = odd in omega arith);
             after_wait = λ f. (let one : x.0 ≡ z.r = one_in s v.hands.retired x.0 z.r
-                (let a = one_role.2 in omega arith) x.1 mine t.0 refl in ap (λ (o : Retired). o.waited) one ∙ z.needs.waited);
+                (let a = one_role.retired in omega arith) x.1 mine t.0 refl in ap (λ (o : Retired). o.waited) one ∙ z.needs.waited);
           }))
           (λ (t : (x.0.slot ≢ s) × (x.0 ≡ y)). subst (IsRetired m' h) t.1 (retired_away (step to_raised) x.0 t.0 i))
           x.2

@@ -97,7 +97,8 @@ module _ (k : Shape) (m : Memory) (vs : List View) (h : List Mark) (id : ℕ) (v
         let w : View = record v { hands = record v.hands { reserved = false; hand = Some (seized slot) }; seen = h ++ Given slot ∷ [] } in
         let none = nobody id v there in
         restated k m vs h id v inv there works step (record {
-          unraised = λ t y. ((λ e. no_retired y.0 (in_first v.hands.retired (joined_retired v.allowance.joined) y.0 y.1) (y.2 ∙ e)), y);
+          unraised = λ t y. (let has = in_first v.hands.retired (joined_retired v.allowance.joined) y.retired y.has in
+              ((λ e. no_retired y.retired has (y.slot ∙ e)), y));
           role = (let f : flag (m (State slot) == 0) ≡ 1 = ap flag (eq-eqb (m (State slot)) 0 free) in let a = slots_count w slot in
               let b = slots_count v slot in let c = times_here slot [] in let d = ap (λ o. times slot (held_list o)) empty_hand in
               omega arith);
@@ -164,7 +165,8 @@ module _ (k : Shape) (m : Memory) (vs : List View) (h : List Mark) (id : ℕ) (v
         let few = inv.slots.few id v there in
         let w : View = after_free_in_hand v slot h in
         restated k m vs h id v inv there works freeing (record {
-          unraised = λ t y. ((λ e. not_retired y.0 (in_first v.hands.retired (joined_retired v.allowance.joined) y.0 y.1) (y.2 ∙ e)), y);
+          unraised = λ t y. (let has = in_first v.hands.retired (joined_retired v.allowance.joined) y.retired y.has in
+              ((λ e. not_retired y.retired has (y.slot ∙ e)), y));
           role = (let a = slots_count w slot in let b = slots_count v slot in let c = mine_once.0 in let d = in_hand in omega arith);
           roles = λ t ne. (let a = slots_count w t in let b = slots_count v t in let c = ap (λ o. times t (held_list o)) needs.in_hand.0 in
               let d = times_other t held.slot [] (λ e. ne (sym e ∙ needs.in_hand.1)) in omega arith);

@@ -6,6 +6,7 @@ use Rattle.prcu_marks.specs.declared.mark.Side.TheVariants.{Left, Right}
 use Rattle.core_state.specs.declared.words.Field.TheVariants.{Link}
 use Rattle.core_state.specs.memory.Memory.{Memory}
 use Rattle.core_state.specs.tree.Chart.{Chart, IsBelow, IsDisplaced, IsShaped, HoldsMap}
+use Rattle.core_frames.proofs.frames.Contents.{pair_by}
 use Rattle.core_frames.proofs.chart.Ranges.{after-node}
 use Rattle.tree_laws.proofs.chart.ChartChanges.{map_after}
 use Rattle.tree_laws.proofs.chart.Splices.{Replaces, Splices, spliced, still_linked, child_linked, changes}
@@ -33,7 +34,7 @@ module _ (m new : Memory) (n : ℕ) (g : Chart) (q : ℕ) (b : Side) (u r : ℕ)
   pub splice : Splices m new n g q b u r (λ x. x) (λ x. x)
   splice = record {
     replaces = k.replaces;
-    only = (Right, Left, (λ e. cc), k.right, displaced.left);
+    only = record { side = Right; beside = Left; apart = λ e. cc; leads = k.right; empty = displaced.left };
     after_stays = λ s l not. refl;
     key_stays = λ s l not ne. refl;
     falls = λ x. omega arith;
@@ -52,11 +53,6 @@ module _ (m new : Memory) (n : ℕ) (g : Chart) (q : ℕ) (b : Side) (u r : ℕ)
       (changes m new n g q b u r (λ x. x) (λ x. x) h splice) map map holds
       (λ s l t ne o. refl)
       (λ off. absurd (let l = child_linked m new n g q b u r (λ x. x) (λ x. x) h splice in cc))
-      (λ x v e. (let a = holds.complete x v e in (
-        a.0,
-        still_linked m new n g q b u r (λ x. x) (λ x. x) h splice a.0 a.1 (λ i. (let f = k.old in let j = a.3 in cc (ap g.old i))),
-        a.2,
-        a.3,
-        a.4,
-        a.5,
-      )))
+      (λ x v e. (let a = holds.complete x v e in
+      let on = still_linked m new n g q b u r (λ x. x) (λ x. x) h splice a.slot a.linked in
+      pair_by a (on (λ i. (let f = k.old in let j = a.young in cc (ap g.old i)))) a.young refl refl))

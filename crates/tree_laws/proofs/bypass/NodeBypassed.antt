@@ -1,5 +1,5 @@
 -- The bypass of a marked node keeps the invariant.
-use Rattle.std.proofs.Common.{◌≡◌, ◌≢◌, ℕ, ◌+◌, cond, true, List, length, set, Some, None, refl, sym, ap, subst, ◌∙◌, ⊎_elim, eq-eqb, ne_eqb}
+use Rattle.std.proofs.Common.{◌≡◌, ℕ, ◌+◌, cond, true, List, length, set, Some, None, refl, sym, ap, subst, ◌∙◌, ⊎_elim, eq-eqb, ne_eqb}
 use Rattle.std.proofs.lemmas.Bool.{cases_eq}
 use Rattle.prcu_marks.specs.declared.mark.Mark.{Mark}
 use Rattle.prcu_marks.specs.declared.mark.Side.{Side}
@@ -24,6 +24,7 @@ use Rattle.tree_laws.proofs.stores.StoreFront.{front_made}
 use Rattle.tree_laws.proofs.updates.Deletion.{Deletion, settled, parent_alive, link_is, node_marked, node_field, left_is, right_is, some_node, node_lock, node_young, node_key, single, has_key}
 use Rattle.tree_laws.proofs.bypass.Cutting.{Cut, cut_step, cut_kept}
 use Rattle.tree_laws.proofs.bypass.CutCounts.{counts_without_node}
+use Rattle.tree_laws.proofs.chart.Splices.{OnlyChild}
 use Rattle.tree_laws.proofs.chart.Bypass.{Bypasses, lower_past, upper_past, bypassed, splice, bypass_map}
 use Rattle.tree_laws.proofs.updates.DeleteMarks.{delete_update, both_marks, delete_longer, delete_said, delete_legal, delete_count, delete_map}
 use Rattle.core_state.specs.declared.view.Move.{Move}
@@ -62,22 +63,22 @@ module _ (who : Stepper) (commit : Commit) (r : Reading) (p : ℕ) (b : Side) (d
     marked = needs.marked;
   }
 
-  only : (e f : Side) × (e ≢ f) × (m (Link d e) ≡ c) × (m (Link d f) ≡ 0)
+  only : OnlyChild m d c
   only = ⊎_elim
-      (λ (z : left ≡ 0). (
-        Right,
-        Left,
-        (λ e. cc),
-        right_is deletion ∙ sym (needs.child_is ∙ ap (λ y. cond y right left) (eq-eqb left 0 z)),
-        left_is deletion ∙ z,
-      ))
-      (λ ne. (
-        Left,
-        Right,
-        (λ e. cc),
-        left_is deletion ∙ sym (needs.child_is ∙ ap (λ y. cond y right left) (ne_eqb left 0 ne)),
-        right_is deletion ∙ ⊎_elim (λ (z : left ≡ 0). absurd (ne z)) (λ (z : right ≡ 0). z) needs.records.few,
-      ))
+      (λ (z : left ≡ 0). record {
+        side = Right;
+        beside = Left;
+        apart = λ e. cc;
+        leads = right_is deletion ∙ sym (needs.child_is ∙ ap (λ y. cond y right left) (eq-eqb left 0 z));
+        empty = left_is deletion ∙ z;
+      })
+      (λ ne. record {
+        side = Left;
+        beside = Right;
+        apart = λ e. cc;
+        leads = left_is deletion ∙ sym (needs.child_is ∙ ap (λ y. cond y right left) (ne_eqb left 0 ne));
+        empty = right_is deletion ∙ ⊎_elim (λ (z : left ≡ 0). absurd (ne z)) (λ (z : right ≡ 0). z) needs.records.few;
+      })
       (cases_eq left 0)
 
   moving_none : w.moving ≡ None

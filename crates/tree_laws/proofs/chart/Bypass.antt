@@ -1,24 +1,25 @@
 -- A marked node is bypassed: the chart without it is a shape, and holds the map without its key.
-use Rattle.std.proofs.Common.{◌≡◌, ◌≢◌, ℕ, ◌+◌, true, false, sym, ap, ◌∙◌, arith, ⊎_elim}
+use Rattle.std.proofs.Common.{◌≡◌, ◌≢◌, ℕ, ◌+◌, true, false, sym, ap, ◌∙◌, arith, ⊎_elim, refl}
 use Rattle.std.specs.Prelude.{Option, Some, None}
 use Rattle.std.proofs.lemmas.Bool.{cases_eq}
 use Rattle.prcu_marks.specs.declared.mark.Side.{Side}
 use Rattle.prcu_marks.specs.declared.mark.Side.TheVariants.{Left, Right}
-use Rattle.core_state.specs.declared.words.Field.TheVariants.{Key, Value, Link}
+use Rattle.core_state.specs.declared.words.Field.TheVariants.{Key}
 use Rattle.core_state.specs.memory.Memory.{Memory}
 use Rattle.core_state.specs.tree.Nodes.{after}
-use Rattle.core_state.specs.tree.Chart.{Chart, low_of, high_of, IsBelow, IsKeyed, IsShaped, HoldsMap}
+use Rattle.core_state.specs.tree.Chart.{Chart, low_of, high_of, IsBelow, IsKeyed, IsShaped, HoldsMap, HoldsPair}
+use Rattle.core_frames.proofs.frames.Contents.{pair_by}
 use Rattle.core_frames.proofs.chart.Ranges.{bool_cases, after-node}
 use Rattle.core_frames.proofs.chart.Unique.{key_bound, one_key}
 use Rattle.tree_laws.proofs.chart.ChangedFunctions.{put, moved, put-same, put-other, moved_tells, moved-other}
 use Rattle.tree_laws.proofs.chart.ChartChanges.{map_after}
-use Rattle.tree_laws.proofs.chart.Splices.{Replaces, Splices, spliced, was_linked, still_linked, child_linked, changes}
+use Rattle.tree_laws.proofs.chart.Splices.{Replaces, Splices, spliced, was_linked, still_linked, child_linked, changes, OnlyChild}
 
 -- a bypass: side b of slot p, which led to d, now leads to d's only child, or nowhere
 pub record Bypasses (m new : Memory) (g : Chart) (p : ℕ) (b : Side) (d c : ℕ) : Type 0 where
   pub replaces : Replaces m new g p b d c
   pub young : g.old d ≡ false
-  pub only : (e f : Side) × (e ≢ f) × (m (Link d e) ≡ c) × (m (Link d f) ≡ 0)
+  pub only : OnlyChild m d c
   pub single : (s : ℕ) → g.linked s ≡ true → g.old s ≡ true → m (Key s) ≢ m (Key d)
 
 -- where ranges ended at the key that goes, they end with its slot's range
@@ -43,11 +44,11 @@ module _ (m : Memory) (n : ℕ) (g : Chart) (d : ℕ) (h : IsShaped m n g) (link
 
   -- the map without its key
   pub pair_else : (map : ℕ → Option ℕ) → HoldsMap m g map → (x v : ℕ) → put map (m (Key d)) None x ≡ Some v
-      → (s : ℕ) × (g.linked s ≡ true) × (s ≢ d) × (s ≢ 0) × (g.old s ≡ false) × (m (Key s) ≡ x) × (m (Value s) ≡ v)
+      → (pair : HoldsPair m g x v) × (pair.slot ≢ d)
   pair_else map q x v e = ⊎_elim
       (λ (w : x ≡ m (Key d)). absurd (let f = put-same map (m (Key d)) None x w in cc))
       (λ w. (let a = q.complete x v (sym (put-other map (m (Key d)) None x w) ∙ e) in
-      (a.0, a.1, (λ i. w (sym a.4 ∙ ap (λ y. m (Key y)) i)), a.2, a.3, a.4, a.5)))
+      (a, (λ i. w (sym a.key ∙ ap (λ y. m (Key y)) i)))))
       (cases_eq x (m (Key d)))
 
 module _ (m new : Memory) (n : ℕ) (g : Chart) (p : ℕ) (b : Side) (d c : ℕ) (h : IsShaped m n g) (k : Bypasses m new g p b d c) where
@@ -79,8 +80,8 @@ module _ (m new : Memory) (n : ℕ) (g : Chart) (p : ℕ) (b : Side) (d c : ℕ)
         (λ e. omega (arith, e, key_bound m n g d h at.linked k.replaces.node k.young));
     own_low = child_low Left;
     own_high = child_high Right;
-    child_low = λ _. child_low k.only.0;
-    child_high = λ _. child_high k.only.0;
+    child_low = λ _. child_low k.only.side;
+    child_high = λ _. child_high k.only.side;
   }
 
   pub bypass_map : (map : ℕ → Option ℕ) → HoldsMap m g map → HoldsMap new (bypassed m g p b d c) (put map (m (Key d)) None)
@@ -91,5 +92,6 @@ module _ (m new : Memory) (n : ℕ) (g : Chart) (p : ℕ) (b : Side) (d c : ℕ)
       (key_differs m n g d h at.linked k.replaces.node k.young k.single s l
       (was_linked m new n g p b d c (lower_past m g d) (upper_past m g d) h splice s t).1 ne))
       (λ off. absurd (let l = child_linked m new n g p b d c (lower_past m g d) (upper_past m g d) h splice in cc))
-      (λ x v e. (let a = pair_else m n g d h at.linked k.replaces.node k.young k.single map q x v e in
-      (a.0, still_linked m new n g p b d c (lower_past m g d) (upper_past m g d) h splice a.0 a.1 a.2, a.3, a.4, a.5, a.6)))
+      (λ x v e. (let w = pair_else m n g d h at.linked k.replaces.node k.young k.single map q x v e in
+      let a = w.0 in
+      pair_by a (still_linked m new n g p b d c (lower_past m g d) (upper_past m g d) h splice a.slot a.linked w.1) a.young refl refl))

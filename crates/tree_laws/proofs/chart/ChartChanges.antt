@@ -8,7 +8,8 @@ use Rattle.prcu_marks.specs.declared.mark.Side.TheVariants.{Left, Right}
 use Rattle.core_state.specs.declared.words.Field.TheVariants.{Key, Value, Link}
 use Rattle.core_state.specs.memory.Memory.{Memory}
 use Rattle.core_state.specs.tree.Nodes.{after}
-use Rattle.core_state.specs.tree.Chart.{Chart, low_of, high_of, IsBelow, Hangs, IsKeyed, IsDisplaced, IsShaped, HoldsMap, IsInRange}
+use Rattle.core_state.specs.tree.Chart.{Chart, low_of, high_of, IsBelow, Hangs, IsKeyed, IsDisplaced, IsShaped, HoldsMap, IsInRange, HoldsPair}
+use Rattle.core_frames.proofs.frames.Contents.{pair_by}
 use Rattle.core_frames.proofs.chart.Ranges.{bool_cases, after-node}
 use Rattle.core_frames.proofs.chart.Unique.{one_link}
 use Rattle.tree_laws.proofs.stores.Stores.{StoresLink, cases_side, same_after, hangs_at}
@@ -190,11 +191,11 @@ module _ (m new : Memory) (n : ℕ) (g to : Chart) (p : ℕ) (b : Side) (d c : �
   pub map_after : (map later : ℕ → Option ℕ) → HoldsMap m g map
       → ((s : ℕ) → g.linked s ≡ true → to.linked s ≡ true → s ≢ 0 → g.old s ≡ false → later (m (Key s)) ≡ map (m (Key s)))
       → (g.linked c ≡ false → later (m (Key c)) ≡ Some (m (Value c)))
-      → ((x v : ℕ) → later x ≡ Some v → (s : ℕ) × (to.linked s ≡ true) × (s ≢ 0) × (to.old s ≡ false) × (m (Key s) ≡ x) × (m (Value s) ≡ v))
+      → ((x v : ℕ) → later x ≡ Some v → HoldsPair m to x v)
       → HoldsMap new to later
   map_after map later q same fresh complete = record {
     sound = λ s t ne o. ap later (k.stores.key s) ∙ pair s t ne o (bool_cases (g.linked s)) ∙ ap Some (sym (k.stores.value s));
-    complete = λ x v e. let w = complete x v e in (w.0, w.1, w.2, w.3, k.stores.key w.0 ∙ w.4, k.stores.value w.0 ∙ w.5);
+    complete = λ x v e. (let w = complete x v e in pair_by w w.linked w.young (k.stores.key w.slot) (k.stores.value w.slot));
   }
     where
       pair : (s : ℕ) → to.linked s ≡ true → s ≢ 0 → to.old s ≡ false → (g.linked s ≡ true) ⊎ (g.linked s ≡ false)

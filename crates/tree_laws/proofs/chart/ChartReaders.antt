@@ -41,10 +41,18 @@ module _ (m new : Memory) (n : ℕ) (g to : Chart) (p : ℕ) (b : Side) (d c : �
   off_stays : (s : ℕ) (a : Side) → g.linked s ≡ false → new (Link s a) ≡ m (Link s a)
   off_stays s a out = k.stores.link s a (λ e. absurd (let l = k.parent in cc (ap g.linked e)))
 
+  -- the spine goes on by the left of d
+  pub record GoesOn (x u : ℕ) : Type 0 where
+    pub slot : ℕ
+    pub left : m (Link d Left) ≡ slot
+    pub some_slot : slot ≢ 0
+    pub less : x < m (Key d)
+    pub rest : Spine new to x u slot
+
   -- a spine, from another slot and from d
   pub record Spines (x u s : ℕ) : Type 0 where
     pub other : s ≢ d → Spine new to x u s
-    pub node : s ≡ d → (y : ℕ) × (m (Link d Left) ≡ y) × (y ≢ 0) × (x < m (Key d)) × Spine new to x u y
+    pub node : s ≡ d → GoesOn x u
 
   pub spines : (x u : ℕ) → u ≢ d → (s : ℕ) → Spine m g x u s → Spines x u s
   spines x u nu s (bottom e l) = record { other = λ ne. bottom e (still_linked u l nu); node = λ z. absurd (nu (sym e ∙ z)) }
@@ -53,24 +61,24 @@ module _ (m new : Memory) (n : ℕ) (g to : Chart) (p : ℕ) (b : Side) (d c : �
       record {
         other = λ ne. ⊎_elim (λ (w : y ≡ d). past s l lt ne e w (λ z. nz (w ∙ z)) (ih.node w))
             (λ w. more (still_linked s l ne) (omega (arith, lt, k.stores.key s)) (link_stays s y Left e w) nz (ih.other w)) (cases_eq y d);
-        node = λ z. (
-          y,
-          ap (λ i. m (Link i Left)) (sym z) ∙ e,
-          nz,
-          omega (arith, lt, ap (λ i. m (Key i)) z),
-          ih.other (λ w. omega (arith, (h.below s y Left l e nz).rank, ap g.rank z, ap g.rank w)),
-        );
+        node = λ z. record {
+          slot = y;
+          left = ap (λ i. m (Link i Left)) (sym z) ∙ e;
+          some_slot = nz;
+          less = omega (arith, lt, ap (λ i. m (Key i)) z);
+          rest = ih.other (λ w. omega (arith, (h.below s y Left l e nz).rank, ap g.rank z, ap g.rank w));
+        };
       }
     where
-      past : (s : ℕ) → g.linked s ≡ true → x < m (Key s) → s ≢ d → m (Link s Left) ≡ y → y ≡ d → d ≢ 0
-          → (v : ℕ) × (m (Link d Left) ≡ v) × (v ≢ 0) × (x < m (Key d)) × Spine new to x u v → Spine new to x u s
+      past : (s : ℕ) → g.linked s ≡ true → x < m (Key s) → s ≢ d → m (Link s Left) ≡ y → y ≡ d → d ≢ 0 → GoesOn x u
+          → Spine new to x u s
       past s l lt ne e w nz r = ⊎_elim
-          (λ (is_c : r.0 ≡ c). more (still_linked s l ne) (omega (arith, lt, k.stores.key s))
-          (link_past s Left l nz (e ∙ w) ∙ sym is_c) r.2 r.4)
-          (λ (t : (c ≢ 0) × (to.linked c ≡ true) × (m (Key d) ≤ m (Key c)) × (new (Link c Left) ≡ r.0)).
+          (λ (is_c : r.slot ≡ c). more (still_linked s l ne) (omega (arith, lt, k.stores.key s))
+          (link_past s Left l nz (e ∙ w) ∙ sym is_c) r.some_slot r.rest)
+          (λ (t : (c ≢ 0) × (to.linked c ≡ true) × (m (Key d) ≤ m (Key c)) × (new (Link c Left) ≡ r.slot)).
           more (still_linked s l ne) (omega (arith, lt, k.stores.key s)) (link_past s Left l nz (e ∙ w)) t.0
-          (more t.1 (omega (arith, r.3, t.2, k.stores.key c)) t.3 r.2 r.4))
-          (k.over r.0 r.1 r.2)
+          (more t.1 (omega (arith, r.less, t.2, k.stores.key c)) t.3 r.some_slot r.rest))
+          (k.over r.slot r.left r.some_slot)
 
   -- what a step has to say of the readers with a key
   pub record ReadsOn (x : ℕ) (live later pend due : ℕ → Type 0) (told more_told : Option ℕ → Type 0) : Type 0 where
@@ -136,11 +144,12 @@ module _ (m new : Memory) (n : ℕ) (g to : Chart) (p : ℕ) (b : Side) (d c : �
           place w (inr ne) = at_old w.1 w.2 (omega (arith, le, k.stores.key v)) told_still ((spines x v w.0 s sp).other ne)
           place w (inl is) =
               let y = (spines x v w.0 s sp).node is in
-              let nz : d ≢ 0 = λ z. y.2 (sym y.1 ∙ ap (λ i. m (Link i Left)) z ∙ h.root_left) in
-              let below = h.below d y.0 Left (at nz).linked y.1 y.2 in
+              let nz : d ≢ 0 = λ z. y.some_slot (sym y.left ∙ ap (λ i. m (Link i Left)) z ∙ h.root_left) in
+              let below = h.below d y.slot Left (at nz).linked y.left y.some_slot in
               subst (Place new to x later due more_told) (sym is)
-              (on (r.gone nz) (node_next nz ∙ next-left m x d nz y.3 ∙ y.1) y.2 (rank_grows d y.0 (at nz).linked below.linked below.rank)
-              (at_old w.1 w.2 (omega (arith, le, k.stores.key v)) told_still y.4))
+              (on (r.gone nz) (node_next nz ∙ next-left m x d nz y.less ∙ y.left) y.some_slot
+              (rank_grows d y.slot (at nz).linked below.linked below.rank)
+              (at_old w.1 w.2 (omega (arith, le, k.stores.key v)) told_still y.rest))
 
   -- what a search says that ends in its range
   pub told_here : (map : ℕ → Option ℕ) (x s : ℕ) (told : Option ℕ → Type 0) → HoldsMap m g map → x < 2 ^ 64 → told (map x) → IsInRange g x s

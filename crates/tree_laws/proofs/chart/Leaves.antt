@@ -6,9 +6,10 @@ use Rattle.prcu_marks.specs.declared.mark.Side.{Side}
 use Rattle.prcu_marks.specs.declared.mark.Side.TheVariants.{Left, Right}
 use Rattle.core_state.specs.declared.words.Field.TheVariants.{Key, Value, Link}
 use Rattle.core_state.specs.memory.Memory.{Memory}
-use Rattle.core_state.specs.tree.Chart.{Chart, low_of, high_of, IsBelow, IsShaped, HoldsMap}
+use Rattle.core_state.specs.tree.Chart.{Chart, low_of, high_of, IsBelow, IsShaped, HoldsMap, HoldsPair}
 use Rattle.tree_laws.proofs.stores.Stores.{StoresLink, same_after}
 use Rattle.tree_laws.proofs.chart.ChangedFunctions.{put, put-same, put-other}
+use Rattle.core_frames.proofs.frames.Contents.{pair_by}
 use Rattle.tree_laws.proofs.chart.ChartChanges.{ChangesChart, map_after}
 
 -- a leaf link: the fresh slot c goes below side b of slot p, which was empty and is where c's key belongs
@@ -149,20 +150,20 @@ module _ (m new : Memory) (n : ℕ) (g : Chart) (p : ℕ) (b : Side) (c : ℕ) (
   leaf_map map later nz q none here else =
       map_after m new n g to p b 0 c (λ x. x) (λ x. x) h changes map later q
       (λ s l _ ne o. else (m (Key s)) (key_unused map q none s l ne o)) (λ _. here) (λ x v e. ⊎_elim
-      (λ (w : x ≡ m (Key c)). (
-        c,
-        put-same g.linked c true c refl,
-        nz,
-        put-same g.old c false c refl,
-        sym w,
-        some_of (sym (ap later w ∙ here) ∙ e),
-      ))
+      (λ (w : x ≡ m (Key c)). record {
+        slot = c;
+        linked = put-same g.linked c true c refl;
+        some_slot = nz;
+        young = put-same g.old c false c refl;
+        key = sym w;
+        value = some_of (sym (ap later w ∙ here) ∙ e);
+      })
       (λ not. other_pair x v (sym (else x not) ∙ e))
       (cases_eq x (m (Key c))))
     where
-      other_pair : (x v : ℕ) → map x ≡ Some v → (s : ℕ) × (to.linked s ≡ true) × (s ≢ 0) × (to.old s ≡ false) × (m (Key s) ≡ x)
-          × (m (Value s) ≡ v)
-      other_pair x v e = let w = q.complete x v e in let i = same_at w.0 w.1 in (w.0, i.linked ∙ w.1, w.2, i.old ∙ w.3, w.4, w.5)
+      other_pair : (x v : ℕ) → map x ≡ Some v → HoldsPair m to x v
+      other_pair x v e = let w = q.complete x v e in let i = same_at w.slot w.linked in
+          pair_by w (i.linked ∙ w.linked) (i.old ∙ w.young) refl refl
 
       some_of : {a b : ℕ} → Some a ≡ Some b → a ≡ b
       some_of e = cc

@@ -19,11 +19,19 @@ pub record Replaces (m new : Memory) (g : Chart) (p : ℕ) (b : Side) (d c : ℕ
   pub link : m (Link p b) ≡ d
   pub node : d ≢ 0
 
+-- below a slot there is one child, on one side, or none
+pub record OnlyChild (m : Memory) (d c : ℕ) : Type 0 where
+  pub side : Side
+  pub beside : Side
+  pub apart : side ≢ beside
+  pub leads : m (Link d side) ≡ c
+  pub empty : m (Link d beside) ≡ 0
+
 -- Where d's only link leads to c, or nowhere: the bounds of ranges are renamed by `lower` and
 -- `upper`, which leave the keys of all other slots and make d's range c's.
 pub record Splices (m new : Memory) (n : ℕ) (g : Chart) (p : ℕ) (b : Side) (d c : ℕ) (lower upper : ℕ → ℕ) : Type 0 where
   pub replaces : Replaces m new g p b d c
-  pub only : (e f : Side) × (e ≢ f) × (m (Link d e) ≡ c) × (m (Link d f) ≡ 0)
+  pub only : OnlyChild m d c
   pub after_stays : (s : ℕ) → g.linked s ≡ true → s ≢ d → lower (after m s) ≡ after m s
   pub key_stays : (s : ℕ) → g.linked s ≡ true → s ≢ d → s ≢ 0 → upper (m (Key s)) ≡ m (Key s)
   pub falls : (x : ℕ) → lower x ≤ x
@@ -31,8 +39,8 @@ pub record Splices (m new : Memory) (n : ℕ) (g : Chart) (p : ℕ) (b : Side) (
   pub last : upper (2 ^ 64) ≡ 2 ^ 64
   pub own_low : lower (g.low d) ≡ g.low d
   pub own_high : upper (g.high d) ≡ g.high d
-  pub child_low : c ≢ 0 → lower (low_of m g d only.0) ≡ g.low d
-  pub child_high : c ≢ 0 → upper (high_of m g d only.0) ≡ g.high d
+  pub child_low : c ≢ 0 → lower (low_of m g d only.side) ≡ g.low d
+  pub child_high : c ≢ 0 → upper (high_of m g d only.side) ≡ g.high d
 
 -- the chart without d
 abbrev pub spliced : Chart → ℕ → Side → ℕ → ℕ → (ℕ → ℕ) → (ℕ → ℕ) → Chart
@@ -72,8 +80,8 @@ module _ (m new : Memory) (n : ℕ) (g : Chart) (p : ℕ) (b : Side) (d c : ℕ)
   pub still_linked : (s : ℕ) → g.linked s ≡ true → s ≢ d → to.linked s ≡ true
   still_linked s l not = put-other g.linked d false s not ∙ l
 
-  pub child_below : c ≢ 0 → IsBelow m g d k.only.0 c
-  child_below ne = h.below d c k.only.0 at.linked k.only.3 ne
+  pub child_below : c ≢ 0 → IsBelow m g d k.only.side c
+  child_below ne = h.below d c k.only.side at.linked k.only.leads ne
 
   -- where c is none it is the root
   pub child_linked : g.linked c ≡ true
@@ -81,8 +89,8 @@ module _ (m new : Memory) (n : ℕ) (g : Chart) (p : ℕ) (b : Side) (d c : ℕ)
 
   -- below d is its child alone
   only_child : (x : ℕ) (a : Side) → m (Link d a) ≡ x → x ≢ 0 → x ≡ c
-  only_child x a e nz = ⊎_elim (λ w. sym e ∙ ap (λ (y : Side). m (Link d y)) w ∙ k.only.3)
-      (λ w. absurd (nz (sym e ∙ ap (λ (y : Side). m (Link d y)) w ∙ k.only.4))) (side_cases k.only.0 k.only.1 a k.only.2)
+  only_child x a e nz = ⊎_elim (λ w. sym e ∙ ap (λ (y : Side). m (Link d y)) w ∙ k.only.leads)
+      (λ w. absurd (nz (sym e ∙ ap (λ (y : Side). m (Link d y)) w ∙ k.only.empty))) (side_cases k.only.side k.only.beside a k.only.apart)
 
   side_low : (a : Side) → low_of new to p a ≡ lower (low_of m g p a)
   side_low Left = refl

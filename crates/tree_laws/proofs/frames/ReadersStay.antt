@@ -117,22 +117,22 @@ module _ (P : ℕ → Type 0) (z : ChartStep P) where
       }
 
   met_before : (at : ℕ) → IsMetBefore us at → IsMetBefore vs at
-  met_before at i = let y = was (λ (u : View). u.section) vs id v w there z.view.section i.0 i.1 i.3 in
-      (i.0, y.0, i.2, y.1, sym y.2 ∙ i.4, i.5)
+  met_before at i = let y = was (λ (u : View). u.section) vs id v w there z.view.section i.id i.view i.there in
+      record { id = i.id; view = y.0; section = i.section; there = y.1; inside = sym y.2 ∙ i.inside; before = i.before }
 
   aged_stays : AreAged m' g us hs
   aged_stays s at c b gone met link ne =
       let was_gone = z.gone s at gone in
-      let before = met_before at met in
+      let past = met_before at met in
       ⊎_elim (λ l. inl l) (λ (x : (later : ℕ) × (gone_at c h ≡ Some later) × (at < later)). ⊎_elim (λ (l : g.linked c ≡ true). inl l)
       (λ (off : g.linked c ≡ false). inr (
         x.0,
-        (z.met before.0 before.1 before.2 before.3 before.4 c
-            (record { out = off; at = x.0; gone = x.1; later = (let a = x.2 in let d = before.5 in omega arith) })).1 ∙ x.1,
+        (z.met past.id past.view past.section past.there past.inside c
+            (record { out = off; at = x.0; gone = x.1; later = (let a = x.2 in let d = past.before in omega arith) })).1 ∙ x.1,
         x.2,
       ))
       (bool_cases (g.linked c)))
-      (z.who.inv.readers.ages s at c b was_gone.0 before (sym (was_gone.1 b) ∙ link) ne)
+      (z.who.inv.readers.ages s at c b was_gone.0 past (sym (was_gone.1 b) ∙ link) ne)
 
   readings_same : readings_of w ≡ readings_of v
   readings_same = λ j. open_reading (z.view.section j) ++ z.view.records j

@@ -107,15 +107,20 @@ module _ (z : LinkStep) where
     others_stay j u s ne e locks l = still s l (λ y. ne (one_holder k m vs h i j id u v d e there (subst (HasLock u) y locks) r.has_node))
 
     unraised_still : (s : ℕ) → IsUnraised v s → IsUnraised w s
-    unraised_still s q = (q.0, subst (λ rs. IsIn rs q.0) (sym r.retires.retired) (in_first v.hands.retired (gone ∷ []) q.0 q.1), q.2, q.3)
+    unraised_still s q = record {
+      retired = q.retired;
+      has = subst (λ rs. IsIn rs q.retired) (sym r.retires.retired) (in_first v.hands.retired (gone ∷ []) q.retired q.has);
+      slot = q.slot;
+      unraised = q.unraised;
+    }
 
     unraised_new : IsUnraised w d
-    unraised_new = (
-      gone,
-      subst (λ rs. IsIn rs gone) (sym r.retires.retired) (in_second v.hands.retired (gone ∷ []) gone (0, refl)),
-      refl,
-      refl,
-    )
+    unraised_new = record {
+      retired = gone;
+      has = subst (λ rs. IsIn rs gone) (sym r.retires.retired) (in_second v.hands.retired (gone ∷ []) gone (0, refl));
+      slot = refl;
+      unraised = refl;
+    }
 
     change : (t : ℕ) (l l' : HeldLock) → lock_of v.locks t ≡ Some l → IsRelocked p b r.empties d known t l l'
         → LockChange k m vs h i id v w there (Link p b) c p (link_stores m p b c) true without t l l'

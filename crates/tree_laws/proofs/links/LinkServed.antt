@@ -111,7 +111,7 @@ module _ (z : LinkStep) where
         walking = λ node parent a value walk found on.
             (let q = was.walking node parent a value walk found on in
             let here : IsIn section.reading.stood node = subst (IsIn section.reading.stood) (ap state_slot found) reading.stands in
-            let names = reading.walk walk on in
+            let walked = reading.walk walk on in
             record {
               walks = λ t. (let l = stood_linked node here t in
                   walks_after m (words_after z) n g to p b d c lower upper i.tree.shape changes node live later (λ s y. y.out)
@@ -119,7 +119,7 @@ module _ (z : LinkStep) where
               parent = λ t t'. (let l = stood_linked node here t in
                   ⊎_elim (λ o. inl o) (λ way. inr (path_after m
                   (words_after z) n g to p b d c lower upper i.tree.shape changes node walk.parent l way
-                  (not_gone z walk.parent (inl t')))) (q.parent l (stood_linked walk.parent names.3 t')));
+                  (not_gone z walk.parent (inl t')))) (q.parent l (stood_linked walk.parent walked.parent_stood t')));
             });
         stood = λ s has. (let q = was.stood s has in record {
           here = ⊎_elim
@@ -189,8 +189,16 @@ module _ (z : LinkStep) where
     met_back : (at : ℕ) → IsMetBefore (views_after z) at → IsMetBefore vs at
     met_back at y =
         each_set (λ j u. (section : Section) → u.section ≡ Some section → section.entered < at → IsMetBefore vs at) vs id w
-        (λ section is lt. (id, v, section, there, sym z.same.section ∙ is, lt))
-        (λ j u ne e section is lt. (j, u, section, e, is, lt)) y.0 y.1 y.3 y.2 y.4 y.5
+        (λ section is lt. record {
+          id = id;
+          view = v;
+          section = section;
+          there = there;
+          inside = sym z.same.section ∙ is;
+          before = lt;
+        })
+        (λ j u ne e section is lt. record { id = j; view = u; section = section; there = e; inside = is; before = lt })
+        y.id y.view y.there y.section y.inside y.before
 
     aged_after : AreAged (words_after z) to (views_after z) hs
     aged_after s at y a gone met link nz = ⊎_elim (λ (e : s ≡ d). at_gone e (cases_eq d 0)) (λ ne. other (λ e. absurd (ne e)))

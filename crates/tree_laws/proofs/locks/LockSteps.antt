@@ -20,7 +20,7 @@ use Rattle.core_state.specs.views.Known.{lock_of, HasLock, is_emptied, IsOwnFiel
 use Rattle.core_state.specs.views.Views.{readings_of}
 use Rattle.core_state.specs.tree.Chart.{Chart}
 use Rattle.core_state.specs.tree.Readers.{IsEmptied}
-use Rattle.core_state.specs.parts.LockParts.{IsHolderOf, HasFewLocks, IsUnraised, IsLockKept, HasGeneration, IsLockKnown, IsReadingKept, LockParts}
+use Rattle.core_state.specs.parts.LockParts.{IsHolderOf, HasFewLocks, IsUnraised, IsLockKept, HasGeneration, IsLockKnown, IsReadingKept, LockParts, IsUnraisedOf}
 use Rattle.list_laws.proofs.Lists.{at_below, each_set}
 use Rattle.core_state.specs.views.Known.{change_lock}
 use Rattle.tree_laws.proofs.locks.Relocking.{change_here, change_other, slots_change, length_change}
@@ -215,7 +215,7 @@ module _ (m m' : Memory) (n : ℕ) (g to : Chart) (vs : List View) (id : ℕ) (v
       emptied = λ b e. (let r = t.emptied b e in (
         c.words s (Link s b) ne refl ∙ r.0,
         ⊎_elim (λ on. inl (c.still s on)) (λ (x : IsUnraised u s). inr
-            (x.0, subst (λ rs. IsIn rs x.0) (sym retired) x.1, x.2, x.3)) r.1,
+            (subst (λ rs. IsUnraisedOf rs s) (sym retired) x)) r.1,
       ));
     }
 

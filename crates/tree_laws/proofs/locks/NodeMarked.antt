@@ -113,9 +113,10 @@ module _ (k : Shape) (m : Memory) (vs : List View) (h : List Mark) (id : ℕ) (v
 
   ready : IsReady
   ready = ⊎_elim
-      (λ (x : IsNodeOfDelete v slot). ⊎_elim (λ (y : FewChildren v x.0 x.1 x.4 slot x.2 x.3). node_ready x.0 x.1 x.2 x.3 x.4 x.5 y.records)
-      (λ (y : (old_parent old : ℕ) × BothChildren v x.0 x.1 x.4 slot x.2 x.3 old_parent old). (let z = y.2 in
-      node_ready x.0 x.1 x.2 x.3 x.4 x.5 z.records)) x.6)
+      (λ (x : IsNodeOfDelete v slot). (let ready = node_ready x.reading x.parent x.left x.right x.side x.unmarked in
+      ⊎_elim (λ (y : FewChildren v x.reading x.parent x.side slot x.left x.right). ready y.records)
+      (λ (y : (old_parent old : ℕ) × BothChildren v x.reading x.parent x.side slot x.left x.right old_parent old). (let z = y.2 in
+      ready z.records)) x.children))
       (λ (x : IsOldOfMove v slot). old_ready x.0 x.1 x.2) needs.why
 
   abbrev marked_memory : Memory

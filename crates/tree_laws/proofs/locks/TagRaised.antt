@@ -92,10 +92,10 @@ module _ (k : Shape) (m : Memory) (vs : List View) (h : List Mark) (id : ℕ) (v
       (λ (l : g.linked slot ≡ true). absurd (let none = linked_none m (slot_count k) g vs h i.slots j u e slot l in
       let c = slots_count u s in let d = ap (λ z. times z (slots_of u)) same in omega arith))
       (λ (r : IsUnraised v slot).
-      (let all = in_first v.hands.retired (joined_retired v.allowance.joined) r.0 r.1 in
-      let gone = (i.slots.retired id v there all.0 r.0 all.1).unlinked in
-      absurd (let q : None ≡ Some r.0.unlinked = sym (not_gone m (slot_count k) g vs h i.slots j u e s has)
-      ∙ ap (λ z. gone_at z h) (same ∙ sym r.2) ∙ gone in cc)))
+      (let all = in_first v.hands.retired (joined_retired v.allowance.joined) r.retired r.has in
+      let gone = (i.slots.retired id v there all.0 r.retired all.1).unlinked in
+      absurd (let q : None ≡ Some r.retired.unlinked = sym (not_gone m (slot_count k) g vs h i.slots j u e s has)
+      ∙ ap (λ z. gone_at z h) (same ∙ sym r.slot) ∙ gone in cc)))
       x
 
   hand_apart : (j : ℕ) (u : View) (x : Held) → get_elem? vs j ≡ some u → u.hands.hand ≡ Some x → x.slot ≢ slot

@@ -173,4 +173,5 @@ module _ (k : Shape) (m : Memory) (vs : List View) (h : List Mark) (id : ℕ) (v
   law_told = hands_stay k m vs h id v w i there works same refl refl slots counts
       (grace_same k m vs h id v w i there same (λ y has. (let x = own_back y has in let told = x.2 in
       (x.0, x.1, told.unlinked, told.waited))))
-      (λ s z. (let a = own_forth z.0 z.1 in let c = a.1 in (one z.0, a.0, c.slot_is ∙ z.2, c.raised ∙ z.3)))
+      (λ s z. (let a = own_forth z.retired z.has in let c = a.1 in
+      record { retired = one z.retired; has = a.0; slot = c.slot_is ∙ z.slot; unraised = c.raised ∙ z.unraised }))

@@ -68,5 +68,6 @@ module _ (k : Shape) (m : Memory) (vs : List View) (h : List Mark) (i : HoldsNow
         record { out = gone_off m (slot_count k) i.chart vs h i.slots c x.0 x.1; at = x.0; gone = x.1; later = lt },
         unraised_life id c x.0 v section there inside x.1 lt,
       )))
-      (i.readers.ages s back.at c b back.gone (id, v, section, there, inside, back.later) link nz))
+      (i.readers.ages s back.at c b back.gone
+      (record { id = id; view = v; section = section; there = there; inside = inside; before = back.later }) link nz))
       here

@@ -17,7 +17,7 @@ use Rattle.core_state.specs.memory.Memory.{Memory}
 use Rattle.core_state.specs.views.Known.{known_in, IsLoadable}
 use Rattle.core_state.specs.steps.Sections.{fresh_reading}
 use Rattle.core_state.specs.steps.Loads.{walking}
-use Rattle.core_state.specs.parts.ReaderParts.{state_slot, GoesTo, IsReached, StandsWell, IsReading}
+use Rattle.core_state.specs.parts.ReaderParts.{state_slot, GoesTo, IsReached, StandsWell, IsReading, HasWalked}
 use Rattle.tree_laws.proofs.notes.Knowing.{known_more, known_still, known_here}
 use Rattle.tree_laws.proofs.searches.Outcomes.{noted, Outcome, stays, ended, hopped, turned, found, valued, began, went_on}
 
@@ -108,8 +108,8 @@ module _ (m : Memory) (r : Reading) (field : Field) (slot : ℕ) (was : IsReadin
           key_still s r.key g.1,
         );
         walk = λ walk is. (let same : ◌≡◌ {A = Walk} (record { parent = q; slot = c }) walk = cc in
-            subst (λ (z : Walk). (z.slot ≢ 0) × (z.parent ≢ 0) × IsIn (c ∷ r.stood) z.slot × IsIn (c ∷ r.stood) z.parent) same
-            (nz, nq, (zero, refl), in_more r.stood c q here));
+            subst (HasWalked (c ∷ r.stood)) same
+            (record { some_slot = nz; some_parent = nq; slot_stood = (zero, refl); parent_stood = in_more r.stood c q here }));
         loads = loads_more (c ∷ r.stood) (in_more r.stood c);
         first = no_first to _ _ refl;
       }
@@ -193,4 +193,4 @@ module _ (m : Memory) (r : Reading) (field : Field) (slot : ℕ) (was : IsReadin
   reading_more to (began {s = s} {parent = parent} {c = c} {b = b} {value = value} e link nz) = let w = stands_found s parent b value e in
       walks_on s parent b value e s c nz (let g = w.1 in g.0.some_slot) w.0
   reading_more to (went_on {s = s} {parent = parent} {c = c} {b = b} {value = value} {walk = walk} e on link nz) = let w =
-      was.walk walk on in walks_on s parent b value e walk.slot c nz w.0 w.2
+      was.walk walk on in walks_on s parent b value e walk.slot c nz w.some_slot w.slot_stood

@@ -243,5 +243,5 @@ module _ (m : Memory) (n : ℕ) (g : Chart) (h : List Mark) (vs : List View) (se
   served_more to (went_on {s = s} {parent = parent} {c = c} {b = b} {value = value} {walk = walk} e on link nz) =
       let w = was.walk walk on in
       let at = served.walking s parent b value walk e on in
-      walks_served s parent b value e walk.slot c Left w.2 link nz (λ l. walk_hop s walk.slot c (at.walks l) link nz)
+      walks_served s parent b value e walk.slot c Left w.slot_stood link nz (λ l. walk_hop s walk.slot c (at.walks l) link nz)
       (λ l k. inr (walk_path m g s live walk.slot (λ t held. held.out) k (at.walks l)))

@@ -31,7 +31,7 @@ use Rattle.core_state.specs.memory.Memory.{Memory, stored, slot_count}
 use Rattle.core_state.specs.views.Known.{lock_of, HasLock, note_lock, note_moving}
 use Rattle.core_state.specs.steps.Links.{NeedsReplace, after_replace}
 use Rattle.core_state.specs.views.Views.{Works, readings_of, open_reading, unraised_of}
-use Rattle.core_state.specs.tree.Chart.{Chart, HoldsMap}
+use Rattle.core_state.specs.tree.Chart.{Chart, HoldsMap, HoldsPair}
 use Rattle.core_state.specs.tree.Readers.{IsHeldBack, IsPending, MayPass, IsEmptied}
 use Rattle.core_state.specs.parts.ReaderParts.{StandsWell, IsReading}
 use Rattle.core_state.specs.parts.TreeParts.{map_now}
@@ -59,7 +59,7 @@ use Rattle.core_frames.proofs.marks.PlainMarks.{plain_one, PlainMarks}
 use Rattle.core_frames.proofs.marks.UpdateMarks.{marks_done, gone_done, last_done, reuse_done}
 use Rattle.tree_laws.proofs.notes.Notes.{note_option-unraised}
 use Rattle.core_frames.proofs.frames.ReaderFrame.{emptied_by}
-use Rattle.core_frames.proofs.frames.Contents.{any, SameContents, shape_same, place_same, walks_by, right_left_by, belongs_same}
+use Rattle.core_frames.proofs.frames.Contents.{any, SameContents, shape_same, place_same, walks_by, right_left_by, belongs_same, pair_by}
 
 module _ (k : Shape) (m : Memory) (vs : List View) (h : List Mark) (i : HoldsNow k m vs h) (id : ℕ) (v : View)
     (there : get_elem? vs id ≡ some v) (works : Works v)
@@ -180,18 +180,16 @@ module _ (k : Shape) (m : Memory) (vs : List View) (h : List Mark) (i : HoldsNow
         (cases_eq y (m (Key d)));
   }
     where
-      here : (y z : ℕ) → y ≡ m (Key d) → map_now h' y ≡ Some z
-          → (s : ℕ) × (g.linked s ≡ true) × (s ≢ 0) × (g.old s ≡ false) × (m' (Key s) ≡ y) × (m' (Value s) ≡ z)
+      here : (y z : ℕ) → y ≡ m (Key d) → map_now h' y ≡ Some z → HoldsPair m' g y z
       here y z same e =
           let q : Some value ≡ Some z = sym map_here ∙ ap (map_now h') (sym same) ∙ e in
           let is : value ≡ z = cc in
-          (d, d_linked, node, young, sym same, new_value ∙ is)
+          record { slot = d; linked = d_linked; some_slot = node; young = young; key = sym same; value = new_value ∙ is }
 
-      apart : (y z : ℕ) → y ≢ m (Key d) → map_now h y ≡ Some z
-          → (s : ℕ) × (g.linked s ≡ true) × (s ≢ 0) × (g.old s ≡ false) × (m' (Key s) ≡ y) × (m' (Value s) ≡ z)
+      apart : (y z : ℕ) → y ≢ m (Key d) → map_now h y ≡ Some z → HoldsPair m' g y z
       apart y z other e =
           let q = i.tree.map.complete y z e in
-          (q.0, q.1, q.2, q.3, q.4, other_value q.0 (λ same. other (sym q.4 ∙ ap (λ t. m (Key t)) same)) ∙ q.5)
+          pair_by q q.linked q.young refl (other_value q.slot (λ same. other (sym q.key ∙ ap (λ t. m (Key t)) same)))
 
   -- locks
   change : (t : ℕ) (l l' : HeldLock) → lock_of v.locks t ≡ Some l → IsNoted d known t l l'

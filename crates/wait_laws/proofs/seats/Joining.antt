@@ -8,6 +8,7 @@ use lib.ListN.{get_elem?}
 use Rattle.atomic_table.proofs.Lists.{at_set, set_here, set_else}
 use Rattle.std.proofs.Math.Seq.{take-append_seam}
 use Rattle.prcu_marks.specs.Marks.{own_of}
+use Rattle.core_state.specs.parts.MarkParts.{HasSeenAll}
 use Rattle.core_state.specs.parts.SeatParts.{HasMet}
 use Rattle.prcu_marks.specs.declared.mark.Mark.{Mark}
 use Rattle.prcu_marks.proofs.MarkLists.{own_of-between}
@@ -322,16 +323,17 @@ module _ (k : Shape) (m : Memory) (vs : List View) (h : List Mark) (i : HoldsNow
   longer_theirs : IsPrefix other.seen both.seen
   longer_theirs = longer_second v.seen other.seen h mine_seen theirs_seen
 
-  longest : (n : ℕ) × (u : View) × (get_elem? us n ≡ some u) × (u.seen ≡ h)
+  longest : HasSeenAll us h
   longest =
       let l = i.marks.seen.longest in
-      dite (ℕ_discrete l.0 id)
-      (λ here. let whole : v.seen ≡ h = ap (λ (z : View). z.seen) (view_here l.0 l.1 here l.2) ∙ l.3 in
-      (id, both, both_there, longer_whole_first v.seen other.seen h mine_seen theirs_seen whole))
-      (λ not_id. dite (ℕ_discrete l.0 j)
-      (λ here. let whole : other.seen ≡ h = ap (λ (z : View). z.seen) (other_here l.0 l.1 here l.2) ∙ l.3 in
-      (id, both, both_there, longer_whole_second v.seen other.seen h mine_seen theirs_seen whole))
-      (λ not_j. (l.0, l.1, else_there l.0 l.1 not_id not_j l.2, l.3)))
+      let mine : both.seen ≡ h → HasSeenAll us h = (λ all. record { id = id; view = both; there = both_there; all = all }) in
+      dite (ℕ_discrete l.id id)
+      (λ here. let whole : v.seen ≡ h = ap (λ (z : View). z.seen) (view_here l.id l.view here l.there) ∙ l.all in
+      mine (longer_whole_first v.seen other.seen h mine_seen theirs_seen whole))
+      (λ not_id. dite (ℕ_discrete l.id j)
+      (λ here. let whole : other.seen ≡ h = ap (λ (z : View). z.seen) (other_here l.id l.view here l.there) ∙ l.all in
+      mine (longer_whole_second v.seen other.seen h mine_seen theirs_seen whole))
+      (λ not_j. record { id = l.id; view = l.view; there = else_there l.id l.view not_id not_j l.there; all = l.all }))
 
   owned_both : IsOwned h both
   owned_both =

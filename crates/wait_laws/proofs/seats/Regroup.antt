@@ -27,7 +27,7 @@ use Rattle.core_state.specs.views.Known.{lock_of}
 use Rattle.core_state.specs.tree.Chart.{Chart}
 use Rattle.core_state.specs.views.Views.{Works, places_of, slots_of, open_reading, readings_of, retired_of, unraised_of, emptied_among, IsQuiet, joined_retired}
 use Rattle.core_state.specs.steps.Seating.{spent_view}
-use Rattle.core_state.specs.parts.MarkParts.{WaitStands, MarkParts}
+use Rattle.core_state.specs.parts.MarkParts.{WaitStands, MarkParts, HasSeenAll}
 use Rattle.core_state.specs.parts.SeatParts.{IsOwned, IsCounted, SeatParts}
 use Rattle.core_state.specs.parts.WaiterParts.{IsClocked, inside_count, WaiterParts}
 use Rattle.core_state.specs.parts.SlotParts.{HasFewSlots, IsRetired, IsRetiredOf, AreHandsKnown, SlotParts}
@@ -253,8 +253,14 @@ module _ (vs us : List View) (id : ℕ) (v a b : View) (r : Regroups vs us id v 
           (λ i. subst (λ (z : Remains). Each z.records (IsRecord m g us)) (sym r.rest)
           (λ j x e. record_by m m (same_slots m).nodes g vs us h h (quiet_same h) see x (i j x e)))
           (each_empty (IsRecord m g us) b.records (λ n. (r.bare n).left.records)) t.records;
-      ages = λ s at c side gone met link ne. t.ages s at c side gone
-          (met.0, met.1, met.2, inside_back met.0 met.1 met.2 met.3 met.4, met.4, met.5) link ne;
+      ages = λ s at c side gone met link ne. t.ages s at c side gone (record {
+        id = met.id;
+        view = met.view;
+        section = met.section;
+        there = inside_back met.id met.view met.section met.there met.inside;
+        inside = met.inside;
+        before = met.before;
+      }) link ne;
     }
 
     odd_regroup : (n : ℕ) → IsOddBy m vs n → IsTurned m us n
@@ -438,7 +444,7 @@ module _ (vs us : List View) (id : ℕ) (v a b : View) (r : Regroups vs us id v 
   }
 
   marks_regroup : (places : ℕ) (h : List Mark) → Works a → a.counts.waits ≡ v.counts.waits → IsPrefix a.seen h → IsPrefix b.seen h
-      → ((j : ℕ) × (u : View) × (get_elem? us j ≡ some u) × (u.seen ≡ h)) → MarkParts places vs h → MarkParts places us h
+      → HasSeenAll us h → MarkParts places vs h → MarkParts places us h
   marks_regroup places h works_a waits seen_a seen_b longest t = record {
     seen = record {
       begins = each_regroup (λ (u : View). IsPrefix u.seen h) (λ (u : View). IsPrefix u.seen h) (λ u i. i)
@@ -459,7 +465,7 @@ module _ (vs us : List View) (id : ℕ) (v a b : View) (r : Regroups vs us id v 
     pub waits : a.counts.waits ≡ v.counts.waits
     pub seen_a : IsPrefix a.seen h
     pub seen_b : IsPrefix b.seen h
-    pub longest : (j : ℕ) × (u : View) × (get_elem? us j ≡ some u) × (u.seen ≡ h)
+    pub longest : HasSeenAll us h
     pub spent_b : b.allowance.places ≡ 0 → b ≡ spent_view
     pub owned_a : IsOwned h a
     pub owned_b : IsOwned h b

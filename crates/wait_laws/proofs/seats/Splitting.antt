@@ -8,6 +8,7 @@ use Rattle.atomic_table.proofs.Lists.{at_set, at_longer, set_here, set_else}
 use Rattle.prcu_marks.specs.declared.mark.Mark.{Mark}
 use Rattle.prcu_marks.specs.declared.mark.Mark.TheVariants.{Entered, Left, Began, Ended, Done, Given, Unlinked, Freed}
 use Rattle.prcu_marks.specs.Marks.{own_of, entered_at}
+use Rattle.core_state.specs.parts.MarkParts.{HasSeenAll}
 use Rattle.core_state.specs.declared.shape.Shape.{Shape}
 use Rattle.core_state.specs.declared.view.Held.{Held}
 use Rattle.core_state.specs.declared.view.Spent.{Spent}
@@ -248,12 +249,17 @@ module _ (k : Shape) (m : Memory) (vs : List View) (h : List Mark) (i : HoldsNow
   counted_second works = let none = no_marks second.allowance.place h (second_unused second.allowance.place (omega arith) (omega arith)) in
       record { sections = sym none.0; waits = sym none.1 }
 
-  longest : (j : ℕ) × (u : View) × (get_elem? us j ≡ some u) × (u.seen ≡ h)
+  longest : HasSeenAll us h
   longest =
       let l = i.marks.seen.longest in
-      dite (ℕ_discrete l.0 id)
-      (λ here. (id, first, first_there, ap (λ (u : View). u.seen) (view_here l.0 l.1 here l.2) ∙ l.3))
-      (λ ne. (l.0, l.1, else_there l.0 l.1 ne l.2, l.3))
+      dite (ℕ_discrete l.id id)
+      (λ here. record {
+        id = id;
+        view = first;
+        there = first_there;
+        all = ap (λ (u : View). u.seen) (view_here l.id l.view here l.there) ∙ l.all;
+      })
+      (λ ne. record { id = l.id; view = l.view; there = else_there l.id l.view ne l.there; all = l.all })
 
   regroups : Regroups vs us id v first second
   regroups = record {

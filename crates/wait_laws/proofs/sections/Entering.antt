@@ -121,12 +121,12 @@ module _ (k : Shape) (m m' : Memory) (vs : List View) (h : List Mark) (id : ℕ)
       → (k.waiter ≡ Deer → DeerWords k.places m' (set vs id w) (h ++ mark ∷ []))
       → HoldsNow k m' (set vs id w) (h ++ mark ∷ [])
   enter_law stamped eer domain deer =
-      section_law k m m' vs h id v w mark i there words tt tt refl refl (
-        place_within k.places vs i.seats.placed id v.allowance.place v there (works_there v works),
-        entry.key_fits,
-        (i.seats.counted id v there works).sections,
-        open_none k.places vs id v h there works i.seats entry.outside,
-      )
+      section_law k m m' vs h id v w mark i there words tt tt refl refl (record {
+        within = place_within k.places vs i.seats.placed id v.allowance.place v there (works_there v works);
+        key_fits = entry.key_fits;
+        count = (i.seats.counted id v there works).sections;
+        outside = open_none k.places vs id v h there works i.seats entry.outside;
+      })
       (λ s is. inl (let e = ap (λ (z : Section). z.entered) (is_new s is) in omega arith))
       (seats_enter k.places vs id v h there works i.seats key stamp clocked entry.key_fits) (waiters_enter stamped eer domain deer)
       (lock_frame m m' (slot_count k) i.chart vs id v w there slots (record {

@@ -157,13 +157,13 @@ module _ (k : Shape) (m : Memory) (vs : List View) (h : List Mark) (id : ℕ) (v
 
   marks_end : MarkParts k.places (set vs id w) h'
   marks_end = mark_frame_by k.places vs id v w h h' there (prefix_snoc h mark) (inl refl)
-      (marks_snoc k.places h mark (
-        wait.began,
-        wait.low,
-        wait.high,
-        at_below h wait.began _ stands.begins,
-        stands.begins,
-      ) i.marks.marks) i.marks
+      (marks_snoc k.places h mark (record {
+        at = wait.began;
+        low = wait.low;
+        high = wait.high;
+        before = at_below h wait.began _ stands.begins;
+        begins = stands.begins;
+      }) i.marks.marks) i.marks
       (λ x is. of_wait (WaitStands h' w) w.wait over x refl own_over is) others_end
 
   seats_end : SeatParts k.places (set vs id w) h'
@@ -304,7 +304,7 @@ module _ (k : Shape) (m : Memory) (vs : List View) (h : List Mark) (id : ℕ) (v
   retired_else p r ne = retired_stays vs (set vs id w) h h' p (stays_else p ne) r
 
   high_fits : wait.high < 2 ^ 64
-  high_fits = (i.marks.marks.began wait.began v.allowance.place wait.count wait.low wait.high stands.begins).3
+  high_fits = (i.marks.marks.began wait.began v.allowance.place wait.count wait.low wait.high stands.begins).high_fits
 
   -- of its own they are noted
   retired_own : (r : Retired) → IsWaitedRetired vs h v.allowance.place r

@@ -29,7 +29,7 @@ use Rattle.core_frames.proofs.frames.ReaderFrame.{emptied_still, readers_stay, s
 use Rattle.core_frames.proofs.marks.MarkFacts.{quiet_same}
 use Rattle.core_frames.proofs.frames.LockFrame.{lock_frame}
 use Rattle.core_frames.proofs.frames.SlotFrame.{slots_by, retired_of_by}
-use Rattle.core_frames.proofs.frames.TreeFrame.{IsForm, tree_by, moving_by, SameMoves}
+use Rattle.core_frames.proofs.frames.TreeFrame.{IsForm, tree_by, moving_by, SameMoves, HadMove, same_form}
 use Rattle.core_state.specs.declared.shape.Shape.{Shape}
 use Rattle.core_frames.proofs.frames.WholeFrame.{SlotHalf}
 
@@ -60,11 +60,18 @@ module _ (wait : Waiting) where
   in_noted (x ∷ rs) rest r (zero, e) = (waited_retired wait x, (0, refl), ap (λ (z : Retired). z.slot) (some-injective x r e))
   in_noted (x ∷ rs) rest r (suc j, e) = let q = in_noted rs rest r (j, e) in (q.0, (suc q.1.0, q.1.1), q.2)
 
+  -- the move that stood before what is noted of it
+  record MoveBefore (o : Option Move) (move : Move) : Type 0 where
+    pub before : Move
+    pub waited : Bool
+    pub had : o ≡ Some before
+    pub same : record before { waited = waited } ≡ move
+
   -- the move is the same but for what is noted
   move_back : (o : Option Move) (move : Move) → waited_move wait o ≡ Some move
-      → (z : Move) × (b : Bool) × (o ≡ Some z) × (record z { waited = b } ≡ move)
+      → MoveBefore o move
   move_back None move e = absurd (cc)
-  move_back (Some z) move e = (z, (z.waited || is_move_grace wait z), refl, (cc))
+  move_back (Some z) move e = record { before = z; waited = z.waited || is_move_grace wait z; had = refl; same = cc }
 
   move_on : (o : Option Move) (z : Move) → o ≡ Some z → (move : Move) × (waited_move wait o ≡ Some move) × (bare move ≡ bare z)
   move_on o z e = (record z { waited = z.waited || is_move_grace wait z }, ap (waited_move wait) e, refl)
@@ -114,7 +121,7 @@ module _ (vs : List View) (id : ℕ) (v : View) (there : get_elem? vs id ≡ som
       hand = i.hand;
       spare = i.spare;
       copy = λ move is. (let x = move_back wait v.moving move is in
-          subst (λ (z : Move). IsHeldKnown m z.copy × IsEven (m (Life z.copy.slot))) x.3 (i.copy x.0 x.2));
+          subst (λ (z : Move). IsHeldKnown m z.copy × IsEven (m (Life z.copy.slot))) x.same (i.copy x.before x.had));
       spares = i.spares;
     }
 
@@ -123,7 +130,7 @@ module _ (vs : List View) (id : ℕ) (v : View) (there : get_elem? vs id ≡ som
       one = i.one;
       few = (let e = length-map v.hands.retired (waited_retired wait) in let f = i.few in omega arith);
       room = λ move is. (let x = move_back wait v.moving move is in let e = length-map v.hands.retired (waited_retired wait) in
-          let f = i.room x.0 x.2 in omega arith);
+          let f = i.room x.before x.had in omega arith);
       joined = i.joined;
       joined_spare = i.joined_spare;
       next_spare = λ works none. (let r = i.next_spare works none in
@@ -138,31 +145,37 @@ module _ (vs : List View) (id : ℕ) (v : View) (there : get_elem? vs id ≡ som
     moving_noted z b = moving_by m m (same_slots m).nodes g h h v w z b z.copy.known (λ n x e. e) refl (λ s which. refl) (λ r x. x)
         (λ r x. x)
 
+    form : (a b : Move) → bare b ≡ bare a → IsForm a b
+    form a b e = record {
+      key = ap (λ (z : Move). z.key) e;
+      next_key = ap (λ (z : Move). z.next_key) e;
+      copy = ap (λ (z : Move). z.copy.slot) e;
+      old = ap (λ (z : Move). z.old) e;
+      made = ap (λ (z : Move). z.made) e;
+    }
+
     -- a view that has a move now had one, of the same old successor and copy
-    had_move : (j : ℕ) (u : View) (move : Move) → get_elem? (set vs id w) j ≡ some u → u.moving ≡ Some move
-        → (x : View) × (z : Move) × (get_elem? vs j ≡ some x) × (x.moving ≡ Some z) × (bare move ≡ bare z)
+    had_move : (j : ℕ) (u : View) (move : Move) → get_elem? (set vs id w) j ≡ some u → u.moving ≡ Some move → HadMove vs j move
     had_move j u move e is =
         ⊎_elim
-        (λ (t : (j ≡ id) × (w ≡ u)). let x = move_back wait v.moving move (ap (λ (y : View). y.moving) t.1 ∙ is) in
-        (v, x.0, subst (λ n. get_elem? vs n ≡ some v) (sym t.0) there, x.2, ap bare (sym x.3)))
-        (λ (t : (j ≢ id) × (get_elem? vs j ≡ some u)). (u, move, t.1, is, refl))
+        (λ (t : (j ≡ id) × (w ≡ u)). let x = move_back wait v.moving move (ap (λ (y : View). y.moving) t.1 ∙ is) in record {
+          view = v;
+          before = x.before;
+          stands = subst (λ n. get_elem? vs n ≡ some v) (sym t.0) there;
+          has_it = x.had;
+          form = form x.before move (ap bare (sym x.same));
+        })
+        (λ (t : (j ≢ id) × (get_elem? vs j ≡ some u)). record {
+          view = u;
+          before = move;
+          stands = t.1;
+          has_it = is;
+          form = same_form move;
+        })
         (at_set vs id j w u e)
 
     forms_noted : SameMoves vs (set vs id w)
-    forms_noted = record {
-      forth = λ a p. (let x = pending_on a p in (x.0, x.1, form a x.0 x.2));
-      back = λ j u a e is. (let x = had_move j u a e is in
-          record { view = x.0; before = x.1; stands = x.2; has_it = x.3; form = form x.1 a x.4 });
-    }
-      where
-        form : (a b : Move) → bare b ≡ bare a → IsForm a b
-        form a b e = record {
-          key = ap (λ (z : Move). z.key) e;
-          next_key = ap (λ (z : Move). z.next_key) e;
-          copy = ap (λ (z : Move). z.copy.slot) e;
-          old = ap (λ (z : Move). z.old) e;
-          made = ap (λ (z : Move). z.made) e;
-        }
+    forms_noted = record { forth = λ a p. (let x = pending_on a p in (x.0, x.1, form a x.0 x.2)); back = had_move }
 
     -- so a step that notes it keeps all of them
     pub noted_half : (k : Shape) → SlotHalf k m g vs h → SlotHalf k m g (set vs id w) h
@@ -172,7 +185,12 @@ module _ (vs : List View) (id : ℕ) (v : View) (there : get_elem? vs id ≡ som
       locks = lock_frame m m (slot_count k) g vs id v w there (same_slots m) (record {
         place = refl;
         locks = refl;
-        unraised = λ s x. (waited_retired wait x.0, (x.1.0, at_map (waited_retired wait) v.hands.retired x.1.0 x.0 x.1.1), x.2, x.3);
+        unraised = λ s x. record {
+          retired = waited_retired wait x.retired;
+          has = (x.has.0, at_map (waited_retired wait) v.hands.retired x.has.0 x.retired x.has.1);
+          slot = x.slot;
+          unraised = x.unraised;
+        };
         settled = λ e. ap (waited_move wait) e;
         outside = λ section is. (t.locks.few id v there).outside section is;
         readings = λ r has. inl has;
@@ -180,7 +198,7 @@ module _ (vs : List View) (id : ℕ) (v : View) (there : get_elem? vs id ≡ som
       tree = tree_by m m (slot_count k) g vs (set vs id w) h h (same_slots m).nodes (quiet_same h) forms_noted
           (each_set (λ j u. (move : Move) → u.moving ≡ Some move → IsMoving m g h u move) vs id w
           (λ move is. (let x = move_back wait v.moving move is in
-          subst (IsMoving m g h w) x.3 (moving_noted x.0 x.1 (t.tree.moves.each id v there x.0 x.2))))
+          subst (IsMoving m g h w) x.same (moving_noted x.before x.waited (t.tree.moves.each id v there x.before x.had))))
           (λ j u ne e. t.tree.moves.each j u e)) t.tree;
       readers = readers_stay m m (same_slots m).nodes g vs id v w h h there (quiet_same h)
           (see_by vs (set vs id w) forms_noted (emptied_still vs id v w there refl)) refl refl t.readers;

@@ -54,9 +54,9 @@ begun_there p n low high h i e =
 not_ended : (places p : ℕ) (h : List Mark) → AreMarks places h → HasEnded h p (begun_at p h) → ⊥
 not_ended places p h t has =
     let r = t.ended has.0 p (begun_at p h) has.1 in
-    let b = t.began r.0 p (begun_at p h) r.1 r.2 r.4 in
-    let c = begun_there p (begun_at p h) r.1 r.2 h r.0 r.4 in
-    let d = b.1 in
+    let b = t.began r.at p (begun_at p h) r.low r.high r.begins in
+    let c = begun_there p (begun_at p h) r.low r.high h r.at r.begins in
+    let d = b.count in
     absurd (omega arith)
 
 module _ (k : Shape) (m : Memory) (vs : List View) (h : List Mark) (id : ℕ) (v : View) (i : HoldsNow k m vs h)
@@ -117,12 +117,12 @@ module _ (k : Shape) (m : Memory) (vs : List View) (h : List Mark) (id : ℕ) (v
       let before = c.waits in
       record {
         marks = mark_frame_by k.places vs id v w h hs there (prefix_snoc h mark) (inl refl)
-            (marks_snoc k.places h mark (
-              place_within k.places vs i.seats.placed id v.allowance.place v there (works_there v works),
-              counted,
-              needs.some,
-              needs.high_fits,
-            ) i.marks.marks) i.marks
+            (marks_snoc k.places h mark (record {
+              within = place_within k.places vs i.seats.placed id v.allowance.place v there (works_there v works);
+              count = counted;
+              ordered = needs.some;
+              high_fits = needs.high_fits;
+            }) i.marks.marks) i.marks
             (λ x is. of_wait (WaitStands hs w) w.wait wait x refl stands is)
             (λ j u x ne e s has. (has.0, waits.ended has.0 u.allowance.place x.count has.1));
         seats = seat_frame_still k.places vs id v w h hs there works (record { place = refl; places = refl; joined = refl; met = refl })

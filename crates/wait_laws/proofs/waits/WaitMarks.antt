@@ -38,7 +38,7 @@ module _ (places : ℕ) (h : List Mark) (t : AreMarks places h) (e q c x : ℕ) 
   step : (j : ℕ) (a : Mark) → e < j → get_elem? h j ≡ some a → open_at q (take j h) ≡ Some (entered_open c x e) → (n : ℕ)
       → WasLeft h q c e (suc j) ⊎ (next_open q n (Some (entered_open c x e)) a ≡ Some (entered_open c x e))
   step j (Entered p d y) lt at now n = dite (ℕ_discrete p q)
-      (λ same. absurd (let none = (t.entered j p d y at).3 in
+      (λ same. absurd (let none = (t.entered j p d y at).outside in
       let f : None ≡ Some (entered_open c x e) = sym none ∙ ap (λ z. open_at z (take j h)) same ∙ now in cc))
       (λ ne. inr (ap (λ b. cond b (Some (entered_open d y n)) (Some (entered_open c x e))) (ne_eqb p q ne)))
   step j (Left p d) lt at now n = dite (ℕ_discrete p q)
@@ -102,8 +102,8 @@ begun_at_less (x ∷ h) (suc i) (suc j) p n low high e lt =
 pub began_once : (places : ℕ) (h : List Mark) → AreMarks places h → (i j p n a b low high : ℕ) → get_elem? h i ≡ some (Began p n a b)
     → get_elem? h j ≡ some (Began p n low high) → i ≡ j
 began_once places h t i j p n a b low high ei ej =
-    let first = (t.began i p n a b ei).1 in
-    let second = (t.began j p n low high ej).1 in
+    let first = (t.began i p n a b ei).count in
+    let second = (t.began j p n low high ej).count in
     dite (dec_le (suc i) j) (λ before. absurd (let r = begun_at_less h i j p n a b ei (omega arith) in omega arith))
     (λ not_before. dite (dec_le (suc j) i) (λ after. absurd (let r = begun_at_less h j i p n low high ej (omega arith) in omega arith))
     (λ not_after. omega arith))
