@@ -234,5 +234,6 @@ module _ {k : Shape} {key kept value s g : ℕ} {v : View} (a : IsAt k (Set key 
                             number_is = number_is ∙ omega arith;
                             legal = fifth.informed.legal;
                           },
-                          fourth.gains.was old (the_value o s storing.fits.point.0 old storing.fits.point.1.locks_are) ∙ ap Some (sym old_is),
+                          fourth.gains.was old (the_value o s storing.fits.point.0 old storing.fits.point.1.locks_are)
+                              ∙ ap Some (sym old_is),
                         )
