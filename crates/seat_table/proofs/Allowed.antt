@@ -1,11 +1,5 @@
 -- The one border: where a law keeps the invariant, a case of its kind is a step that the table allows.
-use Rattle.std.proofs.Common.{◌≡◌, ℕ, ◌+◌, ◌-◌, ◌*◌, ◌/◌, ◌%◌, ◌^◌, ◌<◌, ◌≤◌, ◌==◌, Bool, true, false, cond, List, ◌++◌, set, slice_index, refl, sym, ap, subst, ◌∙◌, arith, length-set, eq-eqb, ne_eqb}
-use prog.Atomic.{either}
-use mathlib.Core.Logic.{dite}
-use native.Mathlib.Decide.{ℕ_discrete}
-use Rattle.std.specs.Int.Bits.{bit_xor, differ, xor_step}
-use lib.Bits.{xor_zero_r}
-use Rattle.core_state.specs.steps.Waits.{turned_gate}
+use Rattle.std.proofs.Common.{◌≡◌, ℕ, ◌<◌, true, cond, List, ◌++◌, set, slice_index, refl, sym, ap, subst, ◌∙◌, length-set}
 use mathlib.Core.Option.{some}
 use lib.ListN.{get_elem?}
 use Rattle.atomic_table.specs.Seated.{TableId}
@@ -23,8 +17,7 @@ use Rattle.seat_table.specs.declared.rule.Nothing.{Nothing}
 use Rattle.seat_table.specs.Seats.{TableAt, way_of, with_way, shape_of}
 use Rattle.core_acts.specs.declared.act.Act.{Act}
 use Rattle.prcu_marks.specs.declared.access.Access.{Access}
-use Rattle.prcu_marks.specs.declared.access.Access.TheVariants.{Load, Store, Exchange, Add, Subtract, Flip}
-use Rattle.prcu_marks.specs.Accesses.{left_by, said_by, StaysWord}
+use Rattle.prcu_marks.specs.Accesses.{left_by, said_by}
 use Rattle.core_acts.specs.Acts.{field_of, access_of, Asks}
 use Rattle.core_acts.specs.Laws.{done, marks}
 use Rattle.core_acts.proofs.Acting.{has_word, acts_keep}
