@@ -55,7 +55,8 @@ pub answered : {command : Command} {status told : Status} {left left_now written
     → length input ≤ limit_of command → Takes left left_now input → (Reads command → IsAtEnd left_now)
     → (writes : Writes command status seen text) × Leaves command status seen text writes ran → Appends written written_now sent
     → AnsweredBy command told left left_now written written_now ran
-answered {command} {status} {told} {left} {left_now} {written} {written_now} {ran} {input} {seen} {text} {sent} ends is wrote short took ended
+answered {command} {status} {told} {left} {left_now} {written} {written_now} {ran} {input} {seen} {text} {sent}
+    ends is wrote short took ended
     answers appended =
     let of_input = subst (λ (z : Status × List ℕ). (writes : Writes command z.0 z.1 text) × Leaves command z.0 z.1 text writes ran)
     (λ i. (ends i, is i)) answers in

@@ -269,7 +269,8 @@ module _ (k : Shape) (v w : View) where
       (record { reply = Absent; number = number }) tries None p.1 p.2 refl (λ m none. absent m key none)
   was_deleted key tries Gone number p = elim p.3 [
     | inl none ↦ by [] none refl tt tt
-    | inr move ↦ by (Began v.allowance.place move.0 (key + 1) move.1 ∷ (Ended v.allowance.place move.0 ∷ [])) move.2 refl (refl, (refl, tt)) (
+    | inr move ↦
+        by (Began v.allowance.place move.0 (key + 1) move.1 ∷ (Ended v.allowance.place move.0 ∷ [])) move.2 refl (refl, (refl, tt)) (
       inr (let there = update_there (Explains (room_of k)) v w (Del key) (record { reply = Gone; number = number }) tries p.0 p.1 p.2 in
           record {
             position = length (updates_of p.0);

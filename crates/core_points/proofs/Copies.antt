@@ -566,7 +566,8 @@ module _ (k : Shape) (h : List Mark) (o : Own) (v : View) (n : ℕ) where
       (key_now o) next_key h)) (sym (spare_is v _ has.spare_is))
       (record {
         owns = owns_retired (record o { spare = None }) (record stored { hands = record stored.hands { spare = None } })
-            (owns_spared o stored (owns_relocked o linked now (slots_change d.node (with_mark false) (λ l. refl) noted) owns) None None refl) _ _
+            (owns_spared o stored
+            (owns_relocked o linked now (slots_change d.node (with_mark false) (λ l. refl) noted) owns) None None refl) _ _
             (slots_push v.hands.retired (newly_retired v d.node (length h + 1)) ∙ ap (λ xs. xs ++ d.node ∷ []) f.owns.retired_are);
         unraised = λ z. unraised_push v.hands.retired (newly_retired v d.node (length h + 1)) refl (f.unraised refl);
         tickets = (let t = f.tickets in omega arith);

@@ -47,8 +47,10 @@ graced_move wait moving key m clock p is out =
     let move : moves.Move = is.move in
     let made = out.later move is.is in
     let a : nat_lt move.made wait.began ≡ true = lt-ltb move.made wait.began made in
-    let b : nat_le wait.low (move.key + 1) ≡ true = le-leb wait.low (move.key + 1) (let e = out.low_is in let f = is.key_is in omega arith) in
-    let c : nat_le move.next_key wait.high ≡ true = le-leb move.next_key wait.high (let e = out.high_is in let f = is.next_is in omega arith) in
+    let b : nat_le wait.low (move.key + 1) ≡ true =
+    le-leb wait.low (move.key + 1) (let e = out.low_is in let f = is.key_is in omega arith) in
+    let c : nat_le move.next_key wait.high ≡ true =
+    le-leb move.next_key wait.high (let e = out.high_is in let f = is.next_is in omega arith) in
     let grace : is_move_grace wait move ≡ true = ap (λ z. z && (nat_le wait.low (move.key + 1) && nat_le move.next_key wait.high)) a
     ∙ ap (λ z. z && nat_le move.next_key wait.high) b ∙ c in
     record {

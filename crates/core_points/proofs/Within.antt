@@ -48,7 +48,8 @@ target_within o v t i f = by (i == 0) (i == 1)
     below (Some u) e =
         let has = (f.point).target in
         let reads = subst (λ h. Rattle.core_points.specs.DeleteFacts.ReadsChildren has.reading t.node h) e has.children in
-        at_successor (has.within u.slot (reads.0).slot_stood) (has.within u.parent (reads.0).parent_stood) (u.parent == t.node.node) (i == 2)
+        at_successor (has.within u.slot (reads.0).slot_stood)
+        (has.within u.parent (reads.0).parent_stood) (u.parent == t.node.node) (i == 2)
       where
         at_successor : u.slot < table_of o → u.parent < table_of o → (a b : Bool) → cond a u.slot (cond b u.parent u.slot) < table_of o
         at_successor s p true b = s

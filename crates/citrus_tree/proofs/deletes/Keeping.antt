@@ -133,7 +133,11 @@ keeps_own_life k v w s n t = subst (KeepsAll v) (sym t.goes)
 spare_noted : (o : Option Held) (s copy : ℕ) (known : Known) → IsSlotOf (Some copy) o → IsSlotOf (Some copy) (note_option s known o)
 spare_noted None s copy known is = is
 spare_noted (Some held) s copy known is =
-    let same : (note_held s known held).slot ≡ held.slot = elim (held.slot == s) as (λ b. (cond b (record held { known = known ∷ held.known }) held).slot ≡ held.slot) [ true ↦ refl | false ↦ refl ] in
+    let same : (note_held s known held).slot ≡ held.slot =
+    elim (held.slot == s) as (λ b. (cond b (record held { known = known ∷ held.known }) held).slot ≡ held.slot) [
+      | true ↦ refl
+      | false ↦ refl
+    ] in
     is ∙ sym same
 
 pub spare_fill : (k : Shape) (v w : View) (s : ℕ) (p : Part) (number n copy : ℕ) → Told k v (acts.Fill s p number) n w

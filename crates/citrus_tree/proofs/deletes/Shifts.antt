@@ -40,7 +40,8 @@ right_fits : {k : Shape} {op : Op} {kept child : ℕ} {v : View} {h : List Mark}
 right_fits {child = child} {v = v} m a told =
     let p = a.fits.point in
     let i = (p.0).move in
-    (told.old_links_within i.move i.is Right child (subst (λ s. known_in (known_under v s) (Link s Right) ≡ Some child) (sym i.old_is) p.3)).1
+    (told.old_links_within i.move i.is Right child
+    (subst (λ s. known_in (known_under v s) (Link s Right) ≡ Some child) (sym i.old_is) p.3)).1
 
 -- so the number that is taken for it is it
 pub unlinking : {k : Shape} {op : Op} {kept right child : ℕ} {v : View} {h : List Mark} {word : Field → ℕ} (m : Moving)

@@ -56,7 +56,8 @@ reclaim-requires-clause-ticket g c = (may_reclaim_spare c.requires.quiet.view c.
 pub reclaim-requires-clause-listed : goal.reclaim-requires-clause-listed
 reclaim-requires-clause-listed g c = listed_on c.args.seat.now c.take.new.seat c.take.ensures.seat.1
     (none_retired_now (subst (λ (r : Taken). Takes
-    (shape_of g.W.WaitWords.WAY c.args.table.now) c.args.seat.now.view r c.take.new.seat.view) c.in-Empty.is c.in_ok-slot.ensures.view)) c.requires.quiet.listed
+    (shape_of g.W.WaitWords.WAY c.args.table.now) c.args.seat.now.view r c.take.new.seat.view) c.in-Empty.is
+    c.in_ok-slot.ensures.view)) c.requires.quiet.listed
 
 pub returns-in-Slot-clause-listed : goal.returns-in-Slot-clause-listed
 returns-in-Slot-clause-listed g c = listed_on c.args.seat.now c.keep_as_spare.new.seat

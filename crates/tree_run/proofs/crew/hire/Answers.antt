@@ -82,7 +82,8 @@ returns g c =
     c.loop-i.invariant.left
     ∙ (let n : length c.args.scripts.now - c.loop-i.i ≡ 1 = omega arith in
     let t : tickets_for c.args.cookies (op_count (drop c.loop-i.i c.args.scripts.now))
-    ≡ tickets_for c.args.cookies (length c.script-script-2.result.now) = omega arith in λ j. seat_for c.args.table.now c.loop-i.i (n j) (t j)) in
+    ≡ tickets_for c.args.cookies (length c.script-script-2.result.now) = omega arith in
+    λ j. seat_for c.args.table.now c.loop-i.i (n j) (t j)) in
     let client_here = client_for (run_with g.W.WaitWords.WAY c.args.cookies) c.args.table.now in
     let hired = c.in_ok-hire_one-2.ensures c.loop-i.i mine in
     let all = hired_more client_here c.args.scripts.now c.loop-i.i c.loop-i.workers.items hired.0 c.loop-i.invariant.hired

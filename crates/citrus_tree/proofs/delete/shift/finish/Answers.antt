@@ -80,7 +80,8 @@ list_retired-requires-2-clause-unlocked g c =
     no_lock c.list_retired.new.self.view c.args.moving.successor.slot
     (ap (λ (x : View). x.locks) (c.list_retired.ensures.seat).1
     ∙ ((((c.unlock_all.ensures.at _ _ (c.unlink_old.ensures.at _ _ (waits_move (c.requires.at).1
-    (waited_for (c.args.key + 1) c.args.moving.next_key c.between.ensures c.in_ok-wait_in_grace.ensures.waited))))).fits.point).1).locks_are)
+    (waited_for (c.args.key + 1) c.args.moving.next_key
+    c.between.ensures c.in_ok-wait_in_grace.ensures.waited))))).fits.point).1).locks_are)
 
 pub list_retired-requires-2-clause-unlisted : goal.list_retired-requires-2-clause-unlisted
 list_retired-requires-2-clause-unlisted g c = λ told there.
