@@ -1,6 +1,6 @@
-//! Tests of the model, of intervals, of sources and sinks, of texts, of workers, of the machine, of the hash dictionary, of the tree's table and
-//! waiters, of the tree, and of the top call. They stand here and not in the crates that they are of, since tests are proved together with all
-//! functions of their crate; and in one crate, since each reads what it needs of std anew.
+//! Tests of the model, of intervals, of sources and sinks, of texts, of workers, of the machine, of the hash dictionary, of the tree's
+//! table and waiters, of the tree, and of the top call. They stand here and not in the crates that they are of, since tests are proved
+//! together with all functions of their crate; and in one crate, since each reads what it needs of std anew.
 #![tactic(auto)]
 
 #[cfg(test)]

@@ -1,6 +1,6 @@
 //! A concurrent ordered index from numbers to numbers for C, C++ and Rust programs: the CITRUS tree, with one of its three waiters.
-//! `citrus.h` declares these functions, and says what each waits for and costs. Each is a call of a [`Handle`], and answers the number of its
-//! status.
+//! `citrus.h` declares these functions, and says what each waits for and costs. Each is a call of a [`Handle`], and answers the number of
+//! its status.
 //!
 //! None has a `requires`: each misuse that a handle or an argument shows is answered with a status. What nobody checks is that a handle
 //! is closed or as the last call left it, that one call at a time is made with it, and that the pointers of a call are valid and distinct.

@@ -43,7 +43,8 @@ pub fn run_words<R: Threads + Wait + Sync, S: Source, K: Sink, E: Sink, G: Gate 
     ensures last { (WritesNothing result → ⊥) → (command : command.Command) → Asks (map string_bytes words.now) command → Reads command
         → ReadsToEnd S.reads source.old source.new }
 
-    // What was written answers what was read, as `tool` says, for what some run left. Where the status is another than Done it left nothing.
+    // What was written answers what was read, as `tool` says, for what some run left. Where the status is another than Done it left
+    // nothing.
     ensures done { result ≡ Status.Done → (ran : Ran) × Answered (map string_bytes words.now) Status.Done
         (S.rest source.old) (S.rest source.new) (K.bytes sink.old) (K.bytes sink.new) ran }
     ensures refused { result ≡ Status.Refused → (ran : Ran) × Answered (map string_bytes words.now) Status.Refused

@@ -104,9 +104,9 @@ pub fn ask<W: WaitPart>(table: &CitrusTable<W>, seat: &mut Seat<W>, cookie: &mut
 }
 
 /// Gives the slots back that were retired when the cookie was started, each with the next generation, and answers their number. Where the
-/// place has no spare the first of them becomes its spare. The answer is 0, and nothing is changed, exactly where the place has begun a later
-/// wait or none was retired then. Where it isn't 0 the seat is informed of each slot that went back: no slot is used again that an open reader
-/// may meet. It begins no wait and waits for nobody.
+/// place has no spare the first of them becomes its spare. The answer is 0, and nothing is changed, exactly where the place has begun a
+/// later wait or none was retired then. Where it isn't 0 the seat is informed of each slot that went back: no slot is used again that an
+/// open reader may meet. It begins no wait and waits for nobody.
 pub fn give_back<W: WaitPart>(table: &CitrusTable<W>, seat: &mut Seat<W>, cookie: Cookie<W>) -> u32
     requires table { seat.old.table ≡ table.now }
     requires of { IsOf (shape_of W.WAY table.now) cookie seat.old.view }

@@ -74,9 +74,9 @@ fn first_listed<W: WaitWords>(seat: &Seat<W>) -> Option<u32>
     seat.retired().first().copied()
 }
 
-/// Gives the first `count` of the listed slots back, each with the next generation, after a wait for everybody that was begun since they were
-/// unlinked and that is over. Where the place has no spare the first of them becomes its spare, and only the others are free. Where a slot goes
-/// back, the seat is informed of it afterwards: no slot is used again that an open reader may meet.
+/// Gives the first `count` of the listed slots back, each with the next generation, after a wait for everybody that was begun since they
+/// were unlinked and that is over. Where the place has no spare the first of them becomes its spare, and only the others are free. Where a
+/// slot goes back, the seat is informed of it afterwards: no slot is used again that an open reader may meet.
 pub fn give_back<W: WaitWords>(table: &CitrusTable<W>, seat: &mut Seat<W>, count: usize)
     requires table { seat.old.table ≡ table.now }
     requires ready { AreReady seat.old.view (first_slots count seat.old.listed) }

@@ -1,5 +1,5 @@
-//! One call for each step from K3 on, by the step's name in `core_acts`. Each makes one atomic step, and tells the view after it, and what the
-//! seat gained from the rule.
+//! One call for each step from K3 on, by the step's name in `core_acts`. Each makes one atomic step, and tells the view after it, and what
+//! the seat gained from the rule.
 ghost use Rattle.std.specs.Prelude.{◌≡◌, ℕ, ◌+◌, ◌<◌};
 ghost use Rattle.core_state.specs.declared.shape.Shape.{Shape};
 ghost use Rattle.core_acts.specs.declared.act.Act.TheVariants as acts;

@@ -61,8 +61,8 @@ pub fn tenths_of(nanos: u64, count: u64) -> (u64, u64) {
     (tenths / 10, tenths % 10)
 }
 
-/// A line: what did the work, which work, the threads, and how often, or where times are asked for, the nanoseconds of each one in tenths and
-/// what was told.
+/// A line: what did the work, which work, the threads, and how often, or where times are asked for, the nanoseconds of each one in tenths
+/// and what was told.
 pub fn write_line<R: Runtime>(
     rt: &R,
     whose: &str,

@@ -13,8 +13,8 @@ use crate::{reopening, sharing};
 use std::alloc::Global;
 
 impl Handle {
-    /// Closes the handle. What it had, places and tickets, waits in the index for [`Handle::reopen`], unless the handle is lost. The index is
-    /// freed with the last of its handles. A closed handle stays so.
+    /// Closes the handle. What it had, places and tickets, waits in the index for [`Handle::reopen`], unless the handle is lost. The index
+    /// is freed with the last of its handles. A closed handle stays so.
     pub fn close(&mut self, alloc: Global)
         ensures closed { self.new.held ≡ None }
     {
@@ -24,8 +24,8 @@ impl Handle {
     /// Makes `other` a second handle of the index, with so many of this one's unused handles (itself among them) and tickets. What it was
     /// open on before is closed.
     ///
-    /// `Done`; `Closed`; `BadArgument` where this one hasn't so many, or no handle is asked for; `NoMemory`; `Lost`. But at `Done` both are as
-    /// they were.
+    /// `Done`; `Closed`; `BadArgument` where this one hasn't so many, or no handle is asked for; `NoMemory`; `Lost`. But at `Done` both are
+    /// as they were.
     pub fn share(&mut self, alloc: Global, handles: u32, tickets: u64, other: &mut Handle) -> Status
         ensures shared { Makes (λ c d. Shares c handles tickets other.old.held result d other.new.held) self.old.held result self.new.held }
         ensures closed { self.old.held ≡ None → other.new.held ≡ other.old.held }
@@ -38,11 +38,11 @@ impl Handle {
         status
     }
 
-    /// Makes `other`, which is closed, a handle of the index, with the places and tickets that a handle had which was closed. Whose they were
-    /// isn't told.
+    /// Makes `other`, which is closed, a handle of the index, with the places and tickets that a handle had which was closed. Whose they
+    /// were isn't told.
     ///
-    /// `Done`; `Unchanged` where none wait; `Closed`; `BadArgument` where `other` is open; `NoMemory`; `Lost`. But at `Done` both are as they
-    /// were.
+    /// `Done`; `Unchanged` where none wait; `Closed`; `BadArgument` where `other` is open; `NoMemory`; `Lost`. But at `Done` both are as
+    /// they were.
     pub fn reopen(&mut self, alloc: Global, other: &mut Handle) -> Status
         ensures reopened { Makes (λ c d. Reopens c other.old.held result d other.new.held) self.old.held result self.new.held }
         ensures closed { self.old.held ≡ None → other.new.held ≡ other.old.held }
@@ -117,8 +117,8 @@ impl Handle {
 
     /// Gives the key this value, whether or not it is present: a replace, else an insert, until one of the two makes an update.
     ///
-    /// `Done` where a value was replaced, which is told; `New` where the pair was added; `Full` where no slot is free; `Moved` where others put
-    /// the key in and took it out in each of 1,000 rounds; `Closed`; `Spent`; `Lost`. Only at `Done` the old value is written.
+    /// `Done` where a value was replaced, which is told; `New` where the pair was added; `Full` where no slot is free; `Moved` where others
+    /// put the key in and took it out in each of 1,000 rounds; `Closed`; `Spent`; `Lost`. Only at `Done` the old value is written.
     pub fn upsert(&mut self, alloc: Global, key: u64, value: u64, old: &mut u64) -> Status
         ensures upserted { Makes (λ c d. Upserts c key value old.old result old.new d) self.old.held result self.new.held }
         ensures closed { self.old.held ≡ None → old.new ≡ old.old }
@@ -150,8 +150,8 @@ impl Handle {
     /// there is room for (1 to 1,048,576).
     ///
     /// `Done`; `More` where there are more, and then `next` is the key after those listed; `Moved` where updates were made in each of 1,000
-    /// tries; `Closed`; `BadArgument` where `low` is above `high` or the room is out of range; `NoMemory`; `Lost`. `count` is always written, and
-    /// is 0 but at `Done` and `More`; the pairs only at these, `next` only at `More`.
+    /// tries; `Closed`; `BadArgument` where `low` is above `high` or the room is out of range; `NoMemory`; `Lost`. `count` is always
+    /// written, and is 0 but at `Done` and `More`; the pairs only at these, `next` only at `More`.
     pub fn list(
         &mut self,
         alloc: Global,
@@ -177,8 +177,8 @@ impl Handle {
 
     /// Tells the pair with the least key at or above `low`, as it was at one moment of the call.
     ///
-    /// `Done`; `Unchanged` where there is none; `Moved` where updates were made in each of 1,000 tries; `Closed`; `NoMemory`; `Lost`. Only at
-    /// `Done` the pair is written.
+    /// `Done`; `Unchanged` where there is none; `Moved` where updates were made in each of 1,000 tries; `Closed`; `NoMemory`; `Lost`. Only
+    /// at `Done` the pair is written.
     pub fn first(&mut self, alloc: Global, low: u64, key: &mut u64, value: &mut u64) -> Status
         ensures found { Makes (λ c d. Firsts c low (key.old, value.old) result (key.new, value.new) d)
             self.old.held result self.new.held }

@@ -17,7 +17,8 @@ const LAST_WAITER: u32 = 2;
 
 impl Handle {
     /// Opens the handle on a new index with so many slots (1 to 2,097,152), for so many handles (1 to 64), with a waiter: 0 looks at each
-    /// reader, 1 counts readers by class, 2 looks at readers by class. The handle has all 2^57 tickets. What it was open on before is closed.
+    /// reader, 1 counts readers by class, 2 looks at readers by class. The handle has all 2^57 tickets. What it was open on before is
+    /// closed.
     ///
     /// `Done`; `BadArgument` where a number is out of range; `NoMemory`. But at `Done` the handle is as it was.
     pub fn open(&mut self, alloc: Global, slots: u32, handles: u32, waiter: u32) -> Status

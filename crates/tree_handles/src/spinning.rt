@@ -1,7 +1,7 @@
 //! How a call waits for other threads in a program that isn't Rattle.
 //!
-//! A static library may neither sleep nor yield the processor: the gate lets no crate here call the C library for that. So it spins, and the
-//! system's turns bring a thread on that is waited for.
+//! A static library may neither sleep nor yield the processor: the gate lets no crate here call the C library for that. So it spins, and
+//! the system's turns bring a thread on that is waited for.
 
 use patience::Patience;
 use std::hint;

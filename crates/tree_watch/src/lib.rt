@@ -1,5 +1,5 @@
-//! Scripts that run on one tree, snapshots of a key range that are taken beside them one after another, and the text of an account with four
-//! of them.
+//! Scripts that run on one tree, snapshots of a key range that are taken beside them one after another, and the text of an account with
+//! four of them.
 #![tactic(auto)]
 
 mod pauses;

@@ -33,8 +33,8 @@ fn look_once<W: WaitPart>(table: &CitrusTable<W>, seat: &mut Seat<W>, key: u64) 
     front
 }
 
-// Gives other threads turns until the front is another than the seat found it last, and answers whether it is; it isn't where they have ended
-// or had all turns.
+// Gives other threads turns until the front is another than the seat found it last, and answers whether it is; it isn't where they have
+// ended or had all turns.
 fn is_moved<W: WaitPart>(
     table: &CitrusTable<W>,
     seat: &mut Seat<W>,

@@ -107,8 +107,8 @@ struct Beside<W: WaitPart> {
     seat: Seat<W>,
 }
 
-// Runs the scripts on the table, takes the snapshots beside them, and joins the two seats. Once the scripts have ended no snapshot waits for
-// updates.
+// Runs the scripts on the table, takes the snapshots beside them, and joins the two seats. Once the scripts have ended no snapshot waits
+// for updates.
 fn run_beside<R: Threads + Wait + Sync, W: WaitPart + Send + Sync, G: Gate + Sync>(
     rt: &R,
     alloc: Global,

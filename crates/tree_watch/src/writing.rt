@@ -14,8 +14,8 @@ use prcu_model::{NoMemory, Scripts, ToldList, Update};
 use script_text::push_number;
 use std::alloc::Global;
 
-/// The watch text of what the scripts were told, with this history and the snapshots of these keys: the lines of its account have the replies
-/// that were told. The scripts share so many slots.
+/// The watch text of what the scripts were told, with this history and the snapshots of these keys: the lines of its account have the
+/// replies that were told. The scripts share so many slots.
 pub fn make_watch_text(
     alloc: Global,
     scripts: &Scripts,

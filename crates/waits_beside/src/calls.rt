@@ -10,8 +10,8 @@ use key_interval::Keys;
 use seat_table::{CitrusTable, Seat, WaitPart, wait_for_readers};
 use std::sync::Wait;
 
-/// Reads the value in a section with this key, which has to be one of the value's keys. It takes no lock and waits for nobody. The value was
-/// loaded in the section.
+/// Reads the value in a section with this key, which has to be one of the value's keys. It takes no lock and waits for nobody. The value
+/// was loaded in the section.
 pub fn read<W: WaitPart, V: Replaced>(
     table: &CitrusTable<W>,
     seat: &mut Seat<W>,
@@ -33,8 +33,8 @@ pub fn read<W: WaitPart, V: Replaced>(
     found
 }
 
-/// Publishes the new value of these keys, then waits for the readers of just these keys, then gives the old value up and answers it. One caller
-/// at a time may replace a value.
+/// Publishes the new value of these keys, then waits for the readers of just these keys, then gives the old value up and answers it. One
+/// caller at a time may replace a value.
 pub fn replace<R: Wait, W: WaitPart, V: Replaced>(
     rt: &R,
     table: &CitrusTable<W>,

@@ -20,8 +20,8 @@ pub struct OldPlace {
 }
 
 impl Published {
-    /// What stands in a place that was given up, and in the spare place at first. Any number may be published, this one too; but a reader that
-    /// finds it can't tell it from a value that was given up.
+    /// What stands in a place that was given up, and in the spare place at first. Any number may be published, this one too; but a reader
+    /// that finds it can't tell it from a value that was given up.
     pub const GIVEN_UP: u64 = u64::MAX;
 
     /// Publishes this value: each load finds it until another one is published.

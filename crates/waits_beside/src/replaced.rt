@@ -4,9 +4,9 @@ ghost use Rattle.core_state.specs.declared.view.Section.{Section};
 
 use seat_table::{Seat, WaitPart};
 
-/// A value that threads read in sections while one of them replaces it. What its own words hold no clause can say. So each of its steps says at
-/// which moment of the seat it was made, by a relation that each value gives as it likes: who is handed any such value can show the relation only
-/// by making the step at that moment.
+/// A value that threads read in sections while one of them replaces it. What its own words hold no clause can say. So each of its steps
+/// says at which moment of the seat it was made, by a relation that each value gives as it likes: who is handed any such value can show the
+/// relation only by making the step at that moment.
 pub trait Replaced {
     ghost use Rattle.std.specs.Prelude.{ℕ};
     ghost use Rattle.core_state.specs.declared.view.View.{View};

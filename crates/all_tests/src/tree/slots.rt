@@ -1,5 +1,5 @@
-//! What no clause says: what two seats find out of each other's slots and locks. With one slot and two places slots 1 and 2 are the spares, and
-//! slot 3 begins free.
+//! What no clause says: what two seats find out of each other's slots and locks. With one slot and two places slots 1 and 2 are the spares,
+//! and slot 3 begins free.
 use crate::same::assert_same;
 use eer_wait::Eer;
 use node_slots::{
