@@ -348,7 +348,8 @@ module _ (capacities : List ℕ) (places tickets : ℕ) (m : Memory) (vs : List 
     law8 = after_step capacities places tickets m vs h r id v w8 at m h
         (seats_same capacities places tickets m vs h r id v w8 at m
         (seat_holds v (Some new8) v.trail (λ commit held is had. (new8, refl))
-        (λ other is. let e : new8 ≡ other = cc in (subst (λ (z : Hold). z.class < 64) e (class_small hold mine), works hold mine))) refl refl)
+        (λ other is. let e : new8 ≡ other = cc in
+        (subst (λ (z : Hold). z.class < 64) e (class_small hold mine), works hold mine))) refl refl)
         hold.class (held_bucket hold new8)
         (holder_learns hold mine hold.known true v.seen (λ field number old. old field number)
         (λ small yes s of p j u section gone there inside class. absurd (no_section small j u section there inside class)))

@@ -407,7 +407,8 @@ module _ (capacities : List ℕ) (places tickets : ℕ) (m : Memory) (vs : List 
         let f = needs.field_is in
         let c : ℕ = hold.class in
         let chain : List ℕ = (r.bucket hold.class).chain in
-        held_law new11 refl field number (of_class11 field f) (words11 field f c).5 (record (r.bucket hold.class) { hold = Some new11 }) (record {
+        held_law new11 refl field number (of_class11 field f) (words11 field f c).5
+        (record (r.bucket hold.class) { hold = Some new11 }) (record {
           chained = record {
             path = subst (λ z. IsPath (λ s. m11 (Next s)) z chain) (sym (words11 field f c).2)
                 (IsPath-same (λ s. m (Next s)) (λ s. m11 (Next s)) (m (Head c)) chain
