@@ -63,9 +63,8 @@ gone_at-unlinked_other h s t ne = gone_at-snoc s h (Unlinked t) ∙ ap (λ b. co
 pub reuse_more : (capacities : List ℕ) (h : List Mark) (m : Mark) → ((s : ℕ) → m ≢ Given s) → ReuseByClass capacities h
     → ReuseByClass capacities (h ++ m ∷ [])
 reuse_more capacities h m none reuse j s c i p o given of gone there class =
-    past_snoc (λ (past : List Mark) (a : Mark). a ≡ Given s → last_unlinked s past ≡ Some i → open_at p past ≡ Some o → i < o.at)
-    h m (Given s)
-    (λ e _ _. absurd (none s e)) (λ n old _ last now. reuse n s c i p o old of last now class) j given refl gone there
+    past_snoc (λ (past : List Mark) (a : Mark). a ≡ Given s → last_unlinked s past ≡ Some i → open_at p past ≡ Some o → i < o.at) h m
+    (Given s) (λ e _ _. absurd (none s e)) (λ n old _ last now. reuse n s c i p o old of last now class) j given refl gone there
 
 pub reuse_nothing : (capacities : List ℕ) (h : List Mark) → ReuseByClass capacities h → ReuseByClass capacities (h ++ [])
 reuse_nothing capacities h reuse = subst (ReuseByClass capacities) (sym (append-nil h)) reuse

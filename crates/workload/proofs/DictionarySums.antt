@@ -90,9 +90,8 @@ entries_low (e ∷ es) sorted low = (
   entries_low es (and_yes _ _ sorted).1 (λ key value there.
       elim (eq_by_cmp nat_cmp key e.0) as (λ b. eq_by_cmp nat_cmp key e.0 ≡ b → IsLow key value) [
         | true ↦ λ same.
-            let no : None ≡ Some value =
-            sym (find_below e.0 es (and_yes _ _ sorted).0) ∙ ap (λ k. find nat_cmp k es) (sym (tied key e.0 same))
-            ∙ there in
+            let no : None ≡ Some value = sym (find_below e.0 es (and_yes _ _ sorted).0)
+            ∙ ap (λ k. find nat_cmp k es) (sym (tied key e.0 same)) ∙ there in
             absurd (cc)
         | false ↦ λ other. low key value (ap (λ b. cond b (Some e.1) (find nat_cmp key es)) other ∙ there)
       ] refl),
