@@ -1,5 +1,5 @@
 -- The numbers that may stand beside a script's lines, one line after another.
-use Rattle.std.proofs.Common.{◌≡◌, ℕ, ◌+◌, ◌<◌, ◌≤◌, Bool, true, false, List, [], ◌∷◌, length, get_or, drop, MatchBool, min, inl, inr, refl, ap, sym, ◌∙◌, arith}
+use Rattle.std.proofs.Common.{◌≡◌, ℕ, ◌+◌, ◌<◌, ◌≤◌, Bool, true, false, List, [], ◌∷◌, length, get_or, drop, MatchBool, min, inl, inr, ap, sym, ◌∙◌, arith}
 use Rattle.std.proofs.lemmas.Bool.{cases_lt}
 use Rattle.std.proofs.lemmas.List.{drop_more, drop_all}
 use Rattle.prcu_model.specs.declared.operation.Op.{Op}
@@ -9,6 +9,7 @@ use Rattle.prcu_model.specs.declared.operation.Update.{Update}
 use Rattle.prcu_model.specs.Dictionary.{map_at}
 use Rattle.prcu_model.specs.Replies.{Room, Explains, tells_update}
 use Rattle.prcu_model.specs.Fronts.{told_lines, MayStand, MayStandBeside, IsLeastFor, AreNumbered}
+use Rattle.prcu_model.proofs.ToldLists.{told_lines-none}
 use Rattle.account_text.specs.Lines.{line_of}
 
 -- the lines that are left, from the next on
@@ -30,10 +31,6 @@ told_lines-turn ops tolds i op told in_ops in_tolds is_op is_told =
 
 pub told_lines-end : (ops : List Op) (tolds : List Told) (i : ℕ) → length ops ≤ i → told_lines (drop i ops) (drop i tolds) ≡ []
 told_lines-end ops tolds i past = ap (λ os. told_lines os (drop i tolds)) (drop_all i ops past)
-
-told_lines-none : (ops : List Op) → told_lines ops [] ≡ []
-told_lines-none [] = refl
-told_lines-none (op ∷ ops) = refl
 
 -- none is left where the operations or the answers end
 pub told_lines-past : (ops : List Op) (tolds : List Told) (i : ℕ) → i ≡ min (length ops) (length tolds)

@@ -1,8 +1,8 @@
 -- A call of a client answers as its marks say.
-use Rattle.std.proofs.Common.{◌≡◌, ℕ, ◌+◌, ◌-◌, ◌≤◌, ◌==◌, Bool, true, false, cond, MatchBool, List, [], ◌∷◌, ◌++◌, length, Option, Some, None, is_some, refl, sym, ap, subst, ◌∙◌, arith, inl, inr, eq-eqb, append_assoc, append-nil, length-append}
+use Rattle.std.proofs.Common.{◌≡◌, ℕ, ◌+◌, ◌-◌, ◌≤◌, ◌==◌, true, false, cond, MatchBool, List, [], ◌∷◌, ◌++◌, length, Option, Some, None, is_some, refl, sym, ap, subst, ◌∙◌, arith, inl, inr, eq-eqb, append_assoc, append-nil}
 use Rattle.std.specs.List.{AllByRecursion, slice_get}
 use Rattle.std.specs.FinMap as finite
-use Rattle.std.proofs.lemmas.List.{take_all, take_at, take-append-le}
+use Rattle.std.proofs.lemmas.List.{take_all, take_at}
 use mathlib.Core.List.{IsPrefix}
 use Rattle.prcu_model.specs.declared.operation.Op.{Op}
 use Rattle.prcu_model.specs.declared.operation.Op.TheVariants.{Put, Get, Del, Set}
@@ -19,10 +19,10 @@ use Rattle.prcu_marks.specs.declared.mark.Mark.TheVariants.{Entered, Left, Began
 use Rattle.prcu_marks.specs.Chains.{IsChain}
 use Rattle.prcu_marks.specs.Callers as callers
 use Rattle.prcu_marks.specs.Callers.{Caller, HasSeenItsOwn, IsLeftBy, entered_for, IsMoveWait, WaitsFor, HasMadeUpdate, WasExplained, HasAnswered}
-use Rattle.prcu_marks.specs.Marks.{updates_of, is_of, own_of}
-use Rattle.prcu_marks.proofs.Callers.{HasTold, chain_tells, told_meets}
-use Rattle.prcu_marks.proofs.MarkLists.{updates_of-append}
-use Rattle.prcu_marks.proofs.OwnMarks.{entered_for-append}
+use Rattle.prcu_marks.specs.Marks.{updates_of, own_of}
+use Rattle.prcu_marks.proofs.Callers.{HasTold, chain_tells, told_meets, map_at-longer}
+use Rattle.prcu_marks.proofs.MarkLists.{updates_of-append, updates_below}
+use Rattle.prcu_marks.proofs.OwnMarks.{entered_for-append, own_twice}
 use Rattle.core_state.specs.declared.shape.Shape.{Shape}
 use Rattle.core_state.specs.declared.view.View.{View}
 use Rattle.tree_points.specs.Progress.{HasGone}
@@ -32,15 +32,6 @@ use Rattle.citrus_tree.specs.Lookups.{Looked, told_of, Gets}
 use Rattle.citrus_tree.specs.Replies.{WasAnswered, HasUpdated, HasTried, PutsBy, SetsBy, DelsBy}
 use Rattle.citrus_tree.specs.Clients.{ClientAt, caller_of, IsTold, HasCalled, room_of, ChainsMeetFronts}
 use Rattle.citrus_tree.proofs.Leavings.{goes_looked, was_answered}
-
-own_here : (p : ℕ) (m : Mark) (own : List Mark) → own_of p own ≡ own → (b : Bool) → is_of p m ≡ b
-    → own_of p (cond b (m ∷ own) own) ≡ cond b (m ∷ own) own
-own_here p m own twice true is = ap (λ b. cond b (m ∷ own_of p own) (own_of p own)) is ∙ ap (λ xs. m ∷ xs) twice
-own_here p m own twice false is = twice
-
-own_twice : (p : ℕ) (h : List Mark) → own_of p (own_of p h) ≡ own_of p h
-own_twice p [] = refl
-own_twice p (m ∷ h) = own_here p m (own_of p h) (own_twice p h) (is_of p m) refl
 
 -- ---- marks of a call before its update
 
@@ -78,12 +69,6 @@ no_updates place key (Freed s ∷ ms) all = absurd all.0
 -- who has seen more has seen no fewer updates, and as many maps more
 updates_more : (a b : List Mark) → IsPrefix a b → (more : List Update) × (updates_of b ≡ updates_of a ++ more)
 updates_more a b p = (updates_of p.0, ap updates_of (sym p.1) ∙ updates_of-append a p.0)
-
-updates_below : (a b : List Mark) → IsPrefix a b → length (updates_of a) ≤ length (updates_of b)
-updates_below a b p = let e = ap length (updates_more a b p).1 in omega (arith, e, length-append (updates_of a) (updates_more a b p).0)
-
-map_before : (us more : List Update) (front : ℕ) → front ≤ length us → map_at (us ++ more) front ≡ map_at us front
-map_before us more front below = ap map_of (take-append-le front us more below)
 
 at_end : (us more : List Update) (x : Update) → slice_get (us ++ x ∷ more) (length us) ≡ Some x
 at_end [] more x = refl
@@ -143,7 +128,7 @@ module _ (explains : Dictionary → Op → Reply → Type 0) (v w : View) (op : 
       unchanged tries t tells a.said.front (omega arith) (omega arith)
       (explained (map_at (updates_of w.seen) a.said.front)
       (ap (λ us. finite.get (map_at us a.said.front) (key_of op)) more.1
-      ∙ ap (λ m. finite.get m (key_of op)) (map_before (updates_of a.until) more.0 a.said.front a.said.made) ∙ a.said.answers))
+      ∙ ap (λ m. finite.get m (key_of op)) (map_at-longer (updates_of a.until) more.0 a.said.front a.said.made) ∙ a.said.answers))
 
   -- a call that made its update, with the marks that it left before and after
   updated : (tries before after : List Mark) → HasUpdated v op tries before after told.number w → updates_of after ≡ []

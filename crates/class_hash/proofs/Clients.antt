@@ -1,5 +1,5 @@
 -- A call of a client answers as its marks say.
-use Rattle.std.proofs.Common.{◌≡◌, ℕ, ◌+◌, ◌-◌, ◌≤◌, ◌==◌, true, false, cond, MatchBool, List, [], ◌∷◌, ◌++◌, length, Option, Some, None, is_some, refl, sym, ap, subst, ◌∙◌, arith, inl, eq-eqb, append_assoc, append-nil, length-append}
+use Rattle.std.proofs.Common.{◌≡◌, ℕ, ◌+◌, ◌-◌, ◌≤◌, ◌==◌, true, false, cond, MatchBool, List, [], ◌∷◌, ◌++◌, length, Option, Some, None, is_some, refl, sym, ap, subst, ◌∙◌, arith, inl, eq-eqb, append_assoc, length-append}
 use Rattle.std.specs.List.{AllByRecursion, slice_get}
 use Rattle.std.specs.FinMap as finite
 use Rattle.std.proofs.lemmas.List.{take_all, take_at}
@@ -16,8 +16,8 @@ use Rattle.prcu_model.specs.Dictionary.{Dictionary, key_of, map_of, map_at}
 use Rattle.prcu_model.specs.Replies.{Confirms, tells_update}
 use Rattle.prcu_marks.specs.Marks.{updates_of}
 use Rattle.prcu_marks.specs.Callers.{Caller, HasSeenItsOwn, IsLeftBy, entered_for, WaitsFor, HasMadeUpdate, WasExplained, HasAnswered}
-use Rattle.prcu_model.proofs.ListFacts.{prefix_self, prefix_trans, all_map, all_append}
-use Rattle.prcu_marks.proofs.MarkLists.{updates_of-append}
+use Rattle.prcu_model.proofs.ListFacts.{prefix_trans, all_map, all_append}
+use Rattle.prcu_marks.proofs.MarkLists.{updates_of-append, updates_below}
 use Rattle.prcu_marks.proofs.OwnMarks.{entered_for-append}
 use Rattle.hash_core.specs.declared.view.View.{View}
 use Rattle.class_hash.specs.Answers.{IsInformed}
@@ -28,6 +28,7 @@ use Rattle.prcu_marks.specs.Chains.{IsChain}
 use Rattle.prcu_model.specs.Fronts.{own_updates}
 use Rattle.prcu_marks.proofs.Callers.{HasTold, chain_tells, told_meets}
 use Rattle.class_hash.specs.Clients.{ChainsMeetFronts, ClientAt, caller_of, Makes, HasCalled, ExplainsInClasses}
+use Rattle.class_hash.proofs.Trying.{nothing_tried}
 
 -- ---- marks of sections
 
@@ -61,11 +62,6 @@ no_updates place key (Done u ∷ ms) all = absurd all.0
 no_updates place key (Given s ∷ ms) all = absurd all.0
 no_updates place key (Unlinked s ∷ ms) all = absurd all.0
 no_updates place key (Freed s ∷ ms) all = absurd all.0
-
--- who has seen more has seen no fewer updates
-updates_below : (a b : List Mark) → IsPrefix a b → length (updates_of a) ≤ length (updates_of b)
-updates_below a b p = let e = ap length (ap updates_of (sym p.1) ∙ updates_of-append a p.0) in
-    omega (arith, e, length-append (updates_of a) (updates_of p.0))
 
 module _ (explains : Dictionary → Op → Reply → Type 0) (v w : View) (op : Op) (told : Told)
     (met : HasSeenItsOwn (record { place = w.place; own = w.own; seen = w.seen })) where
@@ -177,9 +173,6 @@ module _ (explains : Dictionary → Op → Reply → Type 0) (v w : View) (op : 
       at_end [] x = refl
       at_end (y ∷ us) x = at_end us x
 
-nothing_before : (v : View) (key : ℕ) → HasTried v key v
-nothing_before v key = record { marks = []; plain = tt; own = sym (append-nil v.own); seen = prefix_self v.seen; view = refl }
-
 absent : (capacities : List ℕ) (m : Dictionary) (key : ℕ) → finite.get m key ≡ None → finite.contains_key m key ≡ false
 absent capacities m key none = ap is_some none
 
@@ -198,9 +191,9 @@ module _ (capacities : List ℕ) (v w : View) (places : ℕ) (informed : IsInfor
           → HasAnswered (ExplainsInClasses capacities) (record { place = v.place; own = v.own; seen = v.seen }) (Get key) (told_of answer)
           (record { place = w.place; own = w.own; seen = w.seen })
       by None l = looked (ExplainsInClasses capacities) v w (Get key) (record { reply = Absent; number = 0 }) met_here v None
-          (nothing_before v key) l refl (λ m none. absent capacities m key none)
+          (nothing_tried v key) l refl (λ m none. absent capacities m key none)
       by (Some value) l = looked (ExplainsInClasses capacities) v w (Get key) (record { reply = Val value; number = 0 }) met_here v
-          (Some value) (nothing_before v key) l refl (λ m is. is)
+          (Some value) (nothing_tried v key) l refl (λ m is. is)
 
   was_put : (key value : ℕ) (reply : Reply) (number : ℕ) → PutsBy capacities v key value reply number w
       → HasAnswered (ExplainsInClasses capacities) (record { place = v.place; own = v.own; seen = v.seen }) (Put key value)

@@ -47,7 +47,8 @@ use Rattle.hash_core.proofs.Stocks.{rule as held_rule, is_known, roles_by}
 use Rattle.prcu_model.specs.History.{IsLegal}
 use Rattle.hash_core.specs.declared.act.Act.{Act}
 use Rattle.hash_core.specs.declared.act.Act.TheVariants as act
-use Rattle.hash_core.specs.Acts.{Access, adds, subtracts, section_of, hold_of, field_of, access_of, noted, Needs, done}
+use Rattle.prcu_marks.specs.Accesses.{StaysWord}
+use Rattle.hash_core.specs.Acts.{section_of, hold_of, field_of, access_of, noted, Needs, done}
 use Rattle.hash_core.proofs.Acting.{section_is, hold_is}
 use Rattle.hash_core.proofs.Sections.{some_reader}
 use Rattle.class_hash.specs.Seats.{HasPlace, HasRoom}
@@ -298,19 +299,13 @@ module _ (capacities : List ℕ) (places tickets : ℕ) (m : Memory) (vs : List 
     few_tickets = few_tickets;
   }
 
--- what is added never wraps, and what is subtracted is there
-abbrev pub Fits : Access → ℕ → Type 0
-Fits (adds x) n = n + x < 18446744073709551616
-Fits (subtracts x) n = x ≤ n
-Fits _ n = Unit {0}
-
 module _ (capacities : List ℕ) (places tickets : ℕ) (m : Memory) (vs : List View) (h : List Mark)
     (r : MemoryRule capacities places tickets m vs h) (id : ℕ) (v : View) (at : get_elem? vs id ≡ some v) where
   -- a section's class has its reader
   one_reader : (section : Section) → v.section ≡ Some section → 1 ≤ m (Readers (section.key % 64))
   one_reader section inside = some_reader capacities places tickets m vs h r id v at section inside (key_small section.key)
 
-  pub fits : (a : Act) → Needs capacities v a → Fits (access_of v a) (m (field_of v a))
+  pub fits : (a : Act) → Needs capacities v a → StaysWord (access_of v a) (m (field_of v a))
   fits (act.Enter key) d =
       let few = few_readers capacities places tickets m vs h r (key % 64) in
       let counted = (r.buckets (key % 64) (key_small key)).counted.readers in

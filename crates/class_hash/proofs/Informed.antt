@@ -1,13 +1,14 @@
 -- What is known of seats that are made and split.
-use Rattle.std.proofs.Common.{ℕ, ◌<◌, ◌≤◌, List, refl, ◌∙◌, inl, inr, arith}
+use Rattle.std.proofs.Common.{ℕ, ◌<◌, ◌≤◌, List, [], refl, ◌∙◌, inl, inr, arith}
 use Rattle.hash_core.specs.declared.view.View.{View}
-use Rattle.hash_core.specs.Fresh.{first_view}
 use Rattle.hash_core.specs.Seats.{HasPlace, AnswersFor}
-use Rattle.hash_core.specs.Steps.{first_of, second_of}
+use Rattle.hash_core.specs.Steps.{new_view, first_of, second_of}
 use Rattle.class_hash.specs.Answers.{IsInformed}
 
-pub fresh_informed : (capacities : List ℕ) (places tickets : ℕ) → 1 ≤ places → IsInformed capacities places (first_view places tickets)
-fresh_informed capacities places tickets some_place = record {
+-- a seat that has done nothing is informed
+pub new_informed : (capacities : List ℕ) (places place own tickets : ℕ) → 1 ≤ own
+    → IsInformed capacities places (new_view place own tickets [])
+new_informed capacities places place own tickets some_place = record {
   works = some_place;
   heard = tt;
   legal = tt;

@@ -1,7 +1,7 @@
 -- A slot linked under a bucket's lock.
-use Rattle.std.proofs.Common.{◌≡◌, ℕ, ◌+◌, ◌*◌, ◌-◌, ◌/◌, ◌≤◌, true, false, List, [], ◌∷◌, ◌++◌, length, Option, Some, None, refl, sym, ap, subst, ◌∙◌, arith}
+use Rattle.std.proofs.Common.{◌≡◌, ℕ, ◌+◌, ◌*◌, ◌/◌, ◌≤◌, true, false, List, [], ◌∷◌, ◌++◌, length, Option, Some, None, refl, sym, ap, subst, ◌∙◌, arith}
 use mathlib.Core.List.{IsPrefix}
-use Rattle.prcu_marks.specs.declared.mark.Mark.TheVariants.{Done, Given}
+use Rattle.prcu_marks.specs.declared.mark.Mark.TheVariants.{Given}
 use Rattle.prcu_model.specs.declared.operation.Op.TheVariants.{Put}
 use Rattle.prcu_model.specs.History.{IsLegal}
 use Rattle.hash_core.specs.declared.words.Field.TheVariants.{Front, Lock, Head}
@@ -21,7 +21,7 @@ use Rattle.class_hash.specs.Told.{Told}
 use Rattle.class_hash.specs.Calls.{Unlocks}
 use Rattle.class_hash.proofs.Calls.{goes_by, goes_on}
 use Rattle.class_hash.specs.Trails.{AddsNoLists}
-use Rattle.class_hash.specs.Updates.{HasTurned}
+use Rattle.class_hash.specs.Updates.{HasTurned, with_update}
 use Rattle.class_hash.specs.Puts.{HasFree, MayAdd, MayFill, MayLink, Filled, Linked, Added}
 use Rattle.prcu_model.proofs.ListFacts.{prefix_trans}
 use Rattle.class_hash.proofs.Trails.{adds_step, adds_both}
@@ -95,13 +95,7 @@ module _ {v : View} {slot key value : ℕ} (may : MayLink v slot key value) {eve
             number_is = (let half : even / 2 + 1 ≡ length (updates_of x2.seen) = omega arith in half)
                 ∙ ap (λ z. length (updates_of z)) (sym seen4);
             view = last ∙ ap (λ (q : Option Commit). record (goes_by act.Unlock [] 0 v3) { commit = q }) (sym may.commit)
-                ∙ sym (ap (λ (z : View). record v {
-                  tickets = v.tickets - 1;
-                  hold = None;
-                  own = v.own ++ Done (record { caller = v.place; op = Put key value }) ∷ [];
-                  trail = z.trail;
-                  seen = c.marks ++ Done (record { caller = v.place; op = Put key value }) ∷ [];
-                }) last);
+                ∙ sym (ap (λ (z : View). with_update v (Put key value) c.marks [] z.trail) last);
           }
 
       pub linked_trail : {x4 : View} → Unlocks x3 x4 → AddsNoLists v.trail x4.trail
@@ -130,13 +124,7 @@ may_fill capacities v x key free slot may f is =
 pub added : (capacities : List ℕ) (v x y w : View) (key value free slot number : ℕ) → HasFree capacities v free x
     → Filled x slot key value y → Linked y key value number w → AddsNoLists y.trail w.trail → Added capacities v key value number w
 added capacities v x y w key value free slot number f g l on =
-    let F : View → View = λ z. record z {
-      tickets = z.tickets - 1;
-      hold = None;
-      own = z.own ++ Done (record { caller = z.place; op = Put key value }) ∷ [];
-      trail = w.trail;
-      seen = l.before ++ Done (record { caller = z.place; op = Put key value }) ∷ [];
-    } in
+    let F : View → View = λ z. with_update z (Put key value) l.before [] w.trail in
     let since : IsPrefix v.seen g.before = prefix_trans v.seen x.seen g.before f.seen g.since in
     let until_w : AddsNoLists x.trail w.trail = adds_both x.trail y.trail w.trail g.trail on in
     let until : IsPrefix (g.before ++ Given slot ∷ []) l.before = subst (λ (z : View). IsPrefix z.seen l.before) g.view l.since in

@@ -21,29 +21,12 @@ use Rattle.hash_core.specs.Acts.{section_of, noted, after}
 use Rattle.hash_core.proofs.Acting.{section_is}
 use Rattle.class_hash.specs.Seats.{TableAt}
 use Rattle.class_hash.specs.Told.{Told}
-use Rattle.class_hash.specs.Lookups.{IsSearching, IsAtLink, Looked}
+use Rattle.class_hash.specs.Lookups.{IsSearching, IsAtLink, Looked, searching}
 use Rattle.prcu_model.proofs.ListFacts.{all_append}
 
 module _ (v : View) (key : ℕ) where
   abbrev at : ℕ → ℕ → SearchState → Option ℕ → Section
   at entered from state loaded = record { key = key; count = v.sections; entered = entered; from = from; state = state; loaded = loaded }
-
-  -- the view in the section
-  abbrev inside : List Mark → List StepMade → SearchState → Option ℕ → View
-  inside before steps state loaded = record v {
-    section = Some (record {
-      key = key;
-      count = v.sections;
-      entered = length before;
-      from = length (updates_of before);
-      state = state;
-      loaded = loaded;
-    });
-    sections = v.sections + 1;
-    own = v.own ++ Entered v.place v.sections key ∷ [];
-    trail = v.trail ++ steps;
-    seen = before ++ Entered v.place v.sections key ∷ [];
-  }
 
   -- the section that a search is in
   pub section_at : (state : SearchState) (loaded : Option ℕ) (w : View) (i : IsSearching v key state loaded w)
@@ -67,7 +50,7 @@ module _ (v : View) (key : ℕ) where
         };
         since = i.since;
         view = told.goes ∙ ap (λ (z : View). after (noted z (SearchLoad field) n) (SearchLoad field) told.marks n) i.view
-            ∙ (λ j. record (inside i.before i.steps state loaded) {
+            ∙ (λ j. record (searching v key i.before i.steps state loaded) {
               section = Some (goes (length i.before) (length (updates_of i.before)) j);
               trail = append_assoc v.trail i.steps (record { kind = H5; field = field; number = n } ∷ []) j;
             });

@@ -1,5 +1,5 @@
 -- What is so of seats between two steps, and that they may be split and joined.
-use Rattle.std.proofs.Common.{◌≡◌, ℕ, ◌<◌, Option, Some, None, sym, ap, subst, ◌∙◌}
+use Rattle.std.proofs.Common.{◌≡◌, ℕ, ◌<◌, Option, Some, None, sym, ap, subst, ◌∙◌, unwrap_or}
 use Rattle.atomic_table.specs.Table.{State, Splits, Joins}
 use Rattle.hash_core.specs.declared.shape.Shape.{Shape}
 use Rattle.hash_core.specs.declared.view.View.{View}
@@ -10,7 +10,7 @@ use Rattle.hash_core.proofs.Splits.{law1, law2}
 use Rattle.hash_core.specs.declared.view.SearchState.TheVariants.{Start}
 use Rattle.hash_core.specs.declared.view.Section.{Section}
 use Rattle.hash_core.specs.declared.view.Hold.{Hold}
-use Rattle.hash_core.specs.Acts.{or_else, section_of, hold_of}
+use Rattle.hash_core.specs.Acts.{section_of, hold_of}
 use Rattle.hash_core.proofs.Acting.{hold_is}
 use Rattle.class_hash.specs.declared.rule.Nothing.{Nothing}
 use Rattle.class_hash.specs.declared.seat.Bucket.{Bucket}
@@ -41,7 +41,7 @@ module _ (k : Shape) (id : ℕ) (v : View) where
 pub held_class : (bucket : Bucket) (v : View) → IsHolding (Some bucket) v.hold → bucket.class ≡ (hold_of v).class
 held_class bucket v holding = by v.hold holding
   where
-    by : (held : Option Hold) → IsHolding (Some bucket) held → bucket.class ≡ (or_else (fresh_hold 0) held).class
+    by : (held : Option Hold) → IsHolding (Some bucket) held → bucket.class ≡ (unwrap_or held (fresh_hold 0)).class
     by None is = absurd is
     by (Some hold) is = is.same
 
@@ -56,7 +56,7 @@ pub read_class : (key : ℕ) (v : View) → IsInside (Some key) v.section → ke
 read_class key v is = by v.section is
   where
     by : (inside : Option Section) → IsInside (Some key) inside
-        → key ≡ (or_else (record { key = 0; count = 0; entered = 0; from = 0; state = Start; loaded = None }) inside).key
+        → key ≡ (unwrap_or inside (record { key = 0; count = 0; entered = 0; from = 0; state = Start; loaded = None })).key
     by None is = absurd is
     by (Some section) is = is
 

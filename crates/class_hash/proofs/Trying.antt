@@ -31,7 +31,7 @@ use Rattle.class_hash.proofs.Calls.{goes_by}
 use Rattle.class_hash.specs.Trails.{AddsNoLists, BeginsByLookup}
 use Rattle.class_hash.specs.Lookups.{Looked}
 use Rattle.class_hash.specs.Walks.{HasLoaded, IsFoundAt}
-use Rattle.class_hash.specs.Updates.{HasLocked, MayReplace, Replaced, link_after, MayUnlink, Removed}
+use Rattle.class_hash.specs.Updates.{HasLocked, MayReplace, Replaced, link_after, MayUnlink, Removed, with_update}
 use Rattle.class_hash.specs.Calls.{HasFinished, Unlocks, Lists}
 use Rattle.class_hash.specs.Puts.{MayAdd, Linked, Added, LeavesFull}
 use Rattle.class_hash.specs.Replies.{IsOfSection, HasTried, HasUpdated, HasWalked, told_added, PutsBy, Puts, SetsBy, DelsBy}
@@ -45,6 +45,10 @@ still_quiet v w key quiet t = (ap (λ (z : View). z.section) t.view ∙ quiet.0,
 pub looked_quiet : (w x : View) (key : ℕ) (answer : Option ℕ) → IsQuiet w → Looked w key answer x → IsQuiet x
 looked_quiet w x key answer quiet l = (ap (λ (z : View). z.section) l.view, ap (λ (z : View). z.hold) l.view ∙ quiet.1)
 
+-- a bucket that was locked is held
+pub locked_holds : {v w : View} {class : ℕ} → HasLocked v class w → w.hold ≡ Some (fresh_hold class)
+locked_holds k = ap (λ (u : View). u.hold) k.view
+
 -- from the search to the walk
 module _ {v w x y z : View} {key class : ℕ} {answer : Option ℕ} {new : Hold} (quiet : IsQuiet v) (t : HasTried v key w)
     (l : Looked w key answer x) (k : HasLocked x class y)
@@ -52,49 +56,25 @@ module _ {v w x y z : View} {key class : ℕ} {answer : Option ℕ} {new : Hold}
   marks : List Mark
   marks = Entered w.place w.sections key ∷ Left w.place w.sections ∷ []
 
-  abbrev base : View
-  base = record w {
+  -- a view with the section of the search behind it
+  abbrev after_section : View → View
+  after_section u = record u {
     section = None;
     sections = w.sections + 1;
     own = (w.own ++ Entered w.place w.sections key ∷ []) ++ Left w.place w.sections ∷ [];
-    trail = x.trail;
-    seen = x.seen;
   }
 
-  x_is : x ≡ record w {
-    section = None;
-    sections = w.sections + 1;
-    own = (w.own ++ Entered w.place w.sections key ∷ []) ++ Left w.place w.sections ∷ [];
-    trail = x.trail;
-    seen = x.seen;
-  }
-  x_is = l.view ∙ (λ j. record w {
-    section = None;
-    sections = w.sections + 1;
-    own = (w.own ++ Entered w.place w.sections key ∷ []) ++ Left w.place w.sections ∷ [];
-    trail = (sym l.view j).trail;
-    seen = (sym l.view j).seen;
-  })
+  x_is : x ≡ record (after_section w) { trail = x.trail; seen = x.seen }
+  x_is = l.view ∙ (λ j. record (after_section w) { trail = (sym l.view j).trail; seen = (sym l.view j).seen })
 
   -- after the walk: that of the start, but for the lock, what was seen and done
-  z_is : z ≡ record v {
-    section = None;
-    sections = w.sections + 1;
-    hold = Some new;
-    own = (w.own ++ Entered w.place w.sections key ∷ []) ++ Left w.place w.sections ∷ [];
-    trail = z.trail;
-    seen = z.seen;
-  }
+  abbrev walked : View
+  walked = record (after_section v) { hold = Some new; trail = z.trail; seen = z.seen }
+
+  z_is : z ≡ walked
   z_is = n.view ∙ (λ j. record (k.view j) { hold = Some new; trail = z.trail; seen = z.seen })
       ∙ (λ j. record (x_is j) { hold = Some new; trail = z.trail; seen = z.seen })
-      ∙ (λ j. record (t.view j) {
-        section = None;
-        sections = w.sections + 1;
-        hold = Some new;
-        own = (w.own ++ Entered w.place w.sections key ∷ []) ++ Left w.place w.sections ∷ [];
-        trail = z.trail;
-        seen = z.seen;
-      })
+      ∙ (λ j. record (after_section (t.view j)) { hold = Some new; trail = z.trail; seen = z.seen })
 
   same_place : w.place ≡ v.place
   same_place = ap (λ (u : View). u.place) t.view
@@ -159,16 +139,6 @@ module _ {v w x y z : View} {key class : ℕ} {answer : Option ℕ} {new : Hold}
     ticket = subst (λ q. 1 ≤ q) (sym (ap (λ (u : View). u.tickets) z_is)) ticket;
   }
 
-  abbrev walked : View
-  walked = record v {
-    section = None;
-    sections = w.sections + 1;
-    hold = Some new;
-    own = (w.own ++ Entered w.place w.sections key ∷ []) ++ Left w.place w.sections ∷ [];
-    trail = z.trail;
-    seen = z.seen;
-  }
-
   pub tried_again : (u : View) → Unlocks z u → HasTried v key u
   tried_again u e =
       let F : View → View = goes_by act.Unlock [] 0 in
@@ -198,13 +168,7 @@ module _ {v w x y z : View} {key class : ℕ} {answer : Option ℕ} {new : Hold}
   -- the update that was made after the walk is the one of the call
   updated_by : (op : Op) (before more : List Mark) (number : ℕ) (u : View) → key_of op ≡ key → IsPrefix z.seen before
       → IsLegal (updates_of u.seen) → number ≡ length (updates_of u.seen)
-      → u ≡ record z {
-        tickets = z.tickets - 1;
-        hold = None;
-        own = z.own ++ Done (record { caller = z.place; op = op }) ∷ [];
-        trail = u.trail;
-        seen = before ++ Done (record { caller = z.place; op = op }) ∷ more;
-      }
+      → u ≡ with_update z op before more u.trail
       → HasUpdated v op before more number u
   updated_by op before more number u key_is since legal number_is view =
       let place : z.place ≡ v.place = ap (λ (y : View). y.place) z_is in

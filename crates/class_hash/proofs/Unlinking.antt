@@ -1,7 +1,7 @@
 -- A slot unlinked under a bucket's lock.
-use Rattle.std.proofs.Common.{◌≡◌, ℕ, ◌+◌, ◌*◌, ◌-◌, ◌/◌, ◌≤◌, true, false, [], ◌∷◌, ◌++◌, length, Option, Some, None, refl, sym, ap, subst, ◌∙◌, arith}
+use Rattle.std.proofs.Common.{◌≡◌, ℕ, ◌+◌, ◌*◌, ◌/◌, ◌≤◌, true, false, [], ◌∷◌, length, Option, Some, None, refl, sym, ap, subst, ◌∙◌, arith}
 use mathlib.Core.List.{IsPrefix}
-use Rattle.prcu_marks.specs.declared.mark.Mark.TheVariants.{Done, Unlinked}
+use Rattle.prcu_marks.specs.declared.mark.Mark.TheVariants.{Unlinked}
 use Rattle.prcu_model.specs.declared.operation.Op.TheVariants.{Del}
 use Rattle.prcu_model.specs.History.{IsLegal}
 use Rattle.hash_core.specs.declared.words.Field.{Field}
@@ -23,7 +23,7 @@ use Rattle.class_hash.specs.Calls.{Unlocks}
 use Rattle.class_hash.proofs.Trails.{adds_step, adds_both}
 use Rattle.class_hash.proofs.Calls.{goes_by, goes_on}
 use Rattle.class_hash.specs.Walks.{HasLoaded, KnowsMore, IsLinkedFrom}
-use Rattle.class_hash.specs.Updates.{HasTurned, link_after, MayUnlink, Removed}
+use Rattle.class_hash.specs.Updates.{HasTurned, link_after, MayUnlink, Removed, with_update}
 use Rattle.class_hash.proofs.Walking.{not_loaded, loaded_more, knows_more, known_here, comes_to_still}
 use Rattle.prcu_model.proofs.ListFacts.{prefix_trans}
 
@@ -225,13 +225,7 @@ module _ {table : TableAt} {v : View} {previous : Option ℕ} {slot key : ℕ} (
                     number_is = (let half : even / 2 + 1 ≡ length (updates_of x4.seen) = omega arith in half)
                         ∙ ap (λ z. length (updates_of z)) (sym seen8);
                     view = last ∙ ap (λ (q : Option Commit). record (goes_by act.Unlock [] 0 v7) { commit = q }) (sym may.finished.even)
-                        ∙ sym (ap (λ (z : View). record v {
-                          tickets = v.tickets - 1;
-                          hold = None;
-                          own = v.own ++ Done (record { caller = v.place; op = Del key }) ∷ [];
-                          trail = z.trail;
-                          seen = c.marks ++ Done (record { caller = v.place; op = Del key }) ∷ Unlinked slot ∷ [];
-                        }) last);
+                        ∙ sym (ap (λ (z : View). with_update v (Del key) c.marks (Unlinked slot ∷ []) z.trail) last);
                   }
 
               pub removed_trail : {x8 : View} → Unlocks x7 x8 → AddsNoLists v.trail x8.trail

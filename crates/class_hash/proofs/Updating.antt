@@ -1,7 +1,6 @@
 -- Updates under a bucket's lock.
-use Rattle.std.proofs.Common.{◌≡◌, ◌≢◌, ℕ, ◌+◌, ◌*◌, ◌-◌, ◌/◌, ◌%◌, ◌≤◌, true, false, cond, [], ◌∷◌, ◌++◌, length, Option, Some, None, refl, sym, ap, subst, ◌∙◌, arith, eq-eqb, ne_eqb}
+use Rattle.std.proofs.Common.{◌≡◌, ◌≢◌, ℕ, ◌+◌, ◌*◌, ◌/◌, ◌%◌, ◌≤◌, true, false, cond, [], length, Option, Some, refl, sym, ap, subst, ◌∙◌, arith, eq-eqb, ne_eqb}
 use mathlib.Core.List.{IsPrefix}
-use Rattle.prcu_marks.specs.declared.mark.Mark.TheVariants.{Done}
 use Rattle.prcu_model.specs.declared.operation.Op.TheVariants.{Set}
 use Rattle.prcu_model.specs.History.{IsLegal}
 use Rattle.hash_core.specs.declared.words.Field.TheVariants.{Front, Lock, Head, Key, Value}
@@ -23,7 +22,7 @@ use Rattle.class_hash.specs.Told.{Told}
 use Rattle.class_hash.specs.Trails.{loads_free, AddsNoLists}
 use Rattle.class_hash.specs.Calls.{HasFinished, Unlocks}
 use Rattle.class_hash.specs.Walks.{HasLoaded, KnowsMore}
-use Rattle.class_hash.specs.Updates.{HasStepped, HasLocked, HasTurned, MayReplace, Replaced}
+use Rattle.class_hash.specs.Updates.{HasStepped, HasLocked, HasTurned, MayReplace, Replaced, with_update}
 use Rattle.class_hash.proofs.Walking.{not_loaded, loaded_more, knows_more, known_here, comes_to_still}
 use Rattle.prcu_model.proofs.ListFacts.{prefix_trans}
 use Rattle.class_hash.proofs.Calls.{goes_by, goes_on}
@@ -202,13 +201,7 @@ module _ {table : TableAt} {v x1 x2 : View} {slot key old even : ℕ} (value : �
             number_is = (let half : even / 2 + 1 ≡ length (updates_of x3.seen) = omega arith in half)
                 ∙ ap (λ z. length (updates_of z)) (sym seen5);
             view = last ∙ ap (λ (t : Option Commit). record (goes_by act.Unlock [] 0 v4) { commit = t }) (sym may.finished.even)
-                ∙ sym (ap (λ (z : View). record v {
-                  tickets = v.tickets - 1;
-                  hold = None;
-                  own = v.own ++ Done (record { caller = v.place; op = Set key value }) ∷ [];
-                  trail = z.trail;
-                  seen = c.marks ++ Done (record { caller = v.place; op = Set key value }) ∷ [];
-                }) last);
+                ∙ sym (ap (λ (z : View). with_update v (Set key value) c.marks [] z.trail) last);
           }
 
       pub replaced_trail : {x5 : View} → Unlocks x4 x5 → AddsNoLists v.trail x5.trail

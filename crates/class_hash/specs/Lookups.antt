@@ -13,26 +13,30 @@ use Rattle.hash_core.specs.Steps.{link_stand}
 use Rattle.hash_core.specs.Slots.{is_slot_of}
 use Rattle.class_hash.specs.Trails.{HasBegunLookup, IsLookup}
 
+-- the view in a section with the key that was entered after these marks
+abbrev pub searching : View → ℕ → List Mark → List StepMade → SearchState → Option ℕ → View
+searching v key before steps state loaded = record v {
+  section = Some (record {
+    key = key;
+    count = v.sections;
+    entered = length before;
+    from = length (updates_of before);
+    state = state;
+    loaded = loaded;
+  });
+  sections = v.sections + 1;
+  own = v.own ++ Entered v.place v.sections key ∷ [];
+  trail = v.trail ++ steps;
+  seen = before ++ Entered v.place v.sections key ∷ [];
+}
+
 -- A section with the key was entered after these marks, and its search stands there. There were loads in it alone since then.
 pub record IsSearching (v : View) (key : ℕ) (state : SearchState) (loaded : Option ℕ) (w : View) : Type 0 where
   pub before : List Mark
   pub steps : List StepMade
   pub made : HasBegunLookup key steps
   pub since : IsPrefix v.seen before
-  pub view : w ≡ record v {
-    section = Some (record {
-      key = key;
-      count = v.sections;
-      entered = length before;
-      from = length (updates_of before);
-      state = state;
-      loaded = loaded;
-    });
-    sections = v.sections + 1;
-    own = v.own ++ Entered v.place v.sections key ∷ [];
-    trail = v.trail ++ steps;
-    seen = before ++ Entered v.place v.sections key ∷ [];
-  }
+  pub view : w ≡ searching v key before steps state loaded
 
 -- The search stands at the slot that a link leads to, if the link isn't 0.
 pub record IsAtLink (capacities : List ℕ) (v : View) (key link : ℕ) (w : View) : Type 0 where

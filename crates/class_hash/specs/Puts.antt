@@ -1,9 +1,9 @@
 -- What a put makes of a view, under a bucket's lock.
 -- Source: docs/HASH_DICTIONARY.md, "The calls of the hash dictionary".
-use Rattle.std.specs.Prelude.{◌≡◌, ◌≢◌, ℕ, ◌-◌, ◌%◌, ◌≤◌, true, List, [], ◌∷◌, ◌++◌, length, Some, None}
+use Rattle.std.specs.Prelude.{◌≡◌, ◌≢◌, ℕ, ◌%◌, ◌≤◌, true, List, [], ◌∷◌, ◌++◌, length, Some, None}
 use mathlib.Core.List.{IsPrefix}
 use Rattle.prcu_marks.specs.declared.mark.Mark.{Mark}
-use Rattle.prcu_marks.specs.declared.mark.Mark.TheVariants.{Done, Given}
+use Rattle.prcu_marks.specs.declared.mark.Mark.TheVariants.{Given}
 use Rattle.prcu_model.specs.declared.operation.Op.TheVariants.{Put}
 use Rattle.prcu_model.specs.History.{IsLegal}
 use Rattle.hash_core.specs.declared.words.Field.TheVariants.{Head, Free, Retired, Key, Value, Next}
@@ -15,6 +15,7 @@ use Rattle.hash_core.specs.Known.{known_in, ShowsAbsent}
 use Rattle.hash_core.specs.Steps.{NeedsUnlock}
 use Rattle.class_hash.specs.Trails.{AddsNoLists}
 use Rattle.class_hash.specs.Calls.{Unlocks, Lists, polled}
+use Rattle.class_hash.specs.Updates.{with_update}
 
 -- After some looks for readers, the retired list became the free list.
 pub record HasPolled (v w : View) : Type 0 where
@@ -99,13 +100,7 @@ pub record Linked (v : View) (key value number : ℕ) (w : View) : Type 0 where
   pub since : IsPrefix v.seen before
   pub legal : IsLegal (updates_of w.seen)
   pub number_is : number ≡ length (updates_of w.seen)
-  pub view : w ≡ record v {
-    tickets = v.tickets - 1;
-    hold = None;
-    own = v.own ++ Done (record { caller = v.place; op = Put key value }) ∷ [];
-    trail = w.trail;
-    seen = before ++ Done (record { caller = v.place; op = Put key value }) ∷ [];
-  }
+  pub view : w ≡ with_update v (Put key value) before [] w.trail
 
 -- A slot was given between these marks: after all of the first, and among the second.
 pub record HasGiven (first : List Mark) (slot : ℕ) (last : List Mark) : Type 0 where

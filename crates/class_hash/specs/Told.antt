@@ -7,7 +7,8 @@ use Rattle.prcu_marks.specs.declared.mark.Mark.{Mark}
 use Rattle.hash_core.specs.declared.act.Act.{Act}
 use Rattle.hash_core.specs.declared.view.View.{View}
 use Rattle.hash_core.specs.Memory.{word_of}
-use Rattle.hash_core.specs.Acts.{Access, field_of, access_of, noted, Needs, after}
+use Rattle.prcu_marks.specs.declared.access.Access.{Access}
+use Rattle.hash_core.specs.Acts.{field_of, access_of, noted, Needs, after}
 use Rattle.class_hash.specs.declared.rule.Nothing.{Nothing}
 use Rattle.class_hash.specs.Seats.{TableAt, HasPlace, HasRoom}
 use Rattle.class_hash.specs.Answers.{IsInformed, Gains}

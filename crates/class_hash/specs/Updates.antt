@@ -6,12 +6,14 @@ use mathlib.Core.List.{IsPrefix}
 use Rattle.prcu_marks.specs.declared.mark.Mark.{Mark}
 use Rattle.prcu_marks.specs.declared.mark.Mark.TheVariants.{Done, Unlinked}
 use Rattle.prcu_model.specs.declared.operation.Op.TheVariants.{Set, Del}
+use Rattle.prcu_model.specs.declared.operation.Op.{Op}
 use Rattle.prcu_model.specs.Dictionary.{map_of}
 use Rattle.prcu_model.specs.History.{IsLegal}
 use Rattle.hash_core.specs.declared.words.Field.{Field}
 use Rattle.hash_core.specs.declared.words.Field.TheVariants.{Head, Key, Next}
 use Rattle.hash_core.specs.declared.view.Hold.{Hold}
 use Rattle.hash_core.specs.declared.view.View.{View}
+use Rattle.hash_core.specs.declared.view.StepMade.{StepMade}
 use Rattle.prcu_marks.specs.Marks.{updates_of}
 use Rattle.prcu_marks.specs.Bounds.{most_front}
 use Rattle.hash_core.specs.Slots.{is_slot_of, IsOfClass}
@@ -45,6 +47,16 @@ pub record MayReplace (capacities : List ℕ) (v : View) (slot key : ℕ) : Type
   pub slot_is : is_slot_of capacities hold.class slot ≡ true
   pub ticket : 1 ≤ v.tickets
 
+-- An update was made after these marks, further marks were left with it, and the lock was given up.
+abbrev pub with_update : View → Op → List Mark → List Mark → List StepMade → View
+with_update v op before more trail = record v {
+  tickets = v.tickets - 1;
+  hold = None;
+  own = v.own ++ Done (record { caller = v.place; op = op }) ∷ [];
+  trail = trail;
+  seen = before ++ Done (record { caller = v.place; op = op }) ∷ more;
+}
+
 -- The one update of the call was made as the last of the history so far, which is as long as the number, and the lock was
 -- given up. After the updates before it the dictionary gave the key the old value.
 pub record Replaced (v : View) (key value old number : ℕ) (w : View) : Type 0 where
@@ -53,13 +65,7 @@ pub record Replaced (v : View) (key value old number : ℕ) (w : View) : Type 0 
   pub was : finite.get (map_of (updates_of before)) key ≡ Some old
   pub legal : IsLegal (updates_of w.seen)
   pub number_is : number ≡ length (updates_of w.seen)
-  pub view : w ≡ record v {
-    tickets = v.tickets - 1;
-    hold = None;
-    own = v.own ++ Done (record { caller = v.place; op = Set key value }) ∷ [];
-    trail = w.trail;
-    seen = before ++ Done (record { caller = v.place; op = Set key value }) ∷ [];
-  }
+  pub view : w ≡ with_update v (Set key value) before [] w.trail
 
 -- the link to the slot that comes after another, or first
 abbrev pub link_after : ℕ → Option ℕ → Field
@@ -82,10 +88,4 @@ pub record Removed (v : View) (key number : ℕ) (w : View) : Type 0 where
   pub since : IsPrefix v.seen before
   pub legal : IsLegal (updates_of w.seen)
   pub number_is : number ≡ length (updates_of w.seen)
-  pub view : w ≡ record v {
-    tickets = v.tickets - 1;
-    hold = None;
-    own = v.own ++ Done (record { caller = v.place; op = Del key }) ∷ [];
-    trail = w.trail;
-    seen = before ++ Done (record { caller = v.place; op = Del key }) ∷ Unlinked slot ∷ [];
-  }
+  pub view : w ≡ with_update v (Del key) before (Unlinked slot ∷ []) w.trail

@@ -1,6 +1,6 @@
-//! The accesses to a word: each step is one of them.
-ghost use Rattle.std.specs.Prelude.{◌≡◌, ◌≤◌};
-ghost use Rattle.hash_core.specs.Acts.{loads, stores, exchanges, adds, subtracts};
+//! The access to a word that a step of any kind makes.
+ghost use Rattle.std.specs.Prelude.{◌≡◌};
+ghost use Rattle.prcu_marks.specs.Accesses.{said_by};
 ghost use Rattle.class_hash.specs.Seats.{HasRoom};
 ghost use Rattle.class_hash.specs.Told.{Touches, Told};
 
@@ -9,153 +9,56 @@ use crate::table::HashTable;
 use crate::told::{Detail, Told as Tells};
 use atomic_table::Seat;
 use hash_core::{Act, View};
+use prcu_marks::Access;
 use std::marker::Brand;
 
 type Token = Seat<Nothing, View>;
 
-fn loads_it<A: Detail>(table: &HashTable, seat: &mut Token, act: Act, word: usize) -> u64
-    requires picked { (A.table ≡ table.now) × (A.act ≡ act) }
-    requires table { seat.old.table_id ≡ table.now.id }
-    requires asks { Touches table.now seat.old.me.0 act loads word }
-    ensures seat { (seat.new.table_id ≡ seat.old.table_id) × (seat.new.me.1 ≡ seat.old.me.1) }
-    ensures told { Told table.now seat.old.me.0 act result seat.new.me.0 }
-    ensures room { HasRoom seat.new.me.0 }
-{
-    table.table.shared.load::<Tells<A>>(seat, word)
-}
-
-/// A load.
-pub(crate) fn load(table: &HashTable, seat: &mut Token, act: Act, word: usize) -> u64
-    requires table { seat.old.table_id ≡ table.now.id }
-    requires asks { Touches table.now seat.old.me.0 act loads word }
-    ensures seat { (seat.new.table_id ≡ seat.old.table_id) × (seat.new.me.1 ≡ seat.old.me.1) }
-    ensures told { Told table.now seat.old.me.0 act result seat.new.me.0 }
-    ensures room { HasRoom seat.new.me.0 }
-{
-    loads_it::<Brand>(table, seat, act, word)
-}
-
-fn stores_it<A: Detail>(table: &HashTable, seat: &mut Token, act: Act, word: usize, number: u64)
-    requires picked { (A.table ≡ table.now) × (A.act ≡ act) }
-    requires table { seat.old.table_id ≡ table.now.id }
-    requires asks { Touches table.now seat.old.me.0 act (stores number) word }
-    ensures seat { (seat.new.table_id ≡ seat.old.table_id) × (seat.new.me.1 ≡ seat.old.me.1) }
-    ensures told { Told table.now seat.old.me.0 act number seat.new.me.0 }
-    ensures room { HasRoom seat.new.me.0 }
-{
-    table.table.shared.store::<Tells<A>>(seat, word, number);
-}
-
-/// A store.
-pub(crate) fn store(table: &HashTable, seat: &mut Token, act: Act, word: usize, number: u64)
-    requires table { seat.old.table_id ≡ table.now.id }
-    requires asks { Touches table.now seat.old.me.0 act (stores number) word }
-    ensures seat { (seat.new.table_id ≡ seat.old.table_id) × (seat.new.me.1 ≡ seat.old.me.1) }
-    ensures told { Told table.now seat.old.me.0 act number seat.new.me.0 }
-    ensures room { HasRoom seat.new.me.0 }
-{
-    stores_it::<Brand>(table, seat, act, word, number);
-}
-
-fn exchanges_it<A: Detail>(
+#[inline(always)]
+fn touches_it<A: Detail>(
     table: &HashTable,
     seat: &mut Token,
     act: Act,
     word: usize,
-    old: u64,
-    new: u64,
+    access: Access,
 ) -> u64
     requires picked { (A.table ≡ table.now) × (A.act ≡ act) }
     requires table { seat.old.table_id ≡ table.now.id }
-    requires asks { Touches table.now seat.old.me.0 act (exchanges old new) word }
+    requires asks { Touches table.now seat.old.me.0 act access word }
     ensures seat { (seat.new.table_id ≡ seat.old.table_id) × (seat.new.me.1 ≡ seat.old.me.1) }
-    ensures told { Told table.now seat.old.me.0 act result seat.new.me.0 }
+    ensures told { Told table.now seat.old.me.0 act (said_by access result) seat.new.me.0 }
     ensures room { HasRoom seat.new.me.0 }
 {
-    table
-        .table
-        .shared
-        .compare_exchange::<Tells<A>>(seat, word, old, new)
+    let words = &table.table.shared;
+    match access {
+        Access::Load => words.load::<Tells<A>>(seat, word),
+        Access::Store { number } => {
+            words.store::<Tells<A>>(seat, word, number);
+            number
+        }
+        Access::Exchange { expected, number } => {
+            words.compare_exchange::<Tells<A>>(seat, word, expected, number)
+        }
+        Access::Add { number } => words.fetch_add::<Tells<A>>(seat, word, number),
+        Access::Subtract { number } => words.fetch_sub::<Tells<A>>(seat, word, number),
+        Access::Flip => words.fetch_xor::<Tells<A>>(seat, word, 1),
+    }
 }
 
-/// A compare-and-exchange.
-pub(crate) fn exchange(
+/// Makes the access, and answers the number found, or stored where it is a store. A constant access folds away.
+#[inline(always)]
+pub(crate) fn touch(
     table: &HashTable,
     seat: &mut Token,
     act: Act,
     word: usize,
-    old: u64,
-    new: u64,
+    access: Access,
 ) -> u64
     requires table { seat.old.table_id ≡ table.now.id }
-    requires asks { Touches table.now seat.old.me.0 act (exchanges old new) word }
+    requires asks { Touches table.now seat.old.me.0 act access word }
     ensures seat { (seat.new.table_id ≡ seat.old.table_id) × (seat.new.me.1 ≡ seat.old.me.1) }
-    ensures told { Told table.now seat.old.me.0 act result seat.new.me.0 }
+    ensures told { Told table.now seat.old.me.0 act (said_by access result) seat.new.me.0 }
     ensures room { HasRoom seat.new.me.0 }
 {
-    exchanges_it::<Brand>(table, seat, act, word, old, new)
-}
-
-fn adds_it<A: Detail>(
-    table: &HashTable,
-    seat: &mut Token,
-    act: Act,
-    word: usize,
-    number: u64,
-) -> u64
-    requires picked { (A.table ≡ table.now) × (A.act ≡ act) }
-    requires table { seat.old.table_id ≡ table.now.id }
-    requires asks { Touches table.now seat.old.me.0 act (adds number) word }
-    ensures seat { (seat.new.table_id ≡ seat.old.table_id) × (seat.new.me.1 ≡ seat.old.me.1) }
-    ensures told { Told table.now seat.old.me.0 act result seat.new.me.0 }
-    ensures room { HasRoom seat.new.me.0 }
-{
-    table.table.shared.fetch_add::<Tells<A>>(seat, word, number)
-}
-
-/// An addition.
-pub(crate) fn add(table: &HashTable, seat: &mut Token, act: Act, word: usize, number: u64) -> u64
-    requires table { seat.old.table_id ≡ table.now.id }
-    requires asks { Touches table.now seat.old.me.0 act (adds number) word }
-    ensures seat { (seat.new.table_id ≡ seat.old.table_id) × (seat.new.me.1 ≡ seat.old.me.1) }
-    ensures told { Told table.now seat.old.me.0 act result seat.new.me.0 }
-    ensures room { HasRoom seat.new.me.0 }
-{
-    adds_it::<Brand>(table, seat, act, word, number)
-}
-
-fn subtracts_it<A: Detail>(
-    table: &HashTable,
-    seat: &mut Token,
-    act: Act,
-    word: usize,
-    number: u64,
-) -> u64
-    requires picked { (A.table ≡ table.now) × (A.act ≡ act) }
-    requires table { seat.old.table_id ≡ table.now.id }
-    requires one { number ≤ 1 }
-    requires asks { Touches table.now seat.old.me.0 act (subtracts number) word }
-    ensures seat { (seat.new.table_id ≡ seat.old.table_id) × (seat.new.me.1 ≡ seat.old.me.1) }
-    ensures told { Told table.now seat.old.me.0 act result seat.new.me.0 }
-    ensures room { HasRoom seat.new.me.0 }
-{
-    table.table.shared.fetch_sub::<Tells<A>>(seat, word, number)
-}
-
-/// A subtraction of at most 1.
-pub(crate) fn subtract(
-    table: &HashTable,
-    seat: &mut Token,
-    act: Act,
-    word: usize,
-    number: u64,
-) -> u64
-    requires table { seat.old.table_id ≡ table.now.id }
-    requires one { number ≤ 1 }
-    requires asks { Touches table.now seat.old.me.0 act (subtracts number) word }
-    ensures seat { (seat.new.table_id ≡ seat.old.table_id) × (seat.new.me.1 ≡ seat.old.me.1) }
-    ensures told { Told table.now seat.old.me.0 act result seat.new.me.0 }
-    ensures room { HasRoom seat.new.me.0 }
-{
-    subtracts_it::<Brand>(table, seat, act, word, number)
+    touches_it::<Brand>(table, seat, act, word, access)
 }

@@ -10,12 +10,13 @@ ghost use Rattle.hash_core.specs.Steps.{IsQuiet, first_of, second_of, both_of, s
 ghost use Rattle.hash_core.specs.Acts.{section_of, hold_of};
 ghost use Rattle.class_hash.specs.Answers.{IsInformed};
 
-use crate::access::load;
+use crate::access::touch;
 use crate::rule::Nothing;
 use crate::table::HashTable;
-use crate::told::{Cut, Glue, Share};
+use crate::told::{Cut, Glue};
 use atomic_table::Seat;
 use hash_core::{Act, Field, View, index_of};
+use prcu_marks::{Access, Share};
 use std::marker::{Brand, Model};
 
 /// What a seat remembers of the bucket whose lock it holds.
@@ -162,7 +163,8 @@ impl HashSeat {
             bucket: _,
         } = other;
         table.table.shared.join_seat::<Glue>(&mut seat, theirs);
-        load(table, &mut seat, Act::LoadFront, index_of(Field::Front));
+        let front = index_of(Field::Front);
+        touch(table, &mut seat, Act::LoadFront, front, Access::Load);
         HashSeat {
             seat,
             place,

@@ -6,11 +6,12 @@ ghost use Rattle.hash_core.specs.declared.act.Act.TheVariants as acts;
 ghost use Rattle.hash_core.specs.Acts.{Needs};
 ghost use Rattle.class_hash.specs.Told.{Told};
 
-use crate::access::{add, exchange, load, store, subtract};
+use crate::access::touch;
 use crate::seat::{Bucket, HashSeat, Stock};
 use crate::stocks::{remember, stock_of};
 use crate::table::HashTable;
 use hash_core::{Act, Field, index_of};
+use prcu_marks::Access;
 
 /// Adds 1 to the readers of the key's class: a section is entered (H3).
 pub(crate) fn enter(table: &HashTable, seat: &mut HashSeat, key: u64) -> u64
@@ -22,7 +23,8 @@ pub(crate) fn enter(table: &HashTable, seat: &mut HashSeat, key: u64) -> u64
     let class = (key % 64) as u32;
     seat.key = Some(key);
     let word = index_of(Field::Readers { class });
-    add(table, &mut seat.seat, Act::Enter { key }, word, 1)
+    let access = Access::Add { number: 1 };
+    touch(table, &mut seat.seat, Act::Enter { key }, word, access)
 }
 
 /// Takes 1 from the readers of the section's class: it is left (H4).
@@ -35,7 +37,8 @@ pub(crate) fn leave(table: &HashTable, seat: &mut HashSeat) -> u64
     let class = seat.class_read();
     seat.key = None;
     let word = index_of(Field::Readers { class });
-    subtract(table, &mut seat.seat, Act::Leave, word, 1)
+    let access = Access::Subtract { number: 1 };
+    touch(table, &mut seat.seat, Act::Leave, word, access)
 }
 
 /// Loads the head of the section's class, or a field of the slot at which its search stands (H5).
@@ -46,7 +49,13 @@ pub(crate) fn search_load(table: &HashTable, seat: &mut HashSeat, field: Field) 
     ensures told { Told table.now seat.old.view (acts.SearchLoad field) result seat.new.view }
 {
     let word = index_of(field);
-    load(table, &mut seat.seat, Act::SearchLoad { field }, word)
+    touch(
+        table,
+        &mut seat.seat,
+        Act::SearchLoad { field },
+        word,
+        Access::Load,
+    )
 }
 
 /// Exchanges the lock of a class from 0 to the place plus 1 (H6).
@@ -58,7 +67,11 @@ pub(crate) fn lock(table: &HashTable, seat: &mut HashSeat, class: u32) -> u64
 {
     let word = index_of(Field::Lock { class });
     let mine = seat.place as u64 + 1;
-    let found = exchange(table, &mut seat.seat, Act::Lock { class }, word, 0, mine);
+    let access = Access::Exchange {
+        expected: 0,
+        number: mine,
+    };
+    let found = touch(table, &mut seat.seat, Act::Lock { class }, word, access);
     if found == 0 {
         seat.bucket = Some(Bucket {
             class,
@@ -79,7 +92,8 @@ pub(crate) fn unlock(table: &HashTable, seat: &mut HashSeat)
     let class = seat.class_held();
     seat.bucket = None;
     let word = index_of(Field::Lock { class });
-    store(table, &mut seat.seat, Act::Unlock, word, 0);
+    let access = Access::Store { number: 0 };
+    touch(table, &mut seat.seat, Act::Unlock, word, access);
 }
 
 /// Loads the readers of the class under its lock (H8).
@@ -91,7 +105,7 @@ pub(crate) fn load_readers(table: &HashTable, seat: &mut HashSeat) -> u64
 {
     let class = seat.class_held();
     let word = index_of(Field::Readers { class });
-    load(table, &mut seat.seat, Act::LoadReaders, word)
+    touch(table, &mut seat.seat, Act::LoadReaders, word, Access::Load)
 }
 
 /// Loads another word of the class under its lock, or one of a slot of it (H9).
@@ -102,7 +116,13 @@ pub(crate) fn locked_load(table: &HashTable, seat: &mut HashSeat, field: Field) 
     ensures told { Told table.now seat.old.view (acts.LockedLoad field) result seat.new.view }
 {
     let word = index_of(field);
-    let found = load(table, &mut seat.seat, Act::LockedLoad { field }, word);
+    let found = touch(
+        table,
+        &mut seat.seat,
+        Act::LockedLoad { field },
+        word,
+        Access::Load,
+    );
     remember(&mut seat.bucket, stock_of(&field), found);
     found
 }
@@ -117,13 +137,9 @@ pub(crate) fn take_slot(table: &HashTable, seat: &mut HashSeat, slot: u32, next:
     let class = seat.class_held();
     remember(&mut seat.bucket, Some(Stock::Free), next);
     let word = index_of(Field::Free { class });
-    store(
-        table,
-        &mut seat.seat,
-        Act::TakeSlot { slot, next },
-        word,
-        next,
-    );
+    let act = Act::TakeSlot { slot, next };
+    let access = Access::Store { number: next };
+    touch(table, &mut seat.seat, act, word, access);
 }
 
 /// Stores 0 in the retired word: the retired list comes into the hand (H10).
@@ -136,7 +152,14 @@ pub(crate) fn take_retired(table: &HashTable, seat: &mut HashSeat, slot: u64)
     let class = seat.class_held();
     remember(&mut seat.bucket, Some(Stock::Retired), 0);
     let word = index_of(Field::Retired { class });
-    store(table, &mut seat.seat, Act::TakeRetired { slot }, word, 0);
+    let access = Access::Store { number: 0 };
+    touch(
+        table,
+        &mut seat.seat,
+        Act::TakeRetired { slot },
+        word,
+        access,
+    );
 }
 
 /// Makes the list in hand the free list (H10).
@@ -149,7 +172,14 @@ pub(crate) fn free_retired(table: &HashTable, seat: &mut HashSeat, slot: u64)
     let class = seat.class_held();
     remember(&mut seat.bucket, Some(Stock::Free), slot);
     let word = index_of(Field::Free { class });
-    store(table, &mut seat.seat, Act::FreeRetired { slot }, word, slot);
+    let access = Access::Store { number: slot };
+    touch(
+        table,
+        &mut seat.seat,
+        Act::FreeRetired { slot },
+        word,
+        access,
+    );
 }
 
 /// Stores the chain of the slot unlinked (H10).
@@ -161,7 +191,8 @@ pub(crate) fn store_chain(table: &HashTable, seat: &mut HashSeat, slot: u32, num
 {
     let word = index_of(Field::Chain { slot });
     let act = Act::StoreChain { slot, number };
-    store(table, &mut seat.seat, act, word, number);
+    let access = Access::Store { number };
+    touch(table, &mut seat.seat, act, word, access);
 }
 
 /// Makes the slot unlinked the first of the retired list (H10).
@@ -175,7 +206,8 @@ pub(crate) fn retire(table: &HashTable, seat: &mut HashSeat, slot: u32)
     let first = slot as u64;
     remember(&mut seat.bucket, Some(Stock::Retired), first);
     let word = index_of(Field::Retired { class });
-    store(table, &mut seat.seat, Act::Retire { slot }, word, first);
+    let access = Access::Store { number: first };
+    touch(table, &mut seat.seat, Act::Retire { slot }, word, access);
 }
 
 /// Stores a field of the slot taken (H11).
@@ -187,7 +219,8 @@ pub(crate) fn fill(table: &HashTable, seat: &mut HashSeat, field: Field, number:
 {
     let word = index_of(field);
     let act = Act::Fill { field, number };
-    store(table, &mut seat.seat, act, word, number);
+    let access = Access::Store { number };
+    touch(table, &mut seat.seat, act, word, access);
 }
 
 /// Exchanges the front from an even number to the next (H12).
@@ -200,7 +233,11 @@ pub(crate) fn open_commit(table: &HashTable, seat: &mut HashSeat, even: u64) -> 
 {
     let act = Act::OpenCommit { even };
     let word = index_of(Field::Front);
-    exchange(table, &mut seat.seat, act, word, even, even + 1)
+    let access = Access::Exchange {
+        expected: even,
+        number: even + 1,
+    };
+    touch(table, &mut seat.seat, act, word, access)
 }
 
 /// Links the slot taken, with this key and value, at the head (H13).
@@ -214,7 +251,10 @@ pub(crate) fn link_slot(table: &HashTable, seat: &mut HashSeat, slot: u32, key: 
     seat.tickets -= 1;
     let word = index_of(Field::Head { class });
     let act = Act::LinkSlot { slot, key, value };
-    store(table, &mut seat.seat, act, word, slot as u64);
+    let access = Access::Store {
+        number: slot as u64,
+    };
+    touch(table, &mut seat.seat, act, word, access);
 }
 
 /// Stores the next of a slot in the link to it, which unlinks it (H14).
@@ -239,7 +279,8 @@ pub(crate) fn unlink_slot(
         key,
         next,
     };
-    store(table, &mut seat.seat, act, word, next);
+    let access = Access::Store { number: next };
+    touch(table, &mut seat.seat, act, word, access);
 }
 
 /// Stores another value of a key that is present (H15).
@@ -252,7 +293,8 @@ pub(crate) fn replace_value(table: &HashTable, seat: &mut HashSeat, slot: u32, k
     seat.tickets -= 1;
     let word = index_of(Field::Value { slot });
     let act = Act::ReplaceValue { slot, key, value };
-    store(table, &mut seat.seat, act, word, value);
+    let access = Access::Store { number: value };
+    touch(table, &mut seat.seat, act, word, access);
 }
 
 /// Stores the next even number in the front (H16).
@@ -263,11 +305,7 @@ pub(crate) fn close_commit(table: &HashTable, seat: &mut HashSeat, front: u64)
     ensures told { Told table.now seat.old.view (acts.CloseCommit front) front seat.new.view }
 {
     let word = index_of(Field::Front);
-    store(
-        table,
-        &mut seat.seat,
-        Act::CloseCommit { front },
-        word,
-        front,
-    );
+    let act = Act::CloseCommit { front };
+    let access = Access::Store { number: front };
+    touch(table, &mut seat.seat, act, word, access);
 }

@@ -5,6 +5,7 @@ ghost use Rattle.hash_core.specs.Steps.{first_of, second_of, both_of, spent};
 use crate::rule::Nothing;
 use atomic_table::{Join, Play, Split};
 use hash_core::View;
+use prcu_marks::Share;
 use std::marker::{Brand, PhantomData};
 
 /// Which step it is, on which table. Each access picks it.
@@ -32,21 +33,6 @@ pub(crate) struct Told<A> {
 
 impl<A: Detail> Play<Nothing, View> for Told<A> {
     ghost then = { told A.table A.act };
-}
-
-/// What a split gives away. Each call picks it.
-pub(crate) trait Share {
-    ghost use Rattle.std.specs.Prelude.{ℕ};
-
-    ghost places: { ℕ };
-
-    ghost tickets: { ℕ };
-}
-
-impl Share for Brand {
-    ghost places = { 0 };
-
-    ghost tickets = { 0 };
 }
 
 pub(crate) struct Cut<A> {

@@ -1,6 +1,6 @@
 -- A history is told by its numbered updates.
 use Rattle.std.proofs.Common.{◌≡◌, ℕ, ◌+◌, ◌-◌, ◌<◌, List, length, get_or, Some, sym, subst, ◌∙◌, arith}
-use Rattle.std.specs.List.{Any, slice_get}
+use Rattle.std.specs.List.{slice_get}
 use Rattle.std.proofs.lemmas.List.{same_lists}
 use Rattle.std.proofs.lemmas.Option.{get_or_from_slice_get}
 use Rattle.prcu_model.specs.declared.operation.Update.{Update}
@@ -19,5 +19,5 @@ at_place updates history is k i u d below read number =
 pub same_history : (updates : List Numbered) (history other : List Update) → IsHistoryOf updates history → IsHistoryOf updates other
     → history ≡ other
 same_history updates history other is also = same_lists history other (is.count ∙ sym also.count) (λ i d below.
-    let any : Any (λ u. u.number ≡ i + 1) updates = is.whole i below in
-    at_place updates history is any.0 i any.1 d any.2 any.3 any.4 ∙ sym (at_place updates other also any.0 i any.1 d any.2 any.3 any.4))
+    let (k, u, inside, at, number) = is.whole i below in
+    at_place updates history is k i u d inside at number ∙ sym (at_place updates other also k i u d inside at number))

@@ -21,18 +21,18 @@ use Rattle.client_run.proofs.Whole.{places, none, place_at, length-places, apart
 -- ---- some element of a list
 
 Any-nil : {X : Type 0} (P : X → Type 0) → Any P [] → ⊥
-Any-nil P any = let below = any.2 in omega arith
+Any-nil P (i, y, below, at, holds) = omega arith
 
 Any-there : {X : Type 0} (P : X → Type 0) (x : X) (xs : List X) → Any P xs → Any P (x ∷ xs)
-Any-there P x xs any = (suc any.0, any.1, (let below = any.2 in omega arith), any.3, any.4)
+Any-there P x xs (i, y, below, at, holds) = (suc i, y, omega arith, at, holds)
 
 Any-append_left : {X : Type 0} (P : X → Type 0) (xs ys : List X) → Any P xs → Any P (xs ++ ys)
-Any-append_left P xs ys any = (
-  any.0,
-  any.1,
-  (let below = any.2 in omega (arith, length-append xs ys)),
-  get_or_append_left xs ys any.1 any.0 any.2 ∙ any.3,
-  any.4,
+Any-append_left P xs ys (i, y, below, at, holds) = (
+  i,
+  y,
+  omega (arith, length-append xs ys),
+  get_or_append_left xs ys y i below ∙ at,
+  holds,
 )
 
 Any-append_right : {X : Type 0} (P : X → Type 0) (xs ys : List X) → Any P ys → Any P (xs ++ ys)
@@ -40,12 +40,12 @@ Any-append_right P [] ys any = any
 Any-append_right P (x ∷ xs) ys any = Any-there P x (xs ++ ys) (Any-append_right P xs ys any)
 
 Any-map : {X Y : Type 0} (P : Y → Type 0) (f : X → Y) (xs : List X) → Any (λ x. P (f x)) xs → Any P (map f xs)
-Any-map P f xs any = (
-  any.0,
-  f any.1,
-  (let below = any.2 in omega (arith, length-map xs f)),
-  get_or-map f xs any.0 any.1 (f any.1) any.2 ∙ ap f any.3,
-  any.4,
+Any-map P f xs (i, y, below, at, holds) = (
+  i,
+  f y,
+  omega (arith, length-map xs f),
+  get_or-map f xs i y (f y) below ∙ ap f at,
+  holds,
 )
 
 AllPairs-append : {X : Type 0} (R : X → X → Type 0) (xs ys : List X) → AllPairs R xs → AllPairs R ys → All (λ x. All (R x) ys) xs
@@ -113,8 +113,8 @@ own_found (v ∷ us) position zero u there =
 own_found (v ∷ us) position (suc i) u there =
     let here : Placed = record { position = position; op = v.op } in
     let rest = own_updates_from (position + 1) u.caller us in
-    let later = own_found us (position + 1) i u there in
-    let found : Any (λ own. own.position ≡ position + suc i) rest = (later.0, later.1, later.2, later.3, let is = later.4 in omega arith) in
+    let (k, own, below, at, is) = own_found us (position + 1) i u there in
+    let found : Any (λ own. own.position ≡ position + suc i) rest = (k, own, below, at, omega arith) in
     elim (v.caller == u.caller) as (λ mine. Any (λ own. own.position ≡ position + suc i) (if mine then here ∷ rest else rest)) [
       | true ↦ Any-there (λ own. own.position ≡ position + suc i) here rest found
       | false ↦ found
@@ -159,9 +159,9 @@ all_found P first (own ∷ lines) (suc c) n is below any =
     (all_found P (first + 1) lines c n (omega arith) (omega arith) any)
 
 any_place : (q : ℕ) (updates : List Numbered) → Any (λ u. u.number ≡ q + 1) updates → Any (λ x. eqb q x ≡ true) (places updates)
-any_place q updates any =
+any_place q updates (i, u, below, at, is) =
     Any-map (λ x. eqb q x ≡ true) (λ (u : Numbered). u.number - 1) updates
-    (any.0, any.1, any.2, any.3, eq-eqb q (any.1.number - 1) (let is = any.4 in omega arith))
+    (i, u, below, at, eq-eqb q (u.number - 1) (omega arith))
 
 module _ (history : List Update) where
   -- The update stands at its number in the history.
@@ -218,9 +218,10 @@ module _ (history : List Update) where
         let mine = own_found history 1 i u (slice_get-get_or history i d below) in
         let told : Any (λ p. p.position ≡ 1 + i) (told_updates (get_or lines u.caller [])) =
         subst (Any (λ p. p.position ≡ 1 + i)) (own u.caller) mine in
+        let (k, placed, inside, at, is) = told in
         let numbered : Any (λ v. v.number ≡ i + 1) (numbered_updates u.caller (get_or lines u.caller [])) =
         Any-map (λ v. v.number ≡ i + 1) (of_caller u.caller) (told_updates (get_or lines u.caller []))
-        (told.0, told.1, told.2, told.3, let is = told.4 in omega arith) in
+        (k, placed, inside, at, omega arith) in
         elim (cases_lt u.caller (length lines)) [
           | inl script ↦ all_found (λ v. v.number ≡ i + 1) 0 lines u.caller u.caller (omega arith) script numbered
           | inr past ↦
@@ -238,13 +239,12 @@ module _ (history : List Update) where
         IsDistinct-from_AllPairs Decides-eqb (places updates) (apart_places updates positive (all_apart 0 lines tell)) in
         let least : length (places updates) ≤ length history =
         length-le_from_distinct_below (places updates) (length history) distinct (λ q is.
-        let any : Any (λ x. eqb q x ≡ true) (places updates) = Any-from_list_any (eqb q) (places updates) is in
-        let below : any.0 < length updates = (let there = any.2 in omega (arith, length-places updates)) in
-        let inside = slice_get_within history ((get_or updates any.0 none).number - 1) (get_or updates any.0 none).update
-        (placed any.0 none below).1 in
-        let read = place_at updates any.0 any.1 below in
-        let at = any.3 in
-        let same = eqb-true q any.1 any.4 in
+        let (k, x, there, at, equal) = Any-from_list_any (eqb q) (places updates) is in
+        let below : k < length updates = omega (arith, length-places updates) in
+        let inside = slice_get_within history ((get_or updates k none).number - 1) (get_or updates k none).update
+        (placed k none below).1 in
+        let read = place_at updates k x below in
+        let same = eqb-true q x equal in
         omega arith) in
         let most : length history ≤ length (places updates) = le-length_from_below (places updates) (length history) (λ q below.
         let any = found q below in

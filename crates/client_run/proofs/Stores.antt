@@ -84,7 +84,10 @@ module _ (caller : ℕ) (op : Op) (answer : Told) (history next : List Update) (
       → (1 ≤ answer.number) × (answer.number ≤ length history)
   fits_with_told = elim (tells_update answer.reply) as (λ tells. AreInside (length history)
       (if tells then record { number = answer.number; update = record { caller = caller; op = op } } ∷ rest else rest)
-      → IsTrue tells → (1 ≤ answer.number) × (answer.number ≤ length history)) [ true ↦ λ inside is. inside.0 | false ↦ λ inside is. absurd (cc) ]
+      → IsTrue tells → (1 ≤ answer.number) × (answer.number ≤ length history)) [
+        | true ↦ λ inside is. inside.0
+        | false ↦ λ inside is. absurd (cc)
+      ]
 
   pub stored-with_told : next ≡ (if tells_update answer.reply then set history (answer.number - 1) (record { caller = caller; op = op })
       else history)
@@ -98,8 +101,10 @@ module _ (caller : ℕ) (op : Op) (answer : Told) (history next : List Update) (
   pub length-with_told : next ≡ (if tells_update answer.reply then set history (answer.number - 1) (record { caller = caller; op = op })
       else history) → length next ≡ length history
   length-with_told = elim (tells_update answer.reply) as (λ tells. next
-      ≡ (if tells then set history (answer.number - 1) (record { caller = caller; op = op }) else history) → length next ≡ length history)
-      [ true ↦ λ is. ap length is ∙ length-set history (answer.number - 1) (record { caller = caller; op = op }) | false ↦ λ is. ap length is ]
+      ≡ (if tells then set history (answer.number - 1) (record { caller = caller; op = op }) else history) → length next ≡ length history) [
+        | true ↦ λ is. ap length is ∙ length-set history (answer.number - 1) (record { caller = caller; op = op })
+        | false ↦ λ is. ap length is
+      ]
 
   pub inside-with_told : AreInside (length history) (with_told caller op answer rest) → AreInside (length history) rest
   inside-with_told = elim (tells_update answer.reply) as (λ tells. AreInside (length history)

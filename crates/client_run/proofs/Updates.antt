@@ -13,7 +13,7 @@ use Rattle.prcu_model.specs.Replies.{tells_update}
 use Rattle.prcu_model.specs.Scripts.{op_count}
 use Rattle.prcu_model.specs.Fronts.{Placed, told_lines, all_told_lines, told_updates}
 use Rattle.client_run.specs.Merging.{Numbered, numbered_updates, all_numbered_updates}
-use Rattle.prcu_model.proofs.ToldLists.{drop-there, drop-read, SameLengths, same_length, SameLengths-next, same_count}
+use Rattle.prcu_model.proofs.ToldLists.{drop-there, drop-read, SameLengths, same_length, SameLengths-next, same_count, told_lines-none}
 
 -- the updates of the lines that are left, from the next on
 abbrev pub own_left : ℕ → List Op → List Told → ℕ → List Numbered
@@ -39,10 +39,6 @@ pub own_left-turn : (caller : ℕ) (script : List Op) (told : List Told) (i : �
 own_left-turn caller script told i op answer in_script in_told is_op is_answer =
     rw (drop-read script i op in_script is_op, drop-read told i answer in_told is_answer)
     (with_told-at caller op answer (told_lines (drop (i + 1) script) (drop (i + 1) told)))
-
-told_lines-none : (ops : List Op) → told_lines ops [] ≡ []
-told_lines-none [] = refl
-told_lines-none (op ∷ ops) = refl
 
 -- none is left where the operations or the answers end
 pub own_left-past : (caller : ℕ) (script : List Op) (told : List Told) (i : ℕ) → i ≡ min (length script) (length told)

@@ -60,10 +60,9 @@ module _ (updates : List Numbered) (numbers : AreOneToCount updates) where
         All-cons (λ y. y < length updates) i (places updates) inside below_count in
         let many : length (i ∷ places updates) ≤ length updates =
         length-le_from_distinct_below (i ∷ places updates) (length updates) distinct (λ q found.
-        let any : Any (λ x. eqb q x ≡ true) (i ∷ places updates) = Any-from_list_any (eqb q) (i ∷ places updates) found in
-        let low = all any.0 any.1 any.2 in
-        let same = eqb-true q any.1 any.4 in
-        let read = any.3 in
+        let (k, x, below, read, equal) = Any-from_list_any (eqb q) (i ∷ places updates) found in
+        let low = all k x below in
+        let same = eqb-true q x equal in
         omega arith) in
         omega (arith, length-places updates)
 
@@ -74,12 +73,10 @@ module _ (updates : List Numbered) (numbers : AreOneToCount updates) where
     -- some update has the number of the place
     pub update_at : Any (λ u. u.number ≡ i + 1) updates
     update_at =
-        let any : Any (λ x. eqb i x ≡ true) (places updates) =
+        let (k, x, there, is, equal) =
         Any-from_list_any (eqb i) (places updates) (has_place (list_any (eqb i) (places updates)) refl) in
-        let k = any.0 in
-        let below : k < length updates = let there = any.2 in omega (arith, length-places updates) in
-        let read = place_at updates k any.1 below in
-        let is = any.3 in
-        let same = eqb-true i any.1 any.4 in
+        let below : k < length updates = omega (arith, length-places updates) in
+        let read = place_at updates k x below in
+        let same = eqb-true i x equal in
         let positive = numbers.positive k none below in
         (k, get_or updates k none, below, get_or_default updates k (get_or updates k none) none below, omega arith)

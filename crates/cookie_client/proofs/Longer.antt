@@ -1,8 +1,7 @@
 -- Marks that a client leaves after an answer or before a call: the answer stays one.
 use Rattle.std.proofs.Common.{◌≡◌, ℕ, ◌≤◌, ◌-◌, Bool, true, false, MatchBool, List, [], ◌∷◌, ◌++◌, length, Some, inl, refl, sym, ap, subst, ◌∙◌, arith, append_assoc, append-nil, length-append}
 use Rattle.std.specs.List.{AllByRecursion, slice_get}
-use Rattle.std.proofs.lemmas.List.{get_or_append_left}
-use Rattle.std.proofs.lemmas.Option.{slice_get-get_or, slice_get_within, get_or_from_slice_get}
+use Rattle.std.proofs.lemmas.Option.{slice_get_within}
 use mathlib.Core.List.{IsPrefix}
 use Rattle.prcu_model.specs.declared.operation.Op.{Op}
 use Rattle.prcu_model.specs.declared.operation.Reply.{Reply}
@@ -16,18 +15,11 @@ use Rattle.prcu_marks.specs.declared.mark.Mark.TheVariants.{Began, Ended}
 use Rattle.prcu_marks.specs.Bounds.{greatest_key}
 use Rattle.prcu_marks.specs.Callers.{Caller, HasSeenItsOwn, IsLeftBy, entered_for, WaitsFor, HasMadeUpdate, WasExplained, HasAnswered}
 use Rattle.prcu_marks.specs.Marks.{updates_of}
-use Rattle.prcu_marks.proofs.Callers.{map_at-longer, waits_longer}
+use Rattle.prcu_marks.proofs.Callers.{map_at-longer, waits_longer, slice_get-longer}
 use Rattle.prcu_marks.proofs.MarkLists.{updates_of-append}
 use Rattle.prcu_marks.proofs.OwnMarks.{entered_for-append}
 
 -- ---- more marks after an answer
-
-there_longer : (us more : List Update) (i : ℕ) (u : Update) → slice_get us i ≡ Some u → slice_get (us ++ more) i ≡ Some u
-there_longer us more i u there =
-    let below = slice_get_within us i u there in
-    let read = get_or_from_slice_get us i u u there in
-    let long = length-append us more in
-    slice_get-get_or (us ++ more) i u (omega arith) ∙ ap Some (get_or_append_left us more u i below ∙ read)
 
 module _ (explains : Dictionary → Op → Reply → Type 0) (before mid after : Caller) (op : Op) (told : Told) (more : List Mark)
     (answered : HasAnswered explains before op told mid) (none : updates_of more ≡ []) (since : IsPrefix mid.seen after.seen) where
@@ -50,7 +42,7 @@ module _ (explains : Dictionary → Op → Reply → Type 0) (before mid after :
         left = updates_are ∙ made.left;
         later = made.later;
         stands = subst (λ us. slice_get us (told.number - 1) ≡ Some (record { caller = before.place; op = op })) (sym seen_is)
-            (there_longer (updates_of mid.seen) (updates_of since.0) (told.number - 1) _ made.stands);
+            (slice_get-longer (updates_of mid.seen) (updates_of since.0) (told.number - 1) _ made.stands);
         confirms = subst (λ d. Confirms d op told.reply)
             (sym (ap (λ us. map_at us (told.number - 1)) seen_is
             ∙ map_at-longer (updates_of mid.seen) (updates_of since.0) (told.number - 1) (omega arith))) made.confirms;

@@ -1,6 +1,5 @@
 -- What a view of a run has, beside what is open: the clock it loaded, what it holds, its lock of a slot, its latest record, its move.
-use Rattle.std.proofs.Common.{ℕ, false, List, [], ◌∷◌, None}
-use Rattle.core_acts.specs.Acts.{or_else}
+use Rattle.std.proofs.Common.{ℕ, false, List, [], ◌∷◌, None, unwrap_or}
 use Rattle.core_state.specs.declared.view.Clocked.{Clocked}
 use Rattle.core_state.specs.declared.view.Held.{Held}
 use Rattle.core_state.specs.declared.view.HeldLock.{HeldLock}
@@ -18,19 +17,19 @@ first_of other [] = other
 first_of other (x ∷ xs) = x
 
 abbrev pub clock_now : View → Clocked
-clock_now v = or_else (record { number = 0; at = 0 }) v.enter.clock
+clock_now v = unwrap_or v.enter.clock (record { number = 0; at = 0 })
 
 abbrev pub hand_now : View → Held
-hand_now v = or_else (unknown_slot 0) v.hands.hand
+hand_now v = unwrap_or v.hands.hand (unknown_slot 0)
 
 abbrev pub lock_now : View → ℕ → HeldLock
-lock_now v slot = or_else (new_lock 0) (lock_of v.locks slot)
+lock_now v slot = unwrap_or (lock_of v.locks slot) (new_lock 0)
 
 abbrev pub reading_now : View → Reading
 reading_now v = first_of (fresh_reading 0) v.records
 
 abbrev pub moving_now : View → Move
-moving_now v = or_else (record { key = 0; next_key = 0; copy = unknown_slot 0; old = 0; parent = 0; made = 0; waited = false }) v.moving
+moving_now v = unwrap_or v.moving (record { key = 0; next_key = 0; copy = unknown_slot 0; old = 0; parent = 0; made = 0; waited = false })
 
 abbrev pub oldest_retired : View → Retired
 oldest_retired v = first_of (record { slot = 0; unlinked = 0; raised = false; waited = false; life = None; known = [] }) v.hands.retired

@@ -1,6 +1,6 @@
 -- Tests by computing of a delete's records: that what was loaded under locks is what the search found out, and that a node is marked.
 use Rattle.std.proofs.lemmas.Bool.{and_parts, or_cases, eqb-true}
-use Rattle.std.proofs.Common.{◌≡◌, ℕ, suc, ◌+◌, ◌*◌, ◌/◌, ◌==◌, ◌&&◌, ◌||◌, not, Bool, true, false, List, [], ◌∷◌, Option, Some, None, refl, ⊎_elim, inl, inr}
+use Rattle.std.proofs.Common.{◌≡◌, ℕ, suc, ◌+◌, ◌*◌, ◌/◌, ◌==◌, ◌&&◌, ◌||◌, not, Bool, true, false, List, [], ◌∷◌, Option, Some, None, refl, ⊎_elim, inl, inr, unwrap_or}
 use mathlib.Core.Option.{some}
 use Rattle.list_laws.specs.Counts.{IsIn}
 use Rattle.prcu_marks.specs.declared.mark.Side.{Side}
@@ -17,12 +17,11 @@ use Rattle.core_state.specs.views.Known.{known_in, loaded_in, known_under, lock_
 use Rattle.core_state.specs.steps.Links.{NodeRecords, FewChildren, BothChildren, IsMarkedNode, LacksChild, SuccessorLink}
 use Rattle.core_frames.proofs.views.Fields.{side_is, same_is}
 use Rattle.core_examples.proofs.Chosen.{lock_now, reading_now}
-use Rattle.core_acts.specs.Acts.{or_else}
 use Rattle.core_examples.proofs.Tests.{all_of, passed, is_some, some_is, is_empty, is_number, number_is, false_is, not_same, first_in}
 
 -- the generation of a slot that the search found out
 abbrev pub generation_of : View → ℕ → ℕ
-generation_of v slot = or_else 0 (known_in (reading_now v).loads (Life slot)) / 2
+generation_of v slot = unwrap_or (known_in (reading_now v).loads (Life slot)) 0 / 2
 
 -- the slot has that generation under its lock and is unmarked
 abbrev pub is_recorded : View → ℕ → Bool
@@ -38,7 +37,7 @@ pub recorded_is : (v : View) (slot : ℕ) → is_recorded v slot ≡ true → Is
 recorded_is v slot e =
     let a = and_parts (is_some (known_in (reading_now v).loads (Life slot)))
     (is_number (loaded_in (known_under v slot) (Life slot)) (2 * generation_of v slot)) e in
-    (generation_of v slot, (or_else 0 (known_in (reading_now v).loads (Life slot)), some_is 0 _ a.0, refl), number_is _ _ a.1)
+    (generation_of v slot, (unwrap_or (known_in (reading_now v).loads (Life slot)) 0, some_is 0 _ a.0, refl), number_is _ _ a.1)
 
 -- where a search ended that found its key
 abbrev pub is_found : SearchState → ℕ → ℕ → Side → Bool
@@ -88,7 +87,7 @@ lacks_child left right e =
     (or_cases (left == 0) (right == 0) e)
 
 abbrev pub had_link : View → ℕ → Side → ℕ
-had_link v node b = or_else 0 (known_in (reading_now v).loads (Link node b))
+had_link v node b = unwrap_or (known_in (reading_now v).loads (Link node b)) 0
 
 abbrev pub few_tests : View → ℕ → Side → ℕ → ℕ → ℕ → List Bool
 few_tests v parent b node left right =
@@ -221,7 +220,7 @@ marked_node v node e =
     record {
       generation = generation_of v node;
       lock = lock_now v node;
-      recorded = (or_else 0 (known_in (reading_now v).loads (Life node)), some_is 0 _ (t 0), refl);
+      recorded = (unwrap_or (known_in (reading_now v).loads (Life node)) 0, some_is 0 _ (t 0), refl);
       locked = some_is _ (lock_of v.locks node) (t 1);
       marked = t 2;
       life = number_is _ _ (t 3);

@@ -1,6 +1,6 @@
 -- Steps of slots that are used again: a retired slot becomes the spare or is freed, and so is a slot in hand.
 use Rattle.std.proofs.lemmas.Bool.{eqb-true}
-use Rattle.std.proofs.Common.{◌≡◌, ℕ, ◌+◌, ◌*◌, ◌/◌, ◌==◌, not, Bool, true, List, [], ◌∷◌, Some, None, sym, ◌∙◌}
+use Rattle.std.proofs.Common.{◌≡◌, ℕ, ◌+◌, ◌*◌, ◌/◌, ◌==◌, not, Bool, true, List, [], ◌∷◌, Some, None, sym, ◌∙◌, unwrap_or}
 use Rattle.core_state.specs.declared.words.Field.TheVariants.{Life}
 use Rattle.core_state.specs.declared.view.View.{View}
 use Rattle.core_state.specs.views.Known.{known_in, lock_of}
@@ -8,7 +8,6 @@ use Rattle.core_state.specs.steps.Slots.{IsRetiredAt, NeedsRaiseRetired}
 use Rattle.core_examples.proofs.Chosen.{hand_now, oldest_retired}
 use Rattle.core_examples.proofs.Tests.{all_of, passed, is_some, some_is, none_is, some_not_none, is_empty, first_in, false_is}
 use Rattle.core_acts.specs.declared.act.Act.TheVariants.{KeepAsSpare, LoadRetiredLife, RaiseInHand, RaiseToSpare, RaiseRetired, FreeInHand, FreeRetired, CountFree}
-use Rattle.core_acts.specs.Acts.{or_else}
 use Rattle.core_examples.proofs.Acts.{Step}
 
 -- a slot is the oldest of the retired ones
@@ -28,10 +27,10 @@ raise_tests v slot number =
     not (is_some (lock_of v.locks slot)) ∷
     (oldest_retired v).waited ∷
     is_some (oldest_retired v).life ∷
-    (number == 2 * (or_else 0 (oldest_retired v).life / 2 + 1)) ∷ []
+    (number == 2 * (unwrap_or (oldest_retired v).life 0 / 2 + 1)) ∷ []
 
 pub may_raise : (v : View) (slot number : ℕ) → all_of (raise_tests v slot number) ≡ true
-    → NeedsRaiseRetired v 0 (oldest_retired v) slot (or_else 0 (oldest_retired v).life) number
+    → NeedsRaiseRetired v 0 (oldest_retired v) slot (unwrap_or (oldest_retired v).life 0) number
 may_raise v slot number e =
     let t = passed (raise_tests v slot number) e in
     record {
@@ -59,11 +58,11 @@ raise_hand slot number = record {
       ((hand_now v).slot == slot) ∷
       not (hand_now v).raised ∷
       is_some (known_in (hand_now v).known (Life slot)) ∷
-      (number == 2 * (or_else 0 (known_in (hand_now v).known (Life slot)) / 2 + 1)) ∷
+      (number == 2 * (unwrap_or (known_in (hand_now v).known (Life slot)) 0 / 2 + 1)) ∷
       [];
   met = λ v t. (
     hand_now v,
-    or_else 0 (known_in (hand_now v).known (Life slot)),
+    unwrap_or (known_in (hand_now v).known (Life slot)) 0,
     record {
       in_hand = (some_is _ v.hands.hand (t 0), eqb-true _ _ (t 1));
       unraised = false_is _ (t 2);
@@ -111,14 +110,14 @@ abbrev pub raise_to_spare : ℕ → ℕ → Step
 raise_to_spare slot number = record {
   act = RaiseToSpare slot number;
   tests = λ v. all_of (raise_tests v slot number) ∷ not (is_some v.hands.spare) ∷ [];
-  met = λ v t. (0, or_else 0 (oldest_retired v).life, oldest_retired v, may_raise v slot number (t 0), none_is v.hands.spare (t 1));
+  met = λ v t. (0, unwrap_or (oldest_retired v).life 0, oldest_retired v, may_raise v slot number (t 0), none_is v.hands.spare (t 1));
 }
 
 abbrev pub raise_retired : ℕ → ℕ → Step
 raise_retired slot number = record {
   act = RaiseRetired slot number;
   tests = λ v. all_of (raise_tests v slot number) ∷ is_some v.hands.spare ∷ [];
-  met = λ v t. (0, or_else 0 (oldest_retired v).life, oldest_retired v, may_raise v slot number (t 0), some_not_none v.hands.spare (t 1));
+  met = λ v t. (0, unwrap_or (oldest_retired v).life 0, oldest_retired v, may_raise v slot number (t 0), some_not_none v.hands.spare (t 1));
 }
 
 abbrev pub free_retired : ℕ → Step

@@ -1,6 +1,6 @@
 -- Tests by computing of what a step needs of a view, and what each of them says where it is true.
 use Rattle.std.proofs.lemmas.Bool.{and_parts, or_cases, eqb-true, ltb-true}
-use Rattle.std.proofs.Common.{◌≡◌, ◌≢◌, ◌⊎◌, ℕ, zero, suc, ◌+◌, ◌==◌, ◌&&◌, ◌||◌, nat_lt, not, Bool, true, false, List, [], ◌∷◌, Option, Some, None, refl, sym, ap, ◌∙◌, ⊎_elim, inl, inr, eq-eqb}
+use Rattle.std.proofs.Common.{◌≡◌, ◌≢◌, ◌⊎◌, ℕ, zero, suc, ◌+◌, ◌==◌, ◌&&◌, ◌||◌, nat_lt, not, Bool, true, false, List, [], ◌∷◌, Option, Some, None, refl, sym, ap, ◌∙◌, ⊎_elim, inl, inr, eq-eqb, unwrap_or}
 use mathlib.Core.Option.{some}
 use lib.ListN.{get_elem?}
 use Rattle.list_laws.specs.Counts.{IsIn}
@@ -23,7 +23,7 @@ use Rattle.core_state.specs.declared.shape.Waiter.TheVariants.{Eer, Domain, Deer
 use Rattle.core_state.specs.memory.Memory.{same_side, same_waiter, slot_count, is_field}
 use Rattle.core_acts.specs.declared.act.Part.{Part}
 use Rattle.core_acts.specs.declared.act.Part.TheVariants as part
-use Rattle.core_acts.specs.Acts.{in_slot, or_else, IsWord}
+use Rattle.core_acts.specs.Acts.{in_slot, IsWord}
 use Rattle.core_frames.proofs.views.Fields.{side_is}
 use Rattle.core_examples.proofs.Chosen.{first_of}
 
@@ -46,7 +46,7 @@ abbrev pub is_some : {A : Type 0} → Option A → Bool
 is_some None = false
 is_some (Some x) = true
 
-pub some_is : {A : Type 0} (other : A) (o : Option A) → is_some o ≡ true → o ≡ Some (or_else other o)
+pub some_is : {A : Type 0} (other : A) (o : Option A) → is_some o ≡ true → o ≡ Some (unwrap_or o other)
 some_is other None e = cc
 some_is other (Some x) e = refl
 

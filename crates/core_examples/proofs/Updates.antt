@@ -1,6 +1,6 @@
 -- Steps that update the tree, or that mark a node of it: inserts, replaced values, deletes, and moves.
 use Rattle.std.proofs.lemmas.Bool.{and_parts, eqb-true, leb-true, ltb-true}
-use Rattle.std.proofs.Common.{◌≡◌, ◌⊎◌, ℕ, ◌*◌, ◌%◌, ◌==◌, ◌&&◌, nat_lt, nat_le, not, cond, Bool, true, List, [], ◌∷◌, length, refl, inl, inr}
+use Rattle.std.proofs.Common.{◌≡◌, ◌⊎◌, ℕ, ◌*◌, ◌%◌, ◌==◌, ◌&&◌, nat_lt, nat_le, not, cond, Bool, true, List, [], ◌∷◌, length, refl, inl, inr, unwrap_or}
 use Rattle.prcu_marks.specs.declared.mark.Side.{Side}
 use Rattle.prcu_marks.specs.declared.mark.Side.TheVariants.{Left, Right}
 use Rattle.core_state.specs.declared.words.Field.TheVariants.{Key, Value, Life, Link, Tag}
@@ -12,7 +12,7 @@ use Rattle.core_examples.proofs.Chosen.{hand_now, lock_now, moving_now, reading_
 use Rattle.core_examples.proofs.Tests.{all_of, passed, is_some, some_is, is_empty, is_number, number_is, false_is, not_same, first_in, is_missed, missed_is}
 use Rattle.core_examples.proofs.Records.{generation_of, is_recorded, recorded_is, is_found, found_is, few_tests, few_children, both_tests, both_children, marked_tests, marked_node}
 use Rattle.core_acts.specs.declared.act.Act.TheVariants.{LinkLeaf, Bypass, Mark, LinkCopy, UnlinkLeft, UnlinkRight, ReplaceValue}
-use Rattle.core_acts.specs.Acts.{or_else, commit_of, spare_of}
+use Rattle.core_acts.specs.Acts.{commit_of, spare_of}
 use Rattle.core_examples.proofs.Acts.{Step}
 
 -- the node of a delete: where it hangs, its slot, and its links
@@ -46,7 +46,7 @@ link_leaf slot b leaf key value = record {
       is_some (lock_of v.locks slot) ∷
       is_number (known_in (lock_now v slot).known (Life slot)) (2 * generation_of v slot) ∷
       is_number (known_in (lock_now v slot).known (Link slot b)) 0 ∷
-      is_number (known_in (lock_now v slot).known (Tag slot b)) (or_else 0 (known_in (reading_now v).loads (Tag slot b))) ∷
+      is_number (known_in (lock_now v slot).known (Tag slot b)) (unwrap_or (known_in (reading_now v).loads (Tag slot b)) 0) ∷
       not (is_emptied (lock_now v slot) b) ∷
       is_some v.hands.hand ∷
       ((hand_now v).slot == leaf) ∷
@@ -63,7 +63,7 @@ link_leaf slot b leaf key value = record {
     lock_now v slot,
     hand_now v,
     generation_of v slot,
-    or_else 0 (known_in (reading_now v).loads (Tag slot b)),
+    unwrap_or (known_in (reading_now v).loads (Tag slot b)) 0,
     record {
       has_commit = commit_is v (t 0);
       kept = (0, first_in _ v.records (t 1));
@@ -250,11 +250,11 @@ unlink_tests v parent old child =
     is_some (lock_of v.locks old) ∷
     (lock_now v old).marked ∷
     is_some (known_in (lock_now v old).known (Life old)) ∷
-    (or_else 0 (known_in (lock_now v old).known (Life old)) % 2 == 1) ∷
+    (unwrap_or (known_in (lock_now v old).known (Life old)) 0 % 2 == 1) ∷
     is_number (known_in (lock_now v old).known (Link old Right)) child ∷ []
 
 abbrev life_under : View → ℕ → ℕ
-life_under v slot = or_else 0 (known_in (lock_now v slot).known (Life slot))
+life_under v slot = unwrap_or (known_in (lock_now v slot).known (Life slot)) 0
 
 pub may_unlink : (v : View) (parent old child : ℕ) → all_of (unlink_tests v parent old child) ≡ true
     → NeedsUnlinkOld v (moving_now v) (lock_now v old) parent old child (life_under v old)

@@ -21,7 +21,8 @@ use Rattle.core_points.specs.declared.stage.Update.TheVariants as update
 use Rattle.core_points.specs.declared.stage.Waits.TheVariants.{Reuse, Move}
 use Rattle.core_points.specs.declared.stage.Stage.{Stage}
 use Rattle.core_points.specs.declared.stage.Stage.TheVariants as at
-use Rattle.core_acts.specs.Acts.{access_of, said_by}
+use Rattle.prcu_marks.specs.Accesses.{said_by}
+use Rattle.core_acts.specs.Acts.{access_of}
 use Rattle.core_points.specs.Acts.{Act, Needs, field_of, left_of}
 use Rattle.core_points.specs.Callers.{Own, is_none_left, is_some}
 use Rattle.core_points.specs.DeletePlan.{target_locks}
@@ -92,8 +93,8 @@ module _ (k : Shape) (shape : IsShape k) (o : Own) (v w : View) (h h' : List Mar
       let is : o'.stage ≡ at.AtKey (suc n) s b = ap (λ z. cond z (ended o.op s b) (at.AtKey (suc n) s b))
       (ne_eqb (suc n) 0 (λ e. absurd (omega arith))) in
       let f : Fits o' (at.AtKey (suc n) s b) w = subst (λ st. Fits o' st w) is got.0 in
-      let section = (f.point).1 in
-      small (suc n) (at.AtLink s b) (suc n) (got.1.stood section.0 section.1 (suc n) (section.2).here)
+      let i = (f.point).1 in
+      small (suc n) (at.AtLink s b) (suc n) (got.1.stood i.section i.is (suc n) (i.stands).here)
 
   right_able : (d : Node) (n : ℕ) → d.left ≢ 0 → (let o' : Own = after o n (at.NodeRight d) in Fits o' o'.stage w × IsTold o' w h' m')
       → n < 2 ^ 32
@@ -107,8 +108,8 @@ module _ (k : Shape) (shape : IsShape k) (o : Own) (v w : View) (h h' : List Mar
       let is : o'.stage ≡ at.SuccessorLeft d' u = ap (λ z. cond z (at.Leave (then.Delete (record { node = d'; successor = None })))
       (at.SuccessorLeft d' u)) none in
       let f : Fits o' (at.SuccessorLeft d' u) w = subst (λ st. Fits o' st w) is got.0 in
-      let section = (f.point).2 in
-      small (suc n) (at.NodeRight d) (suc n) (got.1.stood section.0 section.1 (suc n) ((section.3).1.1).slot_stood)
+      let i = (f.point).2 in
+      small (suc n) (at.NodeRight d) (suc n) (got.1.stood i.section i.is (suc n) ((i.known).1.1).slot_stood)
 
   left_able : (d : Node) (u : Successor) (n : ℕ)
       → (let o' : Own = after o n (at.SuccessorLeft d u) in Fits o' o'.stage w × IsTold o' w h' m') → n < 2 ^ 32
@@ -120,8 +121,8 @@ module _ (k : Shape) (shape : IsShape k) (o : Own) (v w : View) (h h' : List Mar
       (cond (u.parent == d.node) (at.SuccessorLife d u) (at.SuccessorParentLife d u)) (at.SuccessorLeft d u'))
       (ne_eqb (suc n) 0 (λ e. absurd (omega arith))) in
       let f : Fits o' (at.SuccessorLeft d u') w = subst (λ st. Fits o' st w) is got.0 in
-      let section = (f.point).2 in
-      small (suc n) (at.SuccessorLeft d u) (suc n) (got.1.stood section.0 section.1 (suc n) ((section.3).1.1).slot_stood)
+      let i = (f.point).2 in
+      small (suc n) (at.SuccessorLeft d u) (suc n) (got.1.stood i.section i.is (suc n) ((i.known).1.1).slot_stood)
 
   -- no lock is held
   free_locks : SameLocks o.locks v.locks → v.locks ≡ [] → length o.locks < 5
@@ -135,8 +136,8 @@ module _ (k : Shape) (shape : IsShape k) (o : Own) (v w : View) (h h' : List Mar
       → let told : ℕ = said_by (access_of o.place (act_at o stage)) n in
       (let o' : Own = after o told stage in Fits o' o'.stage w × IsTold o' w h' m') → IsAble o told stage
   able (at.AtLink s b) n f word left next = link_able s n b (λ e. next)
-  able (at.LeafField spot i) n f word left next = (f.point).5
-  able (at.LeafLock spot) n f word left next = free_locks f.owns.locks_are ((f.point).2).locks_are
+  able (at.LeafField spot i) n f word left next = (f.point).small
+  able (at.LeafLock spot) n f word left next = free_locks f.owns.locks_are ((f.point).bare).locks_are
   able at.Count n f word left next = omega arith
   able (at.LookKey (Reuse (Leaf spot)) clock p) n f word left next = ((f.point).2, tt)
   able (at.LookKey (Reuse Spare) clock p) n f word left next = ((f.point).2, tt)
@@ -148,20 +149,21 @@ module _ (k : Shape) (shape : IsShape k) (o : Own) (v w : View) (h h' : List Mar
   able (at.LookStamp (Reuse aim) clock p key) n f word left next = (f.point).2
   able (at.LookStamp (Move move) clock p key) n f word left next = ((f.point).3).0
   able (at.OldRaise aim life) n f word left next = let has = (f.point).3 in
-      first_kept v.hands.retired has.0 o.retired has.1 has.2 f.owns.retired_are
-  able (at.OldFree aim) n f word left next = let has = (f.point).3 in
-      first_kept v.hands.retired has.0 o.retired has.1 has.2 f.owns.retired_are
+      first_kept v.hands.retired has.first o.retired has.rest has.are f.owns.retired_are
+  able (at.OldFree aim) n f word left next = let has = (f.point).first in
+      first_kept v.hands.retired has.first o.retired has.rest has.are f.owns.retired_are
   able (at.OldCount aim) n f word left next = omega arith
   able (at.Commit u expected) n f word left next = omega arith
-  able (at.Store (update.Bypass d child) front) n f word left next = (let room = ((f.point).1).1.room ((f.point).1).0 in omega arith)
+  able (at.Store (update.Bypass d child) front) n f word left next =
+      (let del = (f.point).deleting in let room = del.1.room del.0 in omega arith)
   able (at.Store (update.Copy d u next_key copy) front) n f word left next =
-      (let room = (((f.point).0).1).1.room (((f.point).0).1).0 in omega arith)
+      (let del = ((f.point).copying).deleting in let room = del.1.room del.0 in omega arith)
   able (at.Even u front) n f word left next = omega arith
   able (at.Unlock last.Again) n f word left next = some_left o.locks ((f.point).0).some
   able (at.Unlock (last.New number)) n f word left next = some_left o.locks ((f.point).0).some
   able (at.Unlock (last.Gone number)) n f word left next = some_left o.locks ((f.point).0).some
   able (at.Unlock (last.Was value number)) n f word left next = some_left o.locks ((f.point).0).some
-  able (at.SetLock s generation) n f word left next = free_locks f.owns.locks_are ((f.point).1)
+  able (at.SetLock s generation) n f word left next = free_locks f.owns.locks_are (f.point).locks_are
   able (at.NodeRight d) n f word left next = λ some_child. right_able d n some_child next
   able (at.SuccessorLeft d u) n f word left next = left_able d u n next
   able (at.TargetLock t i) n f word left next =
@@ -170,10 +172,10 @@ module _ (k : Shape) (shape : IsShape k) (o : Own) (v w : View) (h h' : List Mar
       let long : length o.locks ≡ i = ap length (f.point).locks_are ∙ first_long t i in
       (omega arith, omega arith)
   able (at.TargetLoad t i found) n f word left next = (let below = (f.point).more in let most = few_words t.successor in omega arith)
-  able (at.CopyField d u next_key value i) n f word left next = (f.point).4
+  able (at.CopyField d u next_key value i) n f word left next = (f.point).small
   able (at.CopyLock d u next_key) n f word left next =
       let t : Target = record { node = d; successor = Some u } in
-      let long : length o.locks ≡ target_locks t = ap length (((f.point).0).4) ∙ first_long t (target_locks t) in
+      let long : length o.locks ≡ target_locks t = ap length (((f.point).0).locks_are) ∙ first_long t (target_locks t) in
       let most = few_locks t in omega arith
   able (at.Unlink move child) n f word left next =
       (let is = ((f.point).0).move in let room = few.room is.move is.is in let long = kept_long f.owns.retired_are in omega arith)

@@ -1,7 +1,7 @@
 -- What callers were told is explained at each moment, and at the end as an account.
-use Rattle.std.proofs.Common.{◌≡◌, ◌≢◌, ℕ, zero, suc, ◌+◌, ◌-◌, ◌<◌, ◌≤◌, cond, Bool, true, false, List, [], ◌∷◌, ◌++◌, length, get_or, map, set, Option as Opt, Some, None, refl, sym, ap, subst, ◌∙◌, ⊎_elim, arith, append-nil, length-append}
+use Rattle.std.proofs.Common.{◌≡◌, ◌≢◌, ℕ, zero, suc, ◌+◌, ◌-◌, ◌<◌, cond, Bool, true, false, List, [], ◌∷◌, ◌++◌, length, get_or, map, Option as Opt, Some, None, refl, sym, ap, subst, ◌∙◌, ⊎_elim, arith, append-nil, length-append}
 use Rattle.std.specs.List.{AllByRecursion, slice_get}
-use Rattle.std.proofs.lemmas.List.{append_cancel_left, length-map}
+use Rattle.std.proofs.lemmas.List.{append_cancel_left, length-map, length-set}
 use mathlib.Core.Option.{some, some-injective}
 use lib.ListN.{get_elem?}
 use Rattle.list_laws.proofs.Lists.{at_below}
@@ -19,7 +19,7 @@ use Rattle.prcu_marks.specs.Marks.{updates_of, own_of}
 use Rattle.prcu_marks.specs.Callers.{HasMadeUpdate}
 use Rattle.prcu_marks.proofs.MarkLists.{updates_of-append, own_of-append}
 use Rattle.prcu_marks.proofs.OwnMarks.{no_own_update, one_own_update, own_of-all, own_updates_from-append}
-use Rattle.prcu_marks.proofs.Callers.{HasTold, IsSettled, MayStandBesideBy-longer, settled_longer, told_nothing}
+use Rattle.prcu_marks.proofs.Callers.{HasTold, IsSettled, MayStandBesideBy-longer, settled_longer, told_nothing, slice_get-past}
 use Rattle.prcu_marks.proofs.Runs.{HaveTold, newcomer, run_confirmed, run_fits, run_fronts, run_lengths, run_updates}
 use Rattle.core_state.specs.declared.shape.Shape.{Shape}
 use Rattle.core_state.specs.declared.view.Section.{Section}
@@ -68,18 +68,6 @@ elem_append : {A : Type 0} (xs : List A) (x : A) (ys : List A) → get_elem? (xs
 elem_append [] x ys = refl
 elem_append (y ∷ xs) x ys = elem_append xs x ys
 
-length_set : {A : Type 0} (xs : List A) (i : ℕ) (x : A) → length (set xs i x) ≡ length xs
-length_set [] i x = refl
-length_set (y ∷ xs) zero x = refl
-length_set (y ∷ xs) (suc i) x = let rest = length_set xs i x in omega arith
-
-slice_past : (us more : List Update) (i : ℕ) (u : Update) → slice_get (us ++ more) i ≡ Some u → length us ≤ i
-    → slice_get more (i - length us) ≡ Some u
-slice_past [] more i u there past = (let e : i - 0 ≡ i = omega arith in rw e there)
-slice_past (v ∷ us) more zero u there past = absurd (omega arith)
-slice_past (v ∷ us) more (suc i) u there past =
-    (let e : suc i - suc (length us) ≡ i - length us = omega arith in rw e (slice_past us more i u there (omega arith)))
-
 -- the lines of a list that is shorter than its script
 lines_shorter : (done todo : List Op) (tolds : List Told) → length tolds ≡ length done
     → told_lines (done ++ todo) tolds ≡ told_lines done tolds
@@ -126,8 +114,8 @@ module _ (scripts : List (List Op)) (slots : ℕ) (c : Core) (i : ℕ) (o : Own)
       let o' : Own = after o n o.stage in
       let v' : View = view_after w c.marks n a in
       let place : v.allowance.place ≡ i = caller.fits.owns.same ∙ caller.place in record {
-        count = length_set c.owns i o' ∙ all.count;
-        viewed = length_set c.views i v' ∙ all.viewed;
+        count = length-set c.owns i o' ∙ all.count;
+        viewed = length-set c.views i v' ∙ all.viewed;
         tells = λ j script u x es eu ex. ⊎_elim
             (λ (mine : (j ≡ i) × (o' ≡ u)). ⊎_elim
             (λ (seen : (j ≡ i) × (v' ≡ x)).
@@ -361,7 +349,7 @@ module _ (room : Room) (i : ℕ) (script : List Op) (o : Own) (section : Opt Sec
           → own_updates_from (1 + length (updates_of t.seen)) i (updates_of t.since.seen.0) ≡ record { position = number; op = o.op } ∷ []
       one number reply m =
           let later = m.later in
-          let there = slice_past (updates_of t.seen) (updates_of t.since.seen.0) (number - 1) (record { caller = i; op = o.op })
+          let there = slice_get-past (updates_of t.seen) (updates_of t.since.seen.0) (number - 1) (record { caller = i; op = o.op })
           (subst (λ z. slice_get z (number - 1) ≡ Some (record { caller = i; op = o.op })) whole_is m.stands) (omega arith) in
           let at : 1 + length (updates_of t.seen) + (number - 1 - length (updates_of t.seen)) ≡ number = omega arith in
           one_own_update i (1 + length (updates_of t.seen)) (number - 1 - length (updates_of t.seen)) t.since.seen.0

@@ -20,7 +20,8 @@ use Rattle.core_points.specs.Laws.{is_finished}
 use Rattle.core_machine.specs.declared.caller.Caller.{Caller}
 use Rattle.core_machine.specs.declared.machine.Stepped.{Stepped}
 use Rattle.core_machine.specs.declared.machine.Stepped.TheVariants.{Finished}
-use Rattle.core_acts.specs.Acts.{access_of, left_by, noted}
+use Rattle.prcu_marks.specs.Accesses.{left_by}
+use Rattle.core_acts.specs.Acts.{access_of, noted}
 use Rattle.core_machine.specs.Runs.{Core, core, told_in, moved, moved_by, new_core, shape_of, step}
 use Rattle.core_machine.specs.Laws.{IsMachine}
 use Rattle.core_machine.specs.Stepped.{Answer, answer_of, answers, blocked, has_ended, own_answers}
@@ -243,7 +244,10 @@ module _ (scripts : List (List Op)) (slots : ℕ) (callers : List ℕ) (machine 
     pub next_answers : (words' : List ℕ) (kept' : List Caller) (updates' : List Update) (result : Stepped) (b : Bool)
         → is_finished c.stage ≡ b
         → StepsBy b words kept updates i c words' kept' updates' result → result ≡ stepped_as (answers (core scripts slots callers) i)
-    next_answers words' kept' updates' result b is s = by b is s ∙ sym (ap stepped_as (ap (λ (z : Option Own). elim z as (λ _. Answer) [ none ↦ has_ended | some o ↦ own_answers (core scripts slots callers) o ]) own_there))
+    next_answers words' kept' updates' result b is s = by b is s ∙ sym (ap stepped_as (ap (λ (z : Option Own). elim z as (λ _. Answer) [
+      | none ↦ has_ended
+      | some o ↦ own_answers (core scripts slots callers) o
+    ]) own_there))
       where
         by : (b : Bool) → is_finished c.stage ≡ b → StepsBy b words kept updates i c words' kept' updates' result
             → result ≡ stepped_as (own_answers (core scripts slots callers) (own_of c))

@@ -1,6 +1,6 @@
 -- How far a call is, by what its marks say: it searches, it is in a section, it has left one, it found its key present, or it has made
 -- its update.
-use Rattle.std.proofs.Common.{◌≡◌, ◌⊎◌, ℕ, zero, suc, ◌+◌, ◌-◌, ◌/◌, ◌≤◌, nat_le, ◌^◌, cond, Bool, true, false, MatchBool, List, [], ◌∷◌, ◌++◌, length, Option, Some, None, refl, sym, ap, subst, ◌∙◌, ⊎_elim, inr, arith, append_assoc, append-nil, length-append}
+use Rattle.std.proofs.Common.{◌≡◌, ◌⊎◌, ℕ, ◌+◌, ◌-◌, ◌/◌, ◌≤◌, nat_le, ◌^◌, cond, Bool, true, false, MatchBool, List, [], ◌∷◌, ◌++◌, length, Option, Some, None, refl, sym, ap, subst, ◌∙◌, ⊎_elim, inr, arith, append_assoc, append-nil, length-append}
 use Rattle.std.specs.List.{AllByRecursion, slice_get}
 use mathlib.Core.List.{IsPrefix}
 use Rattle.std.proofs.lemmas.Option.{slice_get_within}
@@ -14,12 +14,12 @@ use Rattle.prcu_model.specs.declared.operation.Told.{Told}
 use Rattle.prcu_model.specs.declared.operation.Update.{Update}
 use Rattle.prcu_model.specs.Dictionary.{key_of, map_at}
 use Rattle.prcu_model.specs.Replies.{Room, Explains, Confirms, tells_update}
-use Rattle.prcu_marks.specs.Marks.{updates_of, own_of, is_of}
+use Rattle.prcu_marks.specs.Marks.{updates_of, own_of}
 use Rattle.prcu_marks.specs.Callers.{Caller, IsLeftBy, entered_for, WaitsFor, IsMoveWait, HasMadeUpdate, WasExplained, HasAnswered}
 use Rattle.prcu_model.proofs.ListFacts.{prefix_self, prefix_more, all_map, all_append}
-use Rattle.prcu_marks.proofs.MarkLists.{updates_of-append, own_of-append}
-use Rattle.prcu_marks.proofs.OwnMarks.{entered_for-append}
-use Rattle.prcu_marks.proofs.Callers.{HasTold, map_at-longer, told_more, waits_longer}
+use Rattle.prcu_marks.proofs.MarkLists.{updates_of-append, own_of-append, updates_below}
+use Rattle.prcu_marks.proofs.OwnMarks.{entered_for-append, own_twice}
+use Rattle.prcu_marks.proofs.Callers.{HasTold, map_at-longer, told_more, waits_longer, slice_get-longer}
 use Rattle.prcu_marks.proofs.Runs.{newcomer}
 use Rattle.core_state.specs.declared.view.Section.{Section}
 use Rattle.core_points.specs.declared.stage.Aim.{Aim}
@@ -169,11 +169,6 @@ pub record Tells (room : Room) (i : ℕ) (script : List Op) (o : Own) (section :
 
 -- ---- later marks
 
-slice_later : (us more : List Update) (i : ℕ) (u : Update) → slice_get us i ≡ Some u → slice_get (us ++ more) i ≡ Some u
-slice_later [] more i u there = absurd (cc)
-slice_later (v ∷ us) more zero u there = there
-slice_later (v ∷ us) more (suc i) u there = slice_later us more i u there
-
 module _ (room : Room) (c : Caller) (op : Op) (h more marks mine : List Mark) (none : updates_of mine ≡ []) where
   updates_now : updates_of (h ++ more) ≡ updates_of h ++ updates_of more
   updates_now = updates_of-append h more
@@ -190,7 +185,7 @@ module _ (room : Room) (c : Caller) (op : Op) (h more marks mine : List Mark) (n
         left = updates_same ∙ m.left;
         later = m.later;
         stands = subst (λ us. slice_get us (told.number - 1) ≡ Some (record { caller = c.place; op = op })) (sym updates_now)
-            (slice_later (updates_of h) (updates_of more) (told.number - 1) (record { caller = c.place; op = op }) m.stands);
+            (slice_get-longer (updates_of h) (updates_of more) (told.number - 1) (record { caller = c.place; op = op }) m.stands);
         confirms = subst (λ us. Confirms (map_at us (told.number - 1)) op told.reply) (sym updates_now)
             (subst (λ d. Confirms d op told.reply) (sym
             (map_at-longer (updates_of h) (updates_of more) (told.number - 1) (omega arith))) m.confirms);
@@ -289,21 +284,6 @@ pub either_next : (o : Own) (p : Phase) (b : Bool) (x y : Own) → Next o p x �
 either_next o p true x y nx ny = nx
 either_next o p false x y nx ny = ny
 
-own_twice : (p : ℕ) (h : List Mark) → own_of p (own_of p h) ≡ own_of p h
-own_twice p [] = refl
-own_twice p (m ∷ h) = by (is_of p m) refl (own_twice p h)
-  where
-    by : (b : Bool) → is_of p m ≡ b → own_of p (own_of p h) ≡ own_of p h
-        → own_of p (cond b (m ∷ own_of p h) (own_of p h)) ≡ cond b (m ∷ own_of p h) (own_of p h)
-    by true e rest = ap (λ b. cond b (m ∷ own_of p (own_of p h)) (own_of p (own_of p h))) e ∙ ap (λ xs. m ∷ xs) rest
-    by false e rest = rest
-
-prefix_length : (a b : List Mark) → IsPrefix a b → length (updates_of a) ≤ length (updates_of b)
-prefix_length a b p =
-    let e : updates_of b ≡ updates_of a ++ updates_of p.0 = ap updates_of (sym p.1) ∙ updates_of-append a p.0 in
-    let l = length-append (updates_of a) (updates_of p.0) in
-    let m = ap length e in omega arith
-
 -- a call begins by searching
 pub first_phase : (o' : Own) (op : Op) → (is_finished (first_point o' op) ≡ false) × (phase (first_point o' op) ≡ searching)
 first_phase o' (Put key value) = (refl, refl)
@@ -325,7 +305,7 @@ module _ (room : Room) (i : ℕ) (script : List Op) (o : Own) (section : Option 
   todo_is = subst (λ b. IsToDo b o t.todo t.marks) going t.left
 
   pub seen_before : length (updates_of t.seen) ≤ length (updates_of h)
-  seen_before = prefix_length t.seen h t.since.seen
+  seen_before = updates_below t.seen h t.since.seen
 
   -- the step leaves these marks, and what is known then is known
   pub tells_by : (more mine : List Mark) (o' : Own) (after : Option Section) → said o' ≡ said o → is_finished o'.stage ≡ false

@@ -13,7 +13,8 @@ use Rattle.core_state.specs.memory.Memory.{stored}
 use Rattle.core_state.specs.Invariant.{Invariant}
 use Rattle.core_frames.specs.Laws.{KeepsPast}
 use Rattle.list_laws.proofs.Lists.{at_below}
-use Rattle.core_acts.specs.Acts.{access_of, left_by, said_by, noted}
+use Rattle.prcu_marks.specs.Accesses.{left_by, said_by}
+use Rattle.core_acts.specs.Acts.{access_of, noted}
 use Rattle.core_points.specs.Acts.{marks_of, view_after}
 use Rattle.core_points.specs.Callers.{Own}
 use Rattle.core_points.specs.Programs.{act_at, after}

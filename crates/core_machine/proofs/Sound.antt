@@ -8,7 +8,8 @@ use Rattle.core_state.specs.declared.view.View.{View}
 use Rattle.core_state.specs.views.Views.{Works}
 use Rattle.core_state.specs.steps.Steps.{Steps}
 use Rattle.core_frames.specs.Laws.{KeepsPast}
-use Rattle.core_acts.specs.Acts.{Asks, StaysWord, access_of, left_by, said_by, noted, IsWord}
+use Rattle.prcu_marks.specs.Accesses.{left_by, said_by, StaysWord}
+use Rattle.core_acts.specs.Acts.{Asks, access_of, noted, IsWord}
 use Rattle.core_acts.proofs.Acting.{has_word, acts}
 use Rattle.core_points.specs.Acts.{Act, Needs, field_of, kind_of, marks_of, view_after}
 use Rattle.core_points.specs.Callers.{Own}

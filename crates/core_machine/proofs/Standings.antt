@@ -110,11 +110,11 @@ linked : (o : Own) (v : View) (h : List Mark) (n s : ℕ) (b : Side) → Fits o 
 linked o v h n s b f =
     let i = (f.point).1 in
     let w : View = noted_at o v n (at.AtLink s b) in
-    let r : Reading = with_load (i.0).reading (Link s b) n in
+    let r : Reading = with_load (i.section).reading (Link s b) n in
     let here : (s == s && same_side b b) ≡ true = ap (λ z. z && same_side b b) (eq-eqb s s refl) ∙ side_self b in
-    let stood : slot_of v.section ≡ Some s = ap slot_of i.1 ∙ ap (λ st. Some (state_slot st)) (i.2).state_is in
-    ap (λ (z : Section). slot_of (after_search_load w z (Link s b) n).section) (section_is w i.0 i.1)
-    ∙ ap (λ st. Some (state_slot (searched r st (Link s b) n).state)) (i.2).state_is
+    let stood : slot_of v.section ≡ Some s = ap slot_of i.is ∙ ap (λ st. Some (state_slot st)) (i.stands).state_is in
+    ap (λ (z : Section). slot_of (after_search_load w z (Link s b) n).section) (section_is w i.section i.is)
+    ∙ ap (λ st. Some (state_slot (searched r st (Link s b) n).state)) (i.stands).state_is
     ∙ ap (λ z. Some (state_slot (cond z (linked_on r s b n) r).state)) here
     ∙ linked_slot (n == 0) r s b n
     ∙ ap (λ z. cond (n == 0) z (Some n)) (sym stood)
@@ -126,43 +126,46 @@ stands_at : (o : Own) (v : View) (h : List Mark) (n : ℕ) (stage : Stage) (x y 
 stands_at o v h n (at.EnterStamp clock) x y f is e = is ∙ sym e
 stands_at o v h n (at.AtLink s b) x y f is e = is ∙ linked o v h n s b f ∙ sym e
 stands_at o v h n (at.AtKey s parent b) x y f is e = let i = (f.point).1 in
-    is ∙ loads_stay (noted_at o v n (at.AtKey s parent b)) h (Key s) n i.0 i.1 (key_keeps _ s parent b n i.2.state_is) ∙ sym e
+    is ∙ loads_stay (noted_at o v n (at.AtKey s parent b)) h (Key s) n i.section i.is (key_keeps _ s parent b n i.stands.state_is) ∙ sym e
 stands_at o v h n (at.Leave next) x y f is e = is ∙ sym e
 stands_at o v h n (at.Value s) x y f is e = let i = (f.point.2).2 in
-    is ∙ loads_stay (noted_at o v n (at.Value s)) h (Value s) n i.0 i.1 (value_keeps _ s (f.point.2).0 (f.point.2).1 None n i.2.state_is)
-    ∙ sym e
+    is ∙ loads_stay (noted_at o v n (at.Value s)) h (Value s) n i.section i.is
+    (value_keeps _ s (f.point.2).0 (f.point.2).1 None n i.stands.state_is) ∙ sym e
 stands_at o v h n (at.SpotTag s b) x y f is e = let i = (f.point).2 in
-    is ∙ loads_stay (noted_at o v n (at.SpotTag s b)) h (Tag s b) n i.0 i.1 (missed_keeps _ s b (Tag s b) n i.2.state_is) ∙ sym e
+    is ∙ loads_stay (noted_at o v n (at.SpotTag s b)) h (Tag s b) n i.section i.is
+    (missed_keeps _ s b (Tag s b) n i.stands.state_is) ∙ sym e
 stands_at o v h n (at.SpotLife s b tag) x y f is e = let i = (f.point).2 in
-    is ∙ loads_stay (noted_at o v n (at.SpotLife s b tag)) h (Life s) n i.0 i.1 (missed_keeps _ s b (Life s) n i.2.state_is) ∙ sym e
+    is ∙ loads_stay (noted_at o v n (at.SpotLife s b tag)) h (Life s) n i.section i.is
+    (missed_keeps _ s b (Life s) n i.stands.state_is) ∙ sym e
 stands_at o v h n (at.OldRaise aim life) x y f is e =
     is ∙ stay (noted_at o v n (at.OldRaise aim life)) h n (act_at o (at.OldRaise aim life)) (either_other (has_slot o.spare) _ _ refl refl)
     ∙ sym e
 stands_at o v h n (at.Store update front) x y f is e =
     is ∙ stay (noted_at o v n (at.Store update front)) h n (store_act o update) (store_other o update) ∙ sym e
 stands_at o v h n (at.SetLife s) x y f is e = let i = (f.point.2).2 in
-    is ∙ loads_stay (noted_at o v n (at.SetLife s)) h (Life s) n i.0 i.1 (life_keeps _ s (f.point.2).0 (f.point.2).1 None s n i.2.state_is)
-    ∙ sym e
+    is ∙ loads_stay (noted_at o v n (at.SetLife s)) h (Life s) n i.section i.is
+    (life_keeps _ s (f.point.2).0 (f.point.2).1 None s n i.stands.state_is) ∙ sym e
 stands_at o v h n (at.ParentLife p b d) x y f is e = let i = (f.point).2 in
-    is ∙ loads_stay (noted_at o v n (at.ParentLife p b d)) h (Life p) n i.0 i.1 (life_keeps _ d p b None p n i.2.state_is) ∙ sym e
+    is ∙ loads_stay (noted_at o v n (at.ParentLife p b d)) h (Life p) n i.section i.is
+    (life_keeps _ d p b None p n i.stands.state_is) ∙ sym e
 stands_at o v h n (at.NodeLife d) x y f is e = let i = (f.point).2 in
-    is ∙ loads_stay (noted_at o v n (at.NodeLife d)) h (Life d.node) n i.0 i.1
-    (life_keeps _ d.node d.parent d.side None d.node n i.2.state_is) ∙ sym e
+    is ∙ loads_stay (noted_at o v n (at.NodeLife d)) h (Life d.node) n i.section i.is
+    (life_keeps _ d.node d.parent d.side None d.node n i.stands.state_is) ∙ sym e
 stands_at o v h n (at.NodeLeft d) x y f is e = let i = (f.point).2 in
-    is ∙ loads_stay (noted_at o v n (at.NodeLeft d)) h (Link d.node Left) n i.0 i.1
-    (walk_keeps _ d.node d.parent d.side None d.node Left n i.2.state_is) ∙ sym e
+    is ∙ loads_stay (noted_at o v n (at.NodeLeft d)) h (Link d.node Left) n i.section i.is
+    (walk_keeps _ d.node d.parent d.side None d.node Left n i.stands.state_is) ∙ sym e
 stands_at o v h n (at.NodeRight d) x y f is e = let i = (f.point).2 in
-    is ∙ loads_stay (noted_at o v n (at.NodeRight d)) h (Link d.node Right) n i.0 i.1
-    (walk_keeps _ d.node d.parent d.side None d.node Right n i.2.state_is) ∙ sym e
+    is ∙ loads_stay (noted_at o v n (at.NodeRight d)) h (Link d.node Right) n i.section i.is
+    (walk_keeps _ d.node d.parent d.side None d.node Right n i.stands.state_is) ∙ sym e
 stands_at o v h n (at.SuccessorLeft d u) x y f is e = let i = (f.point).2 in
-    is ∙ loads_stay (noted_at o v n (at.SuccessorLeft d u)) h (Link u.slot Left) n i.0 i.1
-    (walk_keeps _ d.node d.parent d.side None u.slot Left n i.2.state_is) ∙ sym e
+    is ∙ loads_stay (noted_at o v n (at.SuccessorLeft d u)) h (Link u.slot Left) n i.section i.is
+    (walk_keeps _ d.node d.parent d.side None u.slot Left n i.stands.state_is) ∙ sym e
 stands_at o v h n (at.SuccessorParentLife d u) x y f is e = let i = (f.point).2 in
-    is ∙ loads_stay (noted_at o v n (at.SuccessorParentLife d u)) h (Life u.parent) n i.0 i.1
-    (life_keeps _ d.node d.parent d.side None u.parent n i.2.state_is) ∙ sym e
+    is ∙ loads_stay (noted_at o v n (at.SuccessorParentLife d u)) h (Life u.parent) n i.section i.is
+    (life_keeps _ d.node d.parent d.side None u.parent n i.stands.state_is) ∙ sym e
 stands_at o v h n (at.SuccessorLife d u) x y f is e = let i = (f.point).2 in
-    is ∙ loads_stay (noted_at o v n (at.SuccessorLife d u)) h (Life u.slot) n i.0 i.1
-    (life_keeps _ d.node d.parent d.side None u.slot n i.2.state_is) ∙ sym e
+    is ∙ loads_stay (noted_at o v n (at.SuccessorLife d u)) h (Life u.slot) n i.section i.is
+    (life_keeps _ d.node d.parent d.side None u.slot n i.stands.state_is) ∙ sym e
 stands_at o v h n (at.Unlink m child) x y f is e =
     is ∙ stay (noted_at o v n (at.Unlink m child)) h n (act_at o (at.Unlink m child))
     (either_other (m.successor.parent == m.node.node) _ _ refl refl) ∙ sym e

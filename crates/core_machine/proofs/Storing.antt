@@ -19,7 +19,8 @@ use Rattle.core_points.proofs.All.{trails_are_free}
 use Rattle.core_points.specs.declared.stage.Update.TheVariants as update
 use Rattle.core_points.specs.declared.stage.Stage.{Stage}
 use Rattle.core_points.specs.declared.stage.Stage.TheVariants as at
-use Rattle.core_acts.specs.Acts.{access_of, left_by, said_by, noted, StaysWord}
+use Rattle.prcu_marks.specs.Accesses.{left_by, said_by, StaysWord}
+use Rattle.core_acts.specs.Acts.{access_of, noted}
 use Rattle.core_acts.proofs.Acting.{has_word, op_of, updates_by, updates_made}
 use Rattle.core_points.specs.Acts.{Act, kind_of, field_of, left_of, marks_of, view_after}
 use Rattle.core_points.specs.Callers.{Own, is_some as has_slot}
@@ -52,13 +53,13 @@ made_at : (o : Own) (v : View) (stage : Stage) (us ws : List Update) → Fits o 
     → us ≡ updates_by v.allowance.place (op_of (act_at o stage)) → ws ≡ update_at o stage → us ≡ ws
 made_at o v (at.OldRaise aim life) us ws f place is e = is ∙ none_made v.allowance.place (has_slot o.spare) _ _ refl refl ∙ sym e
 made_at o v (at.Store (update.Leaf spot) front) us ws f place is e =
-    is ∙ (λ j. record { caller = place j; op = put_is o.op ((f.point).5) j } ∷ []) ∙ sym e
+    is ∙ (λ j. record { caller = place j; op = put_is o.op ((f.point).puts) j } ∷ []) ∙ sym e
 made_at o v (at.Store (update.Value s old) front) us ws f place is e =
-    is ∙ (λ j. record { caller = place j; op = set_is o.op (((f.point).1).3) j } ∷ []) ∙ sym e
+    is ∙ (λ j. record { caller = place j; op = set_is o.op (((f.point).1).sets) j } ∷ []) ∙ sym e
 made_at o v (at.Store (update.Bypass d child) front) us ws f place is e =
-    is ∙ (λ j. record { caller = place j; op = del_is o.op (((f.point).1).0) j } ∷ []) ∙ sym e
+    is ∙ (λ j. record { caller = place j; op = del_is o.op (((f.point).deleting).0) j } ∷ []) ∙ sym e
 made_at o v (at.Store (update.Copy d u next_key copy) front) us ws f place is e =
-    is ∙ (λ j. record { caller = place j; op = del_is o.op ((((f.point).0).1).0) j } ∷ []) ∙ sym e
+    is ∙ (λ j. record { caller = place j; op = del_is o.op ((((f.point).copying).deleting).0) j } ∷ []) ∙ sym e
 made_at o v (at.Unlink m child) us ws f place is e =
     is ∙ none_made v.allowance.place (m.successor.parent == m.node.node) _ _ refl refl ∙ sym e
 made_at o v _ us ws f place is e = is ∙ sym e

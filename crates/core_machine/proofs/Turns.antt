@@ -48,7 +48,8 @@ use Rattle.core_points.specs.declared.stage.Stage.{Stage}
 use Rattle.core_points.specs.declared.stage.Stage.TheVariants as at
 use Rattle.prcu_marks.specs.declared.mark.Side.{Side}
 use Rattle.prcu_marks.specs.declared.mark.Side.TheVariants.{Left, Right}
-use Rattle.core_acts.specs.Acts.{in_slot, access_of, said_by, noted, section_of, wait_of}
+use Rattle.prcu_marks.specs.Accesses.{said_by}
+use Rattle.core_acts.specs.Acts.{in_slot, access_of, noted, section_of, wait_of}
 use Rattle.core_acts.specs.declared.act.Act.TheVariants.{LeaveByStamp}
 use Rattle.core_acts.proofs.Acting.{section_is}
 use Rattle.core_points.specs.Acts.{Act, field_of, marks_of, view_after}
@@ -381,7 +382,7 @@ module _ (k : Shape) (m : Memory) (vs : List View) (h : List Mark) (i : ℕ) (o 
             → Tells (record { scripts = k.places; slots = k.slots }) i script (none_free (record o { free = 0 }) aim) section (h ++ [])
         none (Leaf spot) t f zero_free =
             either_tells (record { scripts = k.places; slots = k.slots }) i script section (h ++ []) (is_none_left o.retired) _ _
-            (λ e. full_answers spot expected t (f.point).6
+            (λ e. full_answers spot expected t (f.point).takes.1
             (answers_are_said k m vs h i o v (at.Reserve (Leaf spot) expected) inv there f e zero_free)
             (record o { free = 0 }) refl section)
             (λ e. quiet (at.Reserve (Leaf spot) expected) t refl (λ z. absurd (cc))
@@ -453,7 +454,7 @@ module _ (k : Shape) (m : Memory) (vs : List View) (h : List Mark) (i : ℕ) (o 
     store_turn : (u : Making) (front : ℕ) → Fits o (at.Store u front) v → Before (at.Store u front) → After (at.Store u front)
     store_turn (update.Leaf spot) front f t =
         let is = answers_are_said k m vs h i o v (at.Store (update.Leaf spot) front) inv there f in
-        let put = (f.point).5 in
+        let put = (f.point).puts in
         let a : Act = act_at o (at.Store (update.Leaf spot) front) in
         let n : ℕ = said_by (access_of o.place a) (m (field_of o.place a)) in
         let section : Option Section = (view_after (noted v a n) h n a).section in
@@ -463,7 +464,7 @@ module _ (k : Shape) (m : Memory) (vs : List View) (h : List Mark) (i : ℕ) (o 
         (after o n (at.Store (update.Leaf spot) front)) refl refl refl section)
     store_turn (update.Value s old) front f t =
         let is = answers_are_said k m vs h i o v (at.Store (update.Value s old) front) inv there f in
-        let set = ((f.point).1).3 in
+        let set = ((f.point).1).sets in
         let a : Act = act_at o (at.Store (update.Value s old) front) in
         let n : ℕ = said_by (access_of o.place a) (m (field_of o.place a)) in
         let section : Option Section = (view_after (noted v a n) h n a).section in
@@ -475,7 +476,7 @@ module _ (k : Shape) (m : Memory) (vs : List View) (h : List Mark) (i : ℕ) (o 
         (after o n (at.Store (update.Value s old) front)) refl refl refl section)
     store_turn (update.Bypass d child) front f t =
         let is = answers_are_said k m vs h i o v (at.Store (update.Bypass d child) front) inv there f in
-        let del = ((f.point).1).0 in
+        let del = ((f.point).deleting).0 in
         let a : Act = act_at o (at.Store (update.Bypass d child) front) in
         let n : ℕ = said_by (access_of o.place a) (m (field_of o.place a)) in
         let section : Option Section = (view_after (noted v a n) h n a).section in
@@ -486,15 +487,16 @@ module _ (k : Shape) (m : Memory) (vs : List View) (h : List Mark) (i : ℕ) (o 
         (gone_confirms o.op (map_of (updates_of h)) del) (after o n (at.Store (update.Bypass d child) front)) refl refl refl section)
     store_turn (update.Copy d u next_key copy) front f t =
         let is = answers_are_said k m vs h i o v (at.Store (update.Copy d u next_key copy) front) inv there f in
-        let del = (((f.point).0).1).0 in
+        let del = ((f.point).copying).deleting.0 in
         let a : Act = act_at o (at.Store (update.Copy d u next_key copy) front) in
         let n : ℕ = said_by (access_of o.place a) (m (field_of o.place a)) in
         let section : Option Section = (view_after (noted v a n) h n a).section in
-        let needs = needs_are_given k h o v m n (at.Store (update.Copy d u next_key copy) front) (λ _. eer) places told f in
+        let (commit, r, held, left, right, value, links, same) =
+        needs_are_given k h o v m n (at.Store (update.Copy d u next_key copy) front) (λ _. eer) places told f in
         let next : IsNextKey (map_of (updates_of h)) (key_now o) next_key =
-        subst (λ key. IsNextKey (map_of (updates_of h)) key next_key) needs.7
-        (copy_next k m vs h i v inv there works needs.0 needs.1 needs.2 d.parent d.side d.node copy u.slot u.parent needs.3 needs.4
-        next_key needs.5 needs.6) in
+        subst (λ key. IsNextKey (map_of (updates_of h)) key next_key) same
+        (copy_next k m vs h i v inv there works commit r held d.parent d.side d.node copy u.slot u.parent left right next_key value
+        links) in
         subst (λ op. Tells (record { scripts = k.places; slots = k.slots }) i script
         (after o n (at.Store (update.Copy d u next_key copy) front)) section
         (h ++ Done (record { caller = v.allowance.place; op = op }) ∷ (Unlinked d.node ∷ []))) (sym (del_is o.op del))
@@ -526,7 +528,7 @@ module _ (k : Shape) (m : Memory) (vs : List View) (h : List Mark) (i : ℕ) (o 
         (λ d e. old_explained (record { scripts = k.places; slots = k.slots }) o.op d is.2.0 put e) n)
     leave_turn (then.Link spot) f t =
         let i' = ((f.point).1).1 in
-        leaves (then.Link spot) t i'.0 i'.1 (go o (cond (has_slot o.hand) (at.LeafLock spot) (taking o (Leaf spot)))) refl
+        leaves (then.Link spot) t i'.section i'.is (go o (cond (has_slot o.hand) (at.LeafLock spot) (taking o (Leaf spot)))) refl
         (by (has_slot o.hand)).0 (by (has_slot o.hand)).1 _ idle
       where
         by : (b : Bool) → (is_finished (cond b (at.LeafLock spot) (taking o (Leaf spot))) ≡ false)
@@ -534,9 +536,9 @@ module _ (k : Shape) (m : Memory) (vs : List View) (h : List Mark) (i : ℕ) (o 
         by true = (refl, refl)
         by false = (refl, refl)
     leave_turn (then.Replace s generation) f t = let i' = (((f.point).1).1).2 in
-        leaves (then.Replace s generation) t i'.0 i'.1 (go o (at.SetLock s generation)) refl refl refl _ idle
+        leaves (then.Replace s generation) t i'.section i'.is (go o (at.SetLock s generation)) refl refl refl _ idle
     leave_turn (then.Delete target) f t = let i' = ((f.point).1).1 in
-        leaves (then.Delete target) t i'.0 i'.1 (go o (at.TargetLock target 0)) refl refl refl _ idle
+        leaves (then.Delete target) t i'.section i'.is (go o (at.TargetLock target 0)) refl refl refl _ idle
 
     -- one step at any point
     pub turn : (stage : Stage) → is_finished stage ≡ false → Fits o stage v → Before stage → After stage
@@ -546,23 +548,23 @@ module _ (k : Shape) (m : Memory) (vs : List View) (h : List Mark) (i : ℕ) (o 
     turn (at.EnterStamp clock) going f t = enters clock t f
     turn (at.AtLink s b) going f t =
         let n : ℕ = m (Link s b) in
-        loads (at.AtLink s b) t refl (f.point).1.0 (f.point).1.1 (Link s b) (act_at o (at.AtLink s b)) n
+        loads (at.AtLink s b) t refl (f.point).1.section (f.point).1.is (Link s b) (act_at o (at.AtLink s b)) n
         (go o (cond (n == 0) (ended o.op s b) (at.AtKey n s b)))
         (stage_next (go o (at.AtLink s b)) inside o (n == 0) _ _ (ended_next (go o (at.AtLink s b)) o o.op s b refl)
         (refl, refl, inl refl))
     turn (at.AtKey s p b) going f t = let n : ℕ = m (Key s) in
-        loads (at.AtKey s p b) t refl (f.point).1.0 (f.point).1.1 (Key s) (act_at o (at.AtKey s p b)) n
+        loads (at.AtKey s p b) t refl (f.point).1.section (f.point).1.is (Key s) (act_at o (at.AtKey s p b)) n
         (go o (key_read o s p b (step_side (key_now o) n))) (by (step_side (key_now o) n))
       where
         by : (x : Option Side) → Next (go o (at.AtKey s p b)) inside (go o (key_read o s p b x))
         by None = found_next (go o (at.AtKey s p b)) o o.op s p b refl
         by (Some c) = (refl, refl, inl refl)
     turn (at.Leave next) going f t = leave_turn next f t
-    turn (at.Value s) going f t = loads (at.Value s) t refl (f.point.2).2.0 (f.point.2).2.1 (Value s) (act_at o (at.Value s))
+    turn (at.Value s) going f t = loads (at.Value s) t refl (f.point.2).2.section (f.point.2).2.is (Value s) (act_at o (at.Value s))
         (m (Value s)) _ (refl, refl, inl refl)
-    turn (at.SpotTag s b) going f t = loads (at.SpotTag s b) t refl (f.point).2.0 (f.point).2.1 (Tag s b) (act_at o (at.SpotTag s b))
+    turn (at.SpotTag s b) going f t = loads (at.SpotTag s b) t refl (f.point).2.section (f.point).2.is (Tag s b) (act_at o (at.SpotTag s b))
         (m (Tag s b)) _ (refl, refl, inl refl)
-    turn (at.SpotLife s b tag) going f t = loads (at.SpotLife s b tag) t refl (f.point).2.0 (f.point).2.1 (Life s)
+    turn (at.SpotLife s b tag) going f t = loads (at.SpotLife s b tag) t refl (f.point).2.section (f.point).2.is (Life s)
         (act_at o (at.SpotLife s b tag)) (m (Life s)) _ (refl, refl, inl refl)
     turn (at.LeafField spot j) going f t = quiet (at.LeafField spot j) t refl
         (λ e. absurd (cc)) _ _ (stage_next (go o (at.LeafField spot j)) outside o (j == 3) _ _ (refl, refl, inl refl)
@@ -631,7 +633,7 @@ module _ (k : Shape) (m : Memory) (vs : List View) (h : List Mark) (i : ℕ) (o 
     turn (at.Even (update.Copy d u next_key copy) front) going f t =
         quiet (at.Even (update.Copy d u next_key copy) front) t refl (λ e. absurd (cc)) _ _ (refl, refl, inl refl)
     turn (at.Unlock l) going f t = unlocks l t _
-    turn (at.SetLife s) going f t = loads (at.SetLife s) t refl (f.point.2).2.0 (f.point.2).2.1 (Life s) (act_at o (at.SetLife s))
+    turn (at.SetLife s) going f t = loads (at.SetLife s) t refl (f.point.2).2.section (f.point.2).2.is (Life s) (act_at o (at.SetLife s))
         (m (Life s)) _ (refl, refl, inl refl)
     turn (at.SetLock s generation) going f t = quiet (at.SetLock s generation) t refl
         (λ e. absurd (cc)) _ _ (lock_next (go o (at.SetLock s generation)) o s (m (Lock s)) (at.SetCheck s generation) refl refl refl)
@@ -640,22 +642,23 @@ module _ (k : Shape) (m : Memory) (vs : List View) (h : List Mark) (i : ℕ) (o 
         (go o (cond (n == 2 * generation) (at.SetValue s) (at.Unlock last.Again))) _ (stage_next (go o (at.SetCheck s generation)) outside o
         (n == 2 * generation) _ _ (refl, refl, inl refl) (refl, refl, inr (refl, refl)))
     turn (at.SetValue s) going f t = quiet (at.SetValue s) t refl (λ e. absurd (cc)) _ _ (refl, refl, inl refl)
-    turn (at.ParentLife p b d) going f t = loads (at.ParentLife p b d) t refl (f.point).2.0 (f.point).2.1 (Life p)
+    turn (at.ParentLife p b d) going f t = loads (at.ParentLife p b d) t refl (f.point).2.section (f.point).2.is (Life p)
         (act_at o (at.ParentLife p b d)) (m (Life p)) _ (refl, refl, inl refl)
-    turn (at.NodeLife d) going f t = loads (at.NodeLife d) t refl (f.point).2.0 (f.point).2.1 (Life d.node) (act_at o (at.NodeLife d))
+    turn (at.NodeLife d) going f t = loads (at.NodeLife d) t refl f.point.2.section f.point.2.is (Life d.node) (act_at o (at.NodeLife d))
         (m (Life d.node)) _ (refl, refl, inl refl)
-    turn (at.NodeLeft d) going f t = loads (at.NodeLeft d) t refl (f.point).2.0 (f.point).2.1 (Link d.node Left) (act_at o (at.NodeLeft d))
+    turn (at.NodeLeft d) going f t =
+        loads (at.NodeLeft d) t refl (f.point).2.section (f.point).2.is (Link d.node Left) (act_at o (at.NodeLeft d))
         (m (Link d.node Left)) _ (refl, refl, inl refl)
     turn (at.NodeRight d) going f t = let n : ℕ = m (Link d.node Right) in
-        loads (at.NodeRight d) t refl (f.point).2.0 (f.point).2.1 (Link d.node Right) (act_at o (at.NodeRight d)) n
+        loads (at.NodeRight d) t refl (f.point).2.section (f.point).2.is (Link d.node Right) (act_at o (at.NodeRight d)) n
         (go o (past_right (record d { right = n }))) (right_next (go o (at.NodeRight d)) o (record d { right = n }) refl)
     turn (at.SuccessorLeft d u) going f t =
-        let n : ℕ = m (Link u.slot Left) in loads (at.SuccessorLeft d u) t refl (f.point).2.0 (f.point).2.1 (Link u.slot Left)
+        let n : ℕ = m (Link u.slot Left) in loads (at.SuccessorLeft d u) t refl (f.point).2.section (f.point).2.is (Link u.slot Left)
         (act_at o (at.SuccessorLeft d u)) n (go o (past_left d u n)) (left_next (go o (at.SuccessorLeft d u)) o d u n refl)
     turn (at.SuccessorParentLife d u) going f t =
-        loads (at.SuccessorParentLife d u) t refl (f.point).2.0 (f.point).2.1 (Life u.parent) (act_at o (at.SuccessorParentLife d u))
+        loads (at.SuccessorParentLife d u) t refl (f.point).2.section (f.point).2.is (Life u.parent) (act_at o (at.SuccessorParentLife d u))
         (m (Life u.parent)) _ (refl, refl, inl refl)
-    turn (at.SuccessorLife d u) going f t = loads (at.SuccessorLife d u) t refl (f.point).2.0 (f.point).2.1 (Life u.slot)
+    turn (at.SuccessorLife d u) going f t = loads (at.SuccessorLife d u) t refl (f.point).2.section (f.point).2.is (Life u.slot)
         (act_at o (at.SuccessorLife d u)) (m (Life u.slot)) _ (refl, refl, inl refl)
     turn (at.TargetLock target j) going f t = quiet (at.TargetLock target j) t refl
         (λ e. absurd (cc)) _ _ (lock_next (go o (at.TargetLock target j)) o (target_lock target j) (m (Lock (target_lock target j))) _ refl

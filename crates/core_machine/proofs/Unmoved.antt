@@ -12,7 +12,8 @@ use Rattle.core_points.specs.Programs.{act_at}
 use Rattle.core_machine.specs.declared.caller.Caller.{Caller}
 use Rattle.core_machine.specs.declared.machine.Stepped.{Stepped}
 use Rattle.core_machine.specs.declared.machine.Stepped.TheVariants.{Blocked, Finished}
-use Rattle.core_acts.specs.Acts.{access_of, left_by, said_by}
+use Rattle.prcu_marks.specs.Accesses.{left_by, said_by}
+use Rattle.core_acts.specs.Acts.{access_of}
 use Rattle.core_machine.specs.Stepped.{at_lock, blocked}
 use Rattle.core_machine.specs.Stored.{own_of}
 use Rattle.core_machine.specs.Stepping.{found_now, told_now, index_now}

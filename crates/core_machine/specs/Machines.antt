@@ -14,7 +14,8 @@ use Rattle.core_points.specs.Laws.{is_finished}
 use Rattle.core_machine.specs.declared.caller.Caller.{Caller}
 use Rattle.core_machine.specs.declared.machine.Stepped.{Stepped}
 use Rattle.core_machine.specs.declared.machine.Stepped.TheVariants.{Moved, Blocked, Finished}
-use Rattle.core_acts.specs.Acts.{access_of, left_by}
+use Rattle.prcu_marks.specs.Accesses.{left_by}
+use Rattle.core_acts.specs.Acts.{access_of}
 use Rattle.core_machine.specs.Runs.{Core, core, history_of, shape_of}
 use Rattle.core_machine.specs.Draws.{AreDrawn}
 use Rattle.core_machine.specs.Laws.{IsMachine}

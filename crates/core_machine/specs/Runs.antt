@@ -18,7 +18,8 @@ use Rattle.core_state.specs.memory.Memory.{Memory, memory_of, stored}
 use Rattle.seat_table.specs.Fresh.{first_words}
 use Rattle.core_laws.specs.Whole.{place_views}
 use Rattle.core_points.specs.declared.stage.Stage.TheVariants as at
-use Rattle.core_acts.specs.Acts.{access_of, said_by, noted}
+use Rattle.prcu_marks.specs.Accesses.{said_by}
+use Rattle.core_acts.specs.Acts.{access_of, noted}
 use Rattle.core_points.specs.Acts.{Act, field_of, left_of, view_after, marks_of}
 use Rattle.core_points.specs.Callers.{Own}
 use Rattle.core_points.specs.Programs.{act_at, after, begun_with}

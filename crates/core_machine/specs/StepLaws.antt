@@ -9,7 +9,8 @@ use Rattle.core_state.specs.memory.Memory.{memory_of, word_count}
 use Rattle.core_points.specs.Callers.{Own}
 use Rattle.core_points.specs.Programs.{act_at, after}
 use Rattle.core_points.specs.Laws.{is_finished}
-use Rattle.core_acts.specs.Acts.{access_of, left_by}
+use Rattle.prcu_marks.specs.Accesses.{left_by}
+use Rattle.core_acts.specs.Acts.{access_of}
 use Rattle.core_machine.specs.Runs.{Core, core, history_of, shape_of}
 use Rattle.core_machine.specs.Laws.{IsMachine}
 use Rattle.core_machine.specs.Stepping.{CanStep, found_now, told_now, index_now, update_now}

@@ -8,7 +8,8 @@ use Rattle.core_state.specs.declared.words.Field.{Field}
 use Rattle.core_state.specs.memory.Memory.{is_field, word_of}
 use Rattle.core_points.specs.declared.stage.Stage.{Stage}
 use Rattle.core_points.specs.declared.stage.Stage.TheVariants as at
-use Rattle.core_acts.specs.Acts.{access_of, said_by, StaysWord}
+use Rattle.prcu_marks.specs.Accesses.{said_by, StaysWord}
+use Rattle.core_acts.specs.Acts.{access_of}
 use Rattle.core_points.specs.Acts.{field_of}
 use Rattle.core_points.specs.Callers.{Own}
 use Rattle.core_points.specs.Programs.{act_at}

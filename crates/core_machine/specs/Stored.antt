@@ -8,7 +8,7 @@ use Rattle.core_points.specs.declared.stage.Waits.{Waits}
 use Rattle.core_points.specs.declared.stage.Waits.TheVariants.{Reuse, Move}
 use Rattle.core_points.specs.declared.stage.Stage.{Stage}
 use Rattle.core_points.specs.declared.stage.Stage.TheVariants as at
-use Rattle.core_acts.specs.declared.access.Access.{Access}
+use Rattle.prcu_marks.specs.declared.access.Access.{Access}
 use Rattle.core_acts.specs.Acts.{access_of}
 use Rattle.core_points.specs.Acts.{field_of}
 use Rattle.core_points.specs.Callers.{Own, key_now}

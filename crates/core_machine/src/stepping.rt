@@ -2,7 +2,8 @@
 ghost use Rattle.std.specs.Prelude.{◌≡◌, ◌<◌, false, set, length, slice_index};
 ghost use Rattle.core_points.specs.Programs.{act_at, after};
 ghost use Rattle.core_points.specs.Laws.{is_finished};
-ghost use Rattle.core_acts.specs.Acts.{access_of, left_by, said_by, StaysWord};
+ghost use Rattle.prcu_marks.specs.Accesses.{left_by, said_by, StaysWord};
+ghost use Rattle.core_acts.specs.Acts.{access_of};
 ghost use Rattle.core_state.specs.steps.Waits.{turned_gate};
 ghost use Rattle.core_machine.specs.Stepped.{blocked as blocked_at};
 ghost use Rattle.core_machine.specs.Stored.{own_of, HasRoom, IsAble};
@@ -11,10 +12,10 @@ ghost use Rattle.core_machine.specs.Stepping.{CanStep, found_now, told_now, inde
 
 use crate::acting::access_at;
 use crate::caller::Caller;
-use core_acts::{Access, index_of};
+use core_acts::index_of;
 use core_points::stage::Stage;
 use core_state::shape::Waiter;
-use prcu_marks::Why;
+use prcu_marks::{Access, Why};
 
 /// Makes the access, and answers the number that it tells: the one found, or stored where it is a store.
 fn touch(words: &mut [u64], index: usize, access: Access) -> u64

@@ -28,7 +28,7 @@ use Rattle.core_points.specs.DeleteFacts.{BeforeCopy, IsAside, under}
 use Rattle.core_points.specs.Told.{IsTold, SpareComes}
 use Rattle.core_frames.specs.Telling.{IsToldOf}
 use Rattle.core_frames.proofs.Telling.{told_of}
-use Rattle.core_points.specs.Fits.{Fits}
+use Rattle.core_points.specs.Fits.{Fits, plain}
 use Rattle.core_points.specs.Laws.{NeedsAreGiven, NextFits, RuleTells, TrailsAreFree, is_finished}
 use Rattle.core_points.proofs.Bypasses.{needs_mark, next_mark, needs_bypass, next_bypass, needs_empty_tag, next_empty_tag, needs_empty_raise, next_empty_raise}
 use Rattle.core_points.proofs.Commits.{needs_commit, next_commit, needs_even, next_even}
@@ -45,7 +45,7 @@ use Rattle.core_points.proofs.Puts.{needs_spot_tag, next_spot_tag, needs_spot_li
 use Rattle.core_points.proofs.Reclaim.{needs_begin, next_begin, needs_look_key, next_look_key, needs_look_stamp, next_look_stamp}
 use Rattle.core_points.proofs.Searches.{next_clock, needs_key, next_key, needs_stamp, next_stamp, needs_link, next_link, needs_read, next_read, needs_value, next_value}
 use Rattle.core_points.proofs.Sets.{needs_set_life, next_set_life, next_replace, needs_set_lock, next_set_lock, needs_set_check, next_set_check, needs_set_value, next_set_value, needs_set_store, next_set_store}
-use Rattle.core_points.proofs.Spares.{needs_reserve_spare, next_reserve_spare, needs_seize_spare, next_seize_spare, needs_age_spare, next_age_spare, needs_keep, next_keep}
+use Rattle.core_points.proofs.Spares.{next_age_spare, needs_keep, next_keep}
 use Rattle.core_points.proofs.Targets.{needs_target_lock, next_target_lock, needs_target_load, next_target_load}
 use Rattle.core_points.proofs.Unlocks.{needs_unlock, next_unlock}
 use Rattle.tree_laws.proofs.locks.Locked.{loaded_known}
@@ -64,19 +64,19 @@ comes o v h word told owns none = none_are v.hands.retired o.retired owns.retire
 
 -- the spare is none of the slots of a delete whose records hold
 is_aside : (o : Own) (v : View) (h : List Mark) (word : Field → ℕ) (d : Node) (u : Successor) → IsTold o v h word → Owns o v
-    → BeforeCopy o v d u → IsAside (or_root o.spare) d u
+    → BeforeCopy o (plain v) d u → IsAside (or_root o.spare) d u
 is_aside o v h word d u told owns p =
-    let c = p.0 in
-    let both = c.2 in
+    let c = p.copying in
+    let both = c.both in
     let r = both.0 in
     let node = both.2 in
     let s = both.3 in
-    let spare = some_spare v.hands.spare o.spare owns.spare_is (((c.1).1).has_spare (c.1).0) in
+    let spare = some_spare v.hands.spare o.spare owns.spare_is (((c.deleting).1).has_spare (c.deleting).0) in
     let known = λ (t g : ℕ) (e : loaded_in (under v.locks t) (Life t) ≡ Some (2 * g)). loaded_known (under v.locks t) (Life t) (2 * g) e in
     let apart = λ (t g : ℕ) (recorded : LoadedGeneration r t g) (e : loaded_in (under v.locks t) (Life t)
     ≡ Some (2 * g)). λ (same : or_root o.spare ≡ t). told.aside r t g node.kept recorded (known t g e) spare.0 spare.1
     (spare.2 ∙ same) in
-    let from_node : or_root o.spare ≢ d.node = apart d.node d.generation node.recorded p.1 in
+    let from_node : or_root o.spare ≢ d.node = apart d.node d.generation node.recorded p.unmarked in
     record {
       parent = apart d.parent d.parent_generation node.parent_recorded node.parent_life;
       node = from_node;
@@ -89,7 +89,7 @@ is_aside o v h word d u told owns p =
 
 module _ (k : Shape) (h : List Mark) (o : Own) (w : View) (places : k.places ≡ o.places) where
   leaves : (key : ℕ) (state : SearchState) (more : Section → Type 0) → Inside w key state more → (s : Section) × (w.section ≡ Some s)
-  leaves key state more i = (i.0, i.1)
+  leaves key state more i = (i.section, i.is)
 
   needs_all : (word : Field → ℕ) → IsTold o w h word → (n : ℕ) (stage : Stage) → (is_step (act_at o stage) ≡ false → k.waiter ≡ Eer)
       → Fits o stage w → Needs k w n (act_at o stage)
@@ -113,15 +113,9 @@ module _ (k : Shape) (h : List Mark) (o : Own) (w : View) (places : k.places ≡
   needs_all word told n (at.LeafLife spot) eer f = needs_life k h o w n spot f
   needs_all word told n (at.LeafSide spot life) eer f = needs_side k h o w n spot life f
   needs_all word told n (at.LeafTag spot life link) eer f = needs_tag k h o w n spot life link f
-  needs_all word told n (at.Reserve (Leaf spot) expected) eer f = needs_reserve k h o w n spot expected f
-  needs_all word told n (at.Reserve Spare expected) eer f = needs_reserve_spare k h o w n expected f
-  needs_all word told n (at.Reserve Room expected) eer f = absurd f.point
-  needs_all word told n (at.Seize (Leaf spot)) eer f = needs_seize k h o w n spot f
-  needs_all word told n (at.Seize Spare) eer f = needs_seize_spare k h o w n f
-  needs_all word told n (at.Seize Room) eer f = absurd f.point
-  needs_all word told n (at.Age (Leaf spot) s) eer f = needs_age k h o w n spot s f
-  needs_all word told n (at.Age Spare s) eer f = needs_age_spare k h o w n s f
-  needs_all word told n (at.Age Room s) eer f = absurd f.point
+  needs_all word told n (at.Reserve aim expected) eer f = needs_reserve k h o w n aim expected f
+  needs_all word told n (at.Seize aim) eer f = needs_seize k h o w n aim f
+  needs_all word told n (at.Age aim s) eer f = needs_age k h o w n aim s f
   needs_all word told n (at.Keep s) eer f = needs_keep k h o w n s f
   needs_all word told n at.Raise eer f = needs_raise k h o w n f
   needs_all word told n at.Free eer f = needs_free k h o w n f
@@ -211,19 +205,13 @@ module _ (h : List Mark) (o : Own) (v : View) where
   next_all word told (at.LeafTag spot life link) going f =
       next_tag any h o v (word (field_of o.place (act_at o (at.LeafTag spot life link)))) spot life link
       (told.loads spot.slot (Tag spot.slot spot.side)) f
-  next_all word told (at.Reserve (Leaf spot) expected) going f =
-      next_reserve any h o v (word (field_of o.place (act_at o (at.Reserve (Leaf spot) expected)))) spot expected f
-  next_all word told (at.Reserve Spare expected) going f =
-      next_reserve_spare any h o v (word (field_of o.place (act_at o (at.Reserve Spare expected)))) expected f
-  next_all word told (at.Reserve Room expected) going f = absurd f.point
-  next_all word told (at.Seize (Leaf spot)) going f =
-      next_seize any h o v (word (field_of o.place (act_at o (at.Seize (Leaf spot))))) spot f
-  next_all word told (at.Seize Spare) going f = next_seize_spare any h o v (word (field_of o.place (act_at o (at.Seize Spare)))) f
-  next_all word told (at.Seize Room) going f = absurd f.point
+  next_all word told (at.Reserve aim expected) going f =
+      next_reserve any h o v (word (field_of o.place (act_at o (at.Reserve aim expected)))) aim expected f
+  next_all word told (at.Seize aim) going f = next_seize any h o v (word (field_of o.place (act_at o (at.Seize aim)))) aim f
   next_all word told (at.Age (Leaf spot) s) going f =
       next_age any h o v (word (field_of o.place (act_at o (at.Age (Leaf spot) s)))) spot s f
   next_all word told (at.Age Spare s) going f = next_age_spare any h o v (word (field_of o.place (act_at o (at.Age Spare s)))) s f
-  next_all word told (at.Age Room s) going f = absurd f.point
+  next_all word told (at.Age Room s) going f = absurd (f.point).takes
   next_all word told (at.Keep s) going f = next_keep any h o v (word (field_of o.place (act_at o (at.Keep s)))) s f
   next_all word told at.Raise going f = next_raise any h o v (word (field_of o.place (act_at o at.Raise))) f
   next_all word told at.Free going f = next_free any h o v (word (field_of o.place (act_at o at.Free))) f

@@ -47,13 +47,13 @@ use Rattle.tree_laws.proofs.locks.Locked.{alive, young_locked}
 -- A search that ended at an empty side, or loaded the value that it found: the dictionary said so since the section was entered.
 search_said : (k : Shape) (m : Memory) (vs : List View) (h : List Mark) (id : ℕ) (v : View) (key : ℕ) (state : SearchState)
     (more : Section → Type 0) → HoldsNow k m vs h → get_elem? vs id ≡ some v
-    → (i : Inside v key state more) → WasSaid (updates_of h) key (i.0).from (answer_of m (slot_count k) key state)
+    → (i : Inside v key state more) → WasSaid (updates_of h) key (i.section).from (answer_of m (slot_count k) key state)
 search_said k m vs h id v key state more inv there i =
-    let section : Section = i.0 in
+    let section : Section = i.section in
     let said = searches_are_answered k m vs h inv section
-    (record { id = id; view = v; there = there; inside = i.1; no_list = (i.2).searches }) in
-    subst (λ s. WasSaid (updates_of h) key section.from (answer_of m (slot_count k) key s)) (i.2).state_is
-    (subst (λ x. WasSaid (updates_of h) x section.from (answer_of m (slot_count k) x section.reading.state)) (i.2).key_is said)
+    (record { id = id; view = v; there = there; inside = i.is; no_list = (i.stands).searches }) in
+    subst (λ s. WasSaid (updates_of h) key section.from (answer_of m (slot_count k) key s)) (i.stands).state_is
+    (subst (λ x. WasSaid (updates_of h) x section.from (answer_of m (slot_count k) x section.reading.state)) (i.stands).key_is said)
 
 -- A get's answer, as it leaves its section.
 value_said : (k : Shape) (m : Memory) (vs : List View) (h : List Mark) (id : ℕ) (v : View) (o : Own) (value : ℕ) → HoldsNow k m vs h
@@ -64,7 +64,7 @@ value_said k m vs h id v o value inv there f =
     let p = (f.point).1 in
     let q = p.1 in
     let i = q.3 in
-    (i.0, i.1, search_said k m vs h id v (key_now o) (Found q.0 q.1 q.2 (Some value)) Nothing inv there i)
+    (i.section, i.is, search_said k m vs h id v (key_now o) (Found q.0 q.1 q.2 (Some value)) Nothing inv there i)
 
 absent_said : (k : Shape) (m : Memory) (vs : List View) (h : List Mark) (id : ℕ) (v : View) (o : Own) → HoldsNow k m vs h
     → get_elem? vs id ≡ some v
@@ -74,7 +74,7 @@ absent_said k m vs h id v o inv there f =
     let p = (f.point).1 in
     let q = p.1 in
     let i = q.2 in
-    (i.0, i.1, search_said k m vs h id v (key_now o) (Missed q.0 q.1) Nothing inv there i)
+    (i.section, i.is, search_said k m vs h id v (key_now o) (Missed q.0 q.1) Nothing inv there i)
 
 -- A put that found its key: it had a value.
 old_said : (k : Shape) (m : Memory) (vs : List View) (h : List Mark) (id : ℕ) (v : View) (o : Own) → HoldsNow k m vs h
@@ -84,16 +84,16 @@ old_said k m vs h id v o inv there f =
     let p = (f.point).1 in
     let q = p.1 in
     let i = q.3 in
-    let section : Section = i.0 in
+    let section : Section = i.section in
     let r : Reading = section.reading in
     let s : ℕ = q.0 in
-    let kept = in_first (open_reading v.section) v.records r (subst (λ x. IsIn (open_reading x) r) (sym i.1) (0, refl)) in
+    let kept = in_first (open_reading v.section) v.records r (subst (λ x. IsIn (open_reading x) r) (sym i.is) (0, refl)) in
     let reading = inv.readers.readings id v there kept.0 r kept.1 in
-    let well = subst (StandsWell r) (i.2).state_is reading.well in
-    let stood = (inv.readers.served id v there section i.1).stood s (i.2).here in
-    let key : m (Key s) ≡ key_now o = stood.key r.key well.1 ∙ (i.2).sought in (
+    let well = subst (StandsWell r) (i.stands).state_is reading.well in
+    let stood = (inv.readers.served id v there section i.is).stood s (i.stands).here in
+    let key : m (Key s) ≡ key_now o = stood.key r.key well.1 ∙ (i.stands).sought in (
       section,
-      i.1,
+      i.is,
       (
         m (Value s),
         subst (WasSaid (updates_of h) (key_now o) section.from)
@@ -111,9 +111,10 @@ full_said : (k : Shape) (m : Memory) (vs : List View) (h : List Mark) (id : ℕ)
     → Fits o (at.Reserve (Leaf spot) expected) v → is_none_left o.retired ≡ true → m Free ≡ 0
     → k.slots ≤ finite.len (map_of (updates_of h)) + 20 * (k.places - 1)
 full_said k m vs h id v o spot expected inv there f none empty =
-    let b = (f.point).1 in
+    let i = (f.point).idle in
+    let b = i.bare in
     let full = empty_is_full k m vs h inv id v there
-    (record { works = f.owns.works; reserved = b.reserved_is; hand = (f.point).2; owes = b.paid; moving = b.settled }) empty in
+    (record { works = f.owns.works; reserved = b.reserved_is; hand = i.empty; owes = b.paid; moving = b.settled }) empty in
     let no = none_retired v.hands.retired o.retired f.owns.retired_are none in omega arith
 
 -- The number of an update is its place in the history.
@@ -138,7 +139,7 @@ old_is : (k : Shape) (m : Memory) (vs : List View) (h : List Mark) (id : ℕ) (v
 old_is k m vs h id v o s old front inv there f =
     let g : ℕ = (f.point).0 in
     let p = (f.point).1 in
-    let has = p.2 in
+    let has = p.found in
     let r : Reading = has.reading in
     let kept = in_second (open_reading v.section) v.records r has.kept in
     let known = known_of-one in
@@ -146,7 +147,7 @@ old_is k m vs h id v o s old front inv there f =
     let reading = inv.readers.readings id v there kept.0 r kept.1 in
     let found = has.found in
     let well = subst (StandsWell r) found.3 reading.well in
-    let young = young_locked k m vs h inv id v there (p.0).settled s (a.lock, a.locked) a.on in
+    let young = young_locked k m vs h inv id v there (p.quiet).settled s (a.lock, a.locked) a.on in
     let l = a.recorded in
     let key : m (Key s) ≡ r.key = (inv.locks.readings id v there kept.0 r kept.1).keys s l.0 r.key l.1
     (let x = a.life in let e = l.2 in omega arith) well.1 in
@@ -161,7 +162,7 @@ old_is k m vs h id v o s old front inv there f =
       right_emptied = false;
       marked = false;
     })
-    is = ap (λ ls. lock_of ls s) ((f.point).1).1 ∙ one_locked s (set_known s (f.point).0 old)
+    is = ap (λ ls. lock_of ls s) ((f.point).1).locks_are ∙ one_locked s (set_known s (f.point).0 old)
 
     known_of-one : (field : Field) (x : ℕ) → known_in (set_known s (f.point).0 old) field ≡ Some x
         → known_in (known_of (lock_of v.locks s)) field ≡ Some x
@@ -195,12 +196,8 @@ answers_are_said k m vs h id o v (at.LeafTag spot life link) inv there f = tt
 answers_are_said k m vs h id o v (at.Reserve (Leaf spot) expected) inv there f = full_said k m vs h id v o spot expected inv there f
 answers_are_said k m vs h id o v (at.Reserve Spare expected) inv there f = tt
 answers_are_said k m vs h id o v (at.Reserve Room expected) inv there f = tt
-answers_are_said k m vs h id o v (at.Seize (Leaf spot)) inv there f = tt
-answers_are_said k m vs h id o v (at.Seize Spare) inv there f = tt
-answers_are_said k m vs h id o v (at.Seize Room) inv there f = tt
-answers_are_said k m vs h id o v (at.Age (Leaf spot) s) inv there f = tt
-answers_are_said k m vs h id o v (at.Age Spare s) inv there f = tt
-answers_are_said k m vs h id o v (at.Age Room s) inv there f = tt
+answers_are_said k m vs h id o v (at.Seize aim) inv there f = tt
+answers_are_said k m vs h id o v (at.Age aim s) inv there f = tt
 answers_are_said k m vs h id o v (at.Keep s) inv there f = tt
 answers_are_said k m vs h id o v at.Raise inv there f = tt
 answers_are_said k m vs h id o v at.Free inv there f = tt
@@ -217,13 +214,13 @@ answers_are_said k m vs h id o v (at.OldFree aim) inv there f = tt
 answers_are_said k m vs h id o v (at.OldCount aim) inv there f = tt
 answers_are_said k m vs h id o v (at.Commit u expected) inv there f = tt
 answers_are_said k m vs h id o v (at.Store (update.Leaf spot) front) inv there f =
-    (is_numbered k m vs h id v front inv there (((f.point).2).turn_is), tt)
+    (is_numbered k m vs h id v front inv there (((f.point).bare).turn_is), tt)
 answers_are_said k m vs h id o v (at.Store (update.Value s old) front) inv there f =
-    (is_numbered k m vs h id v front inv there ((((f.point).1).0).turn_is), old_is k m vs h id v o s old front inv there f)
+    (is_numbered k m vs h id v front inv there ((((f.point).1).quiet).turn_is), old_is k m vs h id v o s old front inv there f)
 answers_are_said k m vs h id o v (at.Store (update.Bypass d child) front) inv there f =
-    (is_numbered k m vs h id v front inv there (((f.point).0).turn_is), tt)
+    (is_numbered k m vs h id v front inv there (((f.point).quiet).turn_is), tt)
 answers_are_said k m vs h id o v (at.Store (update.Copy d u next_key copy) front) inv there f =
-    (is_numbered k m vs h id v front inv there ((((f.point).0).0).turn_is), tt)
+    (is_numbered k m vs h id v front inv there ((((f.point).copying).quiet).turn_is), tt)
 answers_are_said k m vs h id o v (at.Even u front) inv there f = tt
 answers_are_said k m vs h id o v (at.Unlock l) inv there f = tt
 answers_are_said k m vs h id o v (at.SetLife s) inv there f = tt

@@ -79,12 +79,11 @@ module _ (o : Own) (v : View) (free : IsFree o v) where
     tickets = (let few = owed_start op o.hand o.retired free.empty in omega arith);
     point = (
       free.outside,
-      (
-        free.bare,
-        subst (λ x. HandFits x o.hand_life (key_of op) (value_in op) v.hands.hand)
-            (sym free.empty) free.no_hand,
-        ready,
-      ),
+      record {
+        bare = free.bare;
+        hand = subst (λ x. HandFits x o.hand_life (key_of op) (value_in op) v.hands.hand) (sym free.empty) free.no_hand;
+        ready = ready;
+      },
     );
   }
 
@@ -105,7 +104,7 @@ module _ (o : Own) (v : View) (free : IsFree o v) where
   first (Del key) ops fit paid = many (nat_le 15 (length o.retired)) refl
     where
       idle : Idle (record o { op = Del key; rest = ops; stage = at.EnterClock }) (plain v)
-      idle = (free.outside, free.bare, free.no_hand, free.empty)
+      idle = record { outside = free.outside; bare = free.bare; empty = free.no_hand; no_hand = free.empty }
 
       few : nat_le 15 (length o.retired) ≡ false → length o.retired < 15
       few e = dite (dec_le 15 (length o.retired)) (λ le. absurd (let q : true ≡ false = sym (le-leb 15 (length o.retired) le) ∙ e in cc))
@@ -119,7 +118,11 @@ module _ (o : Own) (v : View) (free : IsFree o v) where
         owns = owns_op (Del key) ops fit;
         unraised = λ z. free.unraised;
         tickets = omega arith;
-        point = (idle, positive o.free, refl, room, none_is o.spare e);
+        point = record {
+          idle = idle;
+          some = positive o.free;
+          takes = record { deletes = refl; room = room; no_spare = none_is o.spare e };
+        };
       }
 
       many : (z : Bool) → nat_le 15 (length o.retired) ≡ z → let st : Stage = cond z (at.Begin (Reuse Room)) (spare_first o) in

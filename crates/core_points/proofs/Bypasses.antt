@@ -190,15 +190,15 @@ module _ (k : Shape) (h : List Mark) (o : Own) (v : View) (n : ℕ) where
         unraised = λ z. f.unraised refl;
         tickets = (let t = f.tickets in let two = delete_owed o.op o.hand o.retired (p.deleting).0 in omega arith);
         point = (
-          (
-            quiet_noted o v d.node (Life d.node) (2 * d.generation + 1) true None p.quiet,
-            p.deleting,
-            p.has_locks,
-            (few.0, few.1, node_marked v.records v.locks few.0 d few.2, few.3),
-            is_marked v d p.unmarked,
-            clear_marked kn d.node v.locks p.clear,
-            p.child_is,
-          ),
+          record {
+            quiet = quiet_noted o v d.node (Life d.node) (2 * d.generation + 1) true None p.quiet;
+            deleting = p.deleting;
+            has_locks = p.has_locks;
+            few = (few.0, few.1, node_marked v.records v.locks few.0 d few.2, few.3);
+            marked = is_marked v d p.unmarked;
+            clear = clear_marked kn d.node v.locks p.clear;
+            child_is = p.child_is;
+          },
           made_even o.front,
         );
       }
@@ -208,18 +208,19 @@ module _ (k : Shape) (h : List Mark) (o : Own) (v : View) (n : ℕ) where
       → Needs k v n (act_at o (at.Store (update.Bypass d child) front))
   needs_bypass d child front f =
       let p = f.point in
-      let few = p.3 in
+      let few = p.few in
       let r : Reading = few.0 in (
         record { found = front; stored = false },
         r,
         d.left,
         d.right,
         record {
-          has_commit = record { commit_is = (p.0).turn_is; unmade = refl; ticket = (let t = f.tickets in omega arith) };
-          room = (let room = ((p.1).1).room (p.1).0 in let long = same_length v.hands.retired o.retired f.owns.retired_are in omega arith);
+          has_commit = record { commit_is = (p.quiet).turn_is; unmade = refl; ticket = (let t = f.tickets in omega arith) };
+          room = (let room = ((p.deleting).1).room (p.deleting).0 in
+              let long = same_length v.hands.retired o.retired f.owns.retired_are in omega arith);
           records = few_children v r d few.2 few.3;
-          marked = marked_node v r d few.2 p.4;
-          child_is = p.6;
+          marked = marked_node v r d few.2 p.marked;
+          child_is = p.child_is;
         },
         few.1,
       )
@@ -229,21 +230,21 @@ module _ (k : Shape) (h : List Mark) (o : Own) (v : View) (n : ℕ) where
       (view_after v h n (act_at o (at.Store (update.Bypass d child) front)))
   next_bypass d child front f =
       let p = f.point in
-      let few = p.3 in
+      let few = p.few in
       let kn : Known = stored_at (Link d.parent d.side) child in
       let o' : Own = after o n (at.Store (update.Bypass d child) front) in
       let held = held_by_load v d.parent (Life d.parent) (2 * d.parent_generation) ((few.2).parent_life) in
       let noted : View = noting v d.parent (Link d.parent d.side) child true in
       let owns = owns_noted o v d.parent (Link d.parent d.side) child true f.owns in
-      let q = quiet_noted o v d.parent (Link d.parent d.side) child true (Some (record { found = front; stored = false })) p.0 in
-      subst (λ x. Fits o' o'.stage (after_bypass v x d.parent d.side d.node child (key_now o) h)) (sym (commit_is v _ (p.0).turn_is))
+      let q = quiet_noted o v d.parent (Link d.parent d.side) child true (Some (record { found = front; stored = false })) p.quiet in
+      subst (λ x. Fits o' o'.stage (after_bypass v x d.parent d.side d.node child (key_now o) h)) (sym (commit_is v _ (p.quiet).turn_is))
       (record {
         owns = owns_retired o (record noted { locks = relinked d.parent d.side child d.node noted.locks })
             (owns_relocked o noted _ (relinked_slots d.parent d.side child d.node (change_lock d.parent (note_lock kn) v.locks)) owns) _ _
             (slots_push v.hands.retired (newly_retired v d.node (length h + 1)) ∙ ap (λ xs. xs ++ d.node ∷ []) f.owns.retired_are);
         unraised = λ z. unraised_push v.hands.retired (newly_retired v d.node (length h + 1)) refl (f.unraised refl);
         tickets = (let t = f.tickets in omega arith);
-        point = (quiet_turned (Some (record { found = front; stored = true })) q, p.2, by (child == 0) refl (held.0, held.1) p.5, (p.1).0);
+        point = (quiet_turned refl q, p.has_locks, by (child == 0) refl (held.0, held.1) p.clear, (p.deleting).0);
       })
     where
       kn : Known
@@ -254,12 +255,12 @@ module _ (k : Shape) (h : List Mark) (o : Own) (v : View) (n : ℕ) where
           (cond z (change_lock d.parent (with_emptied d.side true) (change_lock d.parent (note_lock kn) v.locks))
           (change_lock d.parent (note_lock kn) v.locks))) d.parent d.side
       by true e held clear = let l = emptied_lock kn d.parent d.node d.side v.locks held in
-          (l.0, l.1, l.2, clear_emptied kn d.parent d.node d.side v.locks clear, tt)
+          record { lock = l.0; locked = l.1; emptied = l.2; clear = clear_emptied kn d.parent d.node d.side v.locks clear; known = tt }
       by false e held clear = clear_stored kn d.parent d.node v.locks clear
 
   -- the tag of a side that was emptied
   pub needs_empty_tag : (number s : ℕ) (b : Side) → Fits o (at.EmptyTag number s b) v → Needs k v n (act_at o (at.EmptyTag number s b))
-  needs_empty_tag number s b f = let e = (f.point).2 in record { held = (e.0, e.1); loadable = refl }
+  needs_empty_tag number s b f = let e = (f.point).2 in record { held = (e.lock, e.locked); loadable = refl }
 
   still_emptied : (kn : Known) (b : Side) (l : HeldLock) → is_emptied (note_lock kn l) b ≡ is_emptied l b
   still_emptied kn Left l = refl
@@ -277,20 +278,20 @@ module _ (k : Shape) (h : List Mark) (o : Own) (v : View) (n : ℕ) where
         point = (
           quiet_noted o v s (Tag s b) n false None p.0,
           p.1,
-          (
-            note_lock kn e.0,
-            change_here s (note_lock kn) (λ l. refl) v.locks e.0 e.1,
-            still_emptied kn b e.0 ∙ e.2,
-            clear_noted kn s b v.locks e.3,
-            known_here (e.0).known (Tag s b) n false,
-          ),
+          record {
+            lock = note_lock kn e.lock;
+            locked = change_here s (note_lock kn) (λ l. refl) v.locks e.lock e.locked;
+            emptied = still_emptied kn b e.lock ∙ e.emptied;
+            clear = clear_noted kn s b v.locks e.clear;
+            known = known_here (e.lock).known (Tag s b) n false;
+          },
           p.3,
         );
       }
 
   pub needs_empty_raise : (number s : ℕ) (b : Side) (tag : ℕ) → Fits o (at.EmptyRaise number s b tag) v
       → Needs k v n (act_at o (at.EmptyRaise number s b tag))
-  needs_empty_raise number s b tag f = let e = (f.point).2 in (e.0, record { held = e.1; emptied = e.2; known = e.4 })
+  needs_empty_raise number s b tag f = let e = (f.point).2 in (e.lock, record { held = e.locked; emptied = e.emptied; known = e.known })
 
   pub next_empty_raise : (number s : ℕ) (b : Side) (tag : ℕ) → Fits o (at.EmptyRaise number s b tag) v
       → Fits (after o n (at.EmptyRaise number s b tag)) (at.Unlock (last.Gone number))
@@ -305,5 +306,5 @@ module _ (k : Shape) (h : List Mark) (o : Own) (v : View) (n : ℕ) where
             (change_lock s (note_lock kn) v.locks)) owns;
         unraised = λ z. f.unraised refl;
         tickets = f.tickets;
-        point = (quiet_unlocking q q.turn_is (clear_noted kn s b v.locks e.3) p.1, q.empty, q.no_hand, p.3);
+        point = (quiet_unlocking q q.turn_is (clear_noted kn s b v.locks e.clear) p.1, q.empty, q.no_hand, p.3);
       }

@@ -20,40 +20,46 @@ use Rattle.core_points.proofs.PutLocks.{made_even}
 module _ (k : Shape) (h : List Mark) (o : Own) (v : View) (n : ℕ) where
   -- the front by this view, and the pending move, at an update that is to be made
   making_front : (u : Update) (commit : Option Commit) → Making o u (plain v) commit → (v.commit ≡ commit) × (v.moving ≡ None)
-  making_front (update.Leaf spot) commit p = ((p.2).turn_is, (p.2).settled)
-  making_front (update.Value s old) commit p = let q = (p.1).0 in (q.turn_is, q.settled)
-  making_front (update.Bypass d child) commit p = let q = p.0 in (q.turn_is, q.settled)
-  making_front (update.Copy d u next_key copy) commit p = let q = (p.0).0 in (q.turn_is, q.settled)
+  making_front (update.Leaf spot) commit p = ((p.bare).turn_is, (p.bare).settled)
+  making_front (update.Value s old) commit p = let q = (p.1).quiet in (q.turn_is, q.settled)
+  making_front (update.Bypass d child) commit p = let q = p.quiet in (q.turn_is, q.settled)
+  making_front (update.Copy d u next_key copy) commit p = let q = (p.copying).quiet in (q.turn_is, q.settled)
 
   pub needs_commit : (u : Update) (expected : ℕ) → Fits o (at.Commit u expected) v → Needs k v n (act_at o (at.Commit u expected))
   needs_commit u expected f = let q = making_front u None (f.point).0 in record { even = (f.point).1; settled = q.1; paid = q.0 }
 
-  -- the front is odd now
-  odd : (u : Update) (o' : Own) (w : View) (commit : Commit) → Making o u (plain v) None
-      → Making (record o { front = o'.front; stage = o'.stage }) u (plain (record v { latest = w.latest; commit = Some commit }))
-      (Some commit)
-  odd (update.Leaf spot) o' w commit p =
-      let b = p.2 in (
-        p.0,
-        p.1,
-        record { locks_are = b.locks_are; turn_is = refl; settled = b.settled; reserved_is = b.reserved_is; paid = b.paid },
-        p.3,
-        p.4,
-        p.5,
-      )
-  odd (update.Value s old) o' w commit p = (p.0, (quiet_turned (Some commit) (p.1).0, (p.1).1, (p.1).2, (p.1).3))
-  odd (update.Bypass d child) o' w commit p = (quiet_turned (Some commit) p.0, p.1, p.2, p.3, p.4, p.5, p.6)
-  odd (update.Copy d u next_key copy) o' w commit p =
-      let c = p.0 in
-      ((quiet_turned (Some commit) c.0, c.1, c.2), p.1, p.2, p.3, p.4, p.5)
-
-  -- nothing but the front was found
-  same : (u : Update) (o' : Own) (w : View) → Making o u (plain v) None
-      → Making (record o { front = o'.front; stage = o'.stage }) u (plain (record v { latest = w.latest })) None
-  same (update.Leaf spot) o' w p = p
-  same (update.Value s old) o' w p = p
-  same (update.Bypass d child) o' w p = p
-  same (update.Copy d u next_key copy) o' w p = p
+  -- the front was found, or is odd now
+  turned : (u : Update) (o' : Own) (w : View) (turn commit : Option Commit) → turn ≡ commit → Making o u (plain v) None
+      → Making (record o { front = o'.front; stage = o'.stage }) u (plain (record v { latest = w.latest; commit = turn })) commit
+  turned (update.Leaf spot) o' w turn commit e p =
+      let b = p.bare in record {
+        outside = p.outside;
+        taken = p.taken;
+        bare = record { locks_are = b.locks_are; turn_is = e; settled = b.settled; reserved_is = b.reserved_is; paid = b.paid };
+        hand = p.hand;
+        has_spot = p.has_spot;
+        puts = p.puts;
+      }
+  turned (update.Value s old) o' w turn commit e p =
+      let q = p.1 in (p.0, record { quiet = quiet_turned e q.quiet; locks_are = q.locks_are; found = q.found; sets = q.sets })
+  turned (update.Bypass d child) o' w turn commit e p = record {
+    quiet = quiet_turned e p.quiet;
+    deleting = p.deleting;
+    has_locks = p.has_locks;
+    few = p.few;
+    marked = p.marked;
+    clear = p.clear;
+    child_is = p.child_is;
+  }
+  turned (update.Copy d u next_key copy) o' w turn commit e p =
+      let c = p.copying in record {
+        copying = record { quiet = quiet_turned e c.quiet; deleting = c.deleting; both = c.both };
+        filled = p.filled;
+        marked = p.marked;
+        clear = p.clear;
+        locks_are = p.locks_are;
+        copy_held = p.copy_held;
+      }
 
   pub next_commit : (u : Update) (expected : ℕ) → Fits o (at.Commit u expected) v
       → Fits (after o n (at.Commit u expected)) (after o n (at.Commit u expected)).stage
@@ -72,8 +78,7 @@ module _ (k : Shape) (h : List Mark) (o : Own) (v : View) (n : ℕ) where
             owns = f.owns;
             unraised = λ z. f.unraised refl;
             tickets = f.tickets;
-            point = odd u (record o { front = expected + 1; stage = at.Store u expected }) w (record { found = expected; stored = false })
-                (f.point).0;
+            point = turned u (record o { front = expected + 1; stage = at.Store u expected }) w _ _ refl (f.point).0;
           }
       got false =
           let w : View = record v { latest = record v.latest { front = Some n } } in
@@ -81,7 +86,11 @@ module _ (k : Shape) (h : List Mark) (o : Own) (v : View) (n : ℕ) where
             owns = f.owns;
             unraised = λ z. f.unraised refl;
             tickets = f.tickets;
-            point = (same u (record o { front = n; stage = at.Commit u (n + n % 2) }) w (f.point).0, made_even n);
+            point = (
+              turned u (record o { front = n; stage = at.Commit u (n + n % 2) }) w v.commit None (making_front u None (f.point).0).0
+                  (f.point).0,
+              made_even n,
+            );
           }
 
   made_front : (u : Update) (commit : Option Commit) → Made o u (plain v) commit → v.commit ≡ commit
@@ -121,7 +130,7 @@ module _ (k : Shape) (h : List Mark) (o : Own) (v : View) (n : ℕ) where
         owns = f.owns;
         unraised = λ z. f.unraised refl;
         tickets = f.tickets;
-        point = (quiet_turned None (f.point).0, (f.point).1, r, (f.point).3);
+        point = (quiet_turned refl (f.point).0, (f.point).1, r, (f.point).3);
       }
       by false r = let q = (f.point).0 in record {
         owns = f.owns;

@@ -35,7 +35,7 @@ use Rattle.core_points.specs.Callers.{Own, content, contents, go, is_none_left, 
 use Rattle.core_points.specs.Programs.{act_at, after}
 use Rattle.core_points.specs.Facts.{AreClear, read_at, stored_at}
 use Rattle.core_points.specs.DeleteFacts.{BeforeCopy, BothHold, HasCopy, Holds, HoldsLink, HoldsNode, HoldsSuccessor, IsAside, KnowsSuccessor, all_locks, first_locks, two_children, under}
-use Rattle.core_points.specs.Fits.{Fits}
+use Rattle.core_points.specs.Fits.{Fits, plain}
 use Rattle.core_points.proofs.Bypasses.{KeepsLife, KeepsLinks, held_by_load, is_marked, life_same, links_same, marked_node, node_marked, node_records, node_to, same_length, slots_push, under_marked, unraised_push}
 use Rattle.core_points.proofs.ClearLocks.{clear_marked, clear_stored}
 use Rattle.core_frames.proofs.views.Fields.{same_self}
@@ -154,65 +154,68 @@ life_no_content s (suc (suc (suc (suc j)))) lt = absurd (omega arith)
 
 filled_more : (spare : Option Held) (copy : ℕ) (d : Node) (next_key value i : ℕ) → i ≤ 3 → HasCopy spare copy d next_key value i
     → HasCopy (note_option copy (stored_at (content copy i) (contents next_key value d.left d.right i)) spare) copy d next_key value (suc i)
-filled_more spare copy d next_key value i le (held, e, is, has) =
-    let kn : Known = stored_at (content copy i) (contents next_key value d.left d.right i) in (
-      record held { known = kn ∷ held.known },
-      ap (note_option copy kn) e ∙ ap Some (held_here copy kn held is),
-      is,
-      λ j lt. dite (ℕ_discrete j i)
+filled_more spare copy d next_key value i le p =
+    let held = p.held in
+    let kn : Known = stored_at (content copy i) (contents next_key value d.left d.right i) in record {
+      held = record held { known = kn ∷ held.known };
+      spare_is = ap (note_option copy kn) p.spare_is ∙ ap Some (held_here copy kn held p.slot_is);
+      slot_is = p.slot_is;
+      known = λ j lt. dite (ℕ_discrete j i)
           (λ same. subst (λ x. known_in (kn ∷ held.known) (content copy x) ≡ Some (contents next_key value d.left d.right x)) (sym same)
           (ap (λ z. cond z (Some (contents next_key value d.left d.right i)) (known_in held.known (content copy i)))
           (same_self (content copy i))))
           (λ ne. ap (λ z. cond z (Some (contents next_key value d.left d.right i)) (known_in held.known (content copy j)))
-          (contents_apart copy i j (omega arith) le) ∙ has j (omega arith)),
-    )
+          (contents_apart copy i j (omega arith) le) ∙ p.known j (omega arith));
+    }
 
 aged : (spare : Option Held) (copy : ℕ) (d : Node) (next_key value n : ℕ) → HasCopy spare copy d next_key value 4
     → HasCopy (note_option copy (read_at (Life copy) n) spare) copy d next_key value 4
-aged spare copy d next_key value n (held, e, is, has) =
-    let kn : Known = read_at (Life copy) n in (
-      record held { known = kn ∷ held.known },
-      ap (note_option copy kn) e ∙ ap Some (held_here copy kn held is),
-      is,
-      λ j lt. ap (λ z. cond z (Some n) (known_in held.known (content copy j))) (life_no_content copy j lt) ∙ has j lt,
-    )
+aged spare copy d next_key value n p =
+    let held = p.held in
+    let kn : Known = read_at (Life copy) n in record {
+      held = record held { known = kn ∷ held.known };
+      spare_is = ap (note_option copy kn) p.spare_is ∙ ap Some (held_here copy kn held p.slot_is);
+      slot_is = p.slot_is;
+      known = λ j lt. ap (λ z. cond z (Some n) (known_in held.known (content copy j))) (life_no_content copy j lt) ∙ p.known j lt;
+    }
 
 copy_elsewhere : (spare : Option Held) (copy s : ℕ) (kn : Known) (d : Node) (next_key value i : ℕ) → copy ≢ s
     → HasCopy spare copy d next_key value i → HasCopy (note_option s kn spare) copy d next_key value i
-copy_elsewhere spare copy s kn d next_key value i ne (held, e, is, has) = (
-  held,
-  ap (note_option s kn) e ∙ ap (λ z. Some (cond z (record held { known = kn ∷ held.known }) held))
-      (ne_eqb held.slot s (λ same. ne (sym is ∙ same))),
-  is,
-  has,
-)
+copy_elsewhere spare copy s kn d next_key value i ne p = let held = p.held in record {
+  held = held;
+  spare_is = ap (note_option s kn) p.spare_is ∙ ap (λ z. Some (cond z (record held { known = kn ∷ held.known }) held))
+      (ne_eqb held.slot s (λ same. ne (sym p.slot_is ∙ same)));
+  slot_is = p.slot_is;
+  known = p.known;
+}
 
 module _ (k : Shape) (h : List Mark) (o : Own) (v : View) (n : ℕ) where
   -- a load of the successor's key or value
-  before_loaded : (d : Node) (u : Successor) (field : Field) → ((t : ℕ) → same_field field (Life t) ≡ false)
-      → ((t : ℕ) (b : Side) → same_field field (Link t b) ≡ false) → BeforeCopy o v d u → BeforeCopy o (noting v u.slot field n false) d u
-  before_loaded d u field no_life no_link p =
-      let c = p.0 in
+  before_loaded : (d : Node) (u : Successor) (field : Field) (stage : Stage) → ((t : ℕ) → same_field field (Life t) ≡ false)
+      → ((t : ℕ) (b : Side) → same_field field (Link t b) ≡ false) → BeforeCopy o (plain v) d u
+      → BeforeCopy (go o stage) (plain (noting v u.slot field n false)) d u
+  before_loaded d u field stage no_life no_link p =
+      let c = p.copying in
       let kn : Known = read_at field n in
-      let now : List HeldLock = change_lock u.slot (note_lock kn) v.locks in (
-        (
-          quiet_noted o v u.slot field n false None c.0,
-          c.1,
-          same_to v.records v.locks now (key_now o) d u
+      let now : List HeldLock = change_lock u.slot (note_lock kn) v.locks in record {
+        copying = record {
+          quiet = quiet_noted o v u.slot field n false None c.quiet;
+          deleting = c.deleting;
+          both = same_to v.records v.locks now (key_now o) d u
               (λ t. (
                 (λ x e. loaded_more v.locks u.slot kn t (Life t) x (no_life t) e),
                 (λ b x e. loaded_more v.locks u.slot kn t (Link t b) x (no_link t b) e),
-              )) c.2,
-        ),
-        loaded_more v.locks u.slot kn d.node (Life d.node) (2 * d.generation) (no_life d.node) p.1,
-        clear_changed u.slot (note_lock kn) (λ l c. c) v.locks p.2,
-        subst (λ x. x ≤ 4) (sym (length_change u.slot (note_lock kn) (λ l. refl) v.locks)) p.3,
-        p.4,
-        held_still v.locks u.slot (note_lock kn) (λ l. refl) u.slot p.5,
-      )
+              )) c.both;
+        };
+        unmarked = loaded_more v.locks u.slot kn d.node (Life d.node) (2 * d.generation) (no_life d.node) p.unmarked;
+        clear = clear_changed u.slot (note_lock kn) (λ l c. c) v.locks p.clear;
+        few = subst (λ x. x ≤ 4) (sym (length_change u.slot (note_lock kn) (λ l. refl) v.locks)) p.few;
+        locks_are = p.locks_are;
+        held = held_still v.locks u.slot (note_lock kn) (λ l. refl) u.slot p.held;
+      }
 
   pub needs_successor_key : (d : Node) (u : Successor) → Fits o (at.SuccessorKey d u) v → Needs k v n (act_at o (at.SuccessorKey d u))
-  needs_successor_key d u f = record { held = (f.point).5; loadable = refl }
+  needs_successor_key d u f = record { held = (f.point).held; loadable = refl }
 
   pub next_successor_key : (d : Node) (u : Successor) → IsAside (or_root o.spare) d u → Fits o (at.SuccessorKey d u) v
       → Fits (after o n (at.SuccessorKey d u)) (at.SuccessorValue d u n) (view_after v h n (act_at o (at.SuccessorKey d u)))
@@ -220,12 +223,16 @@ module _ (k : Shape) (h : List Mark) (o : Own) (v : View) (n : ℕ) where
     owns = owns_noted o v u.slot (Key u.slot) n false f.owns;
     unraised = λ z. f.unraised refl;
     tickets = f.tickets;
-    point = (before_loaded d u (Key u.slot) (λ t. refl) (λ t b. refl) f.point, aside, known_now v.locks u.slot (Key u.slot) n (f.point).5);
+    point = (
+      before_loaded d u (Key u.slot) _ (λ t. refl) (λ t b. refl) f.point,
+      aside,
+      known_now v.locks u.slot (Key u.slot) n (f.point).held,
+    );
   }
 
   pub needs_successor_value : (d : Node) (u : Successor) (next_key : ℕ) → Fits o (at.SuccessorValue d u next_key) v
       → Needs k v n (act_at o (at.SuccessorValue d u next_key))
-  needs_successor_value d u next_key f = record { held = ((f.point).0).5; loadable = refl }
+  needs_successor_value d u next_key f = record { held = ((f.point).0).held; loadable = refl }
 
   pub next_successor_value : (d : Node) (u : Successor) (next_key : ℕ) → Fits o (at.SuccessorValue d u next_key) v
       → Fits (after o n (at.SuccessorValue d u next_key)) (at.CopyField d u next_key n 0)
@@ -233,41 +240,45 @@ module _ (k : Shape) (h : List Mark) (o : Own) (v : View) (n : ℕ) where
   next_successor_value d u next_key f =
       let p = f.point in
       let b = p.0 in
-      let deleting = (b.0).1 in
+      let deleting = (b.copying).deleting in
       let owns = owns_noted o v u.slot (Value u.slot) n false f.owns in
       let w : View = noting v u.slot (Value u.slot) n false in
       let s = some_spare w.hands.spare o.spare owns.spare_is ((deleting.1).has_spare deleting.0) in record {
         owns = owns;
         unraised = λ z. f.unraised refl;
         tickets = f.tickets;
-        point = (
-          before_loaded d u (Value u.slot) (λ t. refl) (λ t b. refl) b,
-          p.1,
-          record {
+        point = record {
+          before = before_loaded d u (Value u.slot) _ (λ t. refl) (λ t b. refl) b;
+          aside = p.1;
+          knows = record {
             key = known_more_under v.locks u.slot (read_at (Value u.slot) n) u.slot (Key u.slot) next_key refl p.2;
-            value_is = known_now v.locks u.slot (Value u.slot) n b.5;
-          },
-          (s.0, s.1, s.2, λ j lt. absurd (omega arith)),
-          omega arith,
-        );
+            value_is = known_now v.locks u.slot (Value u.slot) n b.held;
+          };
+          has_copy = record { held = s.0; spare_is = s.1; slot_is = s.2; known = λ j lt. absurd (omega arith) };
+          small = omega arith;
+        };
       }
 
   -- a note of the copy, which is none of the slots
-  before_noted : (d : Node) (u : Successor) (copy : ℕ) (field : Field) (number : ℕ) (by_store : Bool) → IsAside copy d u
-      → BeforeCopy o v d u → BeforeCopy o (noting v copy field number by_store) d u
-  before_noted d u copy field number by_store aside p =
-      let c = p.0 in
+  before_noted : (d : Node) (u : Successor) (copy : ℕ) (field : Field) (number : ℕ) (by_store : Bool) (stage : Stage) → IsAside copy d u
+      → BeforeCopy o (plain v) d u → BeforeCopy (go o stage) (plain (noting v copy field number by_store)) d u
+  before_noted d u copy field number by_store stage aside p =
+      let c = p.copying in
       let kn : Known = record { field = field; number = number; stored = by_store } in
       let now : List HeldLock = change_lock copy (note_lock kn) v.locks in
       let same : (t : ℕ) → copy ≢ t → under now t ≡ under v.locks t =
-      λ t ne. under_other v.locks copy (note_lock kn) (λ l. refl) t (λ e. ne (sym e)) in (
-        (quiet_noted o v copy field number by_store None c.0, c.1, aside_to v.records v.locks now (key_now o) copy d u aside same c.2),
-        ap (λ ks. loaded_in ks (Life d.node)) (same d.node aside.node) ∙ p.1,
-        clear_changed copy (note_lock kn) (λ l c. c) v.locks p.2,
-        subst (λ x. x ≤ 4) (sym (length_change copy (note_lock kn) (λ l. refl) v.locks)) p.3,
-        p.4,
-        held_still v.locks copy (note_lock kn) (λ l. refl) u.slot p.5,
-      )
+      λ t ne. under_other v.locks copy (note_lock kn) (λ l. refl) t (λ e. ne (sym e)) in record {
+        copying = record {
+          quiet = quiet_noted o v copy field number by_store None c.quiet;
+          deleting = c.deleting;
+          both = aside_to v.records v.locks now (key_now o) copy d u aside same c.both;
+        };
+        unmarked = ap (λ ks. loaded_in ks (Life d.node)) (same d.node aside.node) ∙ p.unmarked;
+        clear = clear_changed copy (note_lock kn) (λ l c. c) v.locks p.clear;
+        few = subst (λ x. x ≤ 4) (sym (length_change copy (note_lock kn) (λ l. refl) v.locks)) p.few;
+        locks_are = p.locks_are;
+        held = held_still v.locks copy (note_lock kn) (λ l. refl) u.slot p.held;
+      }
 
   knows_noted : (d : Node) (u : Successor) (copy : ℕ) (kn : Known) (next_key value : ℕ) → IsAside copy d u
       → KnowsSuccessor v.locks u next_key value → KnowsSuccessor (change_lock copy (note_lock kn) v.locks) u next_key value
@@ -277,8 +288,8 @@ module _ (k : Shape) (h : List Mark) (o : Own) (v : View) (n : ℕ) where
 
   pub needs_copy_field : (d : Node) (u : Successor) (next_key value i : ℕ) → Fits o (at.CopyField d u next_key value i) v
       → Needs k v n (act_at o (at.CopyField d u next_key value i))
-  needs_copy_field d u next_key value i f = let c = (f.point).3 in
-      (c.0, record { holder = inr (c.1, c.2); content = content_is i (f.point).4 (or_root o.spare) })
+  needs_copy_field d u next_key value i f = let c = (f.point).has_copy in
+      (c.held, record { holder = inr (c.spare_is, c.slot_is); content = content_is i (f.point).small (or_root o.spare) })
 
   pub next_copy_field : (d : Node) (u : Successor) (next_key value i : ℕ) → Fits o (at.CopyField d u next_key value i) v
       → Fits (after o n (at.CopyField d u next_key value i)) (after o n (at.CopyField d u next_key value i)).stage
@@ -304,16 +315,14 @@ module _ (k : Shape) (h : List Mark) (o : Own) (v : View) (n : ℕ) where
             unraised = λ z. f.unraised refl;
             tickets = f.tickets;
             point = (
-              before_noted d u copy field number true p.1 p.0,
-              (
-                p.1,
-                (
-                  value,
-                  knows_noted d u copy (stored_at field number) next_key value p.1 p.2,
-                  subst (HasCopy (note_option copy (stored_at field number) v.hands.spare) copy d next_key value) four
-                      (filled_more v.hands.spare copy d next_key value i p.4 p.3),
-                ),
-              ),
+              before_noted d u copy field number true _ p.aside p.before,
+              record {
+                aside = p.aside;
+                value = value;
+                knows = knows_noted d u copy (stored_at field number) next_key value p.aside p.knows;
+                has_copy = subst (HasCopy (note_option copy (stored_at field number) v.hands.spare) copy d next_key value) four
+                    (filled_more v.hands.spare copy d next_key value i p.small p.has_copy);
+              },
             );
           }
       by false e =
@@ -323,40 +332,45 @@ module _ (k : Shape) (h : List Mark) (o : Own) (v : View) (n : ℕ) where
             owns = owns_noted o v copy field number true f.owns;
             unraised = λ z. f.unraised refl;
             tickets = f.tickets;
-            point = (
-              before_noted d u copy field number true p.1 p.0,
-              p.1,
-              knows_noted d u copy (stored_at field number) next_key value p.1 p.2,
-              subst (HasCopy (note_option copy (stored_at field number) v.hands.spare) copy d next_key value) one
-                  (filled_more v.hands.spare copy d next_key value i p.4 p.3),
-              (let le = p.4 in omega arith),
-            );
+            point = record {
+              before = before_noted d u copy field number true _ p.aside p.before;
+              aside = p.aside;
+              knows = knows_noted d u copy (stored_at field number) next_key value p.aside p.knows;
+              has_copy = subst (HasCopy (note_option copy (stored_at field number) v.hands.spare) copy d next_key value) one
+                  (filled_more v.hands.spare copy d next_key value i p.small p.has_copy);
+              small = (let le = p.small in omega arith);
+            };
           }
 
   pub needs_copy_age : (d : Node) (u : Successor) (next_key : ℕ) → Fits o (at.CopyAge d u next_key) v
       → Needs k v n (act_at o (at.CopyAge d u next_key))
-  needs_copy_age d u next_key f = let c = (((f.point).1).1).2 in (c.0, inr (c.1, c.2))
+  needs_copy_age d u next_key f = let c = ((f.point).1).has_copy in (c.held, inr (c.spare_is, c.slot_is))
 
   pub next_copy_age : (d : Node) (u : Successor) (next_key : ℕ) → Fits o (at.CopyAge d u next_key) v
       → Fits (after o n (at.CopyAge d u next_key)) (at.CopyLock d u next_key) (view_after v h n (act_at o (at.CopyAge d u next_key)))
   next_copy_age d u next_key f =
       let p = f.point in
       let copy : ℕ = or_root o.spare in
-      let q = p.1 in
-      let x = q.1 in record {
+      let q = p.1 in record {
         owns = owns_noted o v copy (Life copy) n false f.owns;
         unraised = λ z. f.unraised refl;
         tickets = f.tickets;
         point = (
-          before_noted d u copy (Life copy) n false q.0 p.0,
-          (q.0, (x.0, knows_noted d u copy (read_at (Life copy) n) next_key x.0 q.0 x.1, aged v.hands.spare copy d next_key x.0 n x.2)),
+          before_noted d u copy (Life copy) n false _ q.aside p.0,
+          record {
+            aside = q.aside;
+            value = q.value;
+            knows = knows_noted d u copy (read_at (Life copy) n) next_key q.value q.aside q.knows;
+            has_copy = aged v.hands.spare copy d next_key q.value n q.has_copy;
+          },
         );
       }
 
   -- the lock of the copy
   pub needs_copy_lock : (d : Node) (u : Successor) (next_key : ℕ) → Fits o (at.CopyLock d u next_key) v
       → Needs k v n (act_at o (at.CopyLock d u next_key))
-  needs_copy_lock d u next_key f = let p = (f.point).0 in let few = p.3 in record { outside = ((p.0).0).outside; few = omega arith }
+  needs_copy_lock d u next_key f = let p = (f.point).0 in
+      let few = p.few in record { outside = ((p.copying).quiet).outside; few = omega arith }
 
   under_new : (copy t : ℕ) (ls : List HeldLock) → copy ≢ t → under (new_lock copy ∷ ls) t ≡ under ls t
   under_new copy t ls ne = ap (λ b. known_of (cond b (Some (new_lock copy)) (lock_of ls t))) (ne_eqb copy t ne)
@@ -375,33 +389,41 @@ module _ (k : Shape) (h : List Mark) (o : Own) (v : View) (n : ℕ) where
       got true =
           let p = (f.point).0 in
           let q = (f.point).1 in
-          let c = p.0 in
-          let x = q.1 in
+          let c = p.copying in
           let now : List HeldLock = new_lock copy ∷ v.locks in
           let same : (t : ℕ) → copy ≢ t → under now t ≡ under v.locks t = λ t ne. under_new copy t v.locks ne in record {
             owns = owns_more o v copy f.owns;
             unraised = λ z. f.unraised refl;
             tickets = f.tickets;
-            point = (
-              (c.0, c.1, aside_to v.records v.locks now (key_now o) copy d u q.0 same c.2),
-              (q.0, (x.0, knows_to v.locks now u next_key x.0 (same u.slot (q.0).successor) x.1, x.2)),
-              ap (λ ks. loaded_in ks (Life d.node)) (same d.node (q.0).node) ∙ p.1,
-              each_more IsClear (new_lock copy) v.locks (refl, refl, refl) p.2,
-              ap (λ xs. copy ∷ xs) p.4,
-              holds_new copy v.locks,
-            );
+            point = record {
+              copying = record {
+                quiet = c.quiet;
+                deleting = c.deleting;
+                both = aside_to v.records v.locks now (key_now o) copy d u q.aside same c.both;
+              };
+              filled = record {
+                aside = q.aside;
+                value = q.value;
+                knows = knows_to v.locks now u next_key q.value (same u.slot (q.aside).successor) q.knows;
+                has_copy = q.has_copy;
+              };
+              unmarked = ap (λ ks. loaded_in ks (Life d.node)) (same d.node (q.aside).node) ∙ p.unmarked;
+              clear = each_more IsClear (new_lock copy) v.locks (refl, refl, refl) p.clear;
+              locks_are = ap (λ xs. copy ∷ xs) p.locks_are;
+              copy_held = holds_new copy v.locks;
+            };
           }
       got false =
           let p = (f.point).0 in
-          let c = p.0 in
-          let q = c.0 in
-          let some : is_none_left o.locks ≡ false = ap is_none_left p.4 ∙ some_locks d u in
+          let c = p.copying in
+          let q = c.quiet in
+          let some : is_none_left o.locks ≡ false = ap is_none_left p.locks_are ∙ some_locks d u in
           subst (λ z. let st : Stage = cond z at.EnterClock (at.Unlock last.Again) in Fits (go o st) st v) (sym some)
           (record {
             owns = f.owns;
             unraised = λ z. f.unraised refl;
             tickets = f.tickets;
-            point = (quiet_unlocking q q.turn_is p.2 some, quiet_hand o v q, (c.1).1);
+            point = (quiet_unlocking q q.turn_is p.clear some, quiet_hand o v q, (c.deleting).1);
           })
 
   -- the mark of the node
@@ -409,9 +431,9 @@ module _ (k : Shape) (h : List Mark) (o : Own) (v : View) (n : ℕ) where
       → Needs k v n (act_at o (at.CopyMark d u next_key))
   needs_copy_mark d u next_key f =
       let p = f.point in
-      let both = (p.0).2 in
+      let both = (p.copying).both in
       let r : Reading = both.0 in
-      let held = held_by_load v d.node (Life d.node) (2 * d.generation) p.2 in (
+      let held = held_by_load v d.node (Life d.node) (2 * d.generation) p.unmarked in (
         held.0,
         record {
           locked = held.1;
@@ -423,7 +445,7 @@ module _ (k : Shape) (h : List Mark) (o : Own) (v : View) (n : ℕ) where
             left = d.left;
             right = d.right;
             side = d.side;
-            unmarked = (d.generation, (both.2).recorded, p.2);
+            unmarked = (d.generation, (both.2).recorded, p.unmarked);
             children = inr (u.parent, u.slot, both_children v r d u both.2 both.3);
           });
         },
@@ -435,11 +457,10 @@ module _ (k : Shape) (h : List Mark) (o : Own) (v : View) (n : ℕ) where
   next_copy_mark d u next_key f =
       let p = f.point in
       let copy : ℕ = or_root o.spare in
-      let c = p.0 in
-      let both = c.2 in
+      let c = p.copying in
+      let both = c.both in
       let r : Reading = both.0 in
-      let q = p.1 in
-      let x = q.1 in
+      let q = p.filled in
       let kn : Known = stored_at (Life d.node) (2 * d.generation + 1) in
       let noted : List HeldLock = change_lock d.node (note_lock kn) v.locks in
       let now : List HeldLock = change_lock d.node (with_mark true) noted in
@@ -449,34 +470,33 @@ module _ (k : Shape) (h : List Mark) (o : Own) (v : View) (n : ℕ) where
         owns = owns_relocked o (noting v d.node (Life d.node) (2 * d.generation + 1) true) _ (slots_change d.node (with_mark true)
             (λ l. refl) noted) owns;
         unraised = λ z. f.unraised refl;
-        tickets = (let t = f.tickets in let two = delete_owed o.op o.hand o.retired (c.1).0 in omega arith);
+        tickets = (let t = f.tickets in let two = delete_owed o.op o.hand o.retired (c.deleting).0 in omega arith);
         point = (
-          (
-            (
-              quiet_noted o v d.node (Life d.node) (2 * d.generation + 1) true None c.0,
-              c.1,
-              (
+          record {
+            copying = record {
+              quiet = quiet_noted o v d.node (Life d.node) (2 * d.generation + 1) true None c.quiet;
+              deleting = c.deleting;
+              both = (
                 r,
                 both.1,
                 node_marked v.records v.locks r d both.2,
                 successor_to v.locks now r d u (λ ne. (let e = under_marked v.locks d u.parent ne in
                     (life_same v.locks now u.parent e, links_same v.locks now u.parent e))) (life_same v.locks now u.slot s)
                     (links_same v.locks now u.slot s) both.3,
-              ),
-            ),
-            (
-              q.0,
-              (
-                x.0,
-                knows_to v.locks now u next_key x.0 s x.1,
-                copy_elsewhere v.hands.spare copy d.node kn d next_key x.0 4 (q.0).node x.2,
-              ),
-            ),
-            is_marked v d p.2,
-            clear_marked kn d.node v.locks p.3,
-            p.4,
-            held_still noted d.node (with_mark true) (λ l. refl) copy (held_still v.locks d.node (note_lock kn) (λ l. refl) copy p.5),
-          ),
+              );
+            };
+            filled = record {
+              aside = q.aside;
+              value = q.value;
+              knows = knows_to v.locks now u next_key q.value s q.knows;
+              has_copy = copy_elsewhere v.hands.spare copy d.node kn d next_key q.value 4 (q.aside).node q.has_copy;
+            };
+            marked = is_marked v d p.unmarked;
+            clear = clear_marked kn d.node v.locks p.clear;
+            locks_are = p.locks_are;
+            copy_held = held_still noted d.node (with_mark true) (λ l. refl) copy
+                (held_still v.locks d.node (note_lock kn) (λ l. refl) copy p.copy_held);
+          },
           made_even o.front,
         );
       }
@@ -486,30 +506,31 @@ module _ (k : Shape) (h : List Mark) (o : Own) (v : View) (n : ℕ) where
       → Needs k v n (act_at o (at.Store (update.Copy d u next_key copy) front))
   needs_copy_store d u next_key copy front f =
       let p = f.point in
-      let c = p.0 in
-      let both = c.2 in
+      let c = p.copying in
+      let both = c.both in
       let r : Reading = both.0 in
-      let x = (p.1).1 in
-      let has = x.2 in (
+      let x = p.filled in
+      let has = x.has_copy in (
         record { found = front; stored = false },
         r,
-        has.0,
+        has.held,
         d.left,
         d.right,
-        x.0,
+        x.value,
         record {
-          has_commit = record { commit_is = (c.0).turn_is; unmade = refl; ticket = (let t = f.tickets in omega arith) };
-          room = (let room = ((c.1).1).room (c.1).0 in let long = same_length v.hands.retired o.retired f.owns.retired_are in omega arith);
+          has_commit = record { commit_is = (c.quiet).turn_is; unmade = refl; ticket = (let t = f.tickets in omega arith) };
+          room = (let room = ((c.deleting).1).room (c.deleting).0 in
+              let long = same_length v.hands.retired o.retired f.owns.retired_are in omega arith);
           records = both_children v r d u both.2 both.3;
-          marked = marked_node v r d both.2 p.2;
-          spare_is = (has.1, has.2);
-          locked = p.5;
-          old_key = (x.1).key;
-          old_value = (x.1).value_is;
-          key_is = has.3 0 (omega arith);
-          value_is = has.3 1 (omega arith);
-          left_is = has.3 2 (omega arith);
-          right_is = has.3 3 (omega arith);
+          marked = marked_node v r d both.2 p.marked;
+          spare_is = (has.spare_is, has.slot_is);
+          locked = p.copy_held;
+          old_key = (x.knows).key;
+          old_value = (x.knows).value_is;
+          key_is = has.known 0 (omega arith);
+          value_is = has.known 1 (omega arith);
+          left_is = has.known 2 (omega arith);
+          right_is = has.known 3 (omega arith);
         },
         both.1,
       )
@@ -519,11 +540,10 @@ module _ (k : Shape) (h : List Mark) (o : Own) (v : View) (n : ℕ) where
       (view_after v h n (act_at o (at.Store (update.Copy d u next_key copy) front)))
   next_copy_store d u next_key copy front f =
       let p = f.point in
-      let c = p.0 in
-      let both = c.2 in
-      let x = (p.1).1 in
-      let has = x.2 in
-      let held : Held = has.0 in
+      let c = p.copying in
+      let both = c.both in
+      let has = (p.filled).has_copy in
+      let held : Held = has.held in
       let kn : Known = stored_at (Link d.parent d.side) held.slot in
       let noted : List HeldLock = change_lock d.parent (note_lock kn) v.locks in
       let now : List HeldLock = change_lock d.node (with_mark false) noted in
@@ -532,18 +552,18 @@ module _ (k : Shape) (h : List Mark) (o : Own) (v : View) (n : ℕ) where
       let linked : View = noting v d.parent (Link d.parent d.side) held.slot true in
       let stored : View = record linked { locks = now } in
       let owns = owns_noted o v d.parent (Link d.parent d.side) held.slot true f.owns in
-      let q = quiet_noted o v d.parent (Link d.parent d.side) held.slot true (Some (record { found = front; stored = false })) c.0 in
+      let q = quiet_noted o v d.parent (Link d.parent d.side) held.slot true (Some (record { found = front; stored = false })) c.quiet in
       let old = held_by_load v u.slot (Life u.slot) (2 * u.generation) (both.3).life in
       let locked : lock_of now u.slot ≡ Some old.0 =
       change_other d.node (with_mark false) (λ l. refl) noted u.slot apart.from_node
       ∙ change_other d.parent (note_lock kn) (λ l. refl) v.locks u.slot apart.from_parent ∙ old.1 in
-      let clear : AreClear now = clear_stored kn d.parent d.node v.locks p.3 in
+      let clear : AreClear now = clear_stored kn d.parent d.node v.locks p.clear in
       let still : (t : ℕ) → Holds v.locks t → Holds now t =
       λ t has. held_still noted d.node (with_mark false) (λ l. refl) t (held_still v.locks d.parent (note_lock kn) (λ l. refl) t has) in
       subst (λ x. Fits o' o'.stage (after_copy_link v x (spare_of v) d.parent d.side d.node u.slot u.parent (key_now o) next_key h))
-      (sym (commit_is v _ (c.0).turn_is))
+      (sym (commit_is v _ (c.quiet).turn_is))
       (subst (λ y. Fits o' o'.stage (after_copy_link v (record { found = front; stored = false }) y d.parent d.side d.node u.slot u.parent
-      (key_now o) next_key h)) (sym (spare_is v _ has.1))
+      (key_now o) next_key h)) (sym (spare_is v _ has.spare_is))
       (record {
         owns = owns_retired (record o { spare = None }) (record stored { hands = record stored.hands { spare = None } })
             (owns_spared o stored (owns_relocked o linked now (slots_change d.node (with_mark false) (λ l. refl) noted) owns) None None refl) _ _
@@ -563,15 +583,15 @@ module _ (k : Shape) (h : List Mark) (o : Own) (v : View) (n : ℕ) where
               is = refl;
               key_is = refl;
               next_is = refl;
-              copy_is = has.2;
+              copy_is = has.slot_is;
               old_is = refl;
-              parent_is = ap (λ y. cond (u.parent == d.node) y u.parent) has.2;
+              parent_is = ap (λ y. cond (u.parent == d.node) y u.parent) has.slot_is;
               waited_is = refl;
             };
-            locks_are = p.4;
-            parent_held = still_held now still (u.parent == d.node) refl p.5 (both.3).link;
-            apart = ((p.1).0).walk_parent;
-            deletes = (c.1).0;
+            locks_are = p.locks_are;
+            parent_held = still_held now still (u.parent == d.node) refl p.copy_held (both.3).link;
+            apart = ((p.filled).aside).walk_parent;
+            deletes = (c.deleting).0;
           },
           record { lock = old.0; locked = locked; marked_is = (clear_lock now u.slot old.0 clear locked).2; life = old.2 },
           clear,
@@ -579,7 +599,7 @@ module _ (k : Shape) (h : List Mark) (o : Own) (v : View) (n : ℕ) where
       }))
     where
       still_held : (now : List HeldLock) → ((t : ℕ) → Holds v.locks t → Holds now t) → (z : Bool) → (u.parent == d.node) ≡ z
-          → Holds v.locks copy → HoldsLink v.locks (((f.point).0).2).0 d u → Holds now (cond z copy u.parent)
+          → Holds v.locks copy → HoldsLink v.locks (((f.point).copying).both).0 d u → Holds now (cond z copy u.parent)
       still_held now still true e has link = still copy has
       still_held now still false e has link = ⊎_elim
           (λ (x : (u.parent ≡ d.node) × (d.right ≡ u.slot)). absurd (let q : true ≡ false = sym (eq-eqb u.parent d.node x.0) ∙ e in cc))

@@ -131,7 +131,7 @@ left_walks r d p b parent slot n e w =
 module _ (k : Shape) (h : List Mark) (o : Own) (v : View) (n : ℕ) where
   pub needs_parent_life : (p : ℕ) (b : Side) (d : ℕ) → Fits o (at.ParentLife p b d) v → Needs k v n (act_at o (at.ParentLife p b d))
   needs_parent_life p b d f = let i = (f.point).2 in
-      (i.0, record { section_is = i.1; searches = (i.2).searches; stood = (i.3).0; loadable = refl })
+      (i.section, record { section_is = i.is; searches = (i.stands).searches; stood = (i.known).0; loadable = refl })
 
   pub next_parent_life : (p : ℕ) (b : Side) (d : ℕ) → Fits o (at.ParentLife p b d) v
       → Fits (after o n (at.ParentLife p b d)) (after o n (at.ParentLife p b d)).stage (view_after v h n (act_at o (at.ParentLife p b d)))
@@ -144,8 +144,8 @@ module _ (k : Shape) (h : List Mark) (o : Own) (v : View) (n : ℕ) where
 
   pub needs_node_life : (d : Node) → Fits o (at.NodeLife d) v → Needs k v n (act_at o (at.NodeLife d))
   needs_node_life d f = let i = (f.point).2 in (
-    i.0,
-    record { section_is = i.1; searches = (i.2).searches; stood = (i.2).here; loadable = refl },
+    i.section,
+    record { section_is = i.is; searches = (i.stands).searches; stood = (i.stands).here; loadable = refl },
   )
 
   pub next_node_life : (d : Node) → Fits o (at.NodeLife d) v
@@ -170,8 +170,8 @@ module _ (k : Shape) (h : List Mark) (o : Own) (v : View) (n : ℕ) where
 
   pub needs_node_left : (d : Node) → Fits o (at.NodeLeft d) v → Needs k v n (act_at o (at.NodeLeft d))
   needs_node_left d f = let i = (f.point).2 in (
-    i.0,
-    record { section_is = i.1; searches = (i.2).searches; stood = (i.2).here; loadable = refl },
+    i.section,
+    record { section_is = i.is; searches = (i.stands).searches; stood = (i.stands).here; loadable = refl },
   )
 
   pub next_node_left : (d : Node) → Fits o (at.NodeLeft d) v
@@ -198,8 +198,8 @@ module _ (k : Shape) (h : List Mark) (o : Own) (v : View) (n : ℕ) where
 
   pub needs_node_right : (d : Node) → Fits o (at.NodeRight d) v → Needs k v n (act_at o (at.NodeRight d))
   needs_node_right d f = let i = (f.point).2 in (
-    i.0,
-    record { section_is = i.1; searches = (i.2).searches; stood = (i.2).here; loadable = refl },
+    i.section,
+    record { section_is = i.is; searches = (i.stands).searches; stood = (i.stands).here; loadable = refl },
   )
 
   pub next_node_right : (d : Node) → Fits o (at.NodeRight d) v
@@ -273,7 +273,7 @@ module _ (k : Shape) (h : List Mark) (o : Own) (v : View) (n : ℕ) where
 
   pub needs_successor_left : (d : Node) (u : Successor) → Fits o (at.SuccessorLeft d u) v → Needs k v n (act_at o (at.SuccessorLeft d u))
   needs_successor_left d u f = let i = (f.point).2 in
-      (i.0, record { section_is = i.1; searches = (i.2).searches; stood = (((i.3).1).1).slot_stood; loadable = refl })
+      (i.section, record { section_is = i.is; searches = (i.stands).searches; stood = (((i.known).1).1).slot_stood; loadable = refl })
 
   pub next_successor_left : (d : Node) (u : Successor) → Fits o (at.SuccessorLeft d u) v
       → Fits (after o n (at.SuccessorLeft d u)) (after o n (at.SuccessorLeft d u)).stage
@@ -362,7 +362,7 @@ module _ (k : Shape) (h : List Mark) (o : Own) (v : View) (n : ℕ) where
   pub needs_successor_parent : (d : Node) (u : Successor) → Fits o (at.SuccessorParentLife d u) v
       → Needs k v n (act_at o (at.SuccessorParentLife d u))
   needs_successor_parent d u f = let i = (f.point).2 in
-      (i.0, record { section_is = i.1; searches = (i.2).searches; stood = (((i.3).1).1).parent_stood; loadable = refl })
+      (i.section, record { section_is = i.is; searches = (i.stands).searches; stood = (((i.known).1).1).parent_stood; loadable = refl })
 
   pub next_successor_parent : (d : Node) (u : Successor) → Fits o (at.SuccessorParentLife d u) v
       → Fits (after o n (at.SuccessorParentLife d u)) (after o n (at.SuccessorParentLife d u)).stage
@@ -394,7 +394,7 @@ module _ (k : Shape) (h : List Mark) (o : Own) (v : View) (n : ℕ) where
 
   pub needs_successor_life : (d : Node) (u : Successor) → Fits o (at.SuccessorLife d u) v → Needs k v n (act_at o (at.SuccessorLife d u))
   needs_successor_life d u f = let i = (f.point).2 in
-      (i.0, record { section_is = i.1; searches = (i.2).searches; stood = (((i.3).1).0).slot_stood; loadable = refl })
+      (i.section, record { section_is = i.is; searches = (i.stands).searches; stood = (((i.known).1).0).slot_stood; loadable = refl })
 
   pub next_successor_life : (d : Node) (u : Successor) → Fits o (at.SuccessorLife d u) v
       → Fits (after o n (at.SuccessorLife d u)) (after o n (at.SuccessorLife d u)).stage
@@ -441,30 +441,30 @@ module _ (k : Shape) (h : List Mark) (o : Own) (v : View) (n : ℕ) where
   next_delete t stood f =
       let p = (f.point).1 in
       let i = p.1 in
-      let section : Section = i.0 in
+      let section : Section = i.section in
       let calm = (f.point).0 in
-      let q = i.3 in
-      subst (λ x. Fits (go o (at.TargetLock t 0)) (at.TargetLock t 0) (leaving v x h)) (sym (section_is v _ i.1))
+      let q = i.known in
+      subst (λ x. Fits (go o (at.TargetLock t 0)) (at.TargetLock t 0) (leaving v x h)) (sym (section_is v _ i.is))
       (record {
         owns = f.owns;
         unraised = λ z. f.unraised refl;
         tickets = (let c = f.tickets in let two = delete_owed o.op o.hand o.retired p.0 in omega arith);
         point = record {
           quiet = calm_quiet o v section h calm (delete_no_put o.op p.0);
-          deleting = (p.0, calm.2);
+          deleting = (p.0, calm.ready);
           target = record {
             reading = section.reading;
             kept = (0, refl);
-            key_is = (i.2).sought;
-            found = (None, (i.2).state_is);
-            within = stood section i.1;
+            key_is = (i.stands).sought;
+            found = (None, (i.stands).state_is);
+            within = stood section i.is;
             parent_stood = q.0;
-            node_stood = (i.2).here;
+            node_stood = (i.stands).here;
             children = q.1;
           };
-          clear = subst AreClear (sym (calm.0).locks_are) (λ i l e. cc);
-          long = ap (λ (ls : List HeldLock). length ls) (calm.0).locks_are;
-          locks_are = no_locks o v f.owns (calm.0).locks_are;
+          clear = subst AreClear (sym (calm.bare).locks_are) (λ i l e. cc);
+          long = ap (λ (ls : List HeldLock). length ls) (calm.bare).locks_are;
+          locks_are = no_locks o v f.owns (calm.bare).locks_are;
           got = (λ j lt. absurd (omega arith));
           more = some_locks t.successor t.node;
         };

@@ -20,6 +20,7 @@ use Rattle.core_points.specs.Callers.{Own, go, key_now}
 use Rattle.core_points.specs.Facts.{Inside, Owns, read_at}
 use Rattle.core_points.specs.Tickets.{owed}
 use Rattle.core_points.specs.Fits.{Fits, Point, plain}
+use Rattle.core_points.proofs.Notes.{stands_on}
 
 -- what a load leaves of a reading that has found its key
 pub record StillFound (r r' : Reading) (field : Field) (n : ℕ) : Type 0 where
@@ -75,25 +76,19 @@ module _ (h : List Mark) (o : Own) (v : View) (n : ℕ) where
       (λ section. more' section.reading) → Point (go o stage') stage' (plain (record v { section = Some section })))
       → Fits (go o stage') stage' (after_search_load v (section_of v) field n)
   found_next s p b field more more' stage' owns unraised paid i goes point =
-      let section : Section = i.0 in
-      let went = goes section.reading (i.2).state_is (i.2).here i.3 in
+      let section : Section = i.section in
+      let went = goes section.reading (i.stands).state_is (i.stands).here i.known in
       let still = went.0 in
       let now : Section = record section { reading = loaded section.reading field n } in
-      subst (λ x. Fits (go o stage') stage' (after_search_load v x field n)) (sym (section_is v _ i.1))
+      subst (λ x. Fits (go o stage') stage' (after_search_load v x field n)) (sym (section_is v _ i.is))
       (record {
         owns = owns;
         unraised = λ z. unraised;
         tickets = paid;
-        point = point now (
-          now,
-          refl,
-          record {
-            searches = (i.2).searches;
-            key_is = (i.2).key_is;
-            sought = still.key ∙ (i.2).sought;
-            state_is = still.state ∙ (i.2).state_is;
-            here = still.stood s (i.2).here;
-          },
-          went.1,
-        );
+        point = point now (record {
+          section = now;
+          is = refl;
+          stands = stands_on _ still.key (still.state ∙ (i.stands).state_is) (still.stood s (i.stands).here) i.stands;
+          known = went.1;
+        });
       })

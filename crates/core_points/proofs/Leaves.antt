@@ -40,8 +40,8 @@ module _ (k : Shape) (h : List Mark) (o : Own) (v : View) (n : ℕ) where
     owns = owns;
     outside = refl;
     empty = empty;
-    bare = calm.0;
-    no_hand = subst (λ x. HandFits x o.hand_life (key_now o) (value_in o.op) v.hands.hand) empty calm.1;
+    bare = calm.bare;
+    no_hand = subst (λ x. HandFits x o.hand_life (key_now o) (value_in o.op) v.hands.hand) empty calm.hand;
   }
 
   left_as : (stage : Own) → (section : Section) → v.section ≡ Some section → Fits stage stage.stage (leaving v section h)
@@ -54,8 +54,8 @@ module _ (k : Shape) (h : List Mark) (o : Own) (v : View) (n : ℕ) where
   next_absent f =
       let p = (f.point).1 in
       let i = (p.1).2 in
-      left_as (answer o Absent 0) i.0 i.1 (answers o (leaving v i.0 h) Absent 0
-      (free_after i.0 o.hand (f.unraised refl) f.owns (f.point).0 (((f.point).0).2.empty p.0)) (let t = f.tickets in omega arith))
+      left_as (answer o Absent 0) i.section i.is (answers o (leaving v i.section h) Absent 0
+      (free_after i.section o.hand (f.unraised refl) f.owns (f.point).0 (((f.point).0).ready.empty p.0)) (let t = f.tickets in omega arith))
 
   pub next_val : (value : ℕ) → Fits o (at.Leave (then.Value value)) v
       → Fits (after o n (at.Leave (then.Value value))) (after o n (at.Leave (then.Value value))).stage
@@ -63,8 +63,8 @@ module _ (k : Shape) (h : List Mark) (o : Own) (v : View) (n : ℕ) where
   next_val value f =
       let p = (f.point).1 in
       let i = (p.1).3 in
-      left_as (answer o (Val value) 0) i.0 i.1 (answers o (leaving v i.0 h) (Val value) 0
-      (free_after i.0 o.hand (f.unraised refl) f.owns (f.point).0 (((f.point).0).2.empty (ap is_put p.0)))
+      left_as (answer o (Val value) 0) i.section i.is (answers o (leaving v i.section h) (Val value) 0
+      (free_after i.section o.hand (f.unraised refl) f.owns (f.point).0 (((f.point).0).ready.empty (ap is_put p.0)))
       (let t = f.tickets in omega arith))
 
   -- a put that found its key answers, or gives its slot back
@@ -73,8 +73,8 @@ module _ (k : Shape) (h : List Mark) (o : Own) (v : View) (n : ℕ) where
   next_old f =
       let p = (f.point).1 in
       let i = (p.1).3 in
-      let section : Section = i.0 in
-      left_as (left_section o then.Old) section i.1 (by_hand o.hand refl section)
+      let section : Section = i.section in
+      left_as (left_section o then.Old) section i.is (by_hand o.hand refl section)
     where
       by_hand : (hand : Option ℕ) → o.hand ≡ hand → (section : Section) → let o' : Own =
           cond (is_some o.hand) (go o at.Raise) (answer o Old 0) in Fits o' o'.stage (leaving v section h)
@@ -99,17 +99,17 @@ module _ (k : Shape) (h : List Mark) (o : Own) (v : View) (n : ℕ) where
   next_link_leaf spot stood f =
       let p = (f.point).1 in
       let i = p.1 in
-      let section : Section = i.0 in
-      let m = i.3 in
-      left_as (left_section o (then.Link spot)) section i.1
+      let section : Section = i.section in
+      let m = i.known in
+      left_as (left_section o (then.Link spot)) section i.is
       (by_hand o.hand refl section (record {
         reading = section.reading;
         kept = (0, refl);
-        key_is = (i.2).sought;
-        missed = (i.2).state_is;
+        key_is = (i.stands).sought;
+        missed = (i.stands).state_is;
         recorded = m.0;
         tag_is = m.1;
-        inside = stood section i.1 spot.slot (i.2).here;
+        inside = stood section i.is spot.slot (i.stands).here;
       }))
     where
       by_hand : (hand : Option ℕ) → o.hand ≡ hand → (section : Section)
@@ -122,15 +122,16 @@ module _ (k : Shape) (h : List Mark) (o : Own) (v : View) (n : ℕ) where
             unraised = λ z. f.unraised refl;
             tickets = subst (λ x. x + 4 * length o.rest + o.kept ≤ v.allowance.tickets)
                 (ap (λ x. owed_op o.op x o.retired) e ∙ owed_put o.op o.retired spot ((f.point).1).0) f.tickets;
-            point = (
-              refl,
-              ((f.point).0).0,
-              subst (λ x. HandFits x o.hand_life (key_now o) (value_in o.op) v.hands.hand) e ((f.point).0).1,
-              e,
-              positive o.free,
-              has,
-              ((f.point).1).0,
-            );
+            point = record {
+              idle = record {
+                outside = refl;
+                bare = ((f.point).0).bare;
+                empty = subst (λ x. HandFits x o.hand_life (key_now o) (value_in o.op) v.hands.hand) e ((f.point).0).hand;
+                no_hand = e;
+              };
+              some = positive o.free;
+              takes = (has, ((f.point).1).0);
+            };
           })
       by_hand (Some s) e section has = subst (λ b. let st : Stage = cond b (at.LeafLock spot) (taking o (Leaf spot)) in
           Fits (go o st) st (leaving v section h)) (sym (ap is_some e))
@@ -138,5 +139,6 @@ module _ (k : Shape) (h : List Mark) (o : Own) (v : View) (n : ℕ) where
             owns = f.owns;
             unraised = λ z. f.unraised refl;
             tickets = f.tickets;
-            point = (refl, (s, e), ((f.point).0).0, ((f.point).0).1, has, ((f.point).1).0);
+            point = let p = f.point in
+                record { outside = refl; taken = (s, e); bare = (p.0).bare; hand = (p.0).hand; has_spot = has; puts = (p.1).0 };
           })

@@ -232,7 +232,7 @@ module _ (k : Shape) (h : List Mark) (o : Own) (v : View) (n : ℕ) where
           (cond z (change_lock parent (with_emptied b true) (change_lock parent (note_lock kn) v.locks))
           (change_lock parent (note_lock kn) v.locks))) parent b
       relinks parent b held true e = let kn : Known = stored_at (Link parent b) child in let l = emptied_lock kn parent s b v.locks held in
-          (l.0, l.1, l.2, clear_emptied kn parent s b v.locks (f.point).2, tt)
+          record { lock = l.0; locked = l.1; emptied = l.2; clear = clear_emptied kn parent s b v.locks (f.point).2; known = tt }
       relinks parent b held false e = clear_stored (stored_at (Link parent b) child) parent s v.locks (f.point).2
 
       owns : (parent : ℕ) (b : Side) → Owns base (after_unlink_old v parent b s child h)

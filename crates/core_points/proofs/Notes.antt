@@ -10,15 +10,18 @@ use Rattle.core_state.specs.declared.view.HeldLock.{HeldLock}
 use Rattle.core_state.specs.declared.view.Known.{Known}
 use Rattle.core_state.specs.declared.view.Move.{Move}
 use Rattle.core_state.specs.declared.view.Section.{Section}
+use Rattle.core_state.specs.declared.view.Reading.{Reading}
+use Rattle.core_state.specs.declared.view.SearchState.{SearchState}
+use Rattle.core_state.specs.parts.ReaderParts.{state_slot}
 use Rattle.prcu_marks.specs.declared.commit.Commit.{Commit}
 use Rattle.core_state.specs.declared.view.Retired.{Retired}
 use Rattle.core_state.specs.declared.view.View.{View}
 use Rattle.core_state.specs.views.Known.{known_in, lock_of, change_lock, note_lock, note_held, note_option, note_moving, noting}
 use Rattle.core_state.specs.steps.Locks.{new_lock}
 use Rattle.core_state.specs.steps.Seating.{spare_slot}
-use Rattle.list_laws.specs.Counts.{times}
+use Rattle.list_laws.specs.Counts.{IsIn, times}
 use Rattle.core_points.specs.Callers.{Own, is_none_left}
-use Rattle.core_points.specs.Facts.{AreClear, Bare, BareParts, HandFits, IsLeaf, Owns, QuietParts, SameLocks, UnlockingParts, leaf_held, one_lock, read_at, stored_at}
+use Rattle.core_points.specs.Facts.{AreClear, Bare, BareParts, HandFits, IsLeaf, Owns, QuietParts, SameLocks, Stands, UnlockingParts, leaf_held, one_lock, read_at, stored_at}
 use Rattle.core_points.specs.Told.{Tells}
 use Rattle.tree_laws.proofs.notes.Knowing.{known_here, known_still}
 
@@ -140,13 +143,18 @@ owns_spared o v w slot spare is = record {
   scans_table = w.scans_table;
 }
 
+-- a section stays one for its key after a load
+pub stands_on : {section : Section} {key : ℕ} {state state' : SearchState} (r : Reading) → r.key ≡ section.reading.key → r.state ≡ state'
+    → IsIn r.stood (state_slot state') → Stands section key state → Stands (record section { reading = r }) key state'
+stands_on r same is here s = record { searches = s.searches; key_is = s.key_is; sought = same ∙ s.sought; state_is = is; here = here }
+
 -- what is quiet stays so when the front is turned, and before locks are given up
-pub quiet_turned : {commit turn : Option Commit} {o_hand : Option ℕ} {section : Option Section} {moving : Option Move} {reserved owes : Bool}
-    {hand : Option Held} (now : Option Commit) → QuietParts commit o_hand section turn moving reserved owes hand
-    → QuietParts now o_hand section now moving reserved owes hand
-quiet_turned now q = record {
+pub quiet_turned : {commit turn now here : Option Commit} {o_hand : Option ℕ} {section : Option Section} {moving : Option Move}
+    {reserved owes : Bool} {hand : Option Held} → here ≡ now → QuietParts commit o_hand section turn moving reserved owes hand
+    → QuietParts now o_hand section here moving reserved owes hand
+quiet_turned e q = record {
   outside = q.outside;
-  turn_is = refl;
+  turn_is = e;
   settled = q.settled;
   unreserved = q.unreserved;
   paid = q.paid;

@@ -9,18 +9,17 @@ use Rattle.core_state.specs.views.Known.{lock_of, note_option, noting}
 use Rattle.core_state.specs.declared.view.Retired.{Retired}
 use Rattle.core_state.specs.declared.shape.Shape.{Shape}
 use Rattle.core_state.specs.steps.Seating.{spare_slot}
-use Rattle.core_state.specs.steps.Slots.{change_retired, new_spare, without_retired, NeedsRaiseRetired, after_retired_life, after_raise_to_spare, after_raise_retired, after_free_retired}
+use Rattle.core_state.specs.steps.Slots.{change_retired, new_spare, without_retired, NeedsRaiseRetired, after_retired_life, after_raise_to_spare}
 use lib.ListN.{get_elem?}
 use Rattle.core_acts.specs.Laws.{said}
 use Rattle.core_points.specs.declared.stage.Aim.{Aim}
-use Rattle.core_points.specs.declared.stage.Aim.TheVariants.{Leaf, Spare, Room}
 use Rattle.core_points.specs.declared.stage.Stage.TheVariants as at
 use Rattle.core_acts.specs.declared.act.Act.TheVariants.{RaiseRetired, RaiseToSpare}
 use Rattle.core_points.specs.Acts.{Needs, view_after}
-use Rattle.core_points.specs.Callers.{Own, but_first, first_or_root, go, is_none_left, is_some, key_now}
+use Rattle.core_points.specs.Callers.{Own, but_first, first_or_root, go, is_none_left, is_some}
 use Rattle.core_points.specs.Programs.{act_at, after, giving}
-use Rattle.core_points.specs.Facts.{ForAim, HasSpot, Owns, read_at, table_of}
-use Rattle.core_points.specs.Fits.{Fits, plain}
+use Rattle.core_points.specs.Facts.{Owns, read_at}
+use Rattle.core_points.specs.Fits.{Fits}
 use Rattle.list_laws.specs.Counts.{Each}
 use Rattle.core_points.specs.Told.{TellsAlone, IsAlone, SpareComes}
 use Rattle.core_points.proofs.Reclaim.{each_map, same_slots, giving_fits}
@@ -74,11 +73,6 @@ no_spare None own e none = refl
 no_spare (Some held) own e none = absurd (let q : true ≡ false = ap is_some e ∙ none in cc)
 
 module _ (k : Shape) (h : List Mark) (o : Own) (v : View) (n : ℕ) where
-  for_same : (aim : Aim) (u w : View) → w.records ≡ u.records → ForAim o u aim → ForAim o w aim
-  for_same (Leaf spot) u w e (has, put) = (subst (λ rs. HasSpot (table_of o) rs (key_now o) spot) (sym e) has, put)
-  for_same Spare u w e a = a
-  for_same Room u w e a = a
-
   pub needs_old_age : (aim : Aim) → Fits o (at.OldAge aim) v → Needs k v n (act_at o (at.OldAge aim))
   needs_old_age aim f =
       let x = head_of v.hands.retired o.retired f.owns.retired_are (f.point).2 in
@@ -101,17 +95,22 @@ module _ (k : Shape) (h : List Mark) (o : Own) (v : View) (n : ℕ) where
             (λ (r : Retired). r.raised ≡ false) v.hands.retired
             (λ r p. fact_kept (λ (r : Retired). r.raised ≡ false) to (λ r q. q) r (r.slot == slot) p) (f.unraised refl);
         point = (
-          (i.0, bare_noted v slot (Life slot) n false [] [] None false i.1 refl, ap (note_option slot (read_at (Life slot) n)) i.2, i.3),
-          for_same aim (plain v) (plain w) refl (f.point).1,
+          record {
+            outside = i.outside;
+            bare = bare_noted v slot (Life slot) n false [] [] None false i.bare refl;
+            empty = ap (note_option slot (read_at (Life slot) n)) i.empty;
+            no_hand = i.no_hand;
+          },
+          (f.point).1,
           each_map (changed_at slot to) (λ (r : Retired). r.waited ≡ true) (λ (r : Retired). r.waited ≡ true) v.hands.retired
               (λ r p. fact_kept (λ (r : Retired). r.waited ≡ true) to (λ r q. q) r (r.slot == slot) p) (f.point).3,
-          (
-            to r,
-            change_retired slot to x.1,
-            ap (change_retired slot to) x.2
-                ∙ ap (λ b. cond b (to r) r ∷ change_retired slot to x.1) (eq-eqb r.slot slot (sym x.3)),
-            refl,
-          ),
+          record {
+            first = to r;
+            rest = change_retired slot to x.1;
+            are = ap (change_retired slot to) x.2
+                ∙ ap (λ b. cond b (to r) r ∷ change_retired slot to x.1) (eq-eqb r.slot slot (sym x.3));
+            loaded = refl;
+          },
         );
       }
 
@@ -123,32 +122,32 @@ module _ (k : Shape) (h : List Mark) (o : Own) (v : View) (n : ℕ) where
   pub needs_old_raise : (aim : Aim) (life : ℕ) → Fits o (at.OldRaise aim life) v → Needs k v n (act_at o (at.OldRaise aim life))
   needs_old_raise aim life f =
       let q = (f.point).3 in
-      let r : Retired = q.0 in
-      let e = first_slot r q.1 f.owns q.2 in
-      let b = ((f.point).0).1 in
+      let r : Retired = q.first in
+      let e = first_slot r q.rest f.owns q.are in
+      let b = ((f.point).0).bare in
       let number : ℕ = 2 * (life / 2 + 1) in
       by_spare (is_some o.spare) refl (ap first_or_root e)
       (λ slot is. record {
-        retired = (ap (λ xs. get_elem? xs 0) q.2, sym is);
-        unraised = head_each (λ (r : Retired). r.raised ≡ false) r q.1 v.hands.retired q.2 (f.unraised refl);
+        retired = (ap (λ xs. get_elem? xs 0) q.are, sym is);
+        unraised = head_each (λ (r : Retired). r.raised ≡ false) r q.rest v.hands.retired q.are (f.unraised refl);
         unlocked = λ l. absurd (let z : None ≡ Some l.0 = ap (λ ls. lock_of ls slot) (sym b.locks_are) ∙ l.1 in cc);
-        waited = head_each (λ (r : Retired). r.waited ≡ true) r q.1 v.hands.retired q.2 (f.point).2;
-        loaded = q.3;
+        waited = head_each (λ (r : Retired). r.waited ≡ true) r q.rest v.hands.retired q.are (f.point).2;
+        loaded = q.loaded;
         next = refl;
       })
     where
-      by_spare : (z : Bool) → is_some o.spare ≡ z → first_or_root o.retired ≡ (((f.point).3).0).slot
-          → ((slot : ℕ) → slot ≡ (((f.point).3).0).slot → NeedsRaiseRetired v 0 ((f.point).3).0 slot life (2 * (life / 2 + 1)))
+      by_spare : (z : Bool) → is_some o.spare ≡ z → first_or_root o.retired ≡ (((f.point).3).first).slot
+          → ((slot : ℕ) → slot ≡ (((f.point).3).first).slot → NeedsRaiseRetired v 0 ((f.point).3).first slot life (2 * (life / 2 + 1)))
           → Needs k v n (cond z (RaiseRetired (first_or_root o.retired) (2 * (life / 2 + 1)))
           (RaiseToSpare (first_or_root o.retired) (2 * (life / 2 + 1))))
       by_spare true e is make = (
         0,
         life,
-        ((f.point).3).0,
+        ((f.point).3).first,
         make _ is,
         (λ none. absurd (let q : false ≡ true = ap is_some (ap spare_slot (sym none) ∙ f.owns.spare_is) ∙ e in cc)),
       )
-      by_spare false e is make = (0, life, ((f.point).3).0, make _ is, no_spare v.hands.spare o.spare f.owns.spare_is e)
+      by_spare false e is make = (0, life, ((f.point).3).first, make _ is, no_spare v.hands.spare o.spare f.owns.spare_is e)
 
   pub next_old_raise : (aim : Aim) (life : ℕ) → TellsAlone v → Fits o (at.OldRaise aim life) v
       → Fits (after o n (at.OldRaise aim life)) (after o n (at.OldRaise aim life)).stage
@@ -164,107 +163,95 @@ module _ (k : Shape) (h : List Mark) (o : Own) (v : View) (n : ℕ) where
           (RaiseToSpare (first_or_root o.retired) (2 * (life / 2 + 1)))))
       by_spare true some_spare =
           let q = (f.point).3 in
-          let r : Retired = q.0 in
+          let r : Retired = q.first in
           let slot : ℕ = first_or_root o.retired in
-          let is : slot ≡ r.slot = ap first_or_root (first_slot r q.1 f.owns q.2) in
+          let is : slot ≡ r.slot = ap first_or_root (first_slot r q.rest f.owns q.are) in
           let to : Retired → Retired = λ r. record r { raised = true } in record {
             owns = owns_retired o v f.owns _ _ (same_slots (changed_at slot to)
                 (λ r. slot_kept to (λ r. refl) r (r.slot == slot)) v.hands.retired ∙ f.owns.retired_are);
             tickets = f.tickets;
             unraised = λ z. cc;
-            point = (
-              (f.point).0,
-              for_same aim (plain v) (plain (after_raise_retired v slot)) refl (f.point).1,
-              each_map (changed_at slot to) (λ (r : Retired). r.waited ≡ true) (λ (r : Retired). r.waited ≡ true) v.hands.retired
-                  (λ r p. fact_kept (λ (r : Retired). r.waited ≡ true) to (λ r q. q) r (r.slot == slot) p) (f.point).2,
-              (
-                to r,
-                q.1,
-                ap (change_retired slot to) q.2
-                    ∙ change_first slot to r q.1 (sym is) (subst (λ s. IsAlone s q.1) (sym is) (alone r q.1 q.2)),
-                refl,
-                tail_each (λ (r : Retired). r.raised ≡ false) r q.1 v.hands.retired q.2 (f.unraised refl),
-              ),
-              some_spare,
-            );
+            point = record {
+              idle = (f.point).0;
+              aimed = (f.point).1;
+              waited = each_map (changed_at slot to) (λ (r : Retired). r.waited ≡ true) (λ (r : Retired). r.waited ≡ true) v.hands.retired
+                  (λ r p. fact_kept (λ (r : Retired). r.waited ≡ true) to (λ r q. q) r (r.slot == slot) p) (f.point).2;
+              first = record {
+                first = to r;
+                rest = q.rest;
+                are = ap (change_retired slot to) q.are
+                    ∙ change_first slot to r q.rest (sym is) (subst (λ s. IsAlone s q.rest) (sym is) (alone r q.rest q.are));
+                raised = refl;
+                others = tail_each (λ (r : Retired). r.raised ≡ false) r q.rest v.hands.retired q.are (f.unraised refl);
+              };
+              has_spare = some_spare;
+            };
           }
       by_spare false none =
           let q = (f.point).3 in
-          let r : Retired = q.0 in
-          let e = first_slot r q.1 f.owns q.2 in
+          let r : Retired = q.first in
+          let e = first_slot r q.rest f.owns q.are in
           let slot : ℕ = first_or_root o.retired in
           let is : slot ≡ r.slot = ap first_or_root e in
           let number : ℕ = 2 * (life / 2 + 1) in
-          let left : without_retired slot v.hands.retired ≡ q.1 =
-          ap (without_retired slot) q.2 ∙ without_first slot r q.1 (sym is) (subst (λ s. IsAlone s q.1) (sym is) (alone r q.1 q.2)) in
+          let left : without_retired slot v.hands.retired ≡ q.rest =
+          ap (without_retired slot) q.are
+          ∙ without_first slot r q.rest (sym is) (subst (λ s. IsAlone s q.rest) (sym is) (alone r q.rest q.are)) in
           giving_fits (record o { spare = Some slot; retired = but_first o.retired }) aim (after_raise_to_spare v slot number h)
           (λ none. cc)
           (owns_retired (record o { spare = Some slot }) (record v { hands = record v.hands { spare = Some (new_spare slot number) } })
           (owns_spared o v f.owns (Some slot) (Some (new_spare slot number)) refl) _ _
           (ap (map (λ (r : Retired). r.slot)) left ∙ sym (ap but_first e)))
-          (f.point).0 (for_spare aim (f.point).1) f.tickets
+          (f.point).0 (f.point).1 f.tickets
           (subst (λ xs. Each xs (λ (r : Retired). r.raised ≡ false)) (sym left)
-          (tail_each (λ (r : Retired). r.raised ≡ false) r q.1 v.hands.retired q.2 (f.unraised refl)))
+          (tail_each (λ (r : Retired). r.raised ≡ false) r q.rest v.hands.retired q.are (f.unraised refl)))
           (subst (λ xs. Each xs (λ (r : Retired). r.waited ≡ true)) (sym left)
-          (tail_each (λ (r : Retired). r.waited ≡ true) r q.1 v.hands.retired q.2 (f.point).2))
-        where
-          for_spare : (aim : Aim) → ForAim o (plain v) aim
-              → ForAim (record o { spare = Some (first_or_root o.retired); retired = but_first o.retired })
-              (after_raise_to_spare v (first_or_root o.retired) (2 * (life / 2 + 1)) h) aim
-          for_spare (Leaf spot) a = a
-          for_spare Spare a = a
-          for_spare Room a = a
+          (tail_each (λ (r : Retired). r.waited ≡ true) r q.rest v.hands.retired q.are (f.point).2))
 
   pub needs_old_free : (aim : Aim) → Fits o (at.OldFree aim) v → Needs k v n (act_at o (at.OldFree aim))
   needs_old_free aim f =
-      let q = (f.point).3 in (
+      let q = (f.point).first in (
         0,
-        q.0,
+        q.first,
         record {
-          paid = (((f.point).0).1).paid;
-          retired = (ap (λ xs. get_elem? xs 0) q.2, sym (ap first_or_root (first_slot q.0 q.1 f.owns q.2)));
-          raised = q.3;
+          paid = (((f.point).idle).bare).paid;
+          retired = (ap (λ xs. get_elem? xs 0) q.are, sym (ap first_or_root (first_slot q.first q.rest f.owns q.are)));
+          raised = q.raised;
         },
       )
 
   pub next_old_free : (aim : Aim) → TellsAlone v → Fits o (at.OldFree aim) v
       → Fits (after o n (at.OldFree aim)) (at.OldCount aim) (view_after v h n (act_at o (at.OldFree aim)))
   next_old_free aim alone f =
-      let q = (f.point).3 in
-      let r : Retired = q.0 in
-      let e = first_slot r q.1 f.owns q.2 in
+      let q = (f.point).first in
+      let r : Retired = q.first in
+      let e = first_slot r q.rest f.owns q.are in
       let slot : ℕ = first_or_root o.retired in
       let is : slot ≡ r.slot = ap first_or_root e in
-      let left : without_retired slot v.hands.retired ≡ q.1 =
-      ap (without_retired slot) q.2 ∙ without_first slot r q.1 (sym is) (subst (λ s. IsAlone s q.1) (sym is) (alone r q.1 q.2)) in
-      let i = (f.point).0 in
-      let b = i.1 in record {
+      let left : without_retired slot v.hands.retired ≡ q.rest =
+      ap (without_retired slot) q.are
+      ∙ without_first slot r q.rest (sym is) (subst (λ s. IsAlone s q.rest) (sym is) (alone r q.rest q.are)) in
+      let i = (f.point).idle in
+      let b = i.bare in record {
         owns = owns_retired o v f.owns _ _ (ap (map (λ (r : Retired). r.slot)) left ∙ sym (ap but_first e));
         tickets = f.tickets;
-        unraised = λ z. subst (λ xs. Each xs (λ (r : Retired). r.raised ≡ false)) (sym left) q.4;
+        unraised = λ z. subst (λ xs. Each xs (λ (r : Retired). r.raised ≡ false)) (sym left) q.others;
         point = (
           record {
-            outside = i.0;
-            no_hand = i.3;
-            empty = i.2;
+            outside = i.outside;
+            no_hand = i.no_hand;
+            empty = i.empty;
             unlocked = b.locks_are;
             no_turn = b.turn_is;
             settled = b.settled;
             unreserved = b.reserved_is;
             owing = refl;
           },
-          for_free aim (f.point).1,
+          (f.point).aimed,
           subst (λ xs. Each xs (λ (r : Retired). r.waited ≡ true)) (sym left)
-              (tail_each (λ (r : Retired). r.waited ≡ true) r q.1 v.hands.retired q.2 (f.point).2),
+              (tail_each (λ (r : Retired). r.waited ≡ true) r q.rest v.hands.retired q.are (f.point).waited),
         );
       }
-    where
-      for_free : (aim : Aim) → ForAim o (plain v) aim
-          → ForAim (record o { retired = but_first o.retired; stage = at.OldCount aim })
-          (plain (after_free_retired v (first_or_root o.retired) h)) aim
-      for_free (Leaf spot) a = a
-      for_free Spare a = a
-      for_free Room a = a
 
   pub needs_old_count : (aim : Aim) → Fits o (at.OldCount aim) v → Needs k v n (act_at o (at.OldCount aim))
   needs_old_count aim f = ((f.point).0).owing
@@ -273,15 +260,9 @@ module _ (k : Shape) (h : List Mark) (o : Own) (v : View) (n : ℕ) where
       → Fits (after o n (at.OldCount aim)) (after o n (at.OldCount aim)).stage (view_after v h n (act_at o (at.OldCount aim)))
   next_old_count aim comes f =
       let p = (f.point).0 in
-      giving_fits (record o { free = n + 1 }) aim (view_after v h n (act_at o (at.OldCount aim))) comes f.owns (
-        p.outside,
-        record { locks_are = p.unlocked; turn_is = p.no_turn; settled = p.settled; reserved_is = p.unreserved; paid = refl },
-        p.empty,
-        p.no_hand,
-      ) (for_count aim (f.point).1) f.tickets (f.unraised refl) (f.point).2
-    where
-      for_count : (aim : Aim) → ForAim o (plain v) aim → ForAim (record o { free = n + 1 })
-          (view_after v h n (act_at o (at.OldCount aim))) aim
-      for_count (Leaf spot) a = a
-      for_count Spare a = a
-      for_count Room a = a
+      giving_fits (record o { free = n + 1 }) aim (view_after v h n (act_at o (at.OldCount aim))) comes f.owns (record {
+        outside = p.outside;
+        bare = record { locks_are = p.unlocked; turn_is = p.no_turn; settled = p.settled; reserved_is = p.unreserved; paid = refl };
+        empty = p.empty;
+        no_hand = p.no_hand;
+      }) (f.point).1 f.tickets (f.unraised refl) (f.point).2

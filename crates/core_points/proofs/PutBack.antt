@@ -22,7 +22,7 @@ module _ (k : Shape) (h : List Mark) (o : Own) (v : View) (n : ℕ) where
   pub needs_raise : Fits o at.Raise v → Needs k v n (act_at o at.Raise)
   needs_raise f =
       let hand = (f.point).1 in
-      let leaf = subst (λ x. HandFits x o.hand_life (key_now o) (value_in o.op) v.hands.hand) hand.1 ((f.point).2).1 in
+      let leaf = subst (λ x. HandFits x o.hand_life (key_now o) (value_in o.op) v.hands.hand) hand.1 ((f.point).2).hand in
       let is = leaf.2 in
       subst (λ s. Needs k v n (RaiseInHand s (2 * (o.hand_life / 2 + 1)))) (sym (ap or_root hand.1))
       (leaf.0, o.hand_life, record { in_hand = (leaf.1, is.slot_is); unraised = is.unraised; loaded = is.life_is; next = refl })
@@ -32,7 +32,7 @@ module _ (k : Shape) (h : List Mark) (o : Own) (v : View) (n : ℕ) where
       let hand = (f.point).1 in
       let s : ℕ = hand.0 in
       let number : ℕ = 2 * (o.hand_life / 2 + 1) in
-      let leaf = subst (λ x. HandFits x o.hand_life (key_now o) (value_in o.op) v.hands.hand) hand.1 ((f.point).2).1 in
+      let leaf = subst (λ x. HandFits x o.hand_life (key_now o) (value_in o.op) v.hands.hand) hand.1 ((f.point).2).hand in
       let held : Held = leaf.0 in
       let raised : Held = record held { known = stored_at (Life s) number ∷ held.known; raised = true } in
       let e : raise_held (note_option s (stored_at (Life s) number) v.hands.hand) ≡ Some raised =
@@ -45,8 +45,8 @@ module _ (k : Shape) (h : List Mark) (o : Own) (v : View) (n : ℕ) where
         tickets = f.tickets;
         point = (
           (f.point).0,
-          bare_noted v s (Life s) number true [] [] None false ((f.point).2).0 refl,
-          (s, raised, hand.1, (leaf.2).slot_is, refl, e),
+          bare_noted v s (Life s) number true [] [] None false ((f.point).2).bare refl,
+          record { slot = s; held = raised; taken = hand.1; slot_is = (leaf.2).slot_is; raised = refl; in_hand = e },
           (f.point).3,
         );
       })
@@ -54,8 +54,8 @@ module _ (k : Shape) (h : List Mark) (o : Own) (v : View) (n : ℕ) where
   pub needs_free : Fits o at.Free v → Needs k v n (act_at o at.Free)
   needs_free f =
       let q = (f.point).2 in
-      subst (λ s. Needs k v n (FreeInHand s)) (sym (ap or_root q.2))
-      (q.1, record { paid = ((f.point).1).paid; in_hand = (q.5, q.3); raised = q.4 })
+      subst (λ s. Needs k v n (FreeInHand s)) (sym (ap or_root q.taken))
+      (q.held, record { paid = ((f.point).1).paid; in_hand = (q.in_hand, q.slot_is); raised = q.raised })
 
   pub next_free : Fits o at.Free v → Fits (after o n at.Free) at.Count (view_after v h n (act_at o at.Free))
   next_free f = let b = (f.point).1 in record {

@@ -24,7 +24,7 @@ use Rattle.core_points.specs.Callers.{Own, content, contents, go, is_none_left, 
 use Rattle.core_points.specs.Programs.{act_at, after, committing}
 use Rattle.core_points.specs.Facts.{AreClear, HandFits, Putting, is_put, leaf_held, one_lock, read_at, spot_known, stored_at}
 use Rattle.core_points.specs.Tickets.{owed_op}
-use Rattle.core_points.specs.Fits.{Fits}
+use Rattle.core_points.specs.Fits.{Fits, plain}
 use Rattle.core_points.specs.Told.{Tells}
 use Rattle.core_points.proofs.Answers.{ready_put}
 use Rattle.core_points.proofs.Locking.{no_locks, own_lock, clear_one}
@@ -45,10 +45,9 @@ module _ (k : Shape) (h : List Mark) (o : Own) (v : View) (n : ℕ) where
   pub needs_field : (spot : Spot) (i : ℕ) → Fits o (at.LeafField spot i) v → Needs k v n (act_at o (at.LeafField spot i))
   needs_field spot i f =
       let p = f.point in
-      let q = p.2 in
-      let root : or_root o.hand ≡ q.0 = ap or_root q.1 in (
-        leaf_held q.0 o.hand_life (key_now o) (value_in o.op) i,
-        record { holder = inl (q.2, sym root); content = is_content i p.5 (or_root o.hand) },
+      let root : or_root o.hand ≡ p.slot = ap or_root p.taken in (
+        leaf_held p.slot o.hand_life (key_now o) (value_in o.op) i,
+        record { holder = inl (p.in_hand, sym root); content = is_content i p.small (or_root o.hand) },
       )
     where
       is_content : (i : ℕ) → i ≤ 3 → (s : ℕ) → IsContent s (content s i)
@@ -62,10 +61,9 @@ module _ (k : Shape) (h : List Mark) (o : Own) (v : View) (n : ℕ) where
       → Fits (after o n (at.LeafField spot i)) (after o n (at.LeafField spot i)).stage (view_after v h n (act_at o (at.LeafField spot i)))
   next_field spot i f =
       let p = f.point in
-      let q = p.2 in
       subst (λ x. Fits (after o n (at.LeafField spot i)) (after o n (at.LeafField spot i)).stage
-      (noting v x (content x i) (contents (key_now o) (value_in o.op) 0 0 i) true)) (sym (ap or_root q.1))
-      (filled i p.5 q.0 q.1 q.2)
+      (noting v x (content x i) (contents (key_now o) (value_in o.op) 0 0 i) true)) (sym (ap or_root p.taken))
+      (filled i p.small p.slot p.taken p.in_hand)
     where
       put_hand : (s : ℕ) (i j : ℕ) (field : Field) (number : ℕ)
           → v.hands.hand ≡ Some (leaf_held s o.hand_life (key_now o) (value_in o.op) i)
@@ -85,14 +83,16 @@ module _ (k : Shape) (h : List Mark) (o : Own) (v : View) (n : ℕ) where
         owns = owns_noted o v s field number true f.owns;
         unraised = λ z. f.unraised refl;
         tickets = f.tickets;
-        point = (
-          (f.point).0,
-          bare_noted v s field number true [] [] None false (f.point).1 refl,
-          (s, is, put_hand s i j field number e same),
-          (f.point).3,
-          (f.point).4,
-          le,
-        );
+        point = record {
+          outside = (f.point).outside;
+          bare = bare_noted v s field number true [] [] None false (f.point).bare refl;
+          slot = s;
+          taken = is;
+          in_hand = put_hand s i j field number e same;
+          has_spot = (f.point).has_spot;
+          puts = (f.point).puts;
+          small = le;
+        };
       }
 
       filled : (i : ℕ) → i ≤ 3 → (s : ℕ) → o.hand ≡ Some s → v.hands.hand ≡ Some (leaf_held s o.hand_life (key_now o) (value_in o.op) i)
@@ -105,19 +105,20 @@ module _ (k : Shape) (h : List Mark) (o : Own) (v : View) (n : ℕ) where
         owns = owns_noted o v s (Link s Right) 0 true f.owns;
         unraised = λ z. f.unraised refl;
         tickets = subst (λ x. owed_op o.op x o.retired + 4 * length o.rest + o.kept ≤ v.allowance.tickets) (sym is)
-            (one_owed o.op (f.point).4 s f.tickets);
-        point = (
-          (f.point).0,
-          (s, is),
-          bare_noted v s (Link s Right) 0 true [] [] None false (f.point).1 refl,
-          subst (λ x. HandFits x o.hand_life (key_now o) (value_in o.op) (note_option s (stored_at (Link s Right) 0) v.hands.hand)) (sym is) (
-            leaf_held s o.hand_life (key_now o) (value_in o.op) 4,
-            put_hand s 3 4 (Link s Right) 0 e refl,
-            leaf_is s o.hand_life (key_now o) (value_in o.op),
-          ),
-          (f.point).3,
-          (f.point).4,
-        );
+            (one_owed o.op (f.point).puts s f.tickets);
+        point = record {
+          outside = (f.point).outside;
+          taken = (s, is);
+          bare = bare_noted v s (Link s Right) 0 true [] [] None false (f.point).bare refl;
+          hand = subst (λ x. HandFits x o.hand_life (key_now o) (value_in o.op) (note_option s (stored_at (Link s Right) 0) v.hands.hand))
+              (sym is) (
+                leaf_held s o.hand_life (key_now o) (value_in o.op) 4,
+                put_hand s 3 4 (Link s Right) 0 e refl,
+                leaf_is s o.hand_life (key_now o) (value_in o.op),
+              );
+          has_spot = (f.point).has_spot;
+          puts = (f.point).puts;
+        };
       }
         where
           one_owed : (op : Op) → is_put op ≡ true → (s : ℕ) → 1 + 4 * length o.rest + o.kept ≤ v.allowance.tickets
@@ -131,8 +132,8 @@ module _ (k : Shape) (h : List Mark) (o : Own) (v : View) (n : ℕ) where
   -- the lock
   pub needs_lock : (spot : Spot) → Fits o (at.LeafLock spot) v → Needs k v n (act_at o (at.LeafLock spot))
   needs_lock spot f = record {
-    outside = (f.point).0;
-    few = subst (λ (ls : List HeldLock). length ls < 5) (sym ((f.point).2).locks_are) (omega arith);
+    outside = (f.point).outside;
+    few = subst (λ (ls : List HeldLock). length ls < 5) (sym ((f.point).bare).locks_are) (omega arith);
   }
 
   pub next_lock : (spot : Spot) → Fits o (at.LeafLock spot) v
@@ -143,32 +144,34 @@ module _ (k : Shape) (h : List Mark) (o : Own) (v : View) (n : ℕ) where
           (go o (cond (is_none_left o.locks) at.EnterClock (at.Unlock last.Again))) in
           Fits o' o'.stage (cond z (record v { locks = new_lock spot.slot ∷ v.locks }) v)
       got true =
-          let b = (f.point).2 in record {
+          let p = f.point in
+          let b = p.bare in record {
             owns = owns_more o v spot.slot f.owns;
             unraised = λ z. f.unraised refl;
             tickets = f.tickets;
-            point = (
-              (f.point).0,
-              (f.point).1,
-              record {
+            point = record {
+              outside = p.outside;
+              taken = p.taken;
+              bare = record {
                 locks_are = ap (λ ls. new_lock spot.slot ∷ ls) b.locks_are;
                 turn_is = b.turn_is;
                 settled = b.settled;
                 reserved_is = b.reserved_is;
                 paid = b.paid;
-              },
-              (f.point).3,
-              (f.point).4,
-              (f.point).5,
-            );
+              };
+              hand = p.hand;
+              has_spot = p.has_spot;
+              puts = p.puts;
+            };
           }
       got false = subst (λ ls. let st : Stage = cond (is_none_left ls) at.EnterClock (at.Unlock last.Again) in Fits (go o st) st v)
-          (sym (no_locks o v f.owns ((f.point).2).locks_are))
+          (sym (no_locks o v f.owns ((f.point).bare).locks_are))
           (record {
             owns = f.owns;
             unraised = λ z. f.unraised refl;
             tickets = f.tickets;
-            point = ((f.point).0, ((f.point).2, (f.point).3, ready_put o.op o.hand o.spare o.retired (f.point).5));
+            point = let p = f.point in
+                (p.outside, record { bare = p.bare; hand = p.hand; ready = ready_put o.op o.hand o.spare o.retired p.puts });
           })
 
   -- a load under the lock
@@ -176,20 +179,20 @@ module _ (k : Shape) (h : List Mark) (o : Own) (v : View) (n : ℕ) where
   needs_under s known e = (_, ap (λ ls. lock_of ls s) e ∙ one_locked s known)
 
   pub needs_life : (spot : Spot) → Fits o (at.LeafLife spot) v → Needs k v n (act_at o (at.LeafLife spot))
-  needs_life spot f = record { held = needs_under spot.slot _ ((f.point).2).locks_are; loadable = refl }
+  needs_life spot f = record { held = needs_under spot.slot _ ((f.point).bare).locks_are; loadable = refl }
 
-  putting_more : (spot : Spot) (known : List Known) (field : Field) → Tells v spot.slot field n
-      → Putting o v spot (one_lock spot.slot known) None
-      → Putting o (noting v spot.slot field n false) spot (one_lock spot.slot (read_at field n ∷ known)) None
-  putting_more spot known field told p = (
-    p.0,
-    p.1,
-    bare_noted v spot.slot field n false (one_lock spot.slot known) (one_lock spot.slot (read_at field n ∷ known)) None false p.2
-        (one_noted spot.slot known field n false),
-    hand_noted o.hand o.hand_life (key_now o) (value_in o.op) v spot.slot field n told p.3,
-    p.4,
-    p.5,
-  )
+  putting_more : (spot : Spot) (known : List Known) (field : Field) (stage : Stage) → Tells v spot.slot field n
+      → Putting o (plain v) spot (one_lock spot.slot known) None
+      → Putting (go o stage) (plain (noting v spot.slot field n false)) spot (one_lock spot.slot (read_at field n ∷ known)) None
+  putting_more spot known field stage told p = record {
+    outside = p.outside;
+    taken = p.taken;
+    bare = bare_noted v spot.slot field n false (one_lock spot.slot known) (one_lock spot.slot (read_at field n ∷ known)) None false p.bare
+        (one_noted spot.slot known field n false);
+    hand = hand_noted o.hand o.hand_life (key_now o) (value_in o.op) v spot.slot field n told p.hand;
+    has_spot = p.has_spot;
+    puts = p.puts;
+  }
 
   pub next_life : (spot : Spot) → Tells v spot.slot (Life spot.slot) n → Fits o (at.LeafLife spot) v
       → Fits (after o n (at.LeafLife spot)) (at.LeafSide spot n) (view_after v h n (act_at o (at.LeafLife spot)))
@@ -197,11 +200,11 @@ module _ (k : Shape) (h : List Mark) (o : Own) (v : View) (n : ℕ) where
     owns = owns_noted o v spot.slot (Life spot.slot) n false f.owns;
     unraised = λ z. f.unraised refl;
     tickets = f.tickets;
-    point = putting_more spot [] (Life spot.slot) told f.point;
+    point = putting_more spot [] (Life spot.slot) _ told f.point;
   }
 
   pub needs_side : (spot : Spot) (life : ℕ) → Fits o (at.LeafSide spot life) v → Needs k v n (act_at o (at.LeafSide spot life))
-  needs_side spot life f = record { held = needs_under spot.slot _ ((f.point).2).locks_are; loadable = refl }
+  needs_side spot life f = record { held = needs_under spot.slot _ ((f.point).bare).locks_are; loadable = refl }
 
   pub next_side : (spot : Spot) (life : ℕ) → Tells v spot.slot (Link spot.slot spot.side) n → Fits o (at.LeafSide spot life) v
       → Fits (after o n (at.LeafSide spot life)) (at.LeafTag spot life n) (view_after v h n (act_at o (at.LeafSide spot life)))
@@ -209,11 +212,11 @@ module _ (k : Shape) (h : List Mark) (o : Own) (v : View) (n : ℕ) where
     owns = owns_noted o v spot.slot (Link spot.slot spot.side) n false f.owns;
     unraised = λ z. f.unraised refl;
     tickets = f.tickets;
-    point = putting_more spot (read_at (Life spot.slot) life ∷ []) (Link spot.slot spot.side) told f.point;
+    point = putting_more spot (read_at (Life spot.slot) life ∷ []) (Link spot.slot spot.side) _ told f.point;
   }
 
   pub needs_tag : (spot : Spot) (life link : ℕ) → Fits o (at.LeafTag spot life link) v → Needs k v n (act_at o (at.LeafTag spot life link))
-  needs_tag spot life link f = record { held = needs_under spot.slot _ ((f.point).2).locks_are; loadable = refl }
+  needs_tag spot life link f = record { held = needs_under spot.slot _ ((f.point).bare).locks_are; loadable = refl }
 
   pub next_tag : (spot : Spot) (life link : ℕ) → Tells v spot.slot (Tag spot.slot spot.side) n → Fits o (at.LeafTag spot life link) v
       → Fits (after o n (at.LeafTag spot life link)) (after o n (at.LeafTag spot life link)).stage
@@ -221,10 +224,10 @@ module _ (k : Shape) (h : List Mark) (o : Own) (v : View) (n : ℕ) where
   next_tag spot life link told f =
       judged ((life == 2 * spot.generation) && ((link == 0) && (n == spot.tag))) refl
       (putting_more spot (read_at (Link spot.slot spot.side) link ∷ (read_at (Life spot.slot) life ∷ []))
-      (Tag spot.slot spot.side) told f.point)
+      (Tag spot.slot spot.side) o.stage told f.point)
     where
       judged : (z : Bool) → ((life == 2 * spot.generation) && ((link == 0) && (n == spot.tag))) ≡ z
-          → Putting o (noting v spot.slot (Tag spot.slot spot.side) n false) spot
+          → Putting o (plain (noting v spot.slot (Tag spot.slot spot.side) n false)) spot
           (one_lock spot.slot (read_at (Tag spot.slot spot.side) n
           ∷ (read_at (Link spot.slot spot.side) link ∷ (read_at (Life spot.slot) life ∷ [])))) None
           → let st : Stage = cond z (committing o (update.Leaf spot)) (at.Unlock last.Again) in
@@ -243,22 +246,22 @@ module _ (k : Shape) (h : List Mark) (o : Own) (v : View) (n : ℕ) where
           record {
             owns = owns_noted o v spot.slot (Tag spot.slot spot.side) n false f.owns;
             unraised = λ z. f.unraised refl;
-            tickets = put_owed o.op p.5 o.hand f.tickets;
+            tickets = put_owed o.op p.puts o.hand f.tickets;
             point = (
-              (
-                p.0,
-                p.1,
-                record {
-                  locks_are = (p.2).locks_are ∙ same;
-                  turn_is = (p.2).turn_is;
-                  settled = (p.2).settled;
-                  reserved_is = (p.2).reserved_is;
-                  paid = (p.2).paid;
-                },
-                p.3,
-                p.4,
-                p.5,
-              ),
+              record {
+                outside = p.outside;
+                taken = p.taken;
+                bare = record {
+                  locks_are = (p.bare).locks_are ∙ same;
+                  turn_is = (p.bare).turn_is;
+                  settled = (p.bare).settled;
+                  reserved_is = (p.bare).reserved_is;
+                  paid = (p.bare).paid;
+                };
+                hand = p.hand;
+                has_spot = p.has_spot;
+                puts = p.puts;
+              },
               made_even o.front,
             );
           }
@@ -282,17 +285,17 @@ module _ (k : Shape) (h : List Mark) (o : Own) (v : View) (n : ℕ) where
         tickets = f.tickets;
         point = (
           record {
-            outside = p.0;
-            no_turn = (p.2).turn_is;
-            settled = (p.2).settled;
-            unreserved = (p.2).reserved_is;
-            paid = (p.2).paid;
-            clear = subst AreClear (sym (p.2).locks_are) (clear_one spot.slot
+            outside = p.outside;
+            no_turn = (p.bare).turn_is;
+            settled = (p.bare).settled;
+            unreserved = (p.bare).reserved_is;
+            paid = (p.bare).paid;
+            clear = subst AreClear (sym (p.bare).locks_are) (clear_one spot.slot
                 (read_at (Tag spot.slot spot.side) n ∷ (read_at (Link spot.slot spot.side) link ∷ (read_at (Life spot.slot) life ∷ []))));
             some = ap is_none_left (own_lock o (noting v spot.slot (Tag spot.slot spot.side) n false) spot.slot _ (owns_noted o v spot.slot
-                (Tag spot.slot spot.side) n false f.owns) (p.2).locks_are refl);
+                (Tag spot.slot spot.side) n false f.owns) (p.bare).locks_are refl);
           },
-          p.3,
-          ready_put o.op o.hand o.spare o.retired p.5,
+          p.hand,
+          ready_put o.op o.hand o.spare o.retired p.puts,
         );
       }

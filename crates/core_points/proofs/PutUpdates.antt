@@ -30,10 +30,10 @@ module _ (k : Shape) (h : List Mark) (o : Own) (v : View) (n : ℕ) where
       → Needs k v n (act_at o (at.Store (update.Leaf spot) front))
   needs_store spot front f =
       let p = f.point in
-      let hand = p.1 in
-      let b = p.2 in
-      let has = p.4 in
-      let leaf = subst (λ x. HandFits x o.hand_life (key_now o) (value_in o.op) v.hands.hand) hand.1 p.3 in
+      let hand = p.taken in
+      let b = p.bare in
+      let has = p.has_spot in
+      let leaf = subst (λ x. HandFits x o.hand_life (key_now o) (value_in o.op) v.hands.hand) hand.1 p.hand in
       let held : Held = leaf.0 in
       let is = leaf.2 in
       let r : Reading = has.reading in
@@ -87,18 +87,26 @@ module _ (k : Shape) (h : List Mark) (o : Own) (v : View) (n : ℕ) where
       let owns = owns_noted o v spot.slot (Link spot.slot spot.side) leaf true f.owns in
       let b = bare_noted v spot.slot (Link spot.slot spot.side) leaf true (one_lock spot.slot (spot_known spot))
       (one_lock spot.slot (stored_at (Link spot.slot spot.side) leaf ∷ spot_known spot))
-      (Some (record { found = front; stored = false })) false p.2
+      (Some (record { found = front; stored = false })) false p.bare
       (one_noted spot.slot (spot_known spot) (Link spot.slot spot.side) leaf true) in
       subst (λ x. Fits o' o'.stage (after_leaf_link v x spot.slot spot.side leaf (key_now o) (value_in o.op) h))
-      (sym (commit_is v _ (p.2).turn_is))
+      (sym (commit_is v _ (p.bare).turn_is))
       (record {
         owns = owns;
         unraised = λ z. f.unraised refl;
         tickets = (let t = f.tickets in omega arith);
         point = (
-          record { outside = p.0; turn_is = refl; settled = b.settled; unreserved = b.reserved_is; paid = b.paid; empty = refl; no_hand = refl },
+          record {
+            outside = p.outside;
+            turn_is = refl;
+            settled = b.settled;
+            unreserved = b.reserved_is;
+            paid = b.paid;
+            empty = refl;
+            no_hand = refl;
+          },
           ap is_none_left (own_lock o w spot.slot _ owns b.locks_are refl),
           subst AreClear (sym b.locks_are) (clear_one spot.slot (stored_at (Link spot.slot spot.side) leaf ∷ spot_known spot)),
-          p.5,
+          p.puts,
         );
       })

@@ -27,9 +27,9 @@ use Rattle.core_points.specs.declared.stage.Stage.TheVariants as at
 use Rattle.core_points.specs.Acts.{Needs, view_after}
 use Rattle.core_points.specs.Callers.{Own, go, is_none_left, is_some, key_now, value_in}
 use Rattle.core_points.specs.Programs.{act_at, after, excused, given_back, giving, is_reader, taking}
-use Rattle.core_points.specs.Facts.{Calm, ForAim, HandFits, HasSpot, Idle, Outlasts, Owns, table_of}
+use Rattle.core_points.specs.Facts.{Calm, ForAim, HandFits, Idle, Outlasts, Owns}
 use Rattle.core_points.specs.Tickets.{owed_given, owed_op, owed_reserve}
-use Rattle.core_points.specs.Fits.{Fits, plain}
+use Rattle.core_points.specs.Fits.{Fits}
 use Rattle.list_laws.specs.Counts.{IsIn, Each}
 use Rattle.core_points.specs.Told.{SpareComes}
 use Rattle.core_points.proofs.Answers.{positive}
@@ -86,19 +86,19 @@ giving_fits o aim w comes owns idle for paid unraised waited = by_left (is_none_
         by false e = absurd (let q : true ≡ false = sym none ∙ comes e in cc)
 
     calm : is_none_left o.retired ≡ true → Calm o w
-    calm none = (
-      idle.1,
-      subst (λ x. HandFits x o.hand_life (key_now o) (value_in o.op) w.hands.hand) (sym idle.3) idle.2,
-      record { empty = λ z. idle.3; room = λ z. none_left o.retired none; has_spare = λ z. spare_now none },
-    )
+    calm none = record {
+      bare = idle.bare;
+      hand = subst (λ x. HandFits x o.hand_life (key_now o) (value_in o.op) w.hands.hand) (sym idle.no_hand) idle.empty;
+      ready = record { empty = λ z. idle.no_hand; room = λ z. none_left o.retired none; has_spare = λ z. spare_now none };
+    }
 
     enters : is_none_left o.retired ≡ true → (m : ℕ) → 2 ≤ m → m + 4 * length o.rest + o.kept ≤ w.allowance.tickets
         → Fits (go o at.EnterClock) at.EnterClock w
     enters none m two paid = record {
       owns = owns;
-      tickets = (let few = few_owed o.op o.hand o.retired idle.3 none in omega arith);
+      tickets = (let few = few_owed o.op o.hand o.retired idle.no_hand none in omega arith);
       unraised = λ z. unraised;
-      point = (idle.0, calm none);
+      point = (idle.outside, calm none);
     }
 
     reserved : (retired : List ℕ) (spot : Spot) → is_none_left retired ≡ true → owed_reserve (Leaf spot) retired ≡ 2
@@ -116,7 +116,7 @@ giving_fits o aim w comes owns idle for paid unraised waited = by_left (is_none_
       owns = owns;
       tickets = subst (λ x. x + 4 * length o.rest + o.kept ≤ w.allowance.tickets) (sym (reserved o.retired spot none)) paid;
       unraised = λ z. unraised;
-      point = (idle.0, idle.1, idle.2, idle.3, positive o.free, for.0, for.1);
+      point = record { idle = idle; some = positive o.free; takes = for };
     }
     back Spare none for paid = enters none 2 (omega arith) paid
     back Room none for paid = spares none paid (is_some o.spare) refl
@@ -129,7 +129,7 @@ module _ (k : Shape) (h : List Mark) (o : Own) (v : View) (n : ℕ) where
   -- the wait begins
   pub needs_begin : (aim : Aim) → Fits o (at.Begin (Reuse aim)) v → Needs k v n (act_at o (at.Begin (Reuse aim)))
   needs_begin aim f = record {
-    outside = ((f.point).0).0;
+    outside = ((f.point).0).outside;
     ticket = (let t = f.tickets in omega arith);
     some = omega arith;
     high_fits = omega arith;
@@ -144,7 +144,7 @@ module _ (k : Shape) (h : List Mark) (o : Own) (v : View) (n : ℕ) where
     unraised = λ z. f.unraised refl;
     point = (
       (f.point).0,
-      for_aim aim (f.point).1,
+      (f.point).1,
       places,
       (
         new_wait v 0 18446744073709551615 n h,
@@ -153,11 +153,6 @@ module _ (k : Shape) (h : List Mark) (o : Own) (v : View) (n : ℕ) where
       ),
     );
   }
-    where
-      for_aim : (aim : Aim) → ForAim o v aim → ForAim o (view_after v h n (act_at o (at.Begin (Reuse aim)))) aim
-      for_aim (Leaf spot) a = a
-      for_aim Spare a = a
-      for_aim Room a = a
 
   -- the last look has seen all places
   pub seen_all : (wait : Waiting) (p : ℕ) (field : Field) (last : Bool) → k.waiter ≡ Eer → k.places ≡ o.places → last ≡ (p + 1 == o.places)
@@ -198,16 +193,6 @@ module _ (k : Shape) (h : List Mark) (o : Own) (v : View) (n : ℕ) where
         },
       )
 
-  pub for_aim_same : (aim : Aim) (w : View) → w.records ≡ v.records → ForAim o v aim → ForAim o w aim
-  for_aim_same (Leaf spot) w e (has, put) = (subst (λ rs. HasSpot (table_of o) rs (key_now o) spot) (sym e) has, put)
-  for_aim_same Spare w e a = a
-  for_aim_same Room w e a = a
-
-  pub for_aim_plain : (aim : Aim) → ForAim o (plain v) aim → ForAim o v aim
-  for_aim_plain (Leaf spot) a = a
-  for_aim_plain Spare a = a
-  for_aim_plain Room a = a
-
   -- a look that excuses a place
   excused_fits : (aim : Aim) (clock p : ℕ) (field : Field) (wait : Waiting) → SpareComes o → spot_seen field ≡ Stamp p → Owns o v → Idle o v
       → ForAim o v aim → owed_given (Reuse aim) + 4 * length o.rest + o.kept ≤ v.allowance.tickets
@@ -219,21 +204,22 @@ module _ (k : Shape) (h : List Mark) (o : Own) (v : View) (n : ℕ) where
       by_last : (z : Bool) → (p + 1 == o.places) ≡ z → let o' : Own = cond z (giving o aim) (go o (at.LookKey (Reuse aim) clock (p + 1))) in
           Fits o' o'.stage (cond z (ending v (with_excused wait field) h) (record v { wait = Some (with_excused wait field) }))
       by_last true e =
-          let b = idle.1 in
+          let b = idle.bare in
           giving_fits o aim (ending v (with_excused wait field) h) comes
-          (owns_retired o v owns _ _ (same_slots (waited_retired (with_excused wait field)) (λ r. refl) v.hands.retired ∙ owns.retired_are)) (
-            idle.0,
-            record {
+          (owns_retired o v owns _ _ (same_slots (waited_retired (with_excused wait field)) (λ r. refl) v.hands.retired ∙ owns.retired_are))
+          (record {
+            outside = idle.outside;
+            bare = record {
               locks_are = b.locks_are;
               turn_is = b.turn_is;
               settled = ap (waited_move (with_excused wait field)) b.settled;
               reserved_is = b.reserved_is;
               paid = b.paid;
-            },
-            idle.2,
-            idle.3,
-          )
-          (for_aim_same aim (ending v (with_excused wait field) h) refl for) paid
+            };
+            empty = idle.empty;
+            no_hand = idle.no_hand;
+          })
+          for paid
           (each_map (waited_retired (with_excused wait field)) (λ (r : Retired). r.raised ≡ false)
           (λ (r : Retired). r.raised ≡ false) v.hands.retired (λ r q. q) unraised)
           (each_map (waited_retired (with_excused wait field)) (λ (r : Retired). r.unlinked < wait.began)
@@ -245,7 +231,7 @@ module _ (k : Shape) (h : List Mark) (o : Own) (v : View) (n : ℕ) where
         unraised = λ z. unraised;
         point = (
           idle,
-          for_aim_same aim (record v { wait = Some (with_excused wait field) }) refl for,
+          for,
           dite (ℕ_discrete (p + 1) o.places) (λ same. absurd (let q : false ≡ true = sym e ∙ eq-eqb (p + 1) o.places same in cc))
               (λ ne. omega arith),
           (
@@ -284,7 +270,7 @@ module _ (k : Shape) (h : List Mark) (o : Own) (v : View) (n : ℕ) where
           (record v { wait = Some (with_excused ((f.point).3).0 (Announced p)) })) v)
       by_reader true = record { owns = f.owns; tickets = f.tickets; unraised = λ z. f.unraised refl; point = f.point }
       by_reader false = excused_fits aim clock p (Announced p) ((f.point).3).0 comes refl f.owns (f.point).0
-          (for_aim_same aim v refl ((for_aim_plain aim) (f.point).1)) f.tickets (f.unraised refl) (f.point).2 (((f.point).3).2)
+          (f.point).1 f.tickets (f.unraised refl) (f.point).2 (((f.point).3).2)
 
   pub next_look_stamp : (aim : Aim) (clock p key : ℕ) → SpareComes o → Fits o (at.LookStamp (Reuse aim) clock p key) v
       → Fits (after o n (at.LookStamp (Reuse aim) clock p key)) (after o n (at.LookStamp (Reuse aim) clock p key)).stage
@@ -304,5 +290,5 @@ module _ (k : Shape) (h : List Mark) (o : Own) (v : View) (n : ℕ) where
           Fits o' o'.stage (cond z (cond (p + 1 == o.places) (ending v (with_excused ((f.point).3).0 (Stamp p)) h)
           (record v { wait = Some (with_excused ((f.point).3).0 (Stamp p)) })) v)
       by_stamp true = excused_fits aim clock p (Stamp p) ((f.point).3).0 comes refl f.owns (f.point).0
-          (for_aim_same aim v refl ((for_aim_plain aim) (f.point).1)) f.tickets (f.unraised refl) (f.point).2 (((f.point).3).2)
+          (f.point).1 f.tickets (f.unraised refl) (f.point).2 (((f.point).3).2)
       by_stamp false = record { owns = f.owns; tickets = f.tickets; unraised = λ z. f.unraised refl; point = f.point }

@@ -10,6 +10,7 @@ use Rattle.core_state.specs.declared.shape.Shape.{Shape}
 use Rattle.core_state.specs.declared.words.Field.TheVariants.{Key, Value, Link}
 use Rattle.core_state.specs.declared.view.Reading.{Reading}
 use Rattle.core_state.specs.declared.view.Section.{Section}
+use Rattle.core_state.specs.declared.view.SearchState.{SearchState}
 use Rattle.core_state.specs.declared.view.SearchState.TheVariants.{At, Unread, Found, Missed}
 use Rattle.core_state.specs.declared.view.View.{View}
 use Rattle.list_laws.specs.Counts.{IsIn}
@@ -24,9 +25,10 @@ use Rattle.core_points.specs.declared.stage.Stage.TheVariants as at
 use Rattle.core_points.specs.Acts.{Needs, view_after}
 use Rattle.core_points.specs.Callers.{Own, go, key_now}
 use Rattle.core_points.specs.Programs.{act_at, after, ended, found, key_read}
-use Rattle.core_points.specs.Facts.{Calm, Inside, Nothing, Stands, is_delete, is_put, is_set}
+use Rattle.core_points.specs.Facts.{Calm, Inside, InsideParts, Nothing, Stands, is_delete, is_put, is_set}
 use Rattle.core_points.specs.Tickets.{owed, owed_op}
 use Rattle.core_points.specs.Fits.{Fits, Point}
+use Rattle.core_points.proofs.Notes.{stands_on}
 
 deeper : {A : Type 0} (xs : List A) (x a : A) → IsIn xs a → IsIn (x ∷ xs) a
 deeper xs x a (i, e) = (suc i, e)
@@ -62,7 +64,7 @@ module _ (k : Shape) (h : List Mark) (o : Own) (v : View) (n : ℕ) where
       let c = p.2 in (
         c.0,
         record {
-          entry = record { outside = p.0; free = ((p.1).0).locks_are; key_fits = f.owns.key_fits };
+          entry = record { outside = p.0; free = ((p.1).bare).locks_are; key_fits = f.owns.key_fits };
           clock = c.1;
           stamp_is = sym c.2;
           announced = p.3;
@@ -79,19 +81,19 @@ module _ (k : Shape) (h : List Mark) (o : Own) (v : View) (n : ℕ) where
         tickets = f.tickets;
         point = (
           p.1,
-          (
-            new_section v (key_now o) clock (clocked_at v) h,
-            refl,
-            record { searches = refl; key_is = refl; sought = refl; state_is = refl; here = first_in [] 0 },
-            tt,
-          ),
+          record {
+            section = new_section v (key_now o) clock (clocked_at v) h;
+            is = refl;
+            stands = record { searches = refl; key_is = refl; sought = refl; state_is = refl; here = first_in [] 0 };
+            known = tt;
+          },
         );
       }
 
   pub needs_link : (s : ℕ) (b : Side) → Fits o (at.AtLink s b) v → Needs k v n (act_at o (at.AtLink s b))
   needs_link s b f = let i = (f.point).1 in (
-    i.0,
-    record { section_is = i.1; searches = (i.2).searches; stood = (i.2).here; loadable = refl },
+    i.section,
+    record { section_is = i.is; searches = (i.stands).searches; stood = (i.stands).here; loadable = refl },
   )
 
   ended_point : (op : Op) → o.op ≡ op → (s : ℕ) (b : Side) (w : View) → Calm o w → Inside w (key_now o) (Missed s b) Nothing
@@ -113,12 +115,12 @@ module _ (k : Shape) (h : List Mark) (o : Own) (v : View) (n : ℕ) where
   next_link s b f =
       let p = f.point in
       let i = p.1 in
-      let section : Section = i.0 in
+      let section : Section = i.section in
       subst (λ x. Fits (after o n (at.AtLink s b)) (after o n (at.AtLink s b)).stage (after_search_load v x (Link s b) n))
-      (sym (section_is v _ i.1))
+      (sym (section_is v _ i.is))
       (subst (λ (r : Reading). Fits (after o n (at.AtLink s b)) (after o n (at.AtLink s b)).stage
-      (record v { section = Some (record section { reading = r }) })) (sym (link_moves section.reading s b n (i.2).state_is))
-      (go_on (n == 0) section p.0 i.2))
+      (record v { section = Some (record section { reading = r }) })) (sym (link_moves section.reading s b n (i.stands).state_is))
+      (go_on (n == 0) section p.0 i.stands))
     where
       go_on : (z : Bool) (section : Section) → Calm o v → Stands section (key_now o) (At s b) →
           let r' : Reading = record section.reading {
@@ -136,12 +138,12 @@ module _ (k : Shape) (h : List Mark) (o : Own) (v : View) (n : ℕ) where
         owns = f.owns;
         unraised = λ z. f.unraised refl;
         tickets = ended_owed (go o (ended o.op s b)) o.op s b (4 * length o.rest) o.kept v.allowance.tickets f.tickets;
-        point = ended_point o.op refl s b _ calm (
-          _,
-          refl,
-          record { searches = stands.searches; key_is = stands.key_is; sought = stands.sought; state_is = refl; here = stands.here },
-          tt,
-        );
+        point = ended_point o.op refl s b _ calm (record {
+          section = _;
+          is = refl;
+          stands = stands_on _ refl refl stands.here stands;
+          known = tt;
+        });
       }
       go_on false section calm stands = record {
         owns = f.owns;
@@ -149,36 +151,35 @@ module _ (k : Shape) (h : List Mark) (o : Own) (v : View) (n : ℕ) where
         tickets = f.tickets;
         point = (
           calm,
-          (
-            _,
-            refl,
-            record {
-              searches = stands.searches;
-              key_is = stands.key_is;
-              sought = stands.sought;
-              state_is = refl;
-              here = first_in section.reading.stood n;
-            },
-            deeper section.reading.stood n s stands.here,
-          ),
+          record {
+            section = _;
+            is = refl;
+            stands = stands_on _ refl refl (first_in section.reading.stood n) stands;
+            known = deeper section.reading.stood n s stands.here;
+          },
         );
       }
 
   pub needs_read : (s p : ℕ) (b : Side) → Fits o (at.AtKey s p b) v → Needs k v n (act_at o (at.AtKey s p b))
   needs_read s p b f = let i = (f.point).1 in (
-    i.0,
-    record { section_is = i.1; searches = (i.2).searches; stood = (i.2).here; loadable = refl },
+    i.section,
+    record { section_is = i.is; searches = (i.stands).searches; stood = (i.stands).here; loadable = refl },
   )
 
   is_get : (key : ℕ) → o.op ≡ Get key → o.op ≡ Get (key_now o)
   is_get key e = e ∙ ap (λ x. Get x) (sym (ap key_of e))
 
+  nothing_more : {now : Option Section} {key : ℕ} {state : SearchState} {more : Section → Type 0} → InsideParts now key state more
+      → InsideParts now key state Nothing
+  nothing_more i = record { section = i.section; is = i.is; stands = i.stands; known = tt }
+
   found_point : (op : Op) → o.op ≡ op → (s p : ℕ) (b : Side) (w : View) → Calm o w
       → Inside w (key_now o) (Found s p b None) (λ section. IsIn section.reading.stood p) → Point (go o (found op s p b)) (found op s p b) w
-  found_point (Put key value) e s p b w calm i = (calm, (ap is_put e, (s, p, b, (i.0, i.1, i.2, tt))))
-  found_point (Get key) e s p b w calm i = (calm, is_get key e, (p, b, (i.0, i.1, i.2, tt)))
-  found_point (Del key) e s p b w calm i = (calm, ap is_delete e, (i.0, i.1, i.2, (i.3, tt)))
-  found_point (Set key value) e s p b w calm i = (calm, ap is_set e, (p, b, (i.0, i.1, i.2, tt)))
+  found_point (Put key value) e s p b w calm i = (calm, (ap is_put e, (s, p, b, nothing_more i)))
+  found_point (Get key) e s p b w calm i = (calm, is_get key e, (p, b, nothing_more i))
+  found_point (Del key) e s p b w calm i =
+      (calm, ap is_delete e, record { section = i.section; is = i.is; stands = i.stands; known = (i.known, tt) })
+  found_point (Set key value) e s p b w calm i = (calm, ap is_set e, (p, b, nothing_more i))
 
   found_owed : (w : Own) (op : Op) (s p : ℕ) (b : Side) (more kept m : ℕ) → owed_op w.op w.hand w.retired + more + kept ≤ m
       → owed w (found op s p b) + more + kept ≤ m
@@ -191,17 +192,17 @@ module _ (k : Shape) (h : List Mark) (o : Own) (v : View) (n : ℕ) where
       → Fits (after o n (at.AtKey s p b)) (after o n (at.AtKey s p b)).stage (view_after v h n (act_at o (at.AtKey s p b)))
   next_read s p b f =
       let i = (f.point).1 in
-      let section : Section = i.0 in
+      let section : Section = i.section in
       subst (λ x. Fits (after o n (at.AtKey s p b)) (after o n (at.AtKey s p b)).stage (after_search_load v x (Key s) n))
-      (sym (section_is v _ i.1))
+      (sym (section_is v _ i.is))
       (subst (λ (r : Reading). Fits (after o n (at.AtKey s p b)) (after o n (at.AtKey s p b)).stage
       (record v { section = Some (record section { reading = r }) }))
-      (sym (key_moves section.reading s p b n (i.2).state_is
+      (sym (key_moves section.reading s p b n (i.stands).state_is
       ∙ ap (λ x. record section.reading {
         loads = record { field = Key s; number = n; stored = false } ∷ section.reading.loads;
         state = key_stand s p b (step_side x n);
-      }) (i.2).sought))
-      (go_on (step_side (key_now o) n) section (f.point).0 i.2 i.3))
+      }) (i.stands).sought))
+      (go_on (step_side (key_now o) n) section (f.point).0 i.stands i.known))
     where
       go_on : (z : Option Side) (section : Section) → Calm o v → Stands section (key_now o) (Unread s p b) → IsIn section.reading.stood p →
           Fits (go o (key_read o s p b z)) (key_read o s p b z)
@@ -218,12 +219,12 @@ module _ (k : Shape) (h : List Mark) (o : Own) (v : View) (n : ℕ) where
         owns = f.owns;
         unraised = λ z. f.unraised refl;
         tickets = found_owed (go o (found o.op s p b)) o.op s p b (4 * length o.rest) o.kept v.allowance.tickets f.tickets;
-        point = found_point o.op refl s p b _ calm (
-          _,
-          refl,
-          record { searches = stands.searches; key_is = stands.key_is; sought = stands.sought; state_is = refl; here = stands.here },
-          stood,
-        );
+        point = found_point o.op refl s p b _ calm (record {
+          section = _;
+          is = refl;
+          stands = stands_on _ refl refl stands.here stands;
+          known = stood;
+        });
       }
       go_on (Some c) section calm stands stood = record {
         owns = f.owns;
@@ -231,25 +232,19 @@ module _ (k : Shape) (h : List Mark) (o : Own) (v : View) (n : ℕ) where
         tickets = f.tickets;
         point = (
           calm,
-          (
-            _,
-            refl,
-            record {
-              searches = stands.searches;
-              key_is = stands.key_is;
-              sought = stands.sought;
-              state_is = refl;
-              here = stands.here;
-            },
-            tt,
-          ),
+          record {
+            section = _;
+            is = refl;
+            stands = stands_on _ refl refl stands.here stands;
+            known = tt;
+          },
         );
       }
 
   pub needs_value : (s : ℕ) → Fits o (at.Value s) v → Needs k v n (act_at o (at.Value s))
   needs_value s f = let i = ((f.point).2).2 in (
-    i.0,
-    record { section_is = i.1; searches = (i.2).searches; stood = (i.2).here; loadable = refl },
+    i.section,
+    record { section_is = i.is; searches = (i.stands).searches; stood = (i.stands).here; loadable = refl },
   )
 
   pub next_value : (s : ℕ) → Fits o (at.Value s) v
@@ -257,11 +252,11 @@ module _ (k : Shape) (h : List Mark) (o : Own) (v : View) (n : ℕ) where
   next_value s f =
       let p = (f.point).2 in
       let i = p.2 in
-      let section : Section = i.0 in
+      let section : Section = i.section in
       subst (λ x. Fits (go o (at.Leave (then.Value n))) (at.Leave (then.Value n)) (after_search_load v x (Value s) n))
-      (sym (section_is v _ i.1))
+      (sym (section_is v _ i.is))
       (subst (λ (r : Reading). Fits (go o (at.Leave (then.Value n))) (at.Leave (then.Value n))
-      (record v { section = Some (record section { reading = r }) })) (sym (value_moves section.reading s p.0 p.1 n (i.2).state_is))
+      (record v { section = Some (record section { reading = r }) })) (sym (value_moves section.reading s p.0 p.1 n (i.stands).state_is))
       (record {
         owns = f.owns;
         unraised = λ z. f.unraised refl;
@@ -274,18 +269,12 @@ module _ (k : Shape) (h : List Mark) (o : Own) (v : View) (n : ℕ) where
               s,
               p.0,
               p.1,
-              (
-                _,
-                refl,
-                record {
-                  searches = (i.2).searches;
-                  key_is = (i.2).key_is;
-                  sought = (i.2).sought;
-                  state_is = refl;
-                  here = (i.2).here;
-                },
-                tt,
-              ),
+              record {
+                section = _;
+                is = refl;
+                stands = stands_on _ refl refl (i.stands).here i.stands;
+                known = tt;
+              },
             ),
           ),
         );

@@ -28,7 +28,7 @@ pub word_held : (locks : List HeldLock) (t : Target) (i : ℕ) → HoldsAll lock
 word_held locks t i all = by (nat_lt i 2) (nat_lt i 5)
   where
     below : (h : Option Successor) → HoldsSuccessorLocks locks t.node h → Holds locks (successor_slot t.node h i)
-    below None u = all.2
+    below None u = all.node
     below (Some u) held = at (i == 5) (i == 6)
       where
         at : (a b : Bool) → Holds locks (cond a u.parent (cond b u.parent u.slot))
@@ -37,9 +37,9 @@ word_held locks t i all = by (nat_lt i 2) (nat_lt i 5)
         at false false = held.1
 
     by : (a b : Bool) → Holds locks (cond a t.node.parent (cond b t.node.node (successor_slot t.node t.successor i)))
-    by true b = all.1
-    by false true = all.2
-    by false false = below t.successor all.4
+    by true b = all.parent
+    by false true = all.node
+    by false false = below t.successor all.successor
 
 most_words : (h : Option Successor) → target_words h ≤ 9
 most_words None = omega arith
@@ -159,8 +159,8 @@ module _ (d : Node) (u : Successor) (apart : AreApart d u) where
 -- an earlier word isn't the one that is loaded, or is to be loaded twice
 pub words_apart : (locks : List HeldLock) (t : Target) (i j : ℕ) → HoldsAll locks t → IsLoadedNow t i → j < i → i < target_words t.successor
     → (same_field (target_word t i) (target_word t j) ≡ false) ⊎ IsSkipped t (suc i) j
-words_apart locks t i j all now lt small = dite (dec_le 5 i) (λ le. more t.successor refl le small all.4)
-    (λ few. inl (node_words t all.3 i j lt (omega arith)))
+words_apart locks t i j all now lt small = dite (dec_le 5 i) (λ le. more t.successor refl le small all.successor)
+    (λ few. inl (node_words t all.apart i j lt (omega arith)))
   where
     more : (h : Option Successor) → t.successor ≡ h → 5 ≤ i → i < target_words h → HoldsSuccessorLocks locks t.node h
         → (same_field (target_word t i) (target_word t j) ≡ false) ⊎ IsSkipped t (suc i) j
@@ -168,7 +168,7 @@ words_apart locks t i j all now lt small = dite (dec_le 5 i) (λ le. more t.succ
     more (Some u) e le small held =
         subst (λ h. let x : Target = record { node = t.node; successor = h } in
         (same_field (target_word x i) (target_word x j) ≡ false) ⊎ IsSkipped x (suc i) j) (sym e)
-        (both_words t.node u held.0 all.3 i j lt le small (λ below. now u e below))
+        (both_words t.node u held.0 all.apart i j lt le small (λ below. now u e below))
 
 -- the number that was loaded last, and those before it
 number_now : (f : Found) (i n : ℕ) → i < 9 → found_number (with_found f i n) i ≡ n

@@ -78,7 +78,13 @@ got_more t i ls got none j lt =
 -- all of them
 got_all : (d : Node) (h : Option Successor) (ls : List HeldLock) → let t : Target = record { node = d; successor = h } in
     length ls ≡ target_locks t → AreGot t (target_locks t) ls → HoldsAll ls t
-got_all d None ls long got = (omega arith, (got 0 (omega arith)).0, (got 1 (omega arith)).0, (got 1 (omega arith)).1 0 (omega arith), tt)
+got_all d None ls long got = record {
+  few = omega arith;
+  parent = (got 0 (omega arith)).0;
+  node = (got 1 (omega arith)).0;
+  apart = (got 1 (omega arith)).1 0 (omega arith);
+  successor = tt;
+}
 got_all d (Some u) ls long got = by (u.parent == d.node) refl long got
   where
     t : Target
@@ -89,12 +95,12 @@ got_all d (Some u) ls long got = by (u.parent == d.node) refl long got
         let two : target_lock t 2 ≡ u.slot = ap (λ z. cond z u.slot u.parent) e in
         let g = got 2 (omega arith) in
         let node = (got 1 (omega arith)).0 in
-        let same : u.parent ≡ d.node = eqb-true u.parent d.node e in (
-          omega arith,
-          (got 0 (omega arith)).0,
-          node,
-          (got 1 (omega arith)).1 0 (omega arith),
-          (
+        let same : u.parent ≡ d.node = eqb-true u.parent d.node e in record {
+          few = omega arith;
+          parent = (got 0 (omega arith)).0;
+          node = node;
+          apart = (got 1 (omega arith)).1 0 (omega arith);
+          successor = (
             record {
               from_parent = λ x. g.1 0 (omega arith) (sym x ∙ sym two);
               from_node = λ x. g.1 1 (omega arith) (sym x ∙ sym two);
@@ -102,18 +108,18 @@ got_all d (Some u) ls long got = by (u.parent == d.node) refl long got
             },
             subst (Holds ls) two g.0,
             subst (Holds ls) (sym same) node,
-          ),
-        )
+          );
+        }
     by false e long got =
         let two : target_lock t 2 ≡ u.parent = ap (λ z. cond z u.slot u.parent) e in
         let three : target_lock t 3 ≡ u.slot = ap (λ z. cond z u.slot u.slot) e in
         let g = got 2 (omega arith) in
-        let l = got 3 (omega arith) in (
-          omega arith,
-          (got 0 (omega arith)).0,
-          (got 1 (omega arith)).0,
-          (got 1 (omega arith)).1 0 (omega arith),
-          (
+        let l = got 3 (omega arith) in record {
+          few = omega arith;
+          parent = (got 0 (omega arith)).0;
+          node = (got 1 (omega arith)).0;
+          apart = (got 1 (omega arith)).1 0 (omega arith);
+          successor = (
             record {
               from_parent = λ x. l.1 0 (omega arith) (sym x ∙ sym three);
               from_node = λ x. l.1 1 (omega arith) (sym x ∙ sym three);
@@ -121,18 +127,18 @@ got_all d (Some u) ls long got = by (u.parent == d.node) refl long got
             },
             subst (Holds ls) three l.0,
             subst (Holds ls) two g.0,
-          ),
-        )
+          );
+        }
 
 -- a note leaves them
 pub all_noted : (ls : List HeldLock) (t : Target) (s : ℕ) (kn : Known) → HoldsAll ls t → HoldsAll (change_lock s (note_lock kn) ls) t
-all_noted ls t s kn all = (
-  subst (λ x. x ≤ 4) (sym (length_change s (note_lock kn) (λ l. refl) ls)) all.0,
-  held_still ls s (note_lock kn) (λ l. refl) t.node.parent all.1,
-  held_still ls s (note_lock kn) (λ l. refl) t.node.node all.2,
-  all.3,
-  by t.successor all.4,
-)
+all_noted ls t s kn all = record {
+  few = subst (λ x. x ≤ 4) (sym (length_change s (note_lock kn) (λ l. refl) ls)) all.few;
+  parent = held_still ls s (note_lock kn) (λ l. refl) t.node.parent all.parent;
+  node = held_still ls s (note_lock kn) (λ l. refl) t.node.node all.node;
+  apart = all.apart;
+  successor = by t.successor all.successor;
+}
   where
     by : (h : Option Successor) → HoldsSuccessorLocks ls t.node h → HoldsSuccessorLocks (change_lock s (note_lock kn) ls) t.node h
     by None u = tt
@@ -160,8 +166,8 @@ few_verdict n records locks key d f has all loads holds =
         record {
           kept = has.kept;
           found = has.found;
-          apart = all.3;
-          parent_recorded = lives.parent_life all.3;
+          apart = all.apart;
+          parent_recorded = lives.parent_life all.apart;
           recorded = lives.node_life;
           parent_life = word 0 (omega arith) ∙ ap Some (eqb-true f.parent_life (2 * d.parent_generation) a.0);
           link = word 1 (omega arith) ∙ ap Some (eqb-true f.link d.node b.0);
@@ -230,7 +236,7 @@ module _ (n : ℕ) (records : List Reading) (locks : List HeldLock) (key : ℕ) 
       × IsUnmarked locks (record d { left = f.left; right = last_right d (Some u) f })
   both_verdict has all loads holds =
       let r : Reading = has.reading in
-      let apart = (all.4).0 in
+      let apart = (all.successor).0 in
       let reads = has.children in
       let walk = reads.0 in
       let recorded = reads.1 apart in
@@ -251,8 +257,8 @@ module _ (n : ℕ) (records : List Reading) (locks : List HeldLock) (key : ℕ) 
           record {
             kept = has.kept;
             found = has.found;
-            apart = all.3;
-            parent_recorded = lives.parent_life all.3;
+            apart = all.apart;
+            parent_recorded = lives.parent_life all.apart;
             recorded = lives.node_life;
             parent_life = plain_word 0 ((λ e. absurd (omega arith)), (λ e. absurd (omega arith))) (omega arith)
                 ∙ ap Some (eqb-true f.parent_life (2 * d.parent_generation) a.0);
@@ -356,17 +362,20 @@ module _ (k : Shape) (h : List Mark) (o : Own) (v : View) (n : ℕ) where
           let p = f.point in
           let q = p.quiet in
           let bare = no_slots v.locks (λ x. f.owns.locks_are x ∙ ap (times x) (none_in o.locks e)) in
-          let c = quiet_calm o v q bare in
-          record { owns = f.owns; unraised = λ z. f.unraised refl; tickets = f.tickets; point = (q.outside, (c.0, c.1, (p.deleting).1)) }
-      taken false e =
-          let p = f.point in
-          let q = p.quiet in
-          let c = quiet_hand o v q in
           record {
             owns = f.owns;
             unraised = λ z. f.unraised refl;
             tickets = f.tickets;
-            point = (quiet_unlocking q q.turn_is p.clear e, c, (p.deleting).1);
+            point = (q.outside, quiet_calm o v q bare (p.deleting).1);
+          }
+      taken false e =
+          let p = f.point in
+          let q = p.quiet in
+          record {
+            owns = f.owns;
+            unraised = λ z. f.unraised refl;
+            tickets = f.tickets;
+            point = (quiet_unlocking q q.turn_is p.clear e, quiet_hand o v q, (p.deleting).1);
           }
 
       got : (z : Bool) → (n == 0) ≡ z → let o' : Own =
@@ -512,7 +521,14 @@ module _ (k : Shape) (h : List Mark) (o : Own) (v : View) (n : ℕ) where
             owns = owns;
             unraised = λ z. f.unraised refl;
             tickets = f.tickets;
-            point = ((quiet, p.deleting, q.0), q.1, clear, held.0, p.locks_are ∙ ap (λ x. first_locks x (target_locks x)) same, (held.4).1);
+            point = record {
+              copying = record { quiet = quiet; deleting = p.deleting; both = q.0 };
+              unmarked = q.1;
+              clear = clear;
+              few = held.few;
+              locks_are = p.locks_are ∙ ap (λ x. first_locks x (target_locks x)) same;
+              held = (held.successor).1;
+            };
           }
 
       by : (h : Option Successor) → t.successor ≡ h → let st : Stage = past_target_load t i f' in Fits (go o st) st w

@@ -127,7 +127,7 @@ module _ (k : Shape) (h : List Mark) (o : Own) (v : View) (n : ℕ) where
             owns = owns;
             unraised = λ z. f.unraised refl;
             tickets = f.tickets;
-            point = (u.outside, (nothing, (f.point).1, (f.point).2));
+            point = (u.outside, record { bare = nothing; hand = (f.point).1; ready = (f.point).2 });
           }
           ends (last.New number) f = answered New number ((f.point).1, (f.point).2) (let t = f.tickets in omega arith)
           ends (last.Gone number) f = answered Gone number ((f.point).1, (f.point).2) (let t = f.tickets in omega arith)

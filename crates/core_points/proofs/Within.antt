@@ -16,7 +16,6 @@ use Rattle.core_state.specs.views.Known.{known_under, loaded_in}
 use Rattle.core_state.specs.steps.Slots.{IsInHand, IsRetiredAt}
 use Rattle.core_state.specs.steps.Locks.{NeedsLockedLoad}
 use Rattle.core_state.specs.steps.Loads.{NeedsSearchLoad}
-use Rattle.core_points.specs.declared.stage.Aim.TheVariants.{Leaf, Spare, Room}
 use Rattle.core_points.specs.declared.stage.Node.{Node}
 use Rattle.core_points.specs.declared.stage.Successor.{Successor}
 use Rattle.core_points.specs.declared.stage.Target.{Target}
@@ -63,7 +62,8 @@ target_within o v t i f = by (i == 0) (i == 1)
 
 copy_within : (o : Own) (v : View) (h : List Mark) (word : Field → ℕ) (d : Node) (u : Successor) (next_key : ℕ) → IsTold o v h word
     → Fits o (at.CopyLock d u next_key) v → or_root o.spare < table_of o
-copy_within o v h word d u next_key told f = let c = (((f.point).1).1).2 in subst (λ x. x < table_of o) c.2 (told.spare_within c.0 c.1)
+copy_within o v h word d u next_key told f = let c = ((f.point).1).has_copy in
+    subst (λ x. x < table_of o) c.slot_is (told.spare_within c.held c.spare_is)
 
 module _ (k : Shape) (h : List Mark) (o : Own) (v : View) (word : Field → ℕ) (slots : k.slots ≡ o.slots) (places : k.places ≡ o.places)
     (told : IsTold o v h word) where
@@ -123,14 +123,12 @@ module _ (k : Shape) (h : List Mark) (o : Own) (v : View) (word : Field → ℕ)
   within (at.SpotTag s b) eer f d = searched s (part.Tag b) d
   within (at.SpotLife s b tag) eer f d = searched s part.Life d
   within (at.LeafField spot i) eer f d = filled d.0 (or_root o.hand) (content_part i) (d.1).holder
-  within (at.LeafLock spot) eer f d = slot_in spot.slot ((f.point).4).inside
+  within (at.LeafLock spot) eer f d = slot_in spot.slot ((f.point).has_spot).inside
   within (at.LeafLife spot) eer f d = locked spot.slot part.Life d
   within (at.LeafSide spot life) eer f d = locked spot.slot (part.Link spot.side) d
   within (at.LeafTag spot life link) eer f d = locked spot.slot (part.Tag spot.side) d
   within (at.Reserve aim expected) eer f d = tt
-  within (at.Seize (Leaf spot)) eer f d = slot_in o.scan (let le = f.owns.scans_table in omega arith)
-  within (at.Seize Spare) eer f d = slot_in o.scan (let le = f.owns.scans_table in omega arith)
-  within (at.Seize Room) eer f d = absurd f.point
+  within (at.Seize aim) eer f d = slot_in o.scan (let le = f.owns.scans_table in omega arith)
   within (at.Age aim s) eer f d = slot_in s (held_in_table d.0 s d.1)
   within (at.Keep s) eer f d = in_hand d.0 s (d.1).in_hand
   within at.Raise eer f d = in_hand d.0 (or_root o.hand) (d.2).in_hand
@@ -158,7 +156,7 @@ module _ (k : Shape) (h : List Mark) (o : Own) (v : View) (word : Field → ℕ)
   within (at.Even u front) eer f d = tt
   within (at.Unlock l) eer f d = under_lock (first_or_root o.locks) (d.0, (d.1).held)
   within (at.SetLife s) eer f d = searched s part.Life d
-  within (at.SetLock s generation) eer f d = slot_in s ((f.point).2).inside
+  within (at.SetLock s generation) eer f d = slot_in s ((f.point).found).inside
   within (at.SetCheck s generation) eer f d = locked s part.Life d
   within (at.SetValue s) eer f d = locked s part.Value d
   within (at.ParentLife p b x) eer f d = searched p part.Life d

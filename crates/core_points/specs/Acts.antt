@@ -1,6 +1,7 @@
 -- The acts as callers of the first waiter make them.
 -- Source: docs/TREE_CALLS.md, "The calls".
 use Rattle.std.specs.Prelude.{ℕ, Bool, true, false, List}
+use Rattle.prcu_marks.specs.Accesses.{left_by}
 use Rattle.prcu_marks.specs.declared.mark.Mark.{Mark}
 use Rattle.core_state.specs.declared.shape.Shape.{Shape}
 use Rattle.core_state.specs.declared.view.View.{View}
@@ -10,7 +11,7 @@ pub use Rattle.core_acts.specs.declared.act.Act.{Act}
 pub use Rattle.core_acts.specs.Acts.{kind_of, field_of}
 
 abbrev pub left_of : ℕ → Act → ℕ → ℕ
-left_of place a n = acts.left_by (acts.access_of place a) n
+left_of place a n = left_by (acts.access_of place a) n
 
 abbrev pub view_after : View → List Mark → ℕ → Act → View
 view_after v h n a = acts.after v a h n

@@ -24,7 +24,7 @@ use Rattle.core_points.specs.declared.stage.Successor.{Successor}
 use Rattle.core_points.specs.declared.stage.Target.{Target}
 use Rattle.core_points.specs.declared.stage.Found.{Found}
 use Rattle.core_points.specs.declared.stage.Moving.{Moving}
-use Rattle.core_points.specs.Callers.{Own, key_now, content, contents}
+use Rattle.core_points.specs.Callers.{Own, key_now, or_root, content, contents}
 use Rattle.core_points.specs.DeletePlan.{target_slot, target_word, target_lock, target_locks}
 use Rattle.core_points.specs.Facts.{is_delete, table_of, read_at, AreClear, Calm, Inside, Quiet, Ready, HasLocks}
 
@@ -115,9 +115,12 @@ abbrev pub HoldsSuccessorLocks : List HeldLock → Node → Option Successor →
 HoldsSuccessorLocks locks d None = Unit {0}
 HoldsSuccessorLocks locks d (Some u) = AreApart d u × Holds locks u.slot × Holds locks u.parent
 
-abbrev pub HoldsAll : List HeldLock → Target → Type 0
-HoldsAll locks t = (length locks ≤ 4) × Holds locks t.node.parent × Holds locks t.node.node × (t.node.parent ≢ t.node.node)
-    × HoldsSuccessorLocks locks t.node t.successor
+pub record HoldsAll (locks : List HeldLock) (t : Target) : Type 0 where
+  pub few : length locks ≤ 4
+  pub parent : Holds locks t.node.parent
+  pub node : Holds locks t.node.node
+  pub apart : t.node.parent ≢ t.node.node
+  pub successor : HoldsSuccessorLocks locks t.node t.successor
 
 abbrev pub found_number : Found → ℕ → ℕ
 found_number f i =
@@ -204,9 +207,14 @@ pub record IsMarked (locks : List HeldLock) (d : Node) : Type 0 where
 abbrev pub ClearButMark : List HeldLock → ℕ → Type 0
 ClearButMark locks s = AreClear (change_lock s (with_mark false) locks)
 
-abbrev pub Bypassing : Own → View → Node → ℕ → Option Commit → Type 0
-Bypassing o v d child commit = Quiet o v commit × Deleting o × HasLocks o × FewHold v.records v.locks (key_now o) d × IsMarked v.locks d
-    × ClearButMark v.locks d.node × (child ≡ (if d.left == 0 then d.right else d.left))
+pub record Bypassing (o : Own) (v : View) (d : Node) (child : ℕ) (commit : Option Commit) : Type 0 where
+  pub quiet : Quiet o v commit
+  pub deleting : Deleting o
+  pub has_locks : HasLocks o
+  pub few : FewHold v.records v.locks (key_now o) d
+  pub marked : IsMarked v.locks d
+  pub clear : ClearButMark v.locks d.node
+  pub child_is : child ≡ (if d.left == 0 then d.right else d.left)
 
 -- so many of the target's locks were got, and one more is tried
 pub record TargetLocking (o : Own) (v : View) (t : Target) (i : ℕ) : Type 0 where
@@ -256,9 +264,11 @@ pub record KnowsSuccessor (locks : List HeldLock) (u : Successor) (next_key valu
   pub value_is : known_in (under locks u.slot) (Value u.slot) ≡ Some value
 
 -- the spare has so many of the fields of a copy
-abbrev pub HasCopy : Option Held → ℕ → Node → ℕ → ℕ → ℕ → Type 0
-HasCopy spare copy d next_key value i = (held : Held) × (spare ≡ Some held) × (held.slot ≡ copy)
-    × ((j : ℕ) → j < i → known_in held.known (content copy j) ≡ Some (contents next_key value d.left d.right j))
+pub record HasCopy (spare : Option Held) (copy : ℕ) (d : Node) (next_key value i : ℕ) : Type 0 where
+  pub held : Held
+  pub spare_is : spare ≡ Some held
+  pub slot_is : held.slot ≡ copy
+  pub known : (j : ℕ) → j < i → known_in held.known (content copy j) ≡ Some (contents next_key value d.left d.right j)
 
 -- the caller holds the locks of node and successor
 abbrev pub two_children : Node → Successor → Target
@@ -267,20 +277,52 @@ two_children d u = record { node = d; successor = Some u }
 abbrev pub all_locks : Node → Successor → List ℕ
 all_locks d u = first_locks (two_children d u) (target_locks (two_children d u))
 
-abbrev pub Copying : Own → View → Node → Successor → Option Commit → Type 0
-Copying o v d u commit = Quiet o v commit × Deleting o × BothHold v.records v.locks (key_now o) d u
+pub record Copying (o : Own) (v : View) (d : Node) (u : Successor) (commit : Option Commit) : Type 0 where
+  pub quiet : Quiet o v commit
+  pub deleting : Deleting o
+  pub both : BothHold v.records v.locks (key_now o) d u
 
-abbrev pub BeforeCopy : Own → View → Node → Successor → Type 0
-BeforeCopy o v d u = Copying o v d u None × IsUnmarked v.locks d × AreClear v.locks × (length v.locks ≤ 4) × (o.locks ≡ all_locks d u)
-    × Holds v.locks u.slot
+pub record BeforeCopy (o : Own) (v : View) (d : Node) (u : Successor) : Type 0 where
+  pub copying : Copying o v d u None
+  pub unmarked : IsUnmarked v.locks d
+  pub clear : AreClear v.locks
+  pub few : length v.locks ≤ 4
+  pub locks_are : o.locks ≡ all_locks d u
+  pub held : Holds v.locks u.slot
+
+-- the spare has so many of the copy's fields, and one more is stored
+pub record CopyFilling (o : Own) (v : View) (d : Node) (u : Successor) (next_key value i : ℕ) : Type 0 where
+  pub before : BeforeCopy o v d u
+  pub aside : IsAside (or_root o.spare) d u
+  pub knows : KnowsSuccessor v.locks u next_key value
+  pub has_copy : HasCopy v.hands.spare (or_root o.spare) d next_key value i
+  pub small : i ≤ 3
+
+pub record FilledParts (spare : Option Held) (locks : List HeldLock) (d : Node) (u : Successor) (next_key copy : ℕ) : Type 0 where
+  pub aside : IsAside copy d u
+  pub value : ℕ
+  pub knows : KnowsSuccessor locks u next_key value
+  pub has_copy : HasCopy spare copy d next_key value 4
 
 abbrev pub IsFilled : View → Node → Successor → ℕ → ℕ → Type 0
-IsFilled v d u next_key copy = IsAside copy d u
-    × ((value : ℕ) × KnowsSuccessor v.locks u next_key value × HasCopy v.hands.spare copy d next_key value 4)
+IsFilled v d u next_key copy = FilledParts v.hands.spare v.locks d u next_key copy
 
-abbrev pub CopyMaking : Own → View → Node → Successor → ℕ → ℕ → Option Commit → Type 0
-CopyMaking o v d u next_key copy commit = Copying o v d u commit × IsFilled v d u next_key copy × IsMarked v.locks d
-    × ClearButMark v.locks d.node × (o.locks ≡ copy ∷ all_locks d u) × Holds v.locks copy
+-- a node with two children is to be marked
+pub record BothMarking (o : Own) (v : View) (d : Node) (u : Successor) (next_key copy : ℕ) : Type 0 where
+  pub copying : Copying o v d u None
+  pub filled : IsFilled v d u next_key copy
+  pub unmarked : IsUnmarked v.locks d
+  pub clear : AreClear v.locks
+  pub locks_are : o.locks ≡ copy ∷ all_locks d u
+  pub copy_held : Holds v.locks copy
+
+pub record CopyMaking (o : Own) (v : View) (d : Node) (u : Successor) (next_key copy : ℕ) (commit : Option Commit) : Type 0 where
+  pub copying : Copying o v d u commit
+  pub filled : IsFilled v d u next_key copy
+  pub marked : IsMarked v.locks d
+  pub clear : ClearButMark v.locks d.node
+  pub locks_are : o.locks ≡ copy ∷ all_locks d u
+  pub copy_held : Holds v.locks copy
 
 -- The move.
 abbrev pub move_parent : Moving → ℕ
@@ -338,9 +380,12 @@ OutlastingMove o v m clock p = (p < o.places) × ((wait : Waiting) × (v.wait �
     × OutlastsMove wait v.moving (key_now o + 1) m.next_key clock p)
 
 -- A side of a locked slot was emptied, and its tag isn't raised yet; but for this, all locks are clear.
-abbrev pub Emptied : List HeldLock → ℕ → Side → (HeldLock → Type 0) → Type 0
-Emptied locks s b more = (lock : HeldLock) × (lock_of locks s ≡ Some lock) × (is_emptied lock b ≡ true)
-    × AreClear (change_lock s (with_emptied b false) locks) × more lock
+pub record Emptied (locks : List HeldLock) (s : ℕ) (b : Side) (more : HeldLock → Type 0) : Type 0 where
+  pub lock : HeldLock
+  pub locked : lock_of locks s ≡ Some lock
+  pub emptied : is_emptied lock b ≡ true
+  pub clear : AreClear (change_lock s (with_emptied b false) locks)
+  pub known : more lock
 
 abbrev pub Anything : HeldLock → Type 0
 Anything lock = Unit {0}

@@ -23,10 +23,11 @@ use Rattle.list_laws.specs.Counts.{IsIn, Each, times}
 use Rattle.core_state.specs.views.Known.{known_in, LoadedGeneration}
 use Rattle.core_state.specs.parts.ReaderParts.{state_slot}
 use Rattle.core_state.specs.steps.Seating.{spare_slot}
+use Rattle.core_state.specs.steps.Slots.{seized}
 use Rattle.prcu_model.specs.Dictionary.{key_of}
 use Rattle.core_points.specs.declared.stage.Spot.{Spot}
 use Rattle.core_points.specs.declared.stage.Aim.{Aim}
-use Rattle.core_points.specs.declared.stage.Aim.TheVariants.{Leaf}
+use Rattle.core_points.specs.declared.stage.Aim.TheVariants.{Leaf, Spare, Room}
 use Rattle.core_points.specs.Callers.{Own, key_now, value_in, is_some, is_none_left}
 
 abbrev pub is_put : Op → Bool
@@ -104,8 +105,14 @@ pub record Stands (section : Section) (key : ℕ) (state : SearchState) : Type 0
   pub state_is : section.reading.state ≡ state
   pub here : IsIn section.reading.stood (state_slot state)
 
+pub record InsideParts (now : Option Section) (key : ℕ) (state : SearchState) (more : Section → Type 0) : Type 0 where
+  pub section : Section
+  pub is : now ≡ Some section
+  pub stands : Stands section key state
+  pub known : more section
+
 abbrev pub Inside : View → ℕ → SearchState → (Section → Type 0) → Type 0
-Inside v key state more = (section : Section) × (v.section ≡ Some section) × Stands section key state × more section
+Inside v key state more = InsideParts v.section key state more
 
 abbrev pub Nothing : Section → Type 0
 Nothing section = Unit {0}
@@ -168,21 +175,131 @@ abbrev pub Hand : Own → View → Type 0
 Hand o v = HandFits o.hand o.hand_life (key_now o) (value_in o.op) v.hands.hand
 
 -- with nothing under way but a filled slot in hand
+pub record CalmParts (op : Op) (o_hand o_spare : Option ℕ) (life : ℕ) (o_retired : List ℕ) (locks : List HeldLock) (turn : Option Commit)
+    (moving : Option Move) (reserves owes : Bool) (held : Option Held) : Type 0 where
+  pub bare : BareParts [] None false locks turn moving reserves owes
+  pub hand : HandFits o_hand life (key_of op) (value_in op) held
+  pub ready : IsReady op o_hand o_spare o_retired
+
 abbrev pub Calm : Own → View → Type 0
-Calm o v = Bare v [] None false × Hand o v × Ready o
+Calm o v = CalmParts o.op o.hand o.spare o.hand_life o.retired v.locks v.commit v.moving v.hands.reserved v.hands.owes v.hands.hand
 
 -- a put that has a slot in hand, a record, and this much under way
-abbrev pub Putting : Own → View → Spot → List HeldLock → Option Commit → Type 0
-Putting o v spot locks commit = (v.section ≡ None) × ((s : ℕ) × (o.hand ≡ Some s)) × Bare v locks commit false × Hand o v
-    × HasSpot (table_of o) v.records (key_now o) spot × (is_put o.op ≡ true)
+pub record Putting (o : Own) (v : View) (spot : Spot) (locks : List HeldLock) (commit : Option Commit) : Type 0 where
+  pub outside : v.section ≡ None
+  pub taken : (s : ℕ) × (o.hand ≡ Some s)
+  pub bare : Bare v locks commit false
+  pub hand : Hand o v
+  pub has_spot : HasSpot (table_of o) v.records (key_now o) spot
+  pub puts : is_put o.op ≡ true
 
 -- outside a section, with nothing in hand or under way
+pub record IdleParts (o_hand : Option ℕ) (section : Option Section) (locks : List HeldLock) (turn : Option Commit) (moving : Option Move)
+    (reserves owes : Bool) (hand : Option Held) : Type 0 where
+  pub outside : section ≡ None
+  pub bare : BareParts [] None false locks turn moving reserves owes
+  pub empty : hand ≡ None
+  pub no_hand : o_hand ≡ None
+
 abbrev pub Idle : Own → View → Type 0
-Idle o v = (v.section ≡ None) × Bare v [] None false × (v.hands.hand ≡ None) × (o.hand ≡ None)
+Idle o v = IdleParts o.hand v.section v.locks v.commit v.moving v.hands.reserved v.hands.owes v.hands.hand
+
+-- what slots are given back for: a put's spot, or a delete
+abbrev pub AimsAt : ℕ → Op → List Reading → Aim → Type 0
+AimsAt n op records (Leaf spot) = HasSpot n records (key_of op) spot × (is_put op ≡ true)
+AimsAt n op records aim = is_delete op ≡ true
 
 abbrev pub ForAim : Own → View → Aim → Type 0
-ForAim o v (Leaf spot) = HasSpot (table_of o) v.records (key_now o) spot × (is_put o.op ≡ true)
-ForAim o v aim = is_delete o.op ≡ true
+ForAim o v aim = AimsAt (table_of o) o.op v.records aim
+
+-- a delete that takes a spare
+pub record LacksSpare (op : Op) (spare : Option ℕ) (retired : List ℕ) : Type 0 where
+  pub deletes : is_delete op ≡ true
+  pub room : length retired < 15
+  pub no_spare : spare ≡ None
+
+-- what a slot is taken for: a put's spot, or a delete's spare
+abbrev pub TakesAt : ℕ → Op → Option ℕ → List ℕ → List Reading → Aim → Type 0
+TakesAt n op spare retired records (Leaf spot) = AimsAt n op records (Leaf spot)
+TakesAt n op spare retired records Spare = LacksSpare op spare retired
+TakesAt n op spare retired records Room = ⊥
+
+abbrev pub TakesFor : Own → View → Aim → Type 0
+TakesFor o v aim = TakesAt (table_of o) o.op o.spare o.retired v.records aim
+
+-- before a slot is reserved, where some are free
+pub record Reserving (o : Own) (v : View) (aim : Aim) (expected : ℕ) : Type 0 where
+  pub idle : Idle o v
+  pub some : 1 ≤ expected
+  pub takes : TakesFor o v aim
+
+-- one is reserved
+pub record Seizing (o : Own) (v : View) (aim : Aim) : Type 0 where
+  pub outside : v.section ≡ None
+  pub bare : Bare v [] None true
+  pub empty : v.hands.hand ≡ None
+  pub no_hand : o.hand ≡ None
+  pub takes : TakesFor o v aim
+
+-- this one was seized
+pub record Aging (o : Own) (v : View) (aim : Aim) (s : ℕ) : Type 0 where
+  pub outside : v.section ≡ None
+  pub bare : Bare v [] None false
+  pub in_hand : v.hands.hand ≡ Some (seized s)
+  pub taken : o.hand ≡ Some s
+  pub takes : TakesFor o v aim
+
+-- the slot in hand has so many of a leaf's fields
+pub record Filling (o : Own) (v : View) (spot : Spot) (i : ℕ) : Type 0 where
+  pub outside : v.section ≡ None
+  pub bare : Bare v [] None false
+  pub slot : ℕ
+  pub taken : o.hand ≡ Some slot
+  pub in_hand : v.hands.hand ≡ Some (leaf_held slot o.hand_life (key_now o) (value_in o.op) i)
+  pub has_spot : HasSpot (table_of o) v.records (key_now o) spot
+  pub puts : is_put o.op ≡ true
+  pub small : i ≤ 3
+
+-- a slot in hand is kept as the spare
+pub record Keeping (o : Own) (v : View) (s : ℕ) : Type 0 where
+  pub outside : v.section ≡ None
+  pub bare : Bare v [] None false
+  pub held : Held
+  pub in_hand : v.hands.hand ≡ Some held
+  pub slot_is : held.slot ≡ s
+  pub lacks : LacksSpare o.op o.spare o.retired
+
+-- the life of the slot in hand was raised
+pub record HasRaised (o_hand : Option ℕ) (hand : Option Held) : Type 0 where
+  pub slot : ℕ
+  pub held : Held
+  pub taken : o_hand ≡ Some slot
+  pub slot_is : held.slot ≡ slot
+  pub raised : held.raised ≡ true
+  pub in_hand : hand ≡ Some held
+
+-- the life of the first retired slot was loaded
+pub record FirstAged (retired : List Retired) (life : ℕ) : Type 0 where
+  pub first : Retired
+  pub rest : List Retired
+  pub are : retired ≡ first ∷ rest
+  pub loaded : first.life ≡ Some life
+
+-- the life of the first retired slot was raised, and of no other
+pub record FirstRaised (retired : List Retired) : Type 0 where
+  pub first : Retired
+  pub rest : List Retired
+  pub are : retired ≡ first ∷ rest
+  pub raised : first.raised ≡ true
+  pub others : Each rest (λ (r : Retired). r.raised ≡ false)
+
+-- all retired slots were waited for, and the first is given back
+pub record GivingBack (o : Own) (v : View) (aim : Aim) : Type 0 where
+  pub idle : Idle o v
+  pub aimed : ForAim o v aim
+  pub waited : Each v.hands.retired (λ (r : Retired). r.waited ≡ true)
+  pub first : FirstRaised v.hands.retired
+  pub has_spare : is_some o.spare ≡ true
 
 -- the place's wait is for everybody, began after each unlinking, and has excused the places below this one
 pub record Outlasts (wait : Waiting) (retired : List Retired) (clock p : ℕ) : Type 0 where
@@ -252,9 +369,11 @@ pub record HasFound (n : ℕ) (records : List Reading) (key s generation : ℕ) 
   pub inside : s < n
 
 -- a set that has a record, and this much under way
-abbrev pub Setting : Own → View → ℕ → ℕ → List HeldLock → Option Commit → Type 0
-Setting o v s generation locks commit = Quiet o v commit × (v.locks ≡ locks) × HasFound (table_of o) v.records (key_now o) s generation
-    × (is_set o.op ≡ true)
+pub record Setting (o : Own) (v : View) (s generation : ℕ) (locks : List HeldLock) (commit : Option Commit) : Type 0 where
+  pub quiet : Quiet o v commit
+  pub locks_are : v.locks ≡ locks
+  pub found : HasFound (table_of o) v.records (key_now o) s generation
+  pub sets : is_set o.op ≡ true
 
 -- what a set loaded under its lock, where it holds its record
 abbrev pub set_known : ℕ → ℕ → ℕ → List Known

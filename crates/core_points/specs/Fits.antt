@@ -1,19 +1,17 @@
 -- What the view of a caller knows at each point of its program: enough for the step that it makes there.
 -- Source: docs/TREE_CALLS.md, "The calls".
-use Rattle.std.specs.Prelude.{◌≡◌, ◌≢◌, ℕ, ◌+◌, ◌*◌, ◌%◌, ◌<◌, ◌≤◌, ◌==◌, Bool, true, false, List, [], ◌∷◌, length, Option, Some, None}
+use Rattle.std.specs.Prelude.{◌≡◌, ◌≢◌, ℕ, ◌+◌, ◌*◌, ◌%◌, ◌<◌, ◌≤◌, ◌==◌, Bool, true, false, [], ◌∷◌, length, Option, Some, None}
 use Rattle.prcu_marks.specs.declared.mark.Side.{Side}
 use Rattle.prcu_marks.specs.declared.mark.Side.TheVariants.{Left, Right}
 use Rattle.prcu_model.specs.declared.operation.Op.TheVariants.{Get}
 use Rattle.core_state.specs.declared.words.Field.TheVariants.{Life, Key, Link, Tag}
 use Rattle.core_state.specs.declared.view.Clocked.{Clocked}
-use Rattle.core_state.specs.declared.view.Held.{Held}
 use Rattle.core_state.specs.declared.view.Retired.{Retired}
 use Rattle.core_state.specs.declared.view.SearchState.TheVariants.{At, Unread, Found, Missed}
 use Rattle.prcu_marks.specs.declared.commit.Commit.{Commit}
 use Rattle.core_state.specs.declared.view.View.{View}
 use Rattle.list_laws.specs.Counts.{IsIn, Each}
 use Rattle.core_state.specs.views.Known.{known_in, LoadedGeneration}
-use Rattle.core_points.specs.declared.stage.Aim.TheVariants.{Leaf, Spare, Room}
 use Rattle.core_points.specs.declared.stage.Then.{Then}
 use Rattle.core_points.specs.declared.stage.Then.TheVariants as then
 use Rattle.core_points.specs.declared.stage.Last.{Last}
@@ -23,12 +21,11 @@ use Rattle.core_points.specs.declared.stage.Update.TheVariants as update
 use Rattle.core_points.specs.declared.stage.Waits.TheVariants.{Reuse, Move}
 use Rattle.core_points.specs.declared.stage.Stage.{Stage}
 use Rattle.core_points.specs.declared.stage.Stage.TheVariants as at
-use Rattle.core_state.specs.steps.Slots.{seized}
 use Rattle.core_points.specs.declared.stage.Moving.{Moving}
-use Rattle.core_points.specs.Callers.{Own, key_now, value_in, or_root, is_some, is_none_left}
-use Rattle.core_points.specs.Facts.{is_put, is_delete, is_set, table_of, read_at, leaf_held, Bare, Inside, Nothing, HasSpot, one_lock, spot_known, AreClear, Owns, Ready, Hand, Calm, Putting, Idle, ForAim, Outlasting, Owing, Quiet, HasLocks, Unlocking, Setting, set_known}
+use Rattle.core_points.specs.Callers.{Own, key_now, or_root, is_none_left}
+use Rattle.core_points.specs.Facts.{is_put, is_delete, is_set, read_at, Bare, Inside, Nothing, one_lock, spot_known, AreClear, Owns, Ready, Hand, Calm, Putting, Idle, ForAim, Reserving, Seizing, Aging, Filling, Keeping, HasRaised, FirstAged, GivingBack, Outlasting, Owing, Quiet, HasLocks, Unlocking, Setting, set_known}
 use Rattle.core_points.specs.Tickets.{owed}
-use Rattle.core_points.specs.DeleteFacts.{ReadsLives, WalksTo, ReadsParent, ReadsChildren, AreApart, OnNode, under, IsUnmarked, ClearButMark, Bypassing, IsAside, KnowsSuccessor, HasCopy, all_locks, Copying, BeforeCopy, IsFilled, CopyMaking, Holds, Shifting, HoldsOld, OutlastingMove, Emptied, Anything, Relinked, TargetLocking, TargetLoading, FewMarking}
+use Rattle.core_points.specs.DeleteFacts.{ReadsLives, WalksTo, ReadsParent, ReadsChildren, AreApart, OnNode, under, ClearButMark, Bypassing, IsAside, BeforeCopy, CopyFilling, IsFilled, BothMarking, CopyMaking, Shifting, HoldsOld, OutlastingMove, Emptied, Anything, Relinked, TargetLocking, TargetLoading, FewMarking}
 
 abbrev pub PointLeave : Own → View → Then → Type 0
 PointLeave o v then.Absent = (is_put o.op ≡ false) × ((s : ℕ) × (b : Side) × Inside v (key_now o) (Missed s b) Nothing)
@@ -80,15 +77,10 @@ Point o (at.Leave next) v = Calm o v × PointLeave o v next
 Point o (at.SpotTag s b) v = Calm o v × (is_put o.op ≡ true) × Inside v (key_now o) (Missed s b) Nothing
 Point o (at.SpotLife s b tag) v = Calm o v × (is_put o.op ≡ true)
     × Inside v (key_now o) (Missed s b) (λ section. known_in section.reading.loads (Tag s b) ≡ Some tag)
-Point o (at.Reserve (Leaf spot) expected) v = (v.section ≡ None) × Bare v [] None false × (v.hands.hand ≡ None) × (o.hand ≡ None)
-    × (1 ≤ expected) × HasSpot (table_of o) v.records (key_now o) spot × (is_put o.op ≡ true)
-Point o (at.Seize (Leaf spot)) v = (v.section ≡ None) × Bare v [] None true × (v.hands.hand ≡ None) × (o.hand ≡ None)
-    × HasSpot (table_of o) v.records (key_now o) spot × (is_put o.op ≡ true)
-Point o (at.Age (Leaf spot) s) v = (v.section ≡ None) × Bare v [] None false × (v.hands.hand ≡ Some (seized s)) × (o.hand ≡ Some s)
-    × HasSpot (table_of o) v.records (key_now o) spot × (is_put o.op ≡ true)
-Point o (at.LeafField spot i) v = (v.section ≡ None) × Bare v [] None false
-    × ((s : ℕ) × (o.hand ≡ Some s) × (v.hands.hand ≡ Some (leaf_held s o.hand_life (key_now o) (value_in o.op) i)))
-    × HasSpot (table_of o) v.records (key_now o) spot × (is_put o.op ≡ true) × (i ≤ 3)
+Point o (at.Reserve aim expected) v = Reserving o v aim expected
+Point o (at.Seize aim) v = Seizing o v aim
+Point o (at.Age aim s) v = Aging o v aim s
+Point o (at.LeafField spot i) v = Filling o v spot i
 Point o (at.LeafLock spot) v = Putting o v spot [] None
 Point o (at.LeafLife spot) v = Putting o v spot (one_lock spot.slot []) None
 Point o (at.LeafSide spot life) v = Putting o v spot (one_lock spot.slot (read_at (Life spot.slot) life ∷ [])) None
@@ -99,9 +91,7 @@ Point o (at.Store u front) v = Making o u v (Some (record { found = front; store
 Point o (at.Even u front) v = Made o u v (Some (record { found = front; stored = true }))
 Point o (at.Unlock last) v = PointUnlock o v last
 Point o at.Raise v = (v.section ≡ None) × ((s : ℕ) × (o.hand ≡ Some s)) × Calm o v × (is_put o.op ≡ true)
-Point o at.Free v = (v.section ≡ None) × Bare v [] None false
-    × ((s : ℕ) × (held : Held) × (o.hand ≡ Some s) × (held.slot ≡ s) × (held.raised ≡ true) × (v.hands.hand ≡ Some held))
-    × (is_put o.op ≡ true)
+Point o at.Free v = (v.section ≡ None) × Bare v [] None false × HasRaised o.hand v.hands.hand × (is_put o.op ≡ true)
 Point o at.Count v = Owing o v × (is_put o.op ≡ true)
 Point o (at.Begin (Reuse aim)) v = Idle o v × ForAim o v aim
 Point o (at.LookKey (Reuse aim) clock p) v = Idle o v × ForAim o v aim × (p < o.places) × Outlasting o v clock p
@@ -109,22 +99,11 @@ Point o (at.LookStamp (Reuse aim) clock p key) v = Idle o v × ForAim o v aim ×
 Point o (at.OldAge aim) v = Idle o v × ForAim o v aim × (is_none_left o.retired ≡ false)
     × Each v.hands.retired (λ (r : Retired). r.waited ≡ true)
 Point o (at.OldRaise aim life) v = Idle o v × ForAim o v aim × Each v.hands.retired (λ (r : Retired). r.waited ≡ true)
-    × ((r : Retired) × (rs : List Retired) × (v.hands.retired ≡ r ∷ rs) × (r.life ≡ Some life))
-Point o (at.OldFree aim) v = Idle o v × ForAim o v aim × Each v.hands.retired (λ (r : Retired). r.waited ≡ true)
-    × ((r : Retired) × (rs : List Retired) × (v.hands.retired ≡ r ∷ rs) × (r.raised ≡ true) × Each rs (λ (x : Retired). x.raised ≡ false))
-    × (is_some o.spare ≡ true)
+    × FirstAged v.hands.retired life
+Point o (at.OldFree aim) v = GivingBack o v aim
 Point o (at.OldCount aim) v = Owing o v × ForAim o v aim × Each v.hands.retired (λ (r : Retired). r.waited ≡ true)
 -- a spare is taken
-Point o (at.Reserve Spare expected) v = Idle o v × (1 ≤ expected) × (is_delete o.op ≡ true) × (length o.retired < 15) × (o.spare ≡ None)
-Point o (at.Seize Spare) v = (v.section ≡ None) × Bare v [] None true × (v.hands.hand ≡ None) × (o.hand ≡ None) × (is_delete o.op ≡ true)
-    × (length o.retired < 15) × (o.spare ≡ None)
-Point o (at.Age Spare s) v = (v.section ≡ None) × Bare v [] None false × (v.hands.hand ≡ Some (seized s)) × (o.hand ≡ Some s)
-    × (is_delete o.op ≡ true) × (length o.retired < 15) × (o.spare ≡ None)
-Point o (at.Keep s) v = (v.section ≡ None) × Bare v [] None false × ((held : Held) × (v.hands.hand ≡ Some held) × (held.slot ≡ s))
-    × (is_delete o.op ≡ true) × (length o.retired < 15) × (o.spare ≡ None)
-Point o (at.Reserve Room expected) v = ⊥
-Point o (at.Seize Room) v = ⊥
-Point o (at.Age Room s) v = ⊥
+Point o (at.Keep s) v = Keeping o v s
 -- a set
 Point o (at.SetLife s) v = Calm o v × (is_set o.op ≡ true) × ((p : ℕ) × (b : Side) × Inside v (key_now o) (Found s p b None) Nothing)
 Point o (at.SetLock s generation) v = Setting o v s generation [] None
@@ -152,13 +131,10 @@ Point o (at.EmptyRaise number s b tag) v = Quiet o v None × HasLocks o
 Point o (at.SuccessorKey d u) v = BeforeCopy o v d u
 Point o (at.SuccessorValue d u next_key) v = BeforeCopy o v d u × IsAside (or_root o.spare) d u
     × (known_in (under v.locks u.slot) (Key u.slot) ≡ Some next_key)
-Point o (at.CopyField d u next_key value i) v =
-    BeforeCopy o v d u × IsAside (or_root o.spare) d u × KnowsSuccessor v.locks u next_key value
-    × HasCopy v.hands.spare (or_root o.spare) d next_key value i × (i ≤ 3)
+Point o (at.CopyField d u next_key value i) v = CopyFilling o v d u next_key value i
 Point o (at.CopyAge d u next_key) v = BeforeCopy o v d u × IsFilled v d u next_key (or_root o.spare)
 Point o (at.CopyLock d u next_key) v = BeforeCopy o v d u × IsFilled v d u next_key (or_root o.spare)
-Point o (at.CopyMark d u next_key) v = Copying o v d u None × IsFilled v d u next_key (or_root o.spare) × IsUnmarked v.locks d
-    × AreClear v.locks × (o.locks ≡ or_root o.spare ∷ all_locks d u) × Holds v.locks (or_root o.spare)
+Point o (at.CopyMark d u next_key) v = BothMarking o v d u next_key (or_root o.spare)
 -- the move
 Point o (at.Begin (Move m)) v = Shifting o v m false None × HoldsOld v.locks m false × AreClear v.locks
 Point o (at.LookKey (Move m) clock p) v = Shifting o v m false None × HoldsOld v.locks m false × AreClear v.locks

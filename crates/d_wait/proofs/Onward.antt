@@ -1,16 +1,12 @@
 -- The looks of a poll of the second waiter go on from class to class.
-use Rattle.std.proofs.Common.{◌≡◌, ◌≢◌, ℕ, ◌%◌, ◌<◌, ◌≤◌, inl, inr, ⊎_elim, Bool, true, false, refl, sym, ap, subst, ◌∙◌, arith}
-use mathlib.Core.Logic.{dite}
-use native.Mathlib.Decide.{dec_le}
+use Rattle.std.proofs.Common.{◌≡◌, ◌≢◌, ℕ, ◌%◌, ◌<◌, inl, inr, ⊎_elim, Bool, true, false, refl, sym, ap, subst, ◌∙◌, arith}
 use Rattle.core_state.specs.declared.shape.Shape.{Shape}
 use Rattle.core_state.specs.declared.words.Field.TheVariants.{Stamp, Gate, Count, Row}
 use Rattle.core_state.specs.declared.words.Kind.TheVariants as kinds
 use Rattle.core_state.specs.declared.view.View.{View}
 use Rattle.core_acts.specs.declared.act.Act.TheVariants.{LoadGate, LookCount, TurnGate}
-use Rattle.key_interval.specs.Keys.{Interval}
-use Rattle.key_interval.specs.LastClass.{IsLastClass}
 use Rattle.seat_table.specs.declared.wait.Grace.{Grace}
-use Rattle.seat_table.specs.Onward.{LooksAt, IsOnward, IsWithin, IsLater}
+use Rattle.seat_table.specs.Onward.{LooksAt, IsOnward, IsLater}
 use Rattle.seat_table.specs.Told.{Told}
 use Rattle.seat_table.specs.Once.{one_step}
 use Rattle.seat_table.specs.Waits.{Reached, reached, Made}
@@ -97,8 +93,3 @@ pub looks_later : (r s : Reached) {u v w : View} → IsLater r s → LooksAt (Is
     → LooksAt (IsOnward r) u w
 looks_later r s {u} {v} {w} later a b = looks_then (IsOnward r) u v w a
     (looks_as (IsOnward s) (IsOnward r) (λ field there before. there (later field before)) v w b)
-
--- A grace within the classes of its keys isn't beyond the last one.
-pub within_last : (keys : Interval) (class last : ℕ) → IsWithin keys class → IsLastClass keys last → class ≤ last
-within_last keys class last within is = dite (dec_le class last) (λ most. most)
-    (λ beyond. absurd (is.greatest within.0 (omega (arith, within.1, beyond)) within.2 within.3))

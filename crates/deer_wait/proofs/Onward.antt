@@ -1,21 +1,18 @@
 -- The looks of a poll of the third waiter go on from row to row.
 use Rattle.std.proofs.Common.{◌≡◌, ℕ, ◌+◌, ◌<◌, ◌≤◌, ◌⊎◌, inl, inr, ⊎_elim, Bool, refl, sym, subst, ◌∙◌, arith}
-use mathlib.Core.Logic.{dite}
-use native.Mathlib.Decide.{dec_le}
 use Rattle.core_state.specs.declared.shape.Shape.{Shape}
 use Rattle.core_state.specs.declared.words.Field.{Field}
 use Rattle.core_state.specs.declared.words.Field.TheVariants.{Row}
 use Rattle.core_state.specs.declared.words.Kind.TheVariants.{K35}
 use Rattle.core_state.specs.declared.view.View.{View}
 use Rattle.core_acts.specs.declared.act.Act.TheVariants.{LookRow}
-use Rattle.key_interval.specs.Keys.{Interval}
 use Rattle.key_interval.specs.LastClass.{IsLastClass}
 use Rattle.seat_table.specs.Onward.{LooksAt, IsOnward, IsWithin}
 use Rattle.seat_table.specs.Told.{Told}
 use Rattle.seat_table.specs.declared.wait.Grace.{Grace}
 use Rattle.seat_table.specs.Once.{one_step}
 use Rattle.seat_table.specs.Waits.{Reached, reached, Made}
-use Rattle.seat_table.proofs.Onward.{look_trail, looks_then, looks_as, look_at}
+use Rattle.seat_table.proofs.Onward.{look_trail, looks_then, looks_as, look_at, within_last}
 use Rattle.deer_wait.specs.Images.{IsRowFrom}
 
 pub row_looked : {k : Shape} {v w : View} {place class found : ℕ} {last : Bool} → Told k v (LookRow place class last) found w
@@ -85,11 +82,6 @@ comes_later place class p c next first is none come =
           (λ (later : (place < p) × (c ≡ 0)). omega (arith, later.0, is)) come,
       none,
     )
-
--- A grace within the classes of its keys isn't beyond the last one.
-pub within_last : (keys : Interval) (class last : ℕ) → IsWithin keys class → IsLastClass keys last → class ≤ last
-within_last keys class last within is = dite (dec_le class last) (λ most. most)
-    (λ beyond. absurd (is.greatest within.0 (omega (arith, within.1, beyond)) within.2 within.3))
 
 -- The looks of a poll from where it began up to where it has come to, and those that it makes from there.
 module _ {W : Type 0} (first here : Grace W) (last : ℕ) (is_last : IsLastClass first.keys last) {u v : View}

@@ -10,7 +10,7 @@ use Rattle.prcu_model.specs.Dictionary.{map_of}
 use Rattle.prcu_marks.specs.declared.mark.Mark.{Mark}
 use Rattle.prcu_marks.specs.declared.mark.Mark.TheVariants.{Left}
 use Rattle.prcu_marks.specs.Marks.{updates_of}
-use Rattle.prcu_marks.proofs.MarkLists.{updates_of-append}
+use Rattle.prcu_marks.proofs.MarkLists.{updates_of-append, updates_below}
 use Rattle.core_state.specs.declared.shape.Shape.{Shape}
 use Rattle.core_state.specs.declared.view.Fact.{Fact}
 use Rattle.core_state.specs.declared.view.Gap.{Gap}
@@ -36,9 +36,6 @@ use Rattle.exact_list.proofs.Trying.{InTry, first_try, looked_try, loaded_try, l
 
 updates_on : (h seen : List Mark) (p : IsPrefix h seen) → updates_of seen ≡ updates_of h ++ updates_of p.0
 updates_on h seen p = ap updates_of (sym p.1) ∙ updates_of-append h p.0
-
-fewer_updates : (h seen : List Mark) → IsPrefix h seen → length (updates_of h) ≤ length (updates_of seen)
-fewer_updates h seen p = (let e = ap length (updates_on h seen p) ∙ length-append (updates_of h) (updates_of p.0) in omega (arith, e))
 
 -- What the dictionary had after the updates of a beginning of the marks, it has by all marks at that front.
 had_now : (h seen : List Mark) (front : ℕ) → IsPrefix h seen → front ≡ length (updates_of h) → (key : ℕ)
@@ -119,8 +116,8 @@ module _ {k : Shape} {v : View} {key first n : ℕ} {d : View} (z : LooksTwice k
 
     pub recent : IsBetweenFronts front v.seen d.seen
     recent =
-        let old = fewer_updates v.seen z.told.marks (prefix_trans v.seen z.loaded.seen z.told.marks before.seen z.told.sees.begins) in
-        let new = fewer_updates z.told.marks d.seen in_all in
+        let old = updates_below v.seen z.told.marks (prefix_trans v.seen z.loaded.seen z.told.marks before.seen z.told.sees.begins) in
+        let new = updates_below z.told.marks d.seen in_all in
         (omega (arith, old, count), omega (arith, new, count))
 
     had : (y : ℕ) → had_at (updates_of d.seen) front y ≡ map_now z.told.marks y
@@ -194,6 +191,6 @@ ends_early (Part front next) most more ts less counted ends = (omega (arith, les
 ends_early (Moved first last) most more ts less counted ends = absurd (counted first last refl)
 
 pub recent_later : (r : Listed) (a b h : List Mark) → IsPrefix a b → IsRecent r b h → IsRecent r a h
-recent_later (Whole front) a b h p is = (let e = fewer_updates a b p in omega (arith, e, is.0), is.1)
-recent_later (Part front next) a b h p is = (let e = fewer_updates a b p in omega (arith, e, is.0), is.1)
+recent_later (Whole front) a b h p is = (let e = updates_below a b p in omega (arith, e, is.0), is.1)
+recent_later (Part front next) a b h p is = (let e = updates_below a b p in omega (arith, e, is.0), is.1)
 recent_later (Moved first last) a b h p is = tt

@@ -1,21 +1,11 @@
 -- How many slots are listed, and that each is a retired one.
-use Rattle.std.proofs.Common.{◌≡◌, ◌≢◌, ℕ, zero, suc, ◌+◌, ◌-◌, ◌≤◌, ◌<◌, List, [], ◌∷◌, length, refl, ⊎_elim, arith, subst}
-use Rattle.std.proofs.lemmas.Bool.{cases_eq}
+use Rattle.std.proofs.Common.{◌≡◌, ℕ, zero, suc, ◌+◌, ◌-◌, ◌≤◌, ◌<◌, List, length, arith, subst}
 use Rattle.core_frames.proofs.views.RetiredLists.{slots_in}
 use Rattle.core_frames.proofs.views.Sums.{times_sum}
 use Rattle.core_state.specs.declared.view.Retired.{Retired}
 use Rattle.core_state.specs.memory.Lists.{sum_below}
-use Rattle.list_laws.specs.Counts.{times, IsIn, Each}
-use Rattle.list_laws.proofs.Lists.{times_other}
-
--- a slot that stands among the retired ones is one of them
-pub retired_there : (s : ℕ) (rs : List Retired) → 1 ≤ times s (slots_in rs) → (r : Retired) × IsIn rs r × (r.slot ≡ s)
-retired_there s [] least = absurd (omega arith)
-retired_there s (r ∷ rs) least = ⊎_elim
-    (λ (e : r.slot ≡ s). (r, (0, refl), e))
-    (λ (ne : r.slot ≢ s). let more = retired_there s rs (let a = times_other s r.slot (slots_in rs) ne in omega arith) in
-    (more.0, (suc more.1.0, more.1.1), more.2))
-    (cases_eq r.slot s)
+use Rattle.list_laws.specs.Counts.{times, Each}
+use Rattle.node_slots.proofs.Reclaims.{retired_at}
 
 sum_least : (f : ℕ → ℕ) (n : ℕ) → ((s : ℕ) → f s ≤ 1) → sum_below f n ≤ n
 sum_least f zero one = omega arith
@@ -25,7 +15,7 @@ sum_least f (suc n) one = let a = sum_least f n one in let b = one n in omega ar
 pub few_listed : (xs : List ℕ) (rs : List Retired) (n : ℕ) → ((s : ℕ) → times s xs ≡ times s (slots_in rs))
     → ((s : ℕ) → times s (slots_in rs) ≤ 1) → Each rs (λ (r : Retired). r.slot < n) → length xs ≤ n
 few_listed xs rs n same once within =
-    let below : (s : ℕ) → 1 ≤ times s xs → s < n = λ s there. let at = retired_there s rs (let e = same s in omega arith) in
+    let below : (s : ℕ) → 1 ≤ times s xs → s < n = λ s there. let at = retired_at s rs (let e = same s in omega arith) in
     subst (λ x. x < n) at.2 (within at.1.0 at.0 at.1.1) in
     let a = times_sum xs n below in
     let b = sum_least (λ s. times s xs) n (λ s. let e = same s in let o = once s in omega arith) in

@@ -1,15 +1,14 @@
 -- A quiet seat stays quiet where slots went back.
-use Rattle.std.proofs.Common.{◌≡◌, ◌≢◌, ℕ, false, List, [], ◌∷◌, length, take, sym, ap, subst, ◌∙◌, ⊎_elim}
-use Rattle.std.proofs.lemmas.Bool.{cases_eq}
-use Rattle.core_frames.proofs.views.RetiredLists.{slots_in, without_none as retired_none, without_else as retired_else, in_without}
+use Rattle.std.proofs.Common.{◌≡◌, ℕ, false, List, [], ◌∷◌, length, take, sym, ap, subst, ◌∙◌, ⊎_elim}
+use Rattle.core_frames.proofs.views.RetiredLists.{slots_in, in_without}
 use Rattle.core_state.specs.declared.view.Retired.{Retired}
 use Rattle.core_state.specs.declared.view.View.{View}
 use Rattle.core_state.specs.steps.Slots.{without_retired}
 use Rattle.core_state.specs.views.Views.{IsQuiet, unraised_among}
 use Rattle.list_laws.specs.Counts.{times, Each}
-use Rattle.node_slots.specs.Reclaiming.{without_slots, without_all}
-use Rattle.node_slots.proofs.Listing.{unlisted_none, unlisted_else}
-use Rattle.seat_table.specs.Seats.{SeatAt, IsQuietSeat, unlisted}
+use Rattle.node_slots.specs.Reclaiming.{without_all}
+use Rattle.node_slots.proofs.Reclaims.{same_all}
+use Rattle.seat_table.specs.Seats.{SeatAt, IsQuietSeat}
 use Rattle.tree_points.proofs.Ends.{none_raised, all_unraised}
 use Rattle.grace_cookie.specs.Cookies.{CookieAt, AreUnraised}
 use Rattle.grace_cookie.specs.Asking.{GivesNone, GivesSome, HasGivenBack}
@@ -18,20 +17,6 @@ use Rattle.grace_cookie.specs.Asking.{GivesNone, GivesSome, HasGivenBack}
 pub quiet_unraised : (v : View) → IsQuiet v → (slots : List ℕ) → AreUnraised v slots
 quiet_unraised v quiet [] = tt
 quiet_unraised v quiet (slot ∷ slots) = ((λ i r at. none_raised v.hands.retired quiet.raised i r at.0), quiet_unraised v quiet slots)
-
--- the slots that are left where some went back
-one_less : (xs : List ℕ) (rs : List Retired) (s : ℕ) → ((t : ℕ) → times t xs ≡ times t (slots_in rs)) → (t : ℕ)
-    → times t (unlisted s xs) ≡ times t (slots_in (without_retired s rs))
-one_less xs rs s same t = ⊎_elim
-    (λ (e : t ≡ s). subst (λ y. times y (unlisted s xs) ≡ times y (slots_in (without_retired s rs))) (sym e)
-    (unlisted_none s xs ∙ sym (retired_none s rs)))
-    (λ (ne : t ≢ s). unlisted_else s t xs ne ∙ same t ∙ sym (retired_else s t ne rs))
-    (cases_eq t s)
-
-all_less : (slots xs : List ℕ) (rs : List Retired) → ((t : ℕ) → times t xs ≡ times t (slots_in rs)) → (t : ℕ)
-    → times t (without_slots slots xs) ≡ times t (slots_in (without_all slots rs))
-all_less [] xs rs same = same
-all_less (s ∷ slots) xs rs same = all_less slots (unlisted s xs) (without_retired s rs) (one_less xs rs s same)
 
 left_unraised : (slots : List ℕ) (rs : List Retired) → Each rs (λ (r : Retired). r.raised ≡ false)
     → Each (without_all slots rs) (λ (r : Retired). r.raised ≡ false)
@@ -58,7 +43,7 @@ some_quiet c s answer t gave quiet =
             ∙ ap (λ (z : View). length z.hands.retired) (sym e);
       };
       listed = record {
-        each = λ slot. ap (times slot) gave.listed ∙ all_less slots s.listed rs quiet.listed.each slot
+        each = λ slot. ap (times slot) gave.listed ∙ same_all slots s.listed rs quiet.listed.each slot
             ∙ ap (λ (z : View). times slot (slots_in z.hands.retired)) (sym e);
       };
     }

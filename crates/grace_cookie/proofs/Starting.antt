@@ -19,7 +19,7 @@ use Rattle.seat_table.specs.Sections.{HasBegun}
 use Rattle.seat_table.specs.Waits.{HasReached, IsLatestOf, reached}
 use Rattle.seat_table.specs.declared.wait.Grace.{Grace}
 use Rattle.grace_cookie.specs.Cookies.{CookieAt, everybody, IsOf, IsKept, HasKept}
-use Rattle.grace_cookie.proofs.Counting.{retired_there}
+use Rattle.node_slots.proofs.Reclaims.{retired_at}
 
 abbrev fresh : {W : Type 0} → Grace W → ℕ → ℕ → CookieAt
 fresh grace count slots = record { count = count; slots = slots; over = false; clock = grace.clock; reached = reached grace }
@@ -55,7 +55,7 @@ module _ (v w : View) (begun : HasBegun v 0 18446744073709551615 w) where
       (once : (t : ℕ) → times t s.listed ≤ 1) (many : c.slots ≡ length s.listed) (going : c.over ≡ false) where
     one_kept : (slot : ℕ) → 1 ≤ times slot s.listed → IsKept c w slot
     one_kept slot least =
-        let there = retired_there slot v.hands.retired (let e = same slot in omega arith) in
+        let there = retired_at slot v.hands.retired (let e = same slot in omega arith) in
         let r : Retired = there.0 in
         let i : ℕ = there.1.0 in
         record {

@@ -1,5 +1,5 @@
 -- An act whose needs are met is a step of its kind, and so keeps the rule.
-use Rattle.std.proofs.Common.{rules, ◌≡◌, ℕ, ◌-◌, ◌%◌, false, List, [], ◌∷◌, Some, None, sym, ap, subst}
+use Rattle.std.proofs.Common.{rules, ◌≡◌, ℕ, ◌-◌, ◌%◌, false, List, [], ◌∷◌, Some, None, sym, ap, subst, unwrap_or}
 use Rattle.prcu_marks.specs.declared.commit.Commit.{Commit}
 use Rattle.prcu_marks.specs.declared.mark.Mark.{Mark}
 use Rattle.prcu_marks.specs.declared.mark.Mark.TheVariants.{Left, Given, Unlinked}
@@ -14,19 +14,19 @@ use Rattle.hash_core.specs.declared.view.Hold.{Hold}
 use Rattle.hash_core.specs.declared.view.View.{View}
 use Rattle.hash_core.specs.Steps.{fresh_hold, after_leave, after_search_load, after_unlock, after_readers_load, after_held_load, after_take, after_move, after_refill, after_chain, after_push, after_write, after_link, after_unlink, after_replace, after_even}
 use Rattle.hash_core.specs.Kinds.{IsStep, Steps, step2, step3, step4, step5, step6, step7, step8, step9, step10_take, step10_refill, step10_move, step10_push, step10_chain, step11, step12, step13, step14, step15, step16, done_by}
-use Rattle.hash_core.specs.Acts.{or_else, section_of, hold_of, commit_of, kind_of, field_of, noted, Needs, marks_of, left, done}
+use Rattle.hash_core.specs.Acts.{section_of, hold_of, commit_of, kind_of, field_of, noted, Needs, marks_of, left, done}
 use Rattle.hash_core.specs.Laws.{ActsAreSteps, ActsKeep}
 use Rattle.hash_core.proofs.Keeping.{steps_keep}
 
 -- What a view has open, where it has it open.
 pub section_is : (v : View) (section : Section) → v.section ≡ Some section → section_of v ≡ section
-section_is v section is = ap (or_else (record { key = 0; count = 0; entered = 0; from = 0; state = Start; loaded = None })) is
+section_is v section is = ap (λ o. unwrap_or o (record { key = 0; count = 0; entered = 0; from = 0; state = Start; loaded = None })) is
 
 pub hold_is : (v : View) (hold : Hold) → v.hold ≡ Some hold → hold_of v ≡ hold
-hold_is v hold is = ap (or_else (fresh_hold 0)) is
+hold_is v hold is = ap (λ o. unwrap_or o (fresh_hold 0)) is
 
 pub commit_is : (v : View) (commit : Commit) → v.commit ≡ Some commit → commit_of v ≡ commit
-commit_is v commit is = ap (or_else (record { found = 0; stored = false })) is
+commit_is v commit is = ap (λ o. unwrap_or o (record { found = 0; stored = false })) is
 
 module _ (capacities : List ℕ) (h : List Mark) (v : View) (n : ℕ) where
   -- what holds of the hold that is there holds of the one that the act speaks of

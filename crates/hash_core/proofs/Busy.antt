@@ -1,5 +1,5 @@
 -- What keeps the rule where only views change that are outside a section and without a lock.
-use Rattle.std.proofs.Common.{◌≡◌, ◌⊎◌, ℕ, ◌+◌, ◌≤◌, List, length, Option, Some, None, sym, ap, subst, ◌∙◌, inl, inr}
+use Rattle.std.proofs.Common.{◌≡◌, ◌⊎◌, ℕ, ◌+◌, ◌≤◌, List, length, Option, Some, None, sym, ap, subst, ◌∙◌, inl, inr, refl}
 use mathlib.Core.Option.{some}
 use lib.ListN.{get_elem?}
 use Rattle.prcu_marks.specs.declared.mark.Mark.{Mark}
@@ -15,7 +15,7 @@ use Rattle.hash_core.specs.Seats.{AreSeen, AreApart, AreOwned, HasNoCommit, IsTu
 use Rattle.hash_core.specs.Steps.{IsQuiet}
 use Rattle.hash_core.specs.Rule.{BucketRule, MemoryRule}
 use Rattle.hash_core.proofs.SeatFrames.{open_in}
-use Rattle.prcu_model.proofs.ListFacts.{all_map}
+use Rattle.hash_core.proofs.Frames.{clean_by}
 use Rattle.list_laws.proofs.Lists.{at_one}
 
 -- Each view that isn't quiet stands where it stood, and the open sections of each class are as many.
@@ -36,10 +36,16 @@ quiet_turn m vs count (inr odd) id v at free = odd.alone id v
 
 module _ (vs vs' : List View) (busy : SameBusy vs vs') where
   section_back : (j : ℕ) (u : View) (section : Section) → get_elem? vs' j ≡ some u → u.section ≡ Some section → get_elem? vs j ≡ some u
-  section_back j u section at is = elim (busy.back j u at) [ inl e ↦ e | inr q ↦ absurd (let z : None ≡ Some section = sym q.0.0 ∙ is in cc) ]
+  section_back j u section at is = elim (busy.back j u at) [
+    | inl e ↦ e
+    | inr q ↦ absurd (let z : None ≡ Some section = sym q.0.0 ∙ is in cc)
+  ]
 
   section_forth : (j : ℕ) (u : View) (section : Section) → get_elem? vs j ≡ some u → u.section ≡ Some section → get_elem? vs' j ≡ some u
-  section_forth j u section at is = elim (busy.forth j u at) [ inl e ↦ e | inr q ↦ absurd (let z : None ≡ Some section = sym q.0 ∙ is in cc) ]
+  section_forth j u section at is = elim (busy.forth j u at) [
+    | inl e ↦ e
+    | inr q ↦ absurd (let z : None ≡ Some section = sym q.0 ∙ is in cc)
+  ]
 
   hold_back : (j : ℕ) (u : View) (hold : Hold) → get_elem? vs' j ≡ some u → u.hold ≡ Some hold → get_elem? vs j ≡ some u
   hold_back j u hold at is = elim (busy.back j u at) [ inl e ↦ e | inr q ↦ absurd (let z : None ≡ Some hold = sym q.0.1 ∙ is in cc) ]
@@ -73,11 +79,7 @@ module _ (vs vs' : List View) (busy : SameBusy vs vs') where
     known = r.known;
     ages = r.ages;
     counted = record { readers = r.counted.readers ∙ sym (busy.count c) };
-    clean = record {
-      free = all_map (IsFreeOfReaders c h vs) (IsFreeOfReaders c h vs') b.free (free_busy c h) r.clean.free;
-      moved = all_map (IsFreeOfReaders c h vs) (IsFreeOfReaders c h vs') b.moved (free_busy c h) r.clean.moved;
-      clear = λ hold is clear s of. free_busy c h s (r.clean.clear hold is clear s of);
-    };
+    clean = clean_by capacities c h h vs vs' b b (free_busy c h) refl refl r.clean.clear r.clean;
     answered = record {
       readers = λ j u section at is class. r.answered.readers j u section (section_back j u section at is) is class;
       loaded = λ j u section value at is class read. r.answered.loaded j u section value (section_back j u section at is) is class read;

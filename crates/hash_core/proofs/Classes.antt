@@ -1,20 +1,16 @@
 -- Classes own slots of their own.
-use Rattle.std.proofs.Common.{◌≡◌, ℕ, zero, suc, ◌+◌, ◌<◌, ◌≤◌, ◌&&◌, Bool, true, false, List, [], ◌∷◌, take, sum, refl, arith, cond}
-use Rattle.std.proofs.lemmas.Bool.{ltb-true, leb-true}
+use Rattle.std.proofs.Common.{◌≡◌, ℕ, zero, suc, ◌+◌, ◌<◌, ◌≤◌, true, List, [], ◌∷◌, take, sum, refl, arith}
+use Rattle.std.proofs.lemmas.Bool.{ltb-true, leb-true, and_parts}
 use Rattle.std.proofs.lemmas.List.Sums.{sum_by-cons}
 use mathlib.Core.Logic.{dite}
 use native.Mathlib.Decide.{dec_le, ℕ_discrete}
 use Rattle.hash_core.specs.Slots.{capacity, base, is_slot_of}
 
-pub and_true : (a b : Bool) → (a && b) ≡ true → (a ≡ true) × (b ≡ true)
-and_true true b e = (refl, e)
-and_true false b e = absurd (cc)
-
 -- where a slot of a class lies
 pub slot_bounds : (capacities : List ℕ) (c s : ℕ) → is_slot_of capacities c s ≡ true
     → (base capacities c < s) × (s ≤ base capacities c + capacity capacities c)
 slot_bounds capacities c s e =
-    let both = and_true _ _ e in
+    let both = and_parts _ _ e in
     (ltb-true (base capacities c) s both.0, leb-true s (base capacities c + capacity capacities c) both.1)
 
 no_sum : (c : ℕ) → sum (take c []) ≡ 0
@@ -53,8 +49,3 @@ one_class capacities c d s of_c of_d =
 pub slot_within : (capacities : List ℕ) (c s : ℕ) → is_slot_of capacities c s ≡ true → (1 ≤ s) × (s ≤ sum capacities)
 slot_within capacities c s of =
     let p = slot_bounds capacities c s of in let p0 = p.0 in let p1 = p.1 in let z = class_within capacities c in (omega arith, omega arith)
-
--- a number that is 1 or 0 by a test
-pub at_most_one : (test : Bool) (n : ℕ) → n ≡ cond test 1 0 → n ≤ 1
-at_most_one true n e = omega arith
-at_most_one false n e = omega arith

@@ -1,6 +1,7 @@
 -- What keeps the parts of the rule on one class, when a step elsewhere was made.
 use Rattle.std.proofs.Common.{◌≡◌, ◌≢◌, ◌⊎◌, ℕ, ◌+◌, ◌%◌, ◌<◌, ◌≤◌, Bool, true, false, cond, List, [], ◌++◌, set, Option, Some, None, refl, sym, ap, subst, ◌∙◌, inl, inr, arith, option_to_list}
 use Rattle.std.specs.FinMap as finite
+use Rattle.std.specs.List.{AllByRecursion}
 use mathlib.Core.Logic.{dite}
 use mathlib.Core.Option.{some, some-injective}
 use native.Mathlib.Decide.{dec_le, ℕ_discrete}
@@ -23,6 +24,7 @@ use Rattle.hash_core.specs.Slots.{is_slot_of, IsOfClass}
 use Rattle.prcu_marks.specs.Marks.{gone_at, IsGone, last_unlinked}
 use Rattle.hash_core.specs.Buckets.{Bucket, IsChained, AreListed, HaveOneRole, IsMapped, HoldsOther, IsLocked, IsKnown, HaveAges, inside_count, AreCounted, IsFreeOfReaders, AreClean, taken_of, unlinked_of, moved_of, link_of}
 use Rattle.prcu_model.specs.Dictionary.{WasSaid}
+use Rattle.prcu_model.proofs.ListFacts.{all_map}
 use Rattle.hash_core.specs.Readers.{IsHeldBack, HasWay, WillAnswer, AreAnswered}
 use Rattle.hash_core.specs.Rule.{BucketRule}
 use Rattle.std.proofs.Common.{ne_eqb}
@@ -50,6 +52,19 @@ pub record SameLists (c : ℕ) (m m' : Memory) : Type 0 where
   pub free : m' (Free c) ≡ m (Free c)
   pub retired : m' (Retired c) ≡ m (Retired c)
   pub front : m' Front ≡ m Front
+
+-- Slots that are to be free of readers stay so, where each does; a holder that found no reader had found none before.
+pub clean_by : (capacities : List ℕ) (c : ℕ) (h h' : List Mark) (vs vs' : List View) (b b' : Bucket)
+    → ((s : ℕ) → IsFreeOfReaders c h vs s → IsFreeOfReaders c h' vs' s) → b'.free ≡ b.free → b'.moved ≡ b.moved
+    → ((hold : Hold) → b'.hold ≡ Some hold → hold.clear ≡ true → (s : ℕ) → is_slot_of capacities c s ≡ true → IsFreeOfReaders c h vs s)
+    → AreClean capacities c h vs b → AreClean capacities c h' vs' b'
+clean_by capacities c h h' vs vs' b b' each free moved clear clean = record {
+  free = subst (AllByRecursion (IsFreeOfReaders c h' vs')) (sym free)
+      (all_map (IsFreeOfReaders c h vs) (IsFreeOfReaders c h' vs') b.free each clean.free);
+  moved = subst (AllByRecursion (IsFreeOfReaders c h' vs')) (sym moved)
+      (all_map (IsFreeOfReaders c h vs) (IsFreeOfReaders c h' vs') b.moved each clean.moved);
+  clear = λ hold is yes s of. each s (clear hold is yes s of);
+}
 
 -- The marks and updates that came say nothing of the class: where its slots were unlinked, whether they were given since, and its
 -- keys' pairs.
@@ -94,7 +109,10 @@ same_count : (c : ℕ) (a b : Option Section) → SameSection c a b → inside_c
 same_count c None None same = refl
 same_count c None (Some t) same = other_count c t same
 same_count c (Some s) None same = sym (other_count c s same)
-same_count c (Some s) (Some t) same = elim same [ inl q ↦ ap (λ z. inside_count c (Some z)) (sym q) | inr n ↦ other_count c t n.1 ∙ sym (other_count c s n.0) ]
+same_count c (Some s) (Some t) same = elim same [
+  | inl q ↦ ap (λ z. inside_count c (Some z)) (sym q)
+  | inr n ↦ other_count c t n.1 ∙ sym (other_count c s n.0)
+]
 
 hold_other : (c : ℕ) (a b : Option Hold) → SameHold c a b → ((k : Hold) → a ≡ Some k → k.class ≢ c) → (k : Hold) → b ≡ Some k → k.class ≢ c
 hold_other c a None same before k is = absurd (cc)

@@ -20,8 +20,7 @@ use Rattle.hash_core.specs.Buckets.{seek}
 use Rattle.hash_core.specs.Readers.{IsHeldBack, HasWay, WillAnswer}
 use Rattle.hash_core.specs.Rule.{BucketRule, MemoryRule}
 use Rattle.hash_core.specs.Laws.{ChainsAreMap, SlotsHaveOneRole, ReadersAreCounted, FrontCounts, IsOpenIn, Answers, value_at, SearchesAreAnswered, IsLinked, SearchesStand, MarksAreInOrder, SlotsAreReused}
-use Rattle.list_laws.proofs.Lists.{all_times, all_from_times, times_here, times_append}
-use Rattle.hash_core.proofs.Classes.{at_most_one}
+use Rattle.list_laws.proofs.Lists.{all_times, all_from_times, times_here, times_append, at_most_one}
 use Rattle.hash_core.proofs.Frames.{chain_slot}
 use Rattle.hash_core.proofs.Paths.{path_cons, seek_here, seek_past}
 

@@ -40,7 +40,7 @@ use Rattle.prcu_marks.proofs.MarkPlaces.{open_at-below}
 use Rattle.prcu_marks.proofs.LastUnlinked.{last_unlinked-same}
 use Rattle.hash_core.proofs.MarkOrder.{marks_snoc}
 use Rattle.hash_core.proofs.Adds.{open_at-same, gone_at-same, reuse_more}
-use Rattle.hash_core.proofs.Frames.{SameMarks, chain_slot, taken_slot}
+use Rattle.hash_core.proofs.Frames.{SameMarks, chain_slot, taken_slot, clean_by}
 use Rattle.prcu_marks.proofs.Histories.{said_longer}
 use Rattle.hash_core.proofs.Stores.{class_words, stored_here, same_self}
 use Rattle.hash_core.proofs.Sections.{free_each}
@@ -265,14 +265,9 @@ module _ (capacities : List ℕ) (places tickets : ℕ) (m : Memory) (vs : List 
                 (p.0, done_gone even (Put key value) s ∙ p.1);
           };
           counted = record { readers = (counted_still capacities hold.class m h vs id v w13 at refl bucket_rule.counted).readers };
-          clean = record {
-            free = all_map (IsFreeOfReaders hold.class h vs) (IsFreeOfReaders hold.class h13 (set vs id w13)) (r.bucket hold.class).free
-                (free_done even (Put key value) w13 refl) bucket_rule.clean.free;
-            moved = all_map (IsFreeOfReaders hold.class h vs) (IsFreeOfReaders hold.class h13 (set vs id w13)) (r.bucket hold.class).moved
-                (free_done even (Put key value) w13 refl) bucket_rule.clean.moved;
-            clear = λ other is yes s of. let e : new13 ≡ other = cc in
-                free_done even (Put key value) w13 refl s (bucket_rule.clean.clear hold held (ap (λ (z : Hold). z.clear) e ∙ yes) s of);
-          };
+          clean = clean_by capacities hold.class h h13 vs (set vs id w13) (r.bucket hold.class) _ (free_done even (Put key value) w13 refl)
+              refl refl (λ other is yes s of. let e : new13 ≡ other = cc in
+              bucket_rule.clean.clear hold held (ap (λ (z : Hold). z.clear) e ∙ yes) s of) bucket_rule.clean;
           answered = answered_from w13 refl m13 h13 (updates_of h13) (slot ∷ chain_now)
               (λ section entered from class state. will_still capacities hold.class m m13 h h13 (updates_of h) (updates_of h13) chain_now
               (slot ∷ chain_now) section (record {
@@ -432,14 +427,9 @@ module _ (capacities : List ℕ) (places tickets : ℕ) (m : Memory) (vs : List 
             unlinked = λ s is. let p = bucket_rule.ages.unlinked s (ap unlinked_of held ∙ is) in (p.0, gone s ∙ p.1);
           };
           counted = record { readers = (counted_still capacities hold.class m h vs id v w15 at refl bucket_rule.counted).readers };
-          clean = record {
-            free = all_map (IsFreeOfReaders hold.class h vs) (IsFreeOfReaders hold.class h15 (set vs id w15)) (r.bucket hold.class).free
-                (free_done even (Set key value) w15 refl) bucket_rule.clean.free;
-            moved = all_map (IsFreeOfReaders hold.class h vs) (IsFreeOfReaders hold.class h15 (set vs id w15)) (r.bucket hold.class).moved
-                (free_done even (Set key value) w15 refl) bucket_rule.clean.moved;
-            clear = λ other is yes s of. let e : new15 ≡ other = cc in
-                free_done even (Set key value) w15 refl s (bucket_rule.clean.clear hold held (ap (λ (z : Hold). z.clear) e ∙ yes) s of);
-          };
+          clean = clean_by capacities hold.class h h15 vs (set vs id w15) (r.bucket hold.class) _ (free_done even (Set key value) w15 refl)
+              refl refl (λ other is yes s of. let e : new15 ≡ other = cc in
+              bucket_rule.clean.clear hold held (ap (λ (z : Hold). z.clear) e ∙ yes) s of) bucket_rule.clean;
           answered = answered_from w15 refl m15 h15 (updates_of h15) chain_now
               (λ section entered from class state. will15 section from state) (said_done even (Set key value));
         })

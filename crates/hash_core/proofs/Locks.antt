@@ -27,12 +27,12 @@ use Rattle.prcu_marks.specs.Commits.{updates_by}
 use Rattle.hash_core.specs.Seats.{HasNoCommit, IsTurned, AreOwned, AreSeen}
 use Rattle.hash_core.specs.Steps.{IsQuiet, fresh_hold, NeedsUnlock, after_unlock, NeedsCommit, NeedsEven, after_even}
 use Rattle.hash_core.specs.Rule.{BucketRule, MemoryRule}
-use Rattle.prcu_model.proofs.ListFacts.{prefix_self, all_map}
+use Rattle.prcu_model.proofs.ListFacts.{prefix_self}
 use Rattle.list_laws.proofs.Lists.{at_below, at_one, each_set, total_set, total_part}
-use Rattle.hash_core.proofs.Frames.{SameSlots, SameSection, SameHold, SameView, still_answer}
+use Rattle.hash_core.proofs.Frames.{SameSlots, SameSection, SameHold, SameView, still_answer, clean_by}
 use Rattle.hash_core.proofs.Stores.{same_words, lock_words, front_words, stored_here, same_self, same_is}
 use Rattle.hash_core.proofs.SeatFrames.{seen_same, seen_whole, apart_same, owned_same, open_same, held_still, turned_same}
-use Rattle.hash_core.proofs.Quiet.{same_marks, same_section, same_hold, seats_same, section_back, section_forth, tickets_same, no_marks}
+use Rattle.hash_core.proofs.Quiet.{same_marks, same_section, same_hold, seats_same, section_back, section_forth, tickets_same, no_marks, seat_holds}
 use Rattle.hash_core.proofs.Whole.{SeatsRule, after_step, after_quiet}
 
 -- the parts on a class that read views, where another view has the same section
@@ -92,13 +92,8 @@ module _ (capacities : List ℕ) (places tickets : ℕ) (m : Memory) (vs : List 
   pub clean_still : (c : ℕ) (w : View) → w.section ≡ v.section → (b : Bucket) → (new : Option Hold)
       → ((hold : Hold) → new ≡ Some hold → hold.clear ≡ true → (s : ℕ) → is_slot_of capacities c s ≡ true → IsFreeOfReaders c h vs s)
       → AreClean capacities c h vs b → AreClean capacities c h (set vs id w) (record b { hold = new })
-  clean_still c w section b new clear clean = record {
-    free = all_map (IsFreeOfReaders c h vs) (IsFreeOfReaders c h (set vs id w)) b.free
-        (free_still capacities c m h vs id v w at section) clean.free;
-    moved = all_map (IsFreeOfReaders c h vs) (IsFreeOfReaders c h (set vs id w)) b.moved
-        (free_still capacities c m h vs id v w at section) clean.moved;
-    clear = λ hold is yes s of. free_still capacities c m h vs id v w at section s (clear hold is yes s of);
-  }
+  clean_still c w section b new = clean_by capacities c h h vs (set vs id w) b (record b { hold = new })
+      (free_still capacities c m h vs id v w at section) refl refl
 
   -- H6, where the lock was free
   module _ (c : ℕ) (small : c < 64) (quiet : IsQuiet v) (place : 1 ≤ v.places) (free : m (Lock c) ≡ 0) where
@@ -120,18 +115,8 @@ module _ (capacities : List ℕ) (places tickets : ℕ) (m : Memory) (vs : List 
 
     seats6 : SeatsRule capacities places tickets m6 (set vs id w6) h
     seats6 = seats_same capacities places tickets m vs h r id v w6 at m6
-        (record {
-          places = record { place = refl; places = refl; joined = refl };
-          tickets = refl;
-          sections = refl;
-          back = section_back v w6 refl;
-          forth = section_forth v w6 refl;
-          commit = refl;
-          kept = λ commit hold is held. (fresh_hold c, refl);
-          held = λ hold is. let e : fresh_hold c ≡ hold = cc in (subst (λ (z : Hold). z.class < 64) e small, place);
-          own = refl;
-          heard = refl;
-        }) refl refl
+        (seat_holds v (Some (fresh_hold c)) v.trail (λ commit hold is held. (fresh_hold c, refl))
+        (λ hold is. let e : fresh_hold c ≡ hold = cc in (subst (λ (z : Hold). z.class < 64) e small, place))) refl refl
 
     bucket6 : c < 64 → BucketRule capacities c m6 h (updates_of h) (set vs id w6) b6
     bucket6 _ =
@@ -204,18 +189,8 @@ module _ (capacities : List ℕ) (places tickets : ℕ) (m : Memory) (vs : List 
 
     seats7 : SeatsRule capacities places tickets m7 (set vs id w7) h
     seats7 = seats_same capacities places tickets m vs h r id v w7 at m7
-        (record {
-          places = record { place = refl; places = refl; joined = refl };
-          tickets = refl;
-          sections = refl;
-          back = section_back v w7 refl;
-          forth = section_forth v w7 refl;
-          commit = refl;
-          kept = λ commit held is mine. absurd (let z : Some commit ≡ None = sym is ∙ needs.even in cc);
-          held = λ other is. absurd (cc);
-          own = refl;
-          heard = refl;
-        }) refl refl
+        (seat_holds v None v.trail (λ commit held is mine. absurd (let z : Some commit ≡ None = sym is ∙ needs.even in cc))
+        (λ other is. absurd (cc))) refl refl
 
     bucket7 : hold.class < 64 → BucketRule capacities hold.class m7 h (updates_of h) (set vs id w7) b7
     bucket7 small =
@@ -374,18 +349,8 @@ module _ (capacities : List ℕ) (places tickets : ℕ) (m : Memory) (vs : List 
     pub law8 : MemoryRule capacities places tickets m (set vs id w8) h
     law8 = after_step capacities places tickets m vs h r id v w8 at m h
         (seats_same capacities places tickets m vs h r id v w8 at m
-        (record {
-          places = record { place = refl; places = refl; joined = refl };
-          tickets = refl;
-          sections = refl;
-          back = section_back v w8 refl;
-          forth = section_forth v w8 refl;
-          commit = refl;
-          kept = λ commit held is had. (new8, refl);
-          held = λ other is. let e : new8 ≡ other = cc in (subst (λ (z : Hold). z.class < 64) e (class_small hold mine), works hold mine);
-          own = refl;
-          heard = refl;
-        }) refl refl)
+        (seat_holds v (Some new8) v.trail (λ commit held is had. (new8, refl))
+        (λ other is. let e : new8 ≡ other = cc in (subst (λ (z : Hold). z.class < 64) e (class_small hold mine), works hold mine))) refl refl)
         hold.class (held_bucket hold new8)
         (holder_learns hold mine hold.known true v.seen (λ field number old. old field number)
         (λ small yes s of p j u section gone there inside class. absurd (no_section small j u section there inside class)))

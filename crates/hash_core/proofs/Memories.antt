@@ -1,13 +1,12 @@
 -- A store in a word of the table is a store in its field.
 use Rattle.std.proofs.Common.{◌≡◌, ℕ, ◌+◌, ◌*◌, ◌<◌, ◌≤◌, nat_le, ◌&&◌, Bool, true, false, cond, List, length, sum, set, slice_index, refl, sym, ap, subst, ◌∙◌, arith, eq-eqb, get_or-set_other, get_or-set_same}
-use Rattle.std.proofs.lemmas.Bool.{ltb-true, leb-true}
+use Rattle.std.proofs.lemmas.Bool.{ltb-true, leb-true, and_parts}
 use Rattle.hash_core.specs.declared.layout.TheConstants.{APART, CLASS_BASE, CLASS_WORDS}
 use Rattle.hash_core.specs.declared.words.Field.{Field}
 use Rattle.hash_core.specs.declared.words.Field.TheVariants.{Front, Lock, Readers, Head, Free, Retired, Key, Value, Next, Chain}
 use Rattle.hash_core.specs.Memory.{word_of, same_field, is_field, memory_of, stored}
 use Rattle.hash_core.specs.Slots.{word_count}
 use Rattle.hash_core.specs.Places.{NoPlaceIsShared, FieldsAreWithin, IsOwnWord, LinesAreOwn}
-use Rattle.hash_core.proofs.Classes.{and_true}
 use Rattle.hash_core.proofs.Stores.{same_is}
 
 -- where a field lies
@@ -24,7 +23,7 @@ Lies capacities (Next s) = (1 ≤ s) × (s ≤ sum capacities)
 Lies capacities (Chain s) = (1 ≤ s) × (s ≤ sum capacities)
 
 slot_lies : (capacities : List ℕ) (s : ℕ) → (nat_le 1 s && nat_le s (sum capacities)) ≡ true → (1 ≤ s) × (s ≤ sum capacities)
-slot_lies capacities s e = let both = and_true _ _ e in (leb-true 1 s both.0, leb-true s (sum capacities) both.1)
+slot_lies capacities s e = let both = and_parts _ _ e in (leb-true 1 s both.0, leb-true s (sum capacities) both.1)
 
 lies : (capacities : List ℕ) (field : Field) → is_field capacities field ≡ true → Lies capacities field
 lies capacities Front e = tt

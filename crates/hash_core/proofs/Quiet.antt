@@ -10,6 +10,7 @@ use Rattle.hash_core.specs.declared.view.Section.{Section}
 use Rattle.hash_core.specs.declared.view.Hold.{Hold}
 use Rattle.prcu_marks.specs.declared.commit.Commit.{Commit}
 use Rattle.hash_core.specs.declared.view.View.{View}
+use Rattle.hash_core.specs.declared.view.StepMade.{StepMade}
 use Rattle.list_laws.specs.Counts.{total}
 use Rattle.hash_core.specs.Memory.{Memory}
 use Rattle.prcu_marks.specs.Marks.{updates_of, own_of}
@@ -44,6 +45,23 @@ section_back v w same section is = (section, sym same ∙ is, refl, refl)
 pub section_forth : (v w : View) → w.section ≡ v.section → (section : Section) → v.section ≡ Some section
     → (new : Section) × (w.section ≡ Some new) × (open_of section ≡ open_of new)
 section_forth v w same section is = (section, same ∙ is, refl)
+
+-- where a step changes what the seat holds, and its trail
+pub seat_holds : (v : View) (new : Option Hold) (trail : List StepMade)
+    → ((commit : Commit) (hold : Hold) → v.commit ≡ Some commit → v.hold ≡ Some hold → (k : Hold) × (new ≡ Some k))
+    → ((hold : Hold) → new ≡ Some hold → (hold.class < 64) × (1 ≤ v.places)) → SameSeat v (record v { hold = new; trail = trail })
+seat_holds v new trail kept held = record {
+  places = record { place = refl; places = refl; joined = refl };
+  tickets = refl;
+  sections = refl;
+  back = section_back v v refl;
+  forth = section_forth v v refl;
+  commit = refl;
+  kept = kept;
+  held = held;
+  own = refl;
+  heard = refl;
+}
 
 pub no_marks : (p : ℕ) → own_of p [] ≡ []
 no_marks p = refl
@@ -97,18 +115,7 @@ law_stepped capacities places tickets m vs h r id v at kind field number =
     let w : View = stepped v kind field number in
     after_quiet capacities places tickets m vs h r id v w at m h
     (seats_same capacities places tickets m vs h r id v w at m
-    (record {
-      places = record { place = refl; places = refl; joined = refl };
-      tickets = refl;
-      sections = refl;
-      back = section_back v w refl;
-      forth = section_forth v w refl;
-      commit = refl;
-      kept = λ commit hold is held. (hold, held);
-      held = λ hold is. r.held.held id v hold at is;
-      own = refl;
-      heard = refl;
-    }) refl refl)
+    (seat_holds v v.hold w.trail (λ commit hold is held. (hold, held)) (λ hold is. r.held.held id v hold at is)) refl refl)
     (λ d small. record {
       words = same_words capacities d m;
       marks = same_marks capacities d h;

@@ -30,13 +30,13 @@ use Rattle.hash_core.specs.Seats.{open_of, AreOpen, IsTurned}
 use Rattle.hash_core.specs.Steps.{after_enter, after_leave, after_search_load, link_stand, searched, MayLoad}
 use Rattle.hash_core.specs.Rule.{BucketRule, MemoryRule}
 use Rattle.prcu_model.proofs.ListFacts.{all_map}
-use Rattle.list_laws.proofs.Lists.{at_below, at_one, each_set, total_set, total_part, all_change}
+use Rattle.list_laws.proofs.Lists.{at_below, at_one, each_set, total_set, total_part}
 use Rattle.hash_core.proofs.Paths.{path_cons, path_none, seek_here, seek_past}
 use Rattle.prcu_marks.proofs.MarkLists.{open_at-snoc, updates_of-append, entered_at-append}
 use Rattle.prcu_marks.proofs.LastUnlinked.{last_unlinked-below, last_unlinked-same}
 use Rattle.hash_core.proofs.MarkOrder.{marks_snoc}
 use Rattle.hash_core.proofs.Adds.{gone_at-same, reuse_more}
-use Rattle.hash_core.proofs.Frames.{SameMarks, SameSection, locked_same, still_said, still_answer, frame_ages_same}
+use Rattle.hash_core.proofs.Frames.{SameMarks, SameSection, locked_same, still_said, still_answer, frame_ages_same, clean_by}
 use Rattle.hash_core.proofs.Stores.{same_words, readers_words, stored_here, same_self}
 use Rattle.hash_core.proofs.SeatFrames.{open_in, seen_whole, apart_same, owned_more, held_still, turned_same}
 use Rattle.hash_core.proofs.Quiet.{same_marks, same_hold, seats_same, tickets_same}
@@ -63,14 +63,8 @@ pub clean_each : (capacities : List ℕ) (c : ℕ) (h h' : List Mark) (vs : List
     → ((s p : ℕ) (section : Section) → IsFreeOfReaders c h vs s → last_unlinked s h ≡ Some p → w.section ≡ Some section
     → section.key % 64 ≡ c → p < section.entered)
     → AreClean capacities c h vs b → AreClean capacities c h' (set vs id w) b
-clean_each capacities c h h' vs id w b same mine clean =
-    let each : (s : ℕ) → IsFreeOfReaders c h vs s → IsFreeOfReaders c h' (set vs id w) s =
-    λ s free. free_each c h h' vs id w s (same s) (λ p section. mine s p section free) free in
-    record {
-      free = all_change (IsFreeOfReaders c h vs) (IsFreeOfReaders c h' (set vs id w)) b.free (λ s _ p. each s p) clean.free;
-      moved = all_change (IsFreeOfReaders c h vs) (IsFreeOfReaders c h' (set vs id w)) b.moved (λ s _ p. each s p) clean.moved;
-      clear = λ hold is clear s of. each s (clean.clear hold is clear s of);
-    }
+clean_each capacities c h h' vs id w b same mine clean = clean_by capacities c h h' vs (set vs id w) b b
+    (λ s free. free_each c h h' vs id w s (same s) (λ p section. mine s p section free) free) refl refl clean.clear clean
 
 module _ (capacities : List ℕ) (places tickets : ℕ) (m : Memory) (vs : List View) (h : List Mark)
     (r : MemoryRule capacities places tickets m vs h) (id : ℕ) (v : View) (at : get_elem? vs id ≡ some v) where

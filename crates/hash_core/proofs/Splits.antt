@@ -36,7 +36,10 @@ module _ {A : Type 0} where
   each_split : (P : ℕ → A → Type 0) (vs : List A) (id : ℕ) (v w : A) → P id v → P (length (set vs id v)) w
       → ((j : ℕ) (u : A) → j ≢ id → get_elem? vs j ≡ some u → P j u)
       → (j : ℕ) (u : A) → get_elem? (set vs id v ++ w ∷ []) j ≡ some u → P j u
-  each_split P vs id v w first second others j u e = elim (at_end (set vs id v) w u j e) [ inl there ↦ each_set P vs id v first others j u there | inr new ↦ subst (λ (x : ℕ × A). P x.0 x.1) (λ i. (sym new.0 i, new.1 i)) second ]
+  each_split P vs id v w first second others j u e = elim (at_end (set vs id v) w u j e) [
+    | inl there ↦ each_set P vs id v first others j u there
+    | inr new ↦ subst (λ (x : ℕ × A). P x.0 x.1) (λ i. (sym new.0 i, new.1 i)) second
+  ]
 
 -- a place that left no marks entered no section
 no_entered : (p : ℕ) (h : List Mark) → own_of p h ≡ [] → entered_at p h ≡ 0
@@ -142,7 +145,10 @@ module _ (capacities : List ℕ) (places tickets : ℕ) (m : Memory) (vs : List 
     first_none q not_first =
         dite (dec_le (second1.place) q)
         (λ low. dite (dec_le (suc q) (second1.place + p)) (λ high. (second_own q (inl (low, high))).0)
-        (λ past. r.owned.none id v q at (λ a. elim (split_answers q a) [ inl f ↦ not_first f | inr s ↦ past (let below = (second_place q s).0.1 in let less = some_first in omega arith) ])))
+        (λ past. r.owned.none id v q at (λ a. elim (split_answers q a) [
+          | inl f ↦ not_first f
+          | inr s ↦ past (let below = (second_place q s).0.1 in let less = some_first in omega arith)
+        ])))
         (λ before. r.owned.none id v q at (λ a. elim (split_answers q a) [ inl f ↦ not_first f | inr s ↦ before (second_place q s).2 ]))
 
     owned1 : AreOwned places vs1 h
@@ -252,7 +258,10 @@ module _ (capacities : List ℕ) (places tickets : ℕ) (m : Memory) (vs : List 
 
   -- no third view answers for a place of the two
   not_third : (k q : ℕ) (u : View) → k ≢ id → k ≢ j → get_elem? vs k ≡ some u → AnswersFor u q → AnswersFor both2 q → ⊥
-  not_third k q u not_id not_j e third both = elim (from_both q both) [ inl mine ↦ not_id (r.apart.apart k id q u v e at third mine) | inr theirs ↦ not_j (r.apart.apart k j q u other e there third theirs) ]
+  not_third k q u not_id not_j e third both = elim (from_both q both) [
+    | inl mine ↦ not_id (r.apart.apart k id q u v e at third mine)
+    | inr theirs ↦ not_j (r.apart.apart k j q u other e there third theirs)
+  ]
 
   mine_seen : IsPrefix v.seen h
   mine_seen = r.seen.begins id v at
@@ -346,7 +355,10 @@ module _ (capacities : List ℕ) (places tickets : ℕ) (m : Memory) (vs : List 
   owned2 : AreOwned places vs2 h
   owned2 = record {
     own = λ k u q e a. each2 (λ l y. AnswersFor y q → own_of q h ≡ own_of q y.own)
-        (λ b. elim (from_both q b) [ inl mine ↦ r.owned.own id v q at mine ∙ sym (own_mine q mine) | inr theirs ↦ r.owned.own j other q there theirs ∙ sym (own_theirs q theirs) ])
+        (λ b. elim (from_both q b) [
+          | inl mine ↦ r.owned.own id v q at mine ∙ sym (own_mine q mine)
+          | inr theirs ↦ r.owned.own j other q there theirs ∙ sym (own_theirs q theirs)
+        ])
         (λ s. absurd (spent_none q s)) (λ l y _ _ g o. r.owned.own l y q g o) k u e a;
     met = λ k u q e a. each2 (λ l y. AnswersFor y q → own_of q y.seen ≡ own_of q y.own)
         (λ b. elim (from_both q b) [

@@ -21,24 +21,24 @@ use Rattle.hash_core.specs.Slots.{is_slot_of, IsOfClass}
 use Rattle.prcu_marks.specs.Marks.{updates_of, Open, open_at, gone_at, IsGone, last_unlinked}
 use Rattle.hash_core.specs.Marks.{ReuseByClass}
 use Rattle.hash_core.specs.Known.{known_in, knowing}
-use Rattle.hash_core.specs.Buckets.{Bucket, IsKnown, IsFreeOfReaders, taken_of, unlinked_of, moved_of, link_of}
+use Rattle.hash_core.specs.Buckets.{Bucket, IsKnown, IsFreeOfReaders, taken_of, unlinked_of, moved_of, link_of, AreClean}
 use Rattle.prcu_model.specs.Dictionary.{WasSaid}
 use Rattle.hash_core.specs.Readers.{AreAnswered, WillAnswer}
 use Rattle.hash_core.specs.Seats.{IsTurned}
 use Rattle.hash_core.specs.Steps.{NeedsTake, after_take, NeedsRefill, after_refill, NeedsMove, after_move, NeedsPush, after_push, NeedsChain, after_chain, IsFieldOf, NeedsWrite, after_write}
 use Rattle.hash_core.specs.Rule.{BucketRule, MemoryRule}
 use Rattle.prcu_model.proofs.ListFacts.{all_map}
-use Rattle.list_laws.proofs.Lists.{past_snoc, each_set, all_change, all_from_times, times_here}
+use Rattle.list_laws.proofs.Lists.{past_snoc, each_set, all_change, all_from_times, times_here, at_most_one}
 use Rattle.hash_core.proofs.Paths.{path_cons, path_none, IsPath-same, seek-same, HaveDistinctKeys-same}
 use Rattle.prcu_marks.proofs.MarkLists.{updates_of-append, entered_at-append}
 use Rattle.prcu_marks.proofs.LastUnlinked.{last_unlinked-same, last_gone}
 use Rattle.hash_core.proofs.MarkOrder.{marks_snoc}
 use Rattle.hash_core.proofs.Adds.{open_at-same, gone_at-given_here, gone_at-given_other}
-use Rattle.hash_core.proofs.Classes.{one_class, slot_within, at_most_one}
+use Rattle.hash_core.proofs.Classes.{one_class, slot_within}
 use Rattle.hash_core.proofs.Frames.{SameMarks, SameLists, free_slot, retired_slot, taken_slot, unlinked_slot}
 use Rattle.hash_core.proofs.Stores.{class_words, stored_here, same_self, same_is}
 use Rattle.hash_core.proofs.SeatFrames.{seen_whole, apart_same, owned_same, open_same, held_still, turned_same}
-use Rattle.hash_core.proofs.Quiet.{same_marks, seats_same, section_back, section_forth, tickets_same}
+use Rattle.hash_core.proofs.Quiet.{same_marks, seats_same, section_back, section_forth, tickets_same, seat_holds}
 use Rattle.hash_core.proofs.Locks.{counted_still, free_still, answered_still, holder_of, class_small, works, locked_by, elsewhere_held, clean_still}
 use Rattle.hash_core.proofs.Ways.{KeepsWays, will_still}
 use Rattle.hash_core.proofs.Whole.{SeatsRule, after_step}
@@ -100,21 +100,10 @@ module _ (capacities : List ℕ) (places tickets : ℕ) (m : Memory) (vs : List 
   seats_held new class m' front =
       let w : View = record v { hold = Some new } in
       seats_same capacities places tickets m vs h r id v w at m'
-      (record {
-        places = record { place = refl; places = refl; joined = refl };
-        tickets = refl;
-        sections = refl;
-        back = section_back v w refl;
-        forth = section_forth v w refl;
-        commit = refl;
-        kept = λ commit held is had_it. (new, refl);
-        held = λ other is. let e : new ≡ other = cc in (
-          subst (λ (z : Hold). z.class < 64) e (subst (λ z. z < 64) (sym class) small),
-          works capacities places tickets m vs h r id v at hold mine,
-        );
-        own = refl;
-        heard = refl;
-      }) refl front
+      (seat_holds v (Some new) v.trail (λ commit held is had_it. (new, refl)) (λ other is. let e : new ≡ other = cc in (
+        subst (λ (z : Hold). z.class < 64) e (subst (λ z. z < 64) (sym class) small),
+        works capacities places tickets m vs h r id v at hold mine,
+      ))) refl front
 
   -- readers' answers, where the slots on their ways stay
   answered_by : (w : View) → w.section ≡ v.section → (m' : Memory) (chain' : List ℕ)
@@ -137,6 +126,28 @@ module _ (capacities : List ℕ) (places tickets : ℕ) (m : Memory) (vs : List 
             (λ k z far e theirs. rule.answered.loaded k z section value e theirs class read) j u there is;
       }
 
+  -- slots that are to be free stay so, where it says nothing new of readers
+  clean_held : (new : Hold) → new.clear ≡ hold.clear → AreClean capacities hold.class h (set vs id (record v { hold = Some new }))
+      (record (r.bucket hold.class) { hold = Some new })
+  clean_held new same = clean_still capacities places tickets m vs h r id v at hold.class (record v { hold = Some new }) refl
+      (r.bucket hold.class) (Some new) (λ other is yes s of. let e : new ≡ other = cc in
+      rule.clean.clear hold had (sym same ∙ ap (λ (z : Hold). z.clear) e ∙ yes) s of) rule.clean
+
+  -- such a step that stores in a field of the class, by the rule of the bucket after it
+  held_law : (new : Hold) → new.class ≡ hold.class → (field : Field) (number : ℕ) → IsOfClass capacities hold.class field
+      → stored m field number Front ≡ m Front → (b : Bucket)
+      → BucketRule capacities hold.class (stored m field number) h (updates_of h) (set vs id (record v { hold = Some new })) b
+      → MemoryRule capacities places tickets (stored m field number) (set vs id (record v { hold = Some new })) h
+  held_law new class field number of front b bucket =
+      let w : View = record v { hold = Some new } in
+      let m' : Memory = stored m field number in
+      after_step capacities places tickets m vs h r id v w at m' h (seats_held new class m' front) hold.class b (λ _. bucket)
+      (λ d _ ne. record {
+        words = class_words capacities hold.class d m number ne field of;
+        marks = same_marks capacities d h;
+        view = elsewhere_held capacities places tickets m vs h r id v at d hold new mine class ne w refl refl refl;
+      })
+
   -- H10, refill
   module _ (slot : ℕ) (needs : NeedsRefill v hold slot) where
     abbrev new_refill : Hold
@@ -155,8 +166,7 @@ module _ (capacities : List ℕ) (places tickets : ℕ) (m : Memory) (vs : List 
     pub law_refill : MemoryRule capacities places tickets m_refill (set vs id (after_refill v hold slot)) h
     law_refill =
         let w : View = after_refill v hold slot in
-        after_step capacities places tickets m vs h r id v w at m_refill h (seats_held new_refill refl m_refill refl) hold.class b_refill
-        (λ _. record {
+        held_law new_refill refl (Free hold.class) slot refl refl b_refill (record {
           chained = record { path = rule.chained.path; classes = rule.chained.classes; distinct = rule.chained.distinct };
           listed = record {
             free = subst (λ z. IsPath (λ s. m (Chain s)) z (r.bucket hold.class).moved)
@@ -176,17 +186,9 @@ module _ (capacities : List ℕ) (places tickets : ℕ) (m : Memory) (vs : List 
             unlinked = λ s is. rule.ages.unlinked s (ap unlinked_of had ∙ is);
           };
           counted = record { readers = (counted_still capacities hold.class m h vs id v w at refl rule.counted).readers };
-          clean = (let still = clean_still capacities places tickets m vs h r id v at hold.class w refl (r.bucket hold.class)
-              (Some new_refill) (λ other is yes s of. let e : new_refill ≡ other = cc in
-              rule.clean.clear hold had (ap (λ (z : Hold). z.clear) e ∙ yes) s of) rule.clean in
-              record { free = still.moved; moved = tt; clear = still.clear });
+          clean = (let still = clean_held new_refill refl in record { free = still.moved; moved = tt; clear = still.clear });
           answered = answered_still capacities hold.class m h vs id v w at refl m_refill (r.bucket hold.class)
               (λ s _. (refl, refl, refl, refl)) rule.roles rule.answered;
-        })
-        (λ d _ ne. record {
-          words = class_words capacities hold.class d m slot ne (Free hold.class) refl;
-          marks = same_marks capacities d h;
-          view = elsewhere_held capacities places tickets m vs h r id v at d hold new_refill mine refl ne w refl refl refl;
         })
 
   -- H10, move
@@ -207,8 +209,7 @@ module _ (capacities : List ℕ) (places tickets : ℕ) (m : Memory) (vs : List 
     pub law_move : MemoryRule capacities places tickets m_move (set vs id (after_move v hold slot)) h
     law_move =
         let w : View = after_move v hold slot in
-        after_step capacities places tickets m vs h r id v w at m_move h (seats_held new_move refl m_move refl) hold.class b_move
-        (λ _. record {
+        held_law new_move refl (Retired hold.class) 0 refl refl b_move (record {
           chained = record { path = rule.chained.path; classes = rule.chained.classes; distinct = rule.chained.distinct };
           listed = record {
             free = rule.listed.free;
@@ -241,11 +242,6 @@ module _ (capacities : List ℕ) (places tickets : ℕ) (m : Memory) (vs : List 
           answered = answered_still capacities hold.class m h vs id v w at refl m_move (r.bucket hold.class)
               (λ s _. (refl, refl, refl, refl)) rule.roles rule.answered;
         })
-        (λ d _ ne. record {
-          words = class_words capacities hold.class d m 0 ne (Retired hold.class) refl;
-          marks = same_marks capacities d h;
-          view = elsewhere_held capacities places tickets m vs h r id v at d hold new_move mine refl ne w refl refl refl;
-        })
 
   -- H10, push
   module _ (slot first : ℕ) (needs : NeedsPush v hold slot first) where
@@ -264,8 +260,7 @@ module _ (capacities : List ℕ) (places tickets : ℕ) (m : Memory) (vs : List 
     pub law_push : MemoryRule capacities places tickets m_push (set vs id (after_push v hold slot)) h
     law_push =
         let w : View = after_push v hold slot in
-        after_step capacities places tickets m vs h r id v w at m_push h (seats_held new_push refl m_push refl) hold.class b_push
-        (λ _. record {
+        held_law new_push refl (Retired hold.class) slot refl refl b_push (record {
           chained = record { path = rule.chained.path; classes = rule.chained.classes; distinct = rule.chained.distinct };
           listed = record {
             free = rule.listed.free;
@@ -290,17 +285,9 @@ module _ (capacities : List ℕ) (places tickets : ℕ) (m : Memory) (vs : List 
             unlinked = λ s is. absurd (cc);
           };
           counted = record { readers = (counted_still capacities hold.class m h vs id v w at refl rule.counted).readers };
-          clean = (let still = clean_still capacities places tickets m vs h r id v at hold.class w refl (r.bucket hold.class)
-              (Some new_push) (λ other is yes s of. let e : new_push ≡ other = cc in
-              rule.clean.clear hold had (ap (λ (z : Hold). z.clear) e ∙ yes) s of) rule.clean in
-              record { free = still.free; moved = still.moved; clear = still.clear });
+          clean = (let still = clean_held new_push refl in record { free = still.free; moved = still.moved; clear = still.clear });
           answered = answered_still capacities hold.class m h vs id v w at refl m_push (r.bucket hold.class)
               (λ s _. (refl, refl, refl, refl)) rule.roles rule.answered;
-        })
-        (λ d _ ne. record {
-          words = class_words capacities hold.class d m slot ne (Retired hold.class) refl;
-          marks = same_marks capacities d h;
-          view = elsewhere_held capacities places tickets m vs h r id v at d hold new_push mine refl ne w refl refl refl;
         })
 
   -- H10, chain
@@ -326,9 +313,7 @@ module _ (capacities : List ℕ) (places tickets : ℕ) (m : Memory) (vs : List 
     pub law_chain : MemoryRule capacities places tickets m_chain (set vs id (after_chain v hold slot number)) h
     law_chain =
         let w : View = after_chain v hold slot number in
-        after_step capacities places tickets m vs h r id v w at m_chain h (seats_held new_chain refl m_chain refl) hold.class
-        (record (r.bucket hold.class) { hold = Some new_chain })
-        (λ _. record {
+        held_law new_chain refl (Chain slot) number slot_of_chain refl (record (r.bucket hold.class) { hold = Some new_chain }) (record {
           chained = record { path = rule.chained.path; classes = rule.chained.classes; distinct = rule.chained.distinct };
           listed = record {
             free = IsPath-same (λ s. m (Chain s)) (λ s. m_chain (Chain s)) (m (Free hold.class)) (r.bucket hold.class).free
@@ -357,9 +342,7 @@ module _ (capacities : List ℕ) (places tickets : ℕ) (m : Memory) (vs : List 
             unlinked = λ s is. rule.ages.unlinked s (ap unlinked_of had ∙ is);
           };
           counted = record { readers = (counted_still capacities hold.class m h vs id v w at refl rule.counted).readers };
-          clean = clean_still capacities places tickets m vs h r id v at hold.class w refl (r.bucket hold.class) (Some new_chain)
-              (λ other is yes s of. let e : new_chain ≡ other = cc in
-              rule.clean.clear hold had (ap (λ (z : Hold). z.clear) e ∙ yes) s of) rule.clean;
+          clean = clean_held new_chain refl;
           answered = answered_by w refl m_chain (r.bucket hold.class).chain (λ section. record {
             linked = λ t _. (refl, refl, refl);
             old = λ t _ _. (refl, refl, refl);
@@ -367,11 +350,6 @@ module _ (capacities : List ℕ) (places tickets : ℕ) (m : Memory) (vs : List 
             joins = λ front rest e. (front, e);
             said = λ answer s. s;
           });
-        })
-        (λ d _ ne. record {
-          words = class_words capacities hold.class d m number ne (Chain slot) slot_of_chain;
-          marks = same_marks capacities d h;
-          view = elsewhere_held capacities places tickets m vs h r id v at d hold new_chain mine refl ne w refl refl refl;
         })
 
   -- H11
@@ -427,9 +405,7 @@ module _ (capacities : List ℕ) (places tickets : ℕ) (m : Memory) (vs : List 
         let c : ℕ = hold.class in
         let chain : List ℕ = (r.bucket hold.class).chain in
         let (words, head) = words11 field f c in
-        after_step capacities places tickets m vs h r id v w at m11 h (seats_held new11 refl m11 words.front) hold.class
-        (record (r.bucket hold.class) { hold = Some new11 })
-        (λ _. record {
+        held_law new11 refl field number (of_class11 field f) words.front (record (r.bucket hold.class) { hold = Some new11 }) (record {
           chained = record {
             path = subst (λ z. IsPath (λ s. m11 (Next s)) z chain) (sym head)
                 (IsPath-same (λ s. m (Next s)) (λ s. m11 (Next s)) (m (Head c)) chain
@@ -464,9 +440,7 @@ module _ (capacities : List ℕ) (places tickets : ℕ) (m : Memory) (vs : List 
             unlinked = λ s is. rule.ages.unlinked s (ap unlinked_of had ∙ is);
           };
           counted = record { readers = words.readers ∙ (counted_still capacities c m h vs id v w at refl rule.counted).readers };
-          clean = clean_still capacities places tickets m vs h r id v at c w refl (r.bucket c) (Some new11)
-              (λ other is yes s of. let e : new11 ≡ other = cc in
-              rule.clean.clear hold had (ap (λ (z : Hold). z.clear) e ∙ yes) s of) rule.clean;
+          clean = clean_held new11 refl;
           answered = answered_by w refl m11 chain (λ section. record {
             linked = λ t there. else11 field f t (linked11 t there);
             old = λ t _ held. else11 field f t (λ e. absurd
@@ -477,11 +451,6 @@ module _ (capacities : List ℕ) (places tickets : ℕ) (m : Memory) (vs : List 
             joins = λ front rest e. (front, e);
             said = λ answer s. s;
           });
-        })
-        (λ d _ ne. record {
-          words = class_words capacities hold.class d m number ne field (of_class11 field f);
-          marks = same_marks capacities d h;
-          view = elsewhere_held capacities places tickets m vs h r id v at d hold new11 mine refl ne w refl refl refl;
         })
 
   -- H10, take

@@ -30,10 +30,10 @@ use Rattle.hash_core.specs.Readers.{WillAnswer, IsHeldBack, HasWay}
 use Rattle.hash_core.specs.Steps.{LinksTo, NeedsUnlink, after_unlink}
 use Rattle.hash_core.specs.Rule.{BucketRule, MemoryRule}
 use Rattle.prcu_model.proofs.ListFacts.{all_append, all_map}
-use Rattle.list_laws.proofs.Lists.{all_change, all_times, all_from_times, times_here, times_append}
+use Rattle.list_laws.proofs.Lists.{all_change, all_times, all_from_times, times_here, times_append, at_most_one}
 use Rattle.hash_core.proofs.Paths.{IsPath-same, path_cons, seek-same, seek_here, seek_past, seek_append, HaveDistinctKeys-same}
 use Rattle.prcu_marks.proofs.MarkLists.{updates_of-append, entered_at-append}
-use Rattle.hash_core.proofs.Classes.{one_class, at_most_one}
+use Rattle.hash_core.proofs.Classes.{one_class}
 use Rattle.prcu_marks.proofs.LastUnlinked.{last_unlinked-same, last_unlinked-other}
 use Rattle.hash_core.proofs.MarkOrder.{marks_snoc}
 use Rattle.hash_core.proofs.Adds.{open_at-same, gone_at-same, gone_at-unlinked_here, gone_at-unlinked_other, reuse_more}

@@ -1,6 +1,9 @@
 -- The steps as values: the word of each, what it does to the number there, what it needs, the view after it, and its marks.
 -- Source: docs/HASH_DICTIONARY.md, "The steps of the hash dictionary".
-use Rattle.std.specs.Prelude.{◌≡◌, ℕ, ◌+◌, ◌-◌, ◌%◌, ◌^◌, ◌<◌, ◌==◌, if◌then◌else◌, false, List, [], ◌∷◌, Option, Some, None}
+use Rattle.std.specs.Prelude.{◌≡◌, ℕ, ◌+◌, ◌%◌, ◌^◌, ◌<◌, false, List, [], ◌∷◌, Some, None, unwrap_or}
+use Rattle.prcu_marks.specs.Accesses.{left_by, said_by}
+use Rattle.prcu_marks.specs.declared.access.Access.{Access}
+use Rattle.prcu_marks.specs.declared.access.Access.TheVariants.{Load, Store, Exchange, Add, Subtract}
 use Rattle.prcu_marks.specs.declared.commit.Commit.{Commit}
 use Rattle.prcu_marks.specs.declared.mark.Mark.{Mark}
 use Rattle.prcu_marks.specs.declared.mark.Mark.TheVariants.{Entered, Left, Given, Unlinked}
@@ -20,18 +23,14 @@ use Rattle.hash_core.specs.Steps.{stepped, IsQuiet, fresh_hold, after_enter, aft
 use Rattle.hash_core.specs.Kinds.{done_by}
 
 -- What a view has open, or anything where it has nothing open: an act that needs it says that it is there.
-abbrev pub or_else : {A : Type 0} → A → Option A → A
-or_else none None = none
-or_else none (Some a) = a
-
 abbrev pub section_of : View → Section
-section_of v = or_else (record { key = 0; count = 0; entered = 0; from = 0; state = Start; loaded = None }) v.section
+section_of v = unwrap_or v.section (record { key = 0; count = 0; entered = 0; from = 0; state = Start; loaded = None })
 
 abbrev pub hold_of : View → Hold
-hold_of v = or_else (fresh_hold 0) v.hold
+hold_of v = unwrap_or v.hold (fresh_hold 0)
 
 abbrev pub commit_of : View → Commit
-commit_of v = or_else (record { found = 0; stored = false }) v.commit
+commit_of v = unwrap_or v.commit (record { found = 0; stored = false })
 
 -- the kind of step by which the laws know it
 abbrev pub kind_of : Act → Kind
@@ -77,44 +76,24 @@ field_of v (UnlinkSlot link slot key next) = link
 field_of v (ReplaceValue slot key value) = word.Value slot
 field_of v (CloseCommit front) = word.Front
 
--- what an access does: an exchange stores the second number where it finds the first
-pub data Access : Type 0 where
-  loads : Access
-  stores : ℕ → Access
-  exchanges : ℕ → ℕ → Access
-  adds : ℕ → Access
-  subtracts : ℕ → Access
-
+-- what it does to the number there
 abbrev pub access_of : View → Act → Access
-access_of v (Enter key) = adds 1
-access_of v Leave = subtracts 1
-access_of v (Lock class) = exchanges 0 (v.place + 1)
-access_of v Unlock = stores 0
-access_of v (TakeSlot slot next) = stores next
-access_of v (TakeRetired slot) = stores 0
-access_of v (FreeRetired slot) = stores slot
-access_of v (StoreChain slot number) = stores number
-access_of v (Retire slot) = stores slot
-access_of v (Fill field number) = stores number
-access_of v (OpenCommit even) = exchanges even (even + 1)
-access_of v (LinkSlot slot key value) = stores slot
-access_of v (UnlinkSlot link slot key next) = stores next
-access_of v (ReplaceValue slot key value) = stores value
-access_of v (CloseCommit front) = stores front
-access_of v _ = loads
-
--- the number that it leaves where it finds one
-abbrev pub left_by : Access → ℕ → ℕ
-left_by loads n = n
-left_by (stores x) n = x
-left_by (exchanges old new) n = if n == old then new else n
-left_by (adds x) n = n + x
-left_by (subtracts x) n = n - x
-
--- the number that it tells: the one found, or stored where it is a store
-abbrev pub said_by : Access → ℕ → ℕ
-said_by (stores x) n = x
-said_by _ n = n
+access_of v (Enter key) = Add 1
+access_of v Leave = Subtract 1
+access_of v (Lock class) = Exchange 0 (v.place + 1)
+access_of v Unlock = Store 0
+access_of v (TakeSlot slot next) = Store next
+access_of v (TakeRetired slot) = Store 0
+access_of v (FreeRetired slot) = Store slot
+access_of v (StoreChain slot number) = Store number
+access_of v (Retire slot) = Store slot
+access_of v (Fill field number) = Store number
+access_of v (OpenCommit even) = Exchange even (even + 1)
+access_of v (LinkSlot slot key value) = Store slot
+access_of v (UnlinkSlot link slot key next) = Store next
+access_of v (ReplaceValue slot key value) = Store value
+access_of v (CloseCommit front) = Store front
+access_of v _ = Load
 
 -- the view with the step in its trail
 abbrev pub noted : View → Act → ℕ → View

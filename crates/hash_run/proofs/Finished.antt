@@ -27,24 +27,12 @@ use Rattle.class_hash.specs.Answers.{IsInformed}
 use Rattle.class_hash.specs.Seats.{TableAt}
 use Rattle.class_hash.specs.Clients.{ClientAt, caller_of, HasCalled, ExplainsInClasses}
 use Rattle.class_hash.proofs.Clients.{chain_has_told, calls_stay}
+use Rattle.class_hash.proofs.Informed.{new_informed}
 use Rattle.hash_run.specs.Capacities.{put_keys, AreCapacities}
 use Rattle.client_run.specs.Crews.{IsCrew, AreDone, HaveMet, HaveRun}
 use Rattle.client_run.proofs.Crews.{mapped_at, some_there, entries_are, crew_ready, chain_of, crew_keeps, crew_has_told}
-use Rattle.hash_run.specs.Crews.{idle_view, client_for, IsDone, IsJoined, StandsFor, all_own}
+use Rattle.hash_run.specs.Crews.{client_for, IsDone, IsJoined, StandsFor, all_own}
 use Rattle.hash_run.proofs.Roomy.{PutsInto, each_put_there, all_stand, all_from_own, told_from_lines, all_lines_from_ops, at_number}
-
--- a seat that has done nothing is informed
-idle_informed : (capacities : List ℕ) (places place tickets : ℕ) → IsInformed capacities places (idle_view place 1 tickets)
-idle_informed capacities places place tickets = record {
-  works = omega arith;
-  heard = tt;
-  legal = tt;
-  marks = record { entered = λ j p c x e. absurd (cc); left = λ j p c e. absurd (cc); others = λ j m e. absurd (cc) };
-  reuse = λ j s c i p o given. absurd (cc);
-  met = λ p answers. refl;
-  unused = λ p has far. refl;
-  within = λ p far. refl;
-}
 
 pub ready : (table : TableAt) (scripts : List (List Op)) (workers : List (Work ClientAt)) → IsCrew (client_for table) scripts workers
     → AreReadyFor (λ (c : ClientAt). c.view.tickets) workers scripts
@@ -65,7 +53,7 @@ module _ (table : TableAt) (scripts : List (List Op)) (befores afters : List (Wo
         table_is = refl;
         place = refl;
         one_place = refl;
-        informed = idle_informed table.capacities table.places i (length (get_or scripts i []));
+        informed = new_informed table.capacities table.places i 1 (length (get_or scripts i [])) (omega arith);
       })
       (λ i c op told d so call.
       let stays = calls_stay c.table.capacities c.view d.view op told call.makes in record {

@@ -330,7 +330,10 @@ module _ (P : Op → Type 0) where
       → AllByRecursion (λ (q : Placed). P q.op) (told_updates lines)
   told_from_lines [] all = tt
   told_from_lines (line ∷ lines) all = let rest = told_from_lines lines all.1 in
-      elim (tells_update line.reply) as (λ b. AllByRecursion (λ (q : Placed). P q.op) (cond b (record { position = line.number; op = line.op } ∷ told_updates lines) (told_updates lines))) [ true ↦ (all.0, rest) | false ↦ rest ]
+      elim (tells_update line.reply) as (λ b. AllByRecursion (λ (q : Placed). P q.op) (cond b (record { position = line.number; op = line.op } ∷ told_updates lines) (told_updates lines))) [
+        | true ↦ (all.0, rest)
+        | false ↦ rest
+      ]
 
   lines_from_ops : (ops : List Op) (tolds : List Told) → AllByRecursion P ops
       → AllByRecursion (λ (line : Line). P line.op) (told_lines ops tolds)

@@ -1,5 +1,5 @@
 -- Lists of views, and of numbers of slots and places.
-use Rattle.std.proofs.Common.{◌≡◌, ◌≢◌, ℕ, zero, suc, ◌+◌, ◌<◌, ◌≤◌, ◌⊎◌, cond, List, [], ◌∷◌, ◌++◌, length, map, take, set, refl, sym, ap, subst, ◌∙◌, ⊎_elim, inl, inr, arith, eq-eqb, ne_eqb}
+use Rattle.std.proofs.Common.{◌≡◌, ◌≢◌, ℕ, zero, suc, ◌+◌, ◌<◌, ◌≤◌, ◌⊎◌, Bool, true, false, cond, List, [], ◌∷◌, ◌++◌, length, map, take, set, refl, sym, ap, subst, ◌∙◌, ⊎_elim, inl, inr, arith, eq-eqb, ne_eqb}
 use Rattle.std.specs.List.{AllByRecursion}
 use Rattle.std.proofs.Math.Seq.{take-append_seam}
 use Rattle.std.proofs.lemmas.List.{take-append-le}
@@ -95,6 +95,11 @@ module _ {A : Type 0} where
   pub in_second : (xs ys : List A) (a : A) → IsIn ys a → IsIn (xs ++ ys) a
   in_second [] ys a i = i
   in_second (x ∷ xs) ys a i = let r = in_second xs ys a i in (suc r.0, r.1)
+
+-- a number that is 1 or 0 by a test
+pub at_most_one : (test : Bool) (n : ℕ) → n ≡ cond test 1 0 → n ≤ 1
+at_most_one true n e = omega arith
+at_most_one false n e = omega arith
 
 -- how often numbers stand in lists
 pub times_append : (x : ℕ) (ys zs : List ℕ) → times x (ys ++ zs) ≡ times x ys + times x zs

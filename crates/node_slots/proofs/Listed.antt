@@ -5,6 +5,7 @@ use Rattle.core_state.specs.declared.view.Retired.{Retired}
 use Rattle.list_laws.specs.Counts.{times, IsIn}
 use Rattle.list_laws.proofs.Lists.{times_here, times_other, times_in}
 use Rattle.seat_table.specs.Seats.{SeatAt, AreListed}
+use Rattle.tree_points.proofs.Ends.{slots_length}
 
 -- the list without the first of its elements that are this number
 abbrev drop_one : ℕ → List ℕ → List ℕ
@@ -48,10 +49,6 @@ same_length (x ∷ xs) ys same =
     let rest = same_length xs (drop_one x ys) (λ t. let a = same t in let b = drop_times x ys least t in omega arith) in
     let long = drop_length x ys least in
     omega arith
-
-slots_length : (rs : List Retired) → length (map (λ (r : Retired). r.slot) rs) ≡ length rs
-slots_length [] = refl
-slots_length (r ∷ rs) = ap suc (slots_length rs)
 
 -- as many are listed as are retired
 pub listed_length : (s : SeatAt) → AreListed s → length s.listed ≡ length s.view.hands.retired

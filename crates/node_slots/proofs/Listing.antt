@@ -1,6 +1,6 @@
 -- Listed slots that go back, one after another.
 use Rattle.std.specs.List.{AllByRecursion}
-use Rattle.std.proofs.Common.{◌≡◌, ◌≢◌, ℕ, zero, suc, ◌-◌, ◌≤◌, not, cond, List, [], ◌∷◌, ◌++◌, length, Some, None, refl, sym, ap, subst, ◌∙◌, ⊎_elim, inl, inr, arith, eq-eqb, ne_eqb, append_assoc, append-nil}
+use Rattle.std.proofs.Common.{◌≡◌, ◌≢◌, ℕ, zero, suc, ◌-◌, ◌≤◌, not, cond, List, [], ◌∷◌, ◌++◌, length, Option, Some, None, refl, sym, ap, subst, ◌∙◌, ⊎_elim, inl, inr, arith, eq-eqb, ne_eqb, append_assoc, append-nil}
 use mathlib.Core.List.{IsPrefix}
 use Rattle.prcu_model.proofs.ListFacts.{prefix_trans}
 use Rattle.std.proofs.lemmas.Bool.{cases_eq}
@@ -101,27 +101,22 @@ returning w z = record z {
   seen = w.seen;
 }
 
+returning_of : (u w : View) {spare : Option Held} {retired : List Retired} {free : Option ℕ} → w ≡ record u {
+  hands = record u.hands { spare = spare; retired = retired };
+  latest = record u.latest { free = free };
+  trail = w.trail;
+  seen = w.seen;
+} → w ≡ returning w u
+returning_of u w is = is ∙ (λ i. record u {
+  hands = record u.hands { spare = ap (λ (z : View). z.hands.spare) (sym is) i; retired = ap (λ (z : View). z.hands.retired) (sym is) i };
+  latest = record u.latest { free = ap (λ (z : View). z.latest.free) (sym is) i };
+  trail = w.trail;
+  seen = w.seen;
+})
+
 returned_is : (u : View) (s : ℕ) (w : View) → Returns u s w → (w ≡ returning w u) × (w.hands.retired ≡ without_retired s u.hands.retired)
-returned_is u s w (inl r) = (
-  r.rest ∙ (λ i. record u {
-    hands = record u.hands
-        { spare = ap (λ (z : View). z.hands.spare) (sym r.rest) i; retired = ap (λ (z : View). z.hands.retired) (sym r.rest) i };
-    latest = record u.latest { free = ap (λ (z : View). z.latest.free) (sym r.rest) i };
-    trail = w.trail;
-    seen = w.seen;
-  }),
-  ap (λ (z : View). z.hands.retired) r.rest,
-)
-returned_is u s w (inr r) = (
-  r.rest ∙ (λ i. record u {
-    hands = record u.hands
-        { spare = ap (λ (z : View). z.hands.spare) (sym r.rest) i; retired = ap (λ (z : View). z.hands.retired) (sym r.rest) i };
-    latest = record u.latest { free = ap (λ (z : View). z.latest.free) (sym r.rest) i };
-    trail = w.trail;
-    seen = w.seen;
-  }),
-  ap (λ (z : View). z.hands.retired) r.rest,
-)
+returned_is u s w (inl r) = (returning_of u w r.rest, ap (λ (z : View). z.hands.retired) r.rest)
+returned_is u s w (inr r) = (returning_of u w r.rest, ap (λ (z : View). z.hands.retired) r.rest)
 
 -- the mark that it leaves, and the spare then
 abbrev Marked : View → List ℕ → View → List ℕ → View → Type 0

@@ -16,7 +16,7 @@ use Rattle.seat_table.proofs.Sections.{seen_more}
 use Rattle.node_slots.specs.Reclaiming.{LeavesEach, return_marks, first_spare}
 
 -- a mark is left by whoever has seen this much, and may work so
-leaves_same : (v u w : View) (mark : Mark) → u.allowance ≡ v.allowance → u.seen ≡ v.seen → Leaves u mark w → Leaves v mark w
+pub leaves_same : (v u w : View) (mark : Mark) → u.allowance ≡ v.allowance → u.seen ≡ v.seen → Leaves u mark w → Leaves v mark w
 leaves_same v u w mark allowance seen leaves =
     let s = leaves.seen in
     let mid : Sees (record v { allowance = u.allowance; seen = u.seen }) leaves.before =

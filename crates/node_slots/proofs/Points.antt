@@ -37,9 +37,11 @@ use Rattle.node_slots.specs.Slots.{aged, next_life, renewing, PutsBack}
 use Rattle.node_slots.specs.Taking.{HasTaken, FoundNone, TriesBy}
 use Rattle.node_slots.specs.Reclaiming.{first_spare, HasReclaimed}
 
-least_two : (retired : List ℕ) (spot : Spot) → 2 ≤ owed_reserve (Leaf spot) retired
-least_two [] spot = omega arith
-least_two (s ∷ ss) spot = omega arith
+least_two : (aim : Aim) (retired : List ℕ) → 2 ≤ owed_reserve aim retired
+least_two (Leaf spot) [] = omega arith
+least_two (Leaf spot) (s ∷ ss) = omega arith
+least_two Spare retired = omega arith
+least_two Room retired = omega arith
 
 three_left : (retired : List ℕ) (spot : Spot) → is_none_left retired ≡ false → owed_reserve (Leaf spot) retired ≡ 3
 three_left [] spot e = cc
@@ -52,16 +54,12 @@ pub record MayTake (v : View) : Type 0 where
   pub ticket : 1 ≤ v.allowance.tickets
 
 pub may_take : {k : Shape} {op : Op} {kept e : ℕ} {aim : Aim} {v : View} → IsAt k op kept (at.Reserve aim e) v → MayTake v
-may_take {e = e} {aim = aim} {v = v} a = by aim a.fits
-  where
-    by : (aim : Aim) → Fits a.own (at.Reserve aim e) v → MayTake v
-    by (Leaf spot) f = let p = f.point in record {
-      unreserved = (p.1).reserved_is;
-      empty = p.2;
-      ticket = (let t = f.tickets in let two = least_two a.own.retired spot in omega arith);
+may_take {aim = aim} a =
+    let i = a.fits.point.idle in record {
+      unreserved = i.bare.reserved_is;
+      empty = i.empty;
+      ticket = (let t = a.fits.tickets in let two = least_two aim a.own.retired in omega arith);
     }
-    by Spare f = let i = (f.point).0 in record { unreserved = (i.1).reserved_is; empty = i.2; ticket = (let t = f.tickets in omega arith) }
-    by Room f = absurd f.point
 
 -- A take makes steps.
 pub tries_further : (k : Shape) (v w : View) (looked now : ℕ) (t : Taken) → TriesBy k v looked t w now
@@ -104,13 +102,22 @@ module _ {slot generation : ℕ} {v w : View} (taken : HasTaken v slot generatio
       let o : Own = a.own in
       let f = a.fits in
       let p = f.point in
+      let i = p.idle in
       let o' : Own = go (record o { hand = Some slot; hand_life = life }) (at.LeafField spot 0) in
-      let b = bare_noted v slot (Life slot) life false [] [] None false p.1 refl in
       let fits : Fits o' (at.LeafField spot 0) after_taking = record {
         owns = owns_noted o v slot (Life slot) life false f.owns;
-        tickets = (let t = f.tickets in let two = least_two o.retired spot in omega arith);
+        tickets = (let t = f.tickets in let two = least_two (Leaf spot) o.retired in omega arith);
         unraised = λ z. f.unraised refl;
-        point = (p.0, b, (slot, refl, refl), p.5, p.6, omega arith);
+        point = record {
+          outside = i.outside;
+          bare = bare_noted v slot (Life slot) life false [] [] None false i.bare refl;
+          slot = slot;
+          taken = refl;
+          in_hand = refl;
+          has_spot = (p.takes).0;
+          puts = (p.takes).1;
+          small = omega arith;
+        };
       } in
       moves_on a o' refl (subst (Fits o' (at.LeafField spot 0)) (sym taken.rest) fits)
 
@@ -118,15 +125,20 @@ module _ {slot generation : ℕ} {v w : View} (taken : HasTaken v slot generatio
   takes_spare a =
       let o : Own = a.own in
       let f = a.fits in
-      let p = f.point in
-      let i = p.0 in
+      let i = (f.point).idle in
       let o' : Own = go (record o { hand = Some slot; hand_life = life }) (at.Keep slot) in
-      let b = bare_noted v slot (Life slot) life false [] [] None false i.1 refl in
       let fits : Fits o' (at.Keep slot) after_taking = record {
         owns = owns_noted o v slot (Life slot) life false f.owns;
         tickets = (let t = f.tickets in omega arith);
         unraised = λ z. f.unraised refl;
-        point = (i.0, b, (aged slot life, refl, refl), p.2, p.3, p.4);
+        point = record {
+          outside = i.outside;
+          bare = bare_noted v slot (Life slot) life false [] [] None false i.bare refl;
+          held = aged slot life;
+          in_hand = refl;
+          slot_is = refl;
+          lacks = (f.point).takes;
+        };
       } in
       moves_on a o' refl (subst (Fits o' (at.Keep slot)) (sym taken.rest) fits)
 
@@ -147,19 +159,19 @@ module _ {k : Shape} {v w : View} (none : FoundNone k v w) where
 
   -- A put answers Full, where nothing is retired; then the dictionary is as large as that asks for.
   pub none_is_full : {op : Op} {kept e : ℕ} {spot : Spot} → IsAt k op kept (at.Reserve (Leaf spot) e) v → IsFull k w
-  none_is_full a = let b = (a.fits.point).1 in none.full b.settled b.paid
+  none_is_full a = let b = a.fits.point.idle.bare in none.full b.settled b.paid
 
   pub none_ends : {op : Op} {kept e : ℕ} {spot : Spot} → IsAt k op kept (at.Reserve (Leaf spot) e) v → IsDone k op kept w
   none_ends {spot = spot} a =
       let o : Own = a.own in
       let f = a.fits in
-      let p = f.point in
+      let i = (f.point).idle in
       let o' : Own = go o at.Finished in
       let fits : Fits o' at.Finished after_none = record {
         owns = f.owns;
         tickets = (let t = f.tickets in omega arith);
         unraised = λ z. f.unraised refl;
-        point = (p.0, p.1, p.2);
+        point = (i.outside, i.bare, i.empty);
       } in
       moves_on a o' refl (subst (Fits o' at.Finished) (sym none.rest) fits)
 
@@ -176,7 +188,7 @@ module _ {k : Shape} {v w : View} (none : FoundNone k v w) where
         tickets = (let t = f.tickets in let three = three_left o.retired spot
             (none_retired v.hands.retired o.retired f.owns.retired_are some) in omega arith);
         unraised = λ z. f.unraised refl;
-        point = ((p.0, p.1, p.2, p.3), (p.5, p.6));
+        point = (p.idle, p.takes);
       } in
       moves_on a o' refl (subst (Fits o' (at.Begin (Reuse (Leaf spot)))) (sym none.rest) fits)
 
@@ -190,7 +202,7 @@ module _ {k : Shape} {v w : View} (none : FoundNone k v w) where
         owns = f.owns;
         tickets = f.tickets;
         unraised = λ z. f.unraised refl;
-        point = (p.0, p.2);
+        point = (p.idle, (p.takes).deletes);
       } in
       moves_on a o' refl (subst (Fits o' (at.Begin (Reuse Spare))) (sym none.rest) fits)
 
@@ -204,8 +216,8 @@ may_put_back {v = v} a =
     let o : Own = a.own in
     let p = a.fits.point in
     let calm = p.2 in
-    let leaf = subst (λ x. HandFits x o.hand_life (key_now o) (value_in o.op) v.hands.hand) (p.1).1 calm.1 in
-    record { paid = (calm.0).paid; hand = (leaf.0, leaf.1, (leaf.2).unraised) }
+    let leaf = subst (λ x. HandFits x o.hand_life (key_now o) (value_in o.op) v.hands.hand) (p.1).1 calm.hand in
+    record { paid = (calm.bare).paid; hand = (leaf.0, leaf.1, (leaf.2).unraised) }
 
 module _ {slot : ℕ} {v w : View} (back : PutsBack v slot w) where
   pub back_gone : HasGone v w []
@@ -243,7 +255,7 @@ module _ {slot : ℕ} {v w : View} (back : PutsBack v slot w) where
         seen = w.seen;
       }) in
       let o' : Own = go (record o { hand = None }) at.Finished in
-      let b1 = bare_noted v slot (Life slot) life false [] [] None false (p.2).0 refl in
+      let b1 = bare_noted v slot (Life slot) life false [] [] None false (p.2).bare refl in
       let b2 = bare_noted first slot (Life slot) (next_life life) true [] [] None false b1 refl in
       let fits : Fits o' at.Finished last = record {
         owns = owns_noted o first slot (Life slot) (next_life life) true (owns_noted o v slot (Life slot) life false f.owns);
@@ -266,9 +278,9 @@ pub may_reclaim : {k : Shape} {op : Op} {kept : ℕ} {aim : Aim} {v : View} → 
 may_reclaim a =
     let f = a.fits in
     let i = (f.point).0 in
-    let b = i.1 in
+    let b = i.bare in
     record {
-      outside = i.0;
+      outside = i.outside;
       unlocked = b.locks_are;
       settled = b.settled;
       paid = b.paid;

@@ -41,6 +41,7 @@ all_gone (suc n) (x ∷ xs) few =
     let less = unlisted_length x xs in
     ap (without_slots (first_slots n (unlisted x xs))) here ∙ all_gone n (unlisted x xs) (omega arith)
 
+-- the slots that are listed are the retired ones, also where some went back
 same_one : (xs : List ℕ) (rs : List Retired) (s : ℕ) → ((t : ℕ) → times t xs ≡ times t (slots_in rs)) → (t : ℕ)
     → times t (unlisted s xs) ≡ times t (slots_in (without_retired s rs))
 same_one xs rs s same t = ⊎_elim
@@ -49,7 +50,7 @@ same_one xs rs s same t = ⊎_elim
     (λ (ne : t ≢ s). unlisted_else s t xs ne ∙ same t ∙ sym (retired_else s t ne rs))
     (cases_eq t s)
 
-same_all : (slots xs : List ℕ) (rs : List Retired) → ((t : ℕ) → times t xs ≡ times t (slots_in rs)) → (t : ℕ)
+pub same_all : (slots xs : List ℕ) (rs : List Retired) → ((t : ℕ) → times t xs ≡ times t (slots_in rs)) → (t : ℕ)
     → times t (without_slots slots xs) ≡ times t (slots_in (without_all slots rs))
 same_all [] xs rs same = same
 same_all (s ∷ slots) xs rs same = same_all slots (unlisted s xs) (without_retired s rs) (same_one xs rs s same)
@@ -59,7 +60,7 @@ none_left [] same = refl
 none_left (r ∷ rs) same = absurd (let a = same r.slot in let b = times_here r.slot (slots_in rs) in omega arith)
 
 -- a slot that stands among the retired ones is one of them
-retired_at : (s : ℕ) (rs : List Retired) → 1 ≤ times s (slots_in rs) → (r : Retired) × IsIn rs r × (r.slot ≡ s)
+pub retired_at : (s : ℕ) (rs : List Retired) → 1 ≤ times s (slots_in rs) → (r : Retired) × IsIn rs r × (r.slot ≡ s)
 retired_at s [] least = absurd (omega arith)
 retired_at s (r ∷ rs) least = ⊎_elim
     (λ (e : r.slot ≡ s). (r, (0, refl), e))

@@ -1,5 +1,5 @@
 -- What the loops of a take told, one after another.
-use Rattle.std.proofs.Common.{◌≡◌, ℕ, ◌-◌, ◌≤◌, true, false, ◌∷◌, Some, refl, sym, ap, subst, ◌∙◌}
+use Rattle.std.proofs.Common.{◌≡◌, ℕ, ◌-◌, ◌≤◌, true, false, Some, refl, sym, ap, subst, ◌∙◌}
 use Rattle.prcu_marks.specs.declared.mark.Mark.TheVariants.{Given}
 use Rattle.core_state.specs.declared.shape.Shape.{Shape}
 use Rattle.core_state.specs.declared.words.Field.TheVariants.{Life}
@@ -8,8 +8,9 @@ use Rattle.core_state.specs.declared.view.View.{View}
 use Rattle.core_state.specs.views.Known.{noting}
 use Rattle.seat_table.specs.Gains.{Sees}
 use Rattle.seat_table.specs.Sections.{Leaves}
-use Rattle.node_slots.specs.Slots.{Reserved, FoundEmpty, FoundOther, aged, HasSeized, FoundTaken}
+use Rattle.node_slots.specs.Slots.{Reserved, FoundEmpty, FoundOther, aged, HasSeized, FoundTaken, with_slot}
 use Rattle.node_slots.specs.Taking.{HasTried, HasReserved, FoundNone, HasScanned, HasGot, HasTaken}
+use Rattle.node_slots.proofs.Marking.{leaves_same}
 
 -- Exchanges of the free count.
 module _ (v u w : View) (tried : HasTried v u) where
@@ -71,63 +72,34 @@ module _ (v u w : View) (slot : ℕ) (scanned : HasScanned v u) where
         rest = taken.rest ∙ (λ i. record u { trail = sym e i }) ∙ ap (λ (z : View). record z { trail = w.trail }) scanned.rest;
       }
 
+  -- who scanned may still work so
+  still_leaves : Leaves u (Given slot) w → Leaves v (Given slot) w
+  still_leaves = leaves_same v u w (Given slot) (ap (λ (z : View). z.allowance) scanned.rest) (ap (λ (z : View). z.seen) scanned.rest)
+
   pub got : (generation : ℕ) → HasSeized u slot generation w → HasGot v slot generation w
-  got generation seized =
-      let life : ℕ = seized.life in
-      let e = ap (λ (z : View). z.trail) seized.rest in
-      let change : View → View = λ z. record (noting z slot (Life slot) life false) {
-        hands = record (noting z slot (Life slot) life false).hands { reserved = false; hand = Some (aged slot life) };
-        trail = w.trail;
-        seen = w.seen;
-      } in
-      let same : w ≡ change u = seized.rest ∙ (λ i. record (noting u slot (Life slot) life false) {
-        hands = record (noting u slot (Life slot) life false).hands { reserved = false; hand = Some (aged slot life) };
-        trail = sym e i;
-        seen = w.seen;
-      }) in
-      let given = subst (λ z. Leaves z (Given slot) w) scanned.rest seized.given in record {
-        life = life;
-        generation_is = seized.generation_is;
-        few = seized.few;
-        given = record {
-          before = given.before;
-          seen =
-              record { works = given.seen.works; begins = given.seen.begins; own = given.seen.own };
-          marked = given.marked;
-        };
-        rest = same ∙ ap change scanned.rest;
-      }
+  got generation seized = record {
+    life = seized.life;
+    generation_is = seized.generation_is;
+    few = seized.few;
+    given = still_leaves seized.given;
+    rest = seized.rest ∙ (λ i. record (with_slot slot seized.life w u) { trail = ap (λ (z : View). z.trail) (sym seized.rest) i })
+        ∙ ap (with_slot slot seized.life w) scanned.rest;
+  }
 
 pub got_later : (v u w : View) (slot generation : ℕ) → HasScanned v u → HasGot u slot generation w → HasGot v slot generation w
-got_later v u w slot generation scanned had =
-    let life : ℕ = had.life in
-    let change : View → View = λ z. record (noting z slot (Life slot) life false) {
-      hands = record (noting z slot (Life slot) life false).hands { reserved = false; hand = Some (aged slot life) };
-      trail = w.trail;
-      seen = w.seen;
-    } in
-    let given = subst (λ z. Leaves z (Given slot) w) scanned.rest had.given in record {
-      life = life;
-      generation_is = had.generation_is;
-      few = had.few;
-      given = record {
-        before = given.before;
-        seen = record { works = given.seen.works; begins = given.seen.begins; own = given.seen.own };
-        marked = given.marked;
-      };
-      rest = had.rest ∙ ap change scanned.rest;
-    }
+got_later v u w slot generation scanned had = record {
+  life = had.life;
+  generation_is = had.generation_is;
+  few = had.few;
+  given = still_leaves v u w slot scanned had.given;
+  rest = had.rest ∙ ap (with_slot slot had.life w) scanned.rest;
+}
 
 -- A reservation, and a slot for it.
 pub taken : (v u w : View) (slot generation : ℕ) → v.hands.reserved ≡ false → HasReserved v u → HasGot u slot generation w
     → HasTaken v slot generation w
 taken v u w slot generation unreserved reserved had =
     let life : ℕ = had.life in
-    let change : View → View = λ z. record (noting z slot (Life slot) life false) {
-      hands = record (noting z slot (Life slot) life false).hands { reserved = false; hand = Some (aged slot life) };
-      trail = w.trail;
-      seen = w.seen;
-    } in
     let n : View = noting v slot (Life slot) life false in
     let free = ap (λ (z : View). z.latest.free) had.rest in
     let given = subst (λ z. Leaves z (Given slot) w) reserved.rest had.given in record {
@@ -139,7 +111,7 @@ taken v u w slot generation unreserved reserved had =
         seen = record { works = given.seen.works; begins = given.seen.begins; own = given.seen.own };
         marked = given.marked;
       };
-      rest = had.rest ∙ ap change reserved.rest ∙ (λ i. record n {
+      rest = had.rest ∙ ap (with_slot slot life w) reserved.rest ∙ (λ i. record n {
         allowance = record v.allowance { tickets = v.allowance.tickets - 1 };
         hands = record n.hands { reserved = sym unreserved i; hand = Some (aged slot life) };
         latest = record v.latest { free = sym free i };

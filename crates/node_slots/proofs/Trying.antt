@@ -1,6 +1,5 @@
 -- The steps of a take, one after another.
-use Rattle.std.proofs.Common.{◌≡◌, ◌≢◌, ℕ, ◌+◌, ◌<◌, ◌≤◌, ◌==◌, cond, List, [], ◌∷◌, ◌++◌, length, refl, sym, ap, subst, ◌∙◌, append_assoc, append-nil, length-append, eq-eqb, arith}
-use Rattle.std.specs.List.{AllByRecursion}
+use Rattle.std.proofs.Common.{◌≡◌, ◌≢◌, ℕ, ◌+◌, ◌<◌, ◌≤◌, cond, List, [], ◌∷◌, ◌++◌, refl, sym, ap, subst, ◌∙◌, append_assoc, append-nil, length-append, eq-eqb, arith}
 use Rattle.prcu_model.proofs.ListFacts.{all_append}
 use Rattle.core_state.specs.declared.shape.Shape.{Shape}
 use Rattle.core_state.specs.declared.view.StepMade.{StepMade}
@@ -10,7 +9,7 @@ use Rattle.seat_table.specs.declared.seat.TheConstants.{MOST_FREED}
 use Rattle.seat_table.specs.Scans.{next_slot, after_look}
 use Rattle.seat_table.specs.Seats.{IsLastFound}
 use Rattle.node_slots.specs.Slots.{Reserved, FoundEmpty, FoundOther, HasSeized, FoundTaken}
-use Rattle.node_slots.specs.Taking.{exchange, look, own_life, MakesSteps, AreLost, Retries, IsMiss, after_field, come_to, GoRound, TriesFor, TriesInVain, LosesTries, ReservesAtLast, Misses, MissesFreed, MissesInRound, Finds, FindsFreed, FindsInRound}
+use Rattle.node_slots.specs.Taking.{exchange, look, own_life, MakesSteps, AreLost, IsMiss, after_field, come_to, GoRound, TriesFor, TriesInVain, LosesTries, ReservesAtLast, Misses, MissesFreed, MissesInRound, Finds, FindsFreed, FindsInRound}
 
 makes_none : (v : View) → MakesSteps v [] v
 makes_none v = ap (λ l. record v.trail { steps = l }) (sym (append-nil v.trail.steps))

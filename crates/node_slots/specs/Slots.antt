@@ -57,18 +57,21 @@ aged slot life = record {
   raised = false;
 }
 
+-- the view with the slot in hand for its reservation and its life noted, and with the trail and the marks of a later view
+abbrev pub with_slot : ℕ → ℕ → View → View → View
+with_slot slot life w v = record (noting v slot (Life slot) life false) {
+  hands = record (noting v slot (Life slot) life false).hands { reserved = false; hand = Some (aged slot life) };
+  trail = w.trail;
+  seen = w.seen;
+}
+
 -- The slot was found free and is in hand for the reservation, given anew. Its life was loaded then.
 pub record HasSeized (v : View) (slot generation : ℕ) (w : View) : Type 0 where
   pub life : ℕ
   pub generation_is : generation ≡ life / 2
   pub few : generation ≤ most_tickets
   pub given : Leaves v (Given slot) w
-  pub rest : let u : View = noting v slot (Life slot) life false in
-      w ≡ record u {
-        hands = record u.hands { reserved = false; hand = Some (aged slot life) };
-        trail = (stepped (stepped v K11 (State slot) 0) K9 (Life slot) life).trail;
-        seen = w.seen;
-      }
+  pub rest : w ≡ record (with_slot slot life w v) { trail = (stepped (stepped v K11 (State slot) 0) K9 (Life slot) life).trail }
 
 -- The slot was found not to be free.
 pub record FoundTaken (v : View) (slot found : ℕ) (w : View) : Type 0 where

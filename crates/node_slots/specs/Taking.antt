@@ -16,7 +16,7 @@ use Rattle.seat_table.specs.Gains.{Sees, IsFull}
 use Rattle.seat_table.specs.Scans.{next_slot, after_look}
 use Rattle.seat_table.specs.Seats.{IsLastFound}
 use Rattle.seat_table.specs.Sections.{Leaves}
-use Rattle.node_slots.specs.Slots.{aged}
+use Rattle.node_slots.specs.Slots.{aged, with_slot}
 use Rattle.node_slots.specs.declared.answers.Taken.{Taken}
 use Rattle.node_slots.specs.declared.answers.Taken.TheVariants.{Slot, Empty}
 
@@ -51,8 +51,7 @@ pub record HasGot (v : View) (slot generation : ℕ) (w : View) : Type 0 where
   pub generation_is : generation ≡ life / 2
   pub few : generation ≤ most_tickets
   pub given : Leaves v (Given slot) w
-  pub rest : let u : View = noting v slot (Life slot) life false in
-      w ≡ record u { hands = record u.hands { reserved = false; hand = Some (aged slot life) }; trail = w.trail; seen = w.seen }
+  pub rest : w ≡ with_slot slot life w v
 
 -- A free slot is in hand, given anew, for one of the seat's tickets. Its life was loaded then.
 pub record HasTaken (v : View) (slot generation : ℕ) (w : View) : Type 0 where

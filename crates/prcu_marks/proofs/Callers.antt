@@ -31,13 +31,13 @@ use Rattle.prcu_marks.proofs.OwnMarks.{own_updates_from-append, no_own_update, o
 pub map_at-longer : (us more : List Update) (front : ℕ) → front ≤ length us → map_at (us ++ more) front ≡ map_at us front
 map_at-longer us more front within = ap map_of (take-append-le front us more within)
 
-slice_get-longer : (us more : List Update) (i : ℕ) (u : Update) → slice_get us i ≡ Some u → slice_get (us ++ more) i ≡ Some u
+pub slice_get-longer : (us more : List Update) (i : ℕ) (u : Update) → slice_get us i ≡ Some u → slice_get (us ++ more) i ≡ Some u
 slice_get-longer [] more i u there = absurd (cc)
 slice_get-longer (v ∷ us) more zero u there = there
 slice_get-longer (v ∷ us) more (suc i) u there = slice_get-longer us more i u there
 
 -- what stands behind a list
-slice_get-past : (us more : List Update) (i : ℕ) (u : Update) → slice_get (us ++ more) i ≡ Some u → length us ≤ i
+pub slice_get-past : (us more : List Update) (i : ℕ) (u : Update) → slice_get (us ++ more) i ≡ Some u → length us ≤ i
     → slice_get more (i - length us) ≡ Some u
 slice_get-past [] more i u there past = (let e : i - 0 ≡ i = omega arith in rw e there)
 slice_get-past (v ∷ us) more zero u there past = absurd (omega arith)

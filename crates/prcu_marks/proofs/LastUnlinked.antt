@@ -20,7 +20,10 @@ last_below s i g (Done u ∷ h) p old e = let l = last_below s (i + 1) g h p (λ
 last_below s i g (Given t ∷ h) p old e = let l = last_below s (i + 1) g h p (λ q f. let z = old q f in omega arith) e in omega arith
 last_below s i g (Freed t ∷ h) p old e = let l = last_below s (i + 1) g h p (λ q f. let z = old q f in omega arith) e in omega arith
 last_below s i g (Unlinked t ∷ h) p old e =
-    let new : (q : ℕ) → cond (t == s) (Some i) g ≡ Some q → q < i + 1 = λ q. elim (t == s) as (λ b. cond b (Some i) g ≡ Some q → q < i + 1) [ true ↦ λ f. let z : i ≡ q = cc in omega arith | false ↦ λ f. let z = old q f in omega arith ] in
+    let new : (q : ℕ) → cond (t == s) (Some i) g ≡ Some q → q < i + 1 = λ q. elim (t == s) as (λ b. cond b (Some i) g ≡ Some q → q < i + 1) [
+      | true ↦ λ f. let z : i ≡ q = cc in omega arith
+      | false ↦ λ f. let z = old q f in omega arith
+    ] in
     let l = last_below s (i + 1) (cond (t == s) (Some i) g) h p new e in omega arith
 
 -- the last unlinking stands in the list

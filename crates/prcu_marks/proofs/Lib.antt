@@ -7,3 +7,4 @@ pub mod Chains
 pub mod Callers
 pub mod Histories
 pub mod Runs
+pub mod Accesses

@@ -1,5 +1,5 @@
 -- What a list of marks says after one more mark.
-use Rattle.std.proofs.Common.{◌≡◌, ℕ, suc, ◌+◌, true, false, cond, List, [], ◌∷◌, ◌++◌, length, Option, None, refl, sym, ap, ◌∙◌, arith, append-nil, length-append}
+use Rattle.std.proofs.Common.{◌≡◌, ℕ, suc, ◌+◌, ◌≤◌, true, false, cond, List, [], ◌∷◌, ◌++◌, length, Option, None, refl, sym, ap, ◌∙◌, arith, append-nil, length-append}
 use mathlib.Core.List.{IsPrefix}
 use Rattle.prcu_marks.specs.declared.mark.Mark.{Mark}
 use Rattle.prcu_marks.specs.declared.mark.Mark.TheVariants.{Entered, Left, Began, Ended, Done, Given, Unlinked, Freed}
@@ -15,6 +15,11 @@ updates_of-append (Done u ∷ h) ms = ap (λ us. u ∷ us) (updates_of-append h 
 updates_of-append (Given s ∷ h) ms = updates_of-append h ms
 updates_of-append (Unlinked s ∷ h) ms = updates_of-append h ms
 updates_of-append (Freed s ∷ h) ms = updates_of-append h ms
+
+-- who has seen more has seen no fewer updates
+pub updates_below : (a b : List Mark) → IsPrefix a b → length (updates_of a) ≤ length (updates_of b)
+updates_below a b p = let e = ap length (ap updates_of (sym p.1) ∙ updates_of-append a p.0) in
+    omega (arith, e, length-append (updates_of a) (updates_of p.0))
 
 open_from-snoc : (p i : ℕ) (o : Option Open) (h : List Mark) (m : Mark)
     → open_from p i o (h ++ m ∷ []) ≡ next_open p (i + length h) (open_from p i o h) m

@@ -14,13 +14,22 @@ gone_below s i g (Began q c a b ∷ h) p old e = let l = gone_below s (i + 1) g 
 gone_below s i g (Ended q c ∷ h) p old e = let l = gone_below s (i + 1) g h p (λ q f. let z = old q f in omega arith) e in omega arith
 gone_below s i g (Done u ∷ h) p old e = let l = gone_below s (i + 1) g h p (λ q f. let z = old q f in omega arith) e in omega arith
 gone_below s i g (Given t ∷ h) p old e =
-    let new : (q : ℕ) → cond (t == s) None g ≡ Some q → q < i + 1 = λ q. elim (t == s) as (λ b. cond b None g ≡ Some q → q < i + 1) [ true ↦ λ f. absurd (cc) | false ↦ λ f. let z = old q f in omega arith ] in
+    let new : (q : ℕ) → cond (t == s) None g ≡ Some q → q < i + 1 = λ q. elim (t == s) as (λ b. cond b None g ≡ Some q → q < i + 1) [
+      | true ↦ λ f. absurd (cc)
+      | false ↦ λ f. let z = old q f in omega arith
+    ] in
     let l = gone_below s (i + 1) (cond (t == s) None g) h p new e in omega arith
 gone_below s i g (Freed t ∷ h) p old e =
-    let new : (q : ℕ) → cond (t == s) None g ≡ Some q → q < i + 1 = λ q. elim (t == s) as (λ b. cond b None g ≡ Some q → q < i + 1) [ true ↦ λ f. absurd (cc) | false ↦ λ f. let z = old q f in omega arith ] in
+    let new : (q : ℕ) → cond (t == s) None g ≡ Some q → q < i + 1 = λ q. elim (t == s) as (λ b. cond b None g ≡ Some q → q < i + 1) [
+      | true ↦ λ f. absurd (cc)
+      | false ↦ λ f. let z = old q f in omega arith
+    ] in
     let l = gone_below s (i + 1) (cond (t == s) None g) h p new e in omega arith
 gone_below s i g (Unlinked t ∷ h) p old e =
-    let new : (q : ℕ) → cond (t == s) (Some i) g ≡ Some q → q < i + 1 = λ q. elim (t == s) as (λ b. cond b (Some i) g ≡ Some q → q < i + 1) [ true ↦ λ f. let z : i ≡ q = cc in omega arith | false ↦ λ f. let z = old q f in omega arith ] in
+    let new : (q : ℕ) → cond (t == s) (Some i) g ≡ Some q → q < i + 1 = λ q. elim (t == s) as (λ b. cond b (Some i) g ≡ Some q → q < i + 1) [
+      | true ↦ λ f. let z : i ≡ q = cc in omega arith
+      | false ↦ λ f. let z = old q f in omega arith
+    ] in
     let l = gone_below s (i + 1) (cond (t == s) (Some i) g) h p new e in omega arith
 
 pub gone_at-below : (s : ℕ) (h : List Mark) (p : ℕ) → gone_at s h ≡ Some p → p < length h
@@ -36,14 +45,20 @@ open_below p i s (Freed t ∷ h) o old e = let l = open_below p (i + 1) s h o (�
 open_below p i s (Given t ∷ h) o old e = let l = open_below p (i + 1) s h o (λ q f. let z = old q f in omega arith) e in omega arith
 open_below p i s (Unlinked t ∷ h) o old e = let l = open_below p (i + 1) s h o (λ q f. let z = old q f in omega arith) e in omega arith
 open_below p i s (Entered q c x ∷ h) o old e =
-    let new : (z : Open) → cond (q == p) (Some (record { count = c; key = x; at = i })) s ≡ Some z → z.at < i + 1 = λ z. elim (q == p) as (λ b. cond b (Some (record { count = c; key = x; at = i })) s ≡ Some z → z.at < i + 1) [ true ↦ λ f. (let g : Some i ≡ Some z.at = ap at_of f in let k : i ≡ z.at = cc in omega arith) | false ↦ λ f. let k = old z f in omega arith ] in
+    let new : (z : Open) → cond (q == p) (Some (record { count = c; key = x; at = i })) s ≡ Some z → z.at < i + 1 = λ z. elim (q == p) as (λ b. cond b (Some (record { count = c; key = x; at = i })) s ≡ Some z → z.at < i + 1) [
+      | true ↦ λ f. (let g : Some i ≡ Some z.at = ap at_of f in let k : i ≡ z.at = cc in omega arith)
+      | false ↦ λ f. let k = old z f in omega arith
+    ] in
     let l = open_below p (i + 1) (cond (q == p) (Some (record { count = c; key = x; at = i })) s) h o new e in omega arith
   where
     at_of : Option Open → Option ℕ
     at_of None = None
     at_of (Some z) = Some z.at
 open_below p i s (Left q c ∷ h) o old e =
-    let new : (z : Open) → cond (q == p) None s ≡ Some z → z.at < i + 1 = λ z. elim (q == p) as (λ b. cond b None s ≡ Some z → z.at < i + 1) [ true ↦ λ f. absurd (cc) | false ↦ λ f. let k = old z f in omega arith ] in
+    let new : (z : Open) → cond (q == p) None s ≡ Some z → z.at < i + 1 = λ z. elim (q == p) as (λ b. cond b None s ≡ Some z → z.at < i + 1) [
+      | true ↦ λ f. absurd (cc)
+      | false ↦ λ f. let k = old z f in omega arith
+    ] in
     let l = open_below p (i + 1) (cond (q == p) None s) h o new e in omega arith
 
 -- an open section was entered in the list

@@ -28,6 +28,16 @@ skipped : (b : Bool) (m : Mark) (ms : List Mark) (us : List Update) → updates_
 skipped true m ms us same is = sym same ∙ is
 skipped false m ms us same is = is
 
+-- a place's own marks are all its own
+pub own_twice : (p : ℕ) (h : List Mark) → own_of p (own_of p h) ≡ own_of p h
+own_twice p [] = refl
+own_twice p (m ∷ h) = by (is_of p m) refl (own_twice p h)
+  where
+    by : (b : Bool) → is_of p m ≡ b → own_of p (own_of p h) ≡ own_of p h
+        → own_of p (cond b (m ∷ own_of p h) (own_of p h)) ≡ cond b (m ∷ own_of p h) (own_of p h)
+    by true e rest = ap (λ b. cond b (m ∷ own_of p (own_of p h)) (own_of p (own_of p h))) e ∙ ap (λ xs. m ∷ xs) rest
+    by false e rest = rest
+
 module _ (p : ℕ) where
   -- a place that left no update has none
   pub no_own_update : (n : ℕ) (h : List Mark) → updates_of (own_of p h) ≡ [] → own_updates_from n p (updates_of h) ≡ []

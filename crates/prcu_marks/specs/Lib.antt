@@ -1,3 +1,4 @@
+pub mod Accesses
 pub mod Bounds
 pub mod Marks
 pub mod Commits

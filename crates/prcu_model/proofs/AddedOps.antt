@@ -1,11 +1,21 @@
 -- An operation that is added to the last script: where it goes, and what the counts are then.
 use Rattle.std.proofs.Common.{◌≡◌, ℕ, zero, suc, ◌+◌, ◌-◌, ◌<◌, ◌≤◌, List, [], ◌∷◌, ◌++◌, length, get_or, set, count_by, cond, refl, ap, sym, ◌∙◌, arith, length-append}
 use Rattle.std.proofs.lemmas.List.{map-set, get_or-map, length-map, set-get_or}
-use Rattle.std.proofs.lemmas.List.Sums.{sum_by-set, sum_by_push, sum_by-le-sum_by, count_by-le-length, get_or-le-sum_by}
+use Rattle.std.proofs.lemmas.List.Sums.{sum_by-set, sum_by_push, sum_by-le-sum_by, count_by-le-length, get_or-le-sum_by, sum_by-append}
 use Rattle.std.specs.List.{AllByRecursion}
 use Rattle.std.specs.Global.{Vec}
 use Rattle.prcu_model.specs.declared.operation.Op.{Op}
 use Rattle.prcu_model.specs.Scripts.{with_op, op_count, put_count, is_put, items_of, FitsWords, AllFit}
+
+-- an operation goes to the last script
+pub with_op-last : (before : List (List Op)) (script : List Op) (op : Op)
+    → with_op (before ++ script ∷ []) op ≡ before ++ (script ++ op ∷ []) ∷ []
+with_op-last [] script op = refl
+with_op-last (s ∷ []) script op = refl
+with_op-last (s ∷ t ∷ before) script op = ap (λ x. s ∷ x) (with_op-last (t ∷ before) script op)
+
+pub op_count-last : (before : List (List Op)) (script : List Op) → op_count (before ++ script ∷ []) ≡ op_count before + length script
+op_count-last before script = omega (arith, sum_by-append length before (script ∷ []))
 
 pub with_op-set : (scripts : List (List Op)) (last : ℕ) (op : Op) → length scripts ≡ last + 1
     → with_op scripts op ≡ set scripts last (get_or scripts last [] ++ op ∷ [])

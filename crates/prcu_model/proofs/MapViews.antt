@@ -1,5 +1,5 @@
 -- An ordered map's entries, read as a dictionary.
-use Rattle.std.proofs.Common.{◌≡◌, ℕ, Bool, true, false, cond, ◌&&◌, T, List, [], ◌∷◌, length, Some, None, IsTrue, is_some, refl, sym, ap, subst, ◌∙◌}
+use Rattle.std.proofs.Common.{◌≡◌, ℕ, Bool, true, false, cond, T, List, [], ◌∷◌, length, Some, None, IsTrue, is_some, refl, sym, ap, subst, ◌∙◌}
 use Rattle.std.specs.Ordering.{nat_cmp, is_lt, is_eq}
 use Rattle.std.specs.declared.cmp.Ordering.TheVariants.{Less}
 use Rattle.std.specs.Cmp.{nat_cmp_total, eq_by_cmp_equiv}
@@ -9,29 +9,19 @@ use Rattle.std.proofs.lemmas.Map.Keys.{sorted_head, sorted_tail}
 use Rattle.std.specs.Map.{keys_of, lookup}
 use Rattle.std.specs.BTreeMap.{is_at}
 use Rattle.std.specs.FinMap as finite
+use Rattle.std.proofs.Math.Facts.{and_yes, yes_and}
 use Rattle.prcu_model.specs.Dictionary.{Dictionary}
 
 -- entries as an ordered map has them
 abbrev Pairs : Type 0
 Pairs = List (ℕ × ℕ)
 
-both : (a b : Bool) → T a → T b → T (a && b)
-both true b p q = q
-both false b p q = p
-
-first : (a b : Bool) → T (a && b) → T a
-first true b p = tt
-first false b p = p
-
-second : (a b : Bool) → T (a && b) → T b
-second true b p = p
-second false b p = absurd p
-
 is_sorted-cons : (x v : ℕ) (es : Pairs) → AllByRecursion (λ y. nat_cmp x y ≡ Less) (keys_of es) → T (finite.is_sorted nat_cmp es)
     → T (finite.is_sorted nat_cmp ((x, v) ∷ es))
 is_sorted-cons x v [] below sorted = tt
 is_sorted-cons x v (e ∷ es) below sorted =
-    both _ _ (both _ _ (subst (λ r. T (is_lt r)) (sym below.0) tt) (first _ _ (is_sorted-cons x v es below.1 (second _ _ sorted)))) sorted
+    yes_and _ _ (yes_and _ _ (subst (λ r. T (is_lt r)) (sym below.0) tt)
+    (and_yes _ _ (is_sorted-cons x v es below.1 (and_yes _ _ sorted).1)).0) sorted
 
 rising : (es : Pairs) → IsStrictlySortedBy nat_cmp (keys_of es) → T (finite.is_sorted nat_cmp es)
 rising [] h = tt

@@ -50,3 +50,8 @@ ops_of-all_told_lines (script ∷ scripts) (told ∷ tolds) same =
     let head : length told ≡ length script = cc in
     let tail : map length tolds ≡ map length scripts = cc in
     λ i. ops_of-told_lines script told head i ∷ ops_of-all_told_lines scripts tolds tail i
+
+-- no answers tell no lines
+pub told_lines-none : (ops : List Op) → told_lines ops [] ≡ []
+told_lines-none [] = refl
+told_lines-none (op ∷ ops) = refl

@@ -7,7 +7,8 @@ use Rattle.std.proofs.lemmas.List.Elements.{All-head, All-tail, All-nil, All-con
 use Rattle.std.proofs.lemmas.List.Sums.{sum_by-append}
 use Rattle.std.proofs.lemmas.Option.{slice_get_within, get_or_from_slice_get}
 use Rattle.prcu_model.specs.declared.operation.Op.{Op}
-use Rattle.prcu_model.specs.Scripts.{with_op, op_count, FitsWords}
+use Rattle.prcu_model.specs.Scripts.{op_count, FitsWords}
+use Rattle.prcu_model.proofs.AddedOps.{with_op-last, op_count-last}
 use Rattle.script_text.specs.Lines.{lines_of, op_text, op_line, script_text, scripts_text}
 use Rattle.script_text.specs.Split.{Lacks}
 use Rattle.script_text.specs.Grammar.{Reads, IsScriptText}
@@ -91,16 +92,6 @@ lines_of-scripts_text : (scripts : List (List Op)) → All (All FitsWords) scrip
     → lines_of (scripts_text scripts) ≡ flat_map script_lines scripts
 lines_of-scripts_text scripts fits =
     ap lines_of (scripts_text-ended scripts) ∙ lines_of-flat_map (flat_map script_lines scripts) (Lacks-lines scripts fits)
-
--- An operation goes to the last script.
-with_op-last : (before : List (List Op)) (script : List Op) (op : Op)
-    → with_op (before ++ script ∷ []) op ≡ before ++ (script ++ op ∷ []) ∷ []
-with_op-last [] script op = refl
-with_op-last (s ∷ []) script op = refl
-with_op-last (s ∷ t ∷ before) script op = ap (λ x. s ∷ x) (with_op-last (t ∷ before) script op)
-
-op_count-last : (before : List (List Op)) (script : List Op) → op_count (before ++ script ∷ []) ≡ op_count before + length script
-op_count-last before script = omega (arith, sum_by-append length before (script ∷ []))
 
 op_count-cons : (script : List Op) (scripts : List (List Op)) → op_count (script ∷ scripts) ≡ length script + op_count scripts
 op_count-cons script scripts = omega (arith, sum_by-append length (script ∷ []) scripts)

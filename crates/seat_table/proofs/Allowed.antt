@@ -1,13 +1,8 @@
 -- The one border: where a law keeps the invariant, a case of its kind is a step that the table allows.
-use Rattle.std.proofs.Common.{◌≡◌, ℕ, ◌+◌, ◌-◌, ◌*◌, ◌/◌, ◌%◌, ◌^◌, ◌<◌, ◌≤◌, ◌==◌, Bool, true, false, cond, List, ◌++◌, set, slice_index, refl, sym, ap, subst, ◌∙◌, arith, length-set, eq-eqb, ne_eqb}
-use prog.Atomic.{either}
-use mathlib.Core.Logic.{dite}
-use native.Mathlib.Decide.{ℕ_discrete}
-use Rattle.std.specs.Int.Bits.{bit_xor, differ, xor_step}
-use lib.Bits.{xor_zero_r}
-use Rattle.core_state.specs.steps.Waits.{turned_gate}
+use Rattle.std.proofs.Common.{◌≡◌, ℕ, ◌<◌, true, cond, List, ◌++◌, set, slice_index, refl, sym, ap, subst, ◌∙◌, length-set}
 use mathlib.Core.Option.{some}
 use lib.ListN.{get_elem?}
+use Rattle.atomic_table.specs.Seated.{TableId}
 use Rattle.atomic_table.specs.Table.{State, Me, keeps, Allows}
 use Rattle.atomic_table.proofs.Lists.{set_here}
 use Rattle.list_laws.proofs.Lists.{at_below}
@@ -15,38 +10,25 @@ use Rattle.prcu_marks.specs.declared.mark.Mark.{Mark}
 use Rattle.core_state.specs.declared.shape.Shape.{Shape}
 use Rattle.core_state.specs.declared.words.Field.{Field}
 use Rattle.core_state.specs.declared.view.View.{View}
-use Rattle.core_state.specs.memory.Memory.{Memory, word_of, is_field, memory_of, stored}
+use Rattle.core_state.specs.memory.Memory.{Memory, word_count, word_of, is_field, memory_of, stored}
 use Rattle.core_state.specs.views.Views.{Works}
 use Rattle.core_state.specs.Invariant.{Invariant, Rule}
 use Rattle.seat_table.specs.declared.rule.Nothing.{Nothing}
-use Rattle.seat_table.specs.Seats.{way_of, with_way}
+use Rattle.seat_table.specs.Seats.{TableAt, way_of, with_way, shape_of}
 use Rattle.core_acts.specs.declared.act.Act.{Act}
-use Rattle.core_acts.specs.declared.access.Access.{Access}
-use Rattle.core_acts.specs.declared.access.Access.TheVariants.{Load, Store, Exchange, Add, Subtract, Flip}
-use Rattle.core_acts.specs.Acts.{StaysWord, field_of, access_of, left_by, said_by, Asks}
+use Rattle.prcu_marks.specs.declared.access.Access.{Access}
+use Rattle.prcu_marks.specs.Accesses.{left_by, said_by}
+use Rattle.core_acts.specs.Acts.{field_of, access_of, Asks}
 use Rattle.core_acts.specs.Laws.{done, marks}
-use Rattle.core_acts.proofs.Acting.{acts_keep}
-use Rattle.seat_table.specs.Told.{tells}
+use Rattle.core_acts.proofs.Acting.{has_word, acts_keep}
+use Rattle.seat_table.specs.Told.{Touches, tells}
 use Rattle.seat_table.specs.Gains.{WordFits}
 use Rattle.core_frames.proofs.views.Fields.{same_self}
 use Rattle.core_frames.proofs.Telling.{told_of}
+use Rattle.prcu_marks.proofs.Accesses.{made_by, makes}
 use Rattle.seat_table.proofs.Memories.{memory-word, memory-stored}
-use Rattle.seat_table.proofs.Facts.{sees, informed, fits, word_fits, said_fits, stood_inside, has_side, stays_in, still_works, tells_apart}
+use Rattle.seat_table.proofs.Facts.{sees, informed, fits, word_fits, said_fits, stood_inside, has_side, stays_in, still_works, tells_apart, word_below}
 use Rattle.seat_table.proofs.Gained.{gains}
-
-either_is : (b : Bool) (x y : ℕ) → either b x y ≡ cond b x y
-either_is true x y = refl
-either_is false x y = refl
-
--- an exchange-xor with 1 turns the last bit
-last_turned : (n : ℕ) → bit_xor n 1 ≡ turned_gate n
-last_turned n = dite (ℕ_discrete (n % 2) 0)
-    (λ e. let half : n / 2 * 2 + 1 ≡ n + 1 = omega arith in
-    xor_step n 1 ∙ ap (λ r. bit_xor (n / 2) 0 * 2 + differ r 1) e ∙ ap (λ z. z * 2 + 1) (xor_zero_r (n / 2)) ∙ half
-    ∙ ap (λ b. cond b (n + 1) (n - 1)) (sym (eq-eqb (n % 2) 0 e)))
-    (λ ne. let one : n % 2 ≡ 1 = omega arith in let half : n / 2 * 2 + 0 ≡ n - 1 = omega arith in
-    xor_step n 1 ∙ ap (λ r. bit_xor (n / 2) 0 * 2 + differ r 1) one ∙ ap (λ z. z * 2 + 0) (xor_zero_r (n / 2)) ∙ half
-    ∙ ap (λ b. cond b (n + 1) (n - 1)) (sym (ne_eqb (n % 2) 0 ne)))
 
 module _ (k : Shape) (slots id : ℕ) (me : Me Nothing View) (c : Act) (word : ℕ) (is : is_field k (field_of me.0.allowance.place c) ≡ true)
     (at_word : word ≡ word_of k (field_of me.0.allowance.place c)) (works : Works me.0) (asks : Asks k me.0 c) where
@@ -56,11 +38,9 @@ module _ (k : Shape) (slots id : ℕ) (me : Me Nothing View) (c : Act) (word : �
   abbrev access : Access
   access = access_of me.0.allowance.place c
 
-  allows_field : (f : ℕ → ℕ) → ((n : ℕ) → n < 18446744073709551616 → StaysWord (access_of me.0.allowance.place c) n
-      → f n ≡ left_by (access_of me.0.allowance.place c) n)
-      → Allows Holds slots id me (word_of k (field_of me.0.allowance.place c)) f
+  allows_field : Allows Holds slots id me (word_of k (field_of me.0.allowance.place c)) (made_by (access_of me.0.allowance.place c))
       (λ n. tells k c me (said_by (access_of me.0.allowance.place c) n))
-  allows_field f same s r len at below =
+  allows_field s r len at below =
       let field : Field = (field_of me.0.allowance.place c) in
       let m : Memory = memory_of k s.words in
       let h : List Mark = r.marks in
@@ -70,8 +50,8 @@ module _ (k : Shape) (slots id : ℕ) (me : Me Nothing View) (c : Act) (word : �
       let made : List Mark = marks me.0 c (m field) in
       let kept : Invariant k (stored m field left) (set s.views id w) (h ++ made) =
       (acts_keep k m s.views h id me.0 c r.holds at works asks).0 in
-      let leaves : f (slice_index s.words (word_of k field)) ≡ left =
-      ap f (sym found) ∙ same (m field) (subst (λ z. z < 18446744073709551616) (sym found) below)
+      let leaves : made_by access (slice_index s.words (word_of k field)) ≡ left =
+      ap (made_by access) (sym found) ∙ makes access (m field) (subst (λ z. z < 18446744073709551616) (sym found) below)
       (fits k m s.views h r.holds.now id me.0 at c asks) in
       let rule : Rule k (set s.words (word_of k field) left) (set s.views id w) = record {
         marks = h ++ made;
@@ -115,41 +95,11 @@ module _ (k : Shape) (slots id : ℕ) (me : Me Nothing View) (c : Act) (word : �
         subst (λ z. tells k c me (said_by access z) (w, me.1)) found telling,
       )
 
-  allows : (f : ℕ → ℕ) → ((n : ℕ) → n < 18446744073709551616 → StaysWord (access_of me.0.allowance.place c) n
-      → f n ≡ left_by (access_of me.0.allowance.place c) n)
-      → Allows Holds slots id me word f (λ n. tells k c me (said_by (access_of me.0.allowance.place c) n))
-  allows f same = subst (λ i. Allows Holds slots id me i f (λ n. tells k c me (said_by access n))) (sym at_word) (allows_field f same)
-
-  pub allows_load : (access_of me.0.allowance.place c) ≡ Load → Allows Holds slots id me word (λ n. n) (tells k c me)
-  allows_load is = subst (λ a. Allows Holds slots id me word (λ n. n) (λ n. tells k c me (said_by a n))) is
-      (allows (λ n. n) (λ n small fits. sym (ap (λ a. left_by a n) is)))
-
-  pub allows_store : (x : ℕ) → (access_of me.0.allowance.place c) ≡ Store x → Allows Holds slots id me word (λ _. x) (λ _. tells k c me x)
-  allows_store x is = subst (λ a. Allows Holds slots id me word (λ _. x) (λ n. tells k c me (said_by a n))) is
-      (allows (λ _. x) (λ n small fits. sym (ap (λ a. left_by a n) is)))
-
-  pub allows_exchange : (old new : ℕ) → (access_of me.0.allowance.place c) ≡ Exchange old new
-      → Allows Holds slots id me word (λ n. either (n == old) new n) (tells k c me)
-  allows_exchange old new is = subst (λ a. Allows Holds slots id me word (λ n. either (n == old) new n)
-      (λ n. tells k c me (said_by a n))) is
-      (allows (λ n. either (n == old) new n) (λ n small fits. either_is (n == old) new n ∙ sym (ap (λ a. left_by a n) is)))
-
-  pub allows_add : (x : ℕ) → (access_of me.0.allowance.place c) ≡ Add x
-      → Allows Holds slots id me word (λ n. (n + x) % 2 ^ 64) (tells k c me)
-  allows_add x is = subst (λ a. Allows Holds slots id me word (λ n. (n + x) % 2 ^ 64) (λ n. tells k c me (said_by a n))) is
-      (allows (λ n. (n + x) % 2 ^ 64) (λ n small fits. let sum : n + x < 18446744073709551616 = subst (λ a. StaysWord a n) is fits in
-      let whole : (n + x) % 2 ^ 64 ≡ n + x = omega arith in whole ∙ sym (ap (λ a. left_by a n) is)))
-
-  pub allows_subtract : (x : ℕ) → x ≤ 1 → (access_of me.0.allowance.place c) ≡ Subtract x
-      → Allows Holds slots id me word (λ n. (n + (2 ^ 64 - x)) % 2 ^ 64) (tells k c me)
-  allows_subtract x one is = subst (λ a. Allows Holds slots id me word (λ n. (n + (2 ^ 64 - x)) % 2 ^ 64)
-      (λ n. tells k c me (said_by a n))) is
-      (allows (λ n. (n + (2 ^ 64 - x)) % 2 ^ 64) (λ n small fits. let there : x ≤ n = subst (λ a. StaysWord a n) is fits in
-      let less : (n + (2 ^ 64 - x)) % 2 ^ 64 ≡ n - x = omega arith in less ∙ sym (ap (λ a. left_by a n) is)))
-
-  pub allows_flip : (access_of me.0.allowance.place c) ≡ Flip → Allows Holds slots id me word (λ n. bit_xor n 1) (tells k c me)
-  allows_flip is = subst (λ a. Allows Holds slots id me word (λ n. bit_xor n 1) (λ n. tells k c me (said_by a n))) is
-      (allows (λ n. bit_xor n 1) (λ n small fits. last_turned n ∙ sym (ap (λ a. left_by a n) is)))
+  -- the access by which the act goes, whichever it is
+  pub allows_by : (a : Access) → access_of me.0.allowance.place c ≡ a
+      → Allows Holds slots id me word (made_by a) (λ n. tells k c me (said_by a n))
+  allows_by a is = subst (λ a. Allows Holds slots id me word (made_by a) (λ n. tells k c me (said_by a n))) is
+      (subst (λ i. Allows Holds slots id me i (made_by access) (λ n. tells k c me (said_by access n))) (sym at_word) allows_field)
 
 -- the shape that clauses see is the table's
 pub same_shape : (way : ℕ) (key k : Shape) → key.waiter ≡ way_of way → k ≡ with_way way key → k ≡ key
@@ -164,3 +114,24 @@ pub as_table : (key k picked_shape : Shape) (picked c : Act) (slots id : ℕ) (m
 as_table key k picked_shape picked c slots id me word f then is same is_case allowed =
     subst (λ (z : Shape × Shape × Act). Allows (λ (s : State Nothing View). Rule z.0 s.words s.views) slots id me word f (then z.1 z.2))
     (λ i. (is i, sym same i, sym is_case i)) allowed
+
+-- What the table asks of an access to the word of an act: that it is the seat's, that there is such a word, and that the rule is kept.
+pub allowed : {way : ℕ} {t : TableAt} {key shape : Shape} {picked act : Act} {table here : TableId} {id : ℕ} {me : Me Nothing View}
+    {word : ℕ} {field : Field} {access : Access} (a : Access) → access ≡ a → here ≡ table → key.waiter ≡ way_of way
+    → shape_of way t ≡ with_way way key → table.words ≡ word_count (shape_of way t) → (shape ≡ shape_of way t) × (picked ≡ act)
+    → word ≡ word_of (shape_of way t) field → Touches way t me.0 act access field
+    → (here ≡ table) × (word < table.words)
+    × Allows (λ (s : State Nothing View). Rule key s.words s.views) table.slots id me word (made_by a)
+    (λ n. tells shape picked me (said_by a n))
+allowed {way} {t} {key} {shape} {picked} {act} {table} {here} {id} {me} {word} {field} {access} a by mine is same counts picks at
+    asks =
+    let k : Shape = shape_of way t in
+    let place : ℕ = me.0.allowance.place in
+    let spot : word ≡ word_of k (field_of place act) = at ∙ ap (word_of k) asks.at in (
+      mine,
+      word_below way t me.0 act word table.words spot counts asks.asks,
+      as_table key k shape picked act table.slots id me word (made_by a) (λ k z n. tells k z me (said_by a n))
+          (same_shape way key k is same) picks.0 picks.1
+          (allows_by k table.slots id me act word (has_word k (field_of place act) asks.asks.0) spot asks.room.works asks.asks a
+          (asks.does ∙ by)),
+    )

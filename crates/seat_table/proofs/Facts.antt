@@ -1,6 +1,6 @@
 -- What the rule tells of a seat and of the words.
 use Rattle.std.proofs.Common.{◌≡◌, ℕ, ◌+◌, ◌*◌, ◌/◌, ◌<◌, ◌≤◌, ◌==◌, zero, suc, ◌&&◌, Bool, true, false, cond, List, [], ◌∷◌, ◌++◌, length, map, take, set, Option, Some, None, refl, length-append, sym, ap, subst, ◌∙◌, ⊎_elim, arith, eq-eqb}
-use Rattle.std.proofs.lemmas.Bool.{ltb-true}
+use Rattle.std.proofs.lemmas.Bool.{ltb-true, and_from}
 use Rattle.std.specs.FinMap as finite
 use mathlib.Core.Logic.{dite}
 use native.Mathlib.Decide.{ℕ_discrete}
@@ -49,12 +49,13 @@ use Rattle.key_interval.specs.Keys.{class_of}
 use Rattle.seat_table.specs.Seats.{TableAt, shape_of}
 use Rattle.core_acts.specs.declared.act.Act.{Act}
 use Rattle.core_acts.specs.declared.act.Act.TheVariants.{BeginWait, CountFree, EnterByCount, LeaveByCount}
-use Rattle.core_acts.specs.declared.access.Access.{Access}
-use Rattle.core_acts.specs.declared.access.Access.TheVariants.{Load, Store, Exchange, Add, Subtract, Flip}
-use Rattle.core_acts.specs.Acts.{StaysWord, field_of, access_of, left_by, said_by, Asks}
+use Rattle.prcu_marks.specs.declared.access.Access.{Access}
+use Rattle.prcu_marks.specs.declared.access.Access.TheVariants.{Load, Store, Exchange, Add, Subtract, Flip}
+use Rattle.prcu_marks.specs.Accesses.{left_by, said_by, StaysWord}
+use Rattle.core_acts.specs.Acts.{field_of, access_of, Asks}
 use Rattle.core_acts.proofs.Acting.{has_word}
 use Rattle.seat_table.specs.Gains.{Sees, IsInformed, WordFits, IsApart, IsSlot, StoodInside, HasSide, StaysIn, TellsApart}
-use Rattle.seat_table.proofs.Memories.{both_true, word_inside}
+use Rattle.seat_table.proofs.Memories.{word_inside}
 
 -- a list's beginning has the same elements
 at_front : {A : Type 0} (a rest : List A) (i : ℕ) (x : A) → i < length a → get_elem? (a ++ rest) i ≡ some x → get_elem? a i ≡ some x
@@ -228,7 +229,7 @@ module _ (k : Shape) (m : Memory) (vs : List View) (h : List Mark) (i : HoldsNow
       let part = total_part (λ (u : View). inside_count c side u.section) vs id v at in
       let mine : inside_count c side v.section ≡ 1 =
       ap (inside_count c side) inside ∙ ap (λ b. cond b 1 0)
-      (both_true _ _ (eq-eqb (class_of section.key) c (sym at_class)) (eq-eqb section.stamp side (sym at_side))) in
+      (and_from _ _ (eq-eqb (class_of section.key) c (sym at_class)) (eq-eqb section.stamp side (sym at_side))) in
       omega arith
 
   pub fits : (a : Act) → Asks k v a → StaysWord (access_of v.allowance.place a) (m (field_of v.allowance.place a))

@@ -1,6 +1,6 @@
 -- A store in a word of the table is a store in its field.
-use Rattle.std.proofs.Common.{◌≡◌, ℕ, ◌*◌, ◌<◌, ◌≤◌, ◌&&◌, Bool, true, false, cond, List, length, set, slice_index, refl, sym, ap, subst, ◌∙◌, arith, eq-eqb, get_or-set_other, get_or-set_same}
-use Rattle.std.proofs.lemmas.Bool.{ltb-true, and_parts}
+use Rattle.std.proofs.Common.{◌≡◌, ℕ, ◌*◌, ◌<◌, ◌≤◌, Bool, true, false, cond, List, length, set, slice_index, refl, sym, ap, subst, ◌∙◌, arith, eq-eqb, get_or-set_other, get_or-set_same}
+use Rattle.std.proofs.lemmas.Bool.{ltb-true, and_parts, and_from}
 use Rattle.core_frames.proofs.views.Fields.{same_is}
 use Rattle.prcu_marks.specs.declared.mark.Side.{Side}
 use Rattle.prcu_marks.specs.declared.mark.Side.TheVariants.{Left, Right}
@@ -74,9 +74,6 @@ lies k (Value s) e = ltb-true s (slot_count k) e
 lies k (Link s b) e = (ltb-true s (slot_count k) e, (side_small b).0, (side_small b).1)
 lies k (Tag s b) e = (ltb-true s (slot_count k) e, (tag_small b).0, (tag_small b).1)
 
-pub both_true : (a b : Bool) → a ≡ true → b ≡ true → (a && b) ≡ true
-both_true a b p q = ap (λ z. z && b) p ∙ q
-
 side_of : (a b : Side) → side_number a ≡ side_number b → same_side a b ≡ true
 side_of Left Left e = refl
 side_of Right Right e = refl
@@ -95,15 +92,15 @@ one_field k Free Free p q e = refl
 one_field k (Announced a) (Announced b) p q e = eq-eqb a b (omega arith)
 one_field k (Stamp a) (Stamp b) p q e = eq-eqb a b (omega arith)
 one_field k (Gate a) (Gate b) p q e = eq-eqb a b (omega arith)
-one_field k (Count a s) (Count b t) p q e = both_true _ _ (eq-eqb a b (omega arith)) (eq-eqb s t (omega arith))
-one_field k (Row a c) (Row b d) p q e = both_true _ _ (eq-eqb a b (omega arith)) (eq-eqb c d (omega arith))
+one_field k (Count a s) (Count b t) p q e = and_from _ _ (eq-eqb a b (omega arith)) (eq-eqb s t (omega arith))
+one_field k (Row a c) (Row b d) p q e = and_from _ _ (eq-eqb a b (omega arith)) (eq-eqb c d (omega arith))
 one_field k (State a) (State b) p q e = eq-eqb a b (omega arith)
 one_field k (Lock a) (Lock b) p q e = eq-eqb a b (omega arith)
 one_field k (Life a) (Life b) p q e = eq-eqb a b (omega arith)
 one_field k (Key a) (Key b) p q e = eq-eqb a b (omega arith)
 one_field k (Value a) (Value b) p q e = eq-eqb a b (omega arith)
-one_field k (Link a s) (Link b t) p q e = both_true _ _ (eq-eqb a b (omega arith)) (side_of s t (omega arith))
-one_field k (Tag a s) (Tag b t) p q e = both_true _ _ (eq-eqb a b (omega arith)) (tag_of s t (omega arith))
+one_field k (Link a s) (Link b t) p q e = and_from _ _ (eq-eqb a b (omega arith)) (side_of s t (omega arith))
+one_field k (Tag a s) (Tag b t) p q e = and_from _ _ (eq-eqb a b (omega arith)) (tag_of s t (omega arith))
 one_field k _ _ p q e = absurd (omega arith)
 
 inside_case : (k : Shape) (f : Field) → Lies k f → word_of k f < word_count k

@@ -1,5 +1,5 @@
 -- Steps one after another, by where they look.
-use Rattle.std.proofs.Common.{◌≡◌, ℕ, append_assoc, append-nil, if◌then◌else◌, Bool, true, false, List, [], ◌∷◌, ◌++◌, Option, Some, None, refl, sym, ap, ◌∙◌}
+use Rattle.std.proofs.Common.{◌≡◌, ℕ, append_assoc, append-nil, if◌then◌else◌, Bool, true, false, List, [], ◌∷◌, ◌++◌, Option, Some, None, refl, sym, ap, ◌∙◌, ◌≤◌, arith}
 use Rattle.prcu_model.proofs.ListFacts.{all_map, all_append}
 use Rattle.prcu_marks.specs.declared.mark.Mark.{Mark}
 use Rattle.core_state.specs.declared.words.Field.{Field}
@@ -12,7 +12,11 @@ use Rattle.core_state.specs.steps.Seating.{stepped}
 use Rattle.core_state.specs.steps.Sections.{gated}
 use Rattle.core_state.specs.steps.Waits.{spot_seen, excuses, ending, with_excused, after_look}
 use Rattle.core_acts.specs.Acts.{wait_of}
-use Rattle.seat_table.specs.Onward.{LooksAt}
+use Rattle.seat_table.specs.Onward.{LooksAt, IsWithin}
+use Rattle.key_interval.specs.Keys.{Interval}
+use Rattle.key_interval.specs.LastClass.{IsLastClass}
+use mathlib.Core.Logic.{dite}
+use native.Mathlib.Decide.{dec_le}
 
 -- the trail after a look of a wait, and after a load of a gate: one step more
 module _ (v w : View) (kind : Kind) (field : Field) (found : ℕ) where
@@ -78,3 +82,8 @@ module _ (such : Field → Type 0) where
   pub gate_at : (v w : View) (kind : Kind) (field : Field) (class found : ℕ) → w ≡ gated (stepped v kind field found) class found v.section
       → such (spot_seen field) → LooksAt such v w
   gate_at v w kind field class found goes is = step_at v w kind field found (gate_trail v w kind field found class goes) is
+
+-- A grace within the classes of its keys isn't beyond the last one.
+pub within_last : (keys : Interval) (class last : ℕ) → IsWithin keys class → IsLastClass keys last → class ≤ last
+within_last keys class last within is = dite (dec_le class last) (λ most. most)
+    (λ beyond. absurd (is.greatest within.0 (omega (arith, within.1, beyond)) within.2 within.3))

@@ -1,6 +1,6 @@
 -- Polls of any waiter: what its tests show, and from look to look.
-use Rattle.std.proofs.Common.{◌≡◌, ◌≢◌, ℕ, ◌<◌, ◌≤◌, ◌⊎◌, inl, inr, ⊎_elim, ◌==◌, ◌||◌, nat_le, nat_lt, Bool, true, false, List, ◌++◌, Some, refl, sym, ap, subst, ◌∙◌, arith, eq-eqb}
-use Rattle.std.proofs.lemmas.Bool.{eqb-true, ltb-true, leb-true, lt-ltb, and_from, and_parts, or_cases, or_left, or_right, le-leb}
+use Rattle.std.proofs.Common.{◌≡◌, ◌≢◌, ℕ, ◌<◌, ◌≤◌, ⊎_elim, ◌==◌, ◌||◌, nat_le, nat_lt, Bool, true, false, List, ◌++◌, Some, sym, ap, subst, ◌∙◌, arith, eq-eqb}
+use Rattle.std.proofs.lemmas.Bool.{eqb-true, ltb-true, leb-true, lt-ltb, and_from, and_parts, or_cases, or_left, or_right, le-leb, cases_Bool}
 use Rattle.prcu_marks.specs.declared.mark.Mark.{Mark}
 use Rattle.prcu_marks.specs.declared.mark.Why.{Why}
 use Rattle.core_state.specs.declared.shape.Shape.{Shape}
@@ -23,12 +23,8 @@ use Rattle.seat_table.specs.Waits.{reached, HasReached, Shows, StopsAt, is_look,
 use Rattle.seat_table.specs.Looks.{HasPassed, HasMet}
 use Rattle.seat_table.proofs.Waiting.{step_of, look_passes, look_stays, looks_on, looks_end, have_left, shows_later, shows_by}
 
-bool_cases : (b : Bool) → (b ≡ true) ⊎ (b ≡ false)
-bool_cases true = inl refl
-bool_cases false = inr refl
-
 falsely : (b : Bool) → (b ≡ true → ⊥) → b ≡ false
-falsely b never = ⊎_elim (λ (t : b ≡ true). absurd (never t)) (λ (f : b ≡ false). f) (bool_cases b)
+falsely b never = ⊎_elim (λ (t : b ≡ true). absurd (never t)) (λ (f : b ≡ false). f) (cases_Bool b)
 
 pub not_so : {P : Type 0} (b : Bool) → (P → b ≡ true) → b ≡ false → P → ⊥
 not_so b then is p = absurd (let e : true ≡ false = sym (then p) ∙ is in cc)

@@ -9,7 +9,7 @@ use Rattle.core_state.specs.declared.view.Retired.{Retired}
 use Rattle.core_state.specs.declared.view.View.{View}
 use Rattle.prcu_marks.specs.declared.mark.Mark.{Mark}
 use Rattle.list_laws.specs.Counts.{times, numbers_from}
-use Rattle.core_state.specs.views.Views.{Works, unraised_among, IsQuiet, places_of}
+use Rattle.core_state.specs.views.Views.{Works, places_of}
 use Rattle.core_state.specs.steps.Seating.{new_view, unknown_slot, NeedsSplit, first_of, second_of, NeedsJoin, both_of, spent_view, meeting_of, spent_places}
 use Rattle.core_state.specs.Invariant.{Rule}
 use Rattle.seat_table.specs.declared.rule.Nothing.{Nothing}

@@ -35,7 +35,8 @@ use Rattle.core_state.specs.steps.Slots.{IsInHand, IsSpare, IsRetiredAt}
 use Rattle.core_state.specs.views.Known.{known_in, known_under, lock_of}
 use Rattle.core_acts.specs.declared.act.Act.{Act}
 use Rattle.core_acts.specs.declared.act.Act.TheVariants.{LoadClock, LeaveByStamp, BeginWait, LoadRetiredLife, Reserve, Seize, Lock as TakeLock, LinkLeaf, Bypass, LinkCopy, LeaveByCount, LeaveByRow, ReplaceValue, LookAtFront}
-use Rattle.core_acts.specs.Acts.{field_of, access_of, said_by}
+use Rattle.prcu_marks.specs.Accesses.{said_by}
+use Rattle.core_acts.specs.Acts.{field_of, access_of}
 use Rattle.core_state.specs.views.Views.{Works, places_of, slots_of}
 use Rattle.core_frames.specs.Telling.{IsToldOf}
 use Rattle.prcu_model.specs.Slots.{StaysWithin}

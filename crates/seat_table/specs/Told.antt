@@ -7,7 +7,7 @@ use Rattle.core_state.specs.declared.shape.Shape.{Shape}
 use Rattle.core_state.specs.declared.view.View.{View}
 use Rattle.core_state.specs.declared.words.Field.{Field}
 use Rattle.core_acts.specs.declared.act.Act.{Act}
-use Rattle.core_acts.specs.declared.access.Access.{Access}
+use Rattle.prcu_marks.specs.declared.access.Access.{Access}
 use Rattle.core_acts.specs.Acts.{field_of, access_of, noted, Asks, after}
 use Rattle.seat_table.specs.Seats.{TableAt, HasPlace, shape_of}
 use Rattle.seat_table.specs.declared.rule.Nothing.{Nothing}

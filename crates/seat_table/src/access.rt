@@ -1,8 +1,8 @@
-//! The accesses to a word: each step of a kind is one of them.
-ghost use Rattle.std.specs.Prelude.{◌≡◌, ◌≤◌};
+//! The access to a word that a step of any kind makes.
+ghost use Rattle.std.specs.Prelude.{◌≡◌};
 ghost use Rattle.core_state.specs.memory.Memory.{word_of};
+ghost use Rattle.prcu_marks.specs.Accesses.{said_by};
 ghost use Rattle.seat_table.specs.Seats.{shape_of};
-ghost use Rattle.core_acts.specs.declared.access.Access.TheVariants.{Load, Store, Exchange, Add, Subtract, Flip};
 ghost use Rattle.seat_table.specs.Gains.{TellsNow};
 ghost use Rattle.seat_table.specs.Told.{Touches, Told};
 
@@ -13,6 +13,7 @@ use crate::waiter::{WaitWords, waiter_of};
 use atomic_table::Seat;
 use core_acts::{Act, index_of};
 use core_state::{Field, View};
+use prcu_marks::Access;
 use std::marker::Brand;
 
 type Token = Seat<Nothing, View>;
@@ -26,232 +27,51 @@ fn word_at<W: WaitWords>(table: &CitrusTable<W>, word: Field) -> usize
 }
 
 #[inline(always)]
-fn loads_it<W: WaitWords, A: Detail>(
+fn touches_it<W: WaitWords, A: Detail>(
     table: &CitrusTable<W>,
     seat: &mut Token,
     act: Act,
     word: Field,
+    access: Access,
 ) -> u64
     requires picked { (A.shape ≡ shape_of W.WAY table.now) × (A.act ≡ act) }
     requires table { seat.old.table_id ≡ table.now.id }
-    requires asks { Touches W.WAY table.now seat.old.me.0 act Load word }
+    requires asks { Touches W.WAY table.now seat.old.me.0 act access word }
     ensures seat { (seat.new.table_id ≡ seat.old.table_id) × (seat.new.me.1 ≡ seat.old.me.1) }
-    ensures told { Told (shape_of W.WAY table.now) seat.old.me.0 act result seat.new.me.0 }
+    ensures told { Told (shape_of W.WAY table.now) seat.old.me.0 act (said_by access result) seat.new.me.0 }
     ensures now { TellsNow (shape_of W.WAY table.now) seat.new.me.0 }
 {
     let index = word_at(table, word);
-    table.table.shared.load::<Tells<A>>(seat, index)
+    let words = &table.table.shared;
+    match access {
+        Access::Load => words.load::<Tells<A>>(seat, index),
+        Access::Store { number } => {
+            words.store::<Tells<A>>(seat, index, number);
+            number
+        }
+        Access::Exchange { expected, number } => {
+            words.compare_exchange::<Tells<A>>(seat, index, expected, number)
+        }
+        Access::Add { number } => words.fetch_add::<Tells<A>>(seat, index, number),
+        Access::Subtract { number } => words.fetch_sub::<Tells<A>>(seat, index, number),
+        Access::Flip => words.fetch_xor::<Tells<A>>(seat, index, 1),
+    }
 }
 
-/// A load.
+/// Makes the access, and answers the number found, or stored where it is a store. A constant access folds away.
 #[inline(always)]
-pub(crate) fn load<W: WaitWords>(
+pub(crate) fn touch<W: WaitWords>(
     table: &CitrusTable<W>,
     seat: &mut Token,
     act: Act,
     word: Field,
+    access: Access,
 ) -> u64
     requires table { seat.old.table_id ≡ table.now.id }
-    requires asks { Touches W.WAY table.now seat.old.me.0 act Load word }
+    requires asks { Touches W.WAY table.now seat.old.me.0 act access word }
     ensures seat { (seat.new.table_id ≡ seat.old.table_id) × (seat.new.me.1 ≡ seat.old.me.1) }
-    ensures told { Told (shape_of W.WAY table.now) seat.old.me.0 act result seat.new.me.0 }
+    ensures told { Told (shape_of W.WAY table.now) seat.old.me.0 act (said_by access result) seat.new.me.0 }
     ensures now { TellsNow (shape_of W.WAY table.now) seat.new.me.0 }
 {
-    loads_it::<W, Brand>(table, seat, act, word)
-}
-
-#[inline(always)]
-fn stores_it<W: WaitWords, A: Detail>(
-    table: &CitrusTable<W>,
-    seat: &mut Token,
-    act: Act,
-    word: Field,
-    number: u64,
-)
-    requires picked { (A.shape ≡ shape_of W.WAY table.now) × (A.act ≡ act) }
-    requires table { seat.old.table_id ≡ table.now.id }
-    requires asks { Touches W.WAY table.now seat.old.me.0 act (Store number) word }
-    ensures seat { (seat.new.table_id ≡ seat.old.table_id) × (seat.new.me.1 ≡ seat.old.me.1) }
-    ensures told { Told (shape_of W.WAY table.now) seat.old.me.0 act number seat.new.me.0 }
-    ensures now { TellsNow (shape_of W.WAY table.now) seat.new.me.0 }
-{
-    let index = word_at(table, word);
-    table.table.shared.store::<Tells<A>>(seat, index, number);
-}
-
-/// A store.
-#[inline(always)]
-pub(crate) fn store<W: WaitWords>(
-    table: &CitrusTable<W>,
-    seat: &mut Token,
-    act: Act,
-    word: Field,
-    number: u64,
-)
-    requires table { seat.old.table_id ≡ table.now.id }
-    requires asks { Touches W.WAY table.now seat.old.me.0 act (Store number) word }
-    ensures seat { (seat.new.table_id ≡ seat.old.table_id) × (seat.new.me.1 ≡ seat.old.me.1) }
-    ensures told { Told (shape_of W.WAY table.now) seat.old.me.0 act number seat.new.me.0 }
-    ensures now { TellsNow (shape_of W.WAY table.now) seat.new.me.0 }
-{
-    stores_it::<W, Brand>(table, seat, act, word, number);
-}
-
-#[inline(always)]
-fn exchanges_it<W: WaitWords, A: Detail>(
-    table: &CitrusTable<W>,
-    seat: &mut Token,
-    act: Act,
-    word: Field,
-    old: u64,
-    new: u64,
-) -> u64
-    requires picked { (A.shape ≡ shape_of W.WAY table.now) × (A.act ≡ act) }
-    requires table { seat.old.table_id ≡ table.now.id }
-    requires asks { Touches W.WAY table.now seat.old.me.0 act (Exchange old new) word }
-    ensures seat { (seat.new.table_id ≡ seat.old.table_id) × (seat.new.me.1 ≡ seat.old.me.1) }
-    ensures told { Told (shape_of W.WAY table.now) seat.old.me.0 act result seat.new.me.0 }
-    ensures now { TellsNow (shape_of W.WAY table.now) seat.new.me.0 }
-{
-    let index = word_at(table, word);
-    table
-        .table
-        .shared
-        .compare_exchange::<Tells<A>>(seat, index, old, new)
-}
-
-/// A compare-and-exchange.
-#[inline(always)]
-pub(crate) fn exchange<W: WaitWords>(
-    table: &CitrusTable<W>,
-    seat: &mut Token,
-    act: Act,
-    word: Field,
-    old: u64,
-    new: u64,
-) -> u64
-    requires table { seat.old.table_id ≡ table.now.id }
-    requires asks { Touches W.WAY table.now seat.old.me.0 act (Exchange old new) word }
-    ensures seat { (seat.new.table_id ≡ seat.old.table_id) × (seat.new.me.1 ≡ seat.old.me.1) }
-    ensures told { Told (shape_of W.WAY table.now) seat.old.me.0 act result seat.new.me.0 }
-    ensures now { TellsNow (shape_of W.WAY table.now) seat.new.me.0 }
-{
-    exchanges_it::<W, Brand>(table, seat, act, word, old, new)
-}
-
-#[inline(always)]
-fn adds_it<W: WaitWords, A: Detail>(
-    table: &CitrusTable<W>,
-    seat: &mut Token,
-    act: Act,
-    word: Field,
-    number: u64,
-) -> u64
-    requires picked { (A.shape ≡ shape_of W.WAY table.now) × (A.act ≡ act) }
-    requires table { seat.old.table_id ≡ table.now.id }
-    requires asks { Touches W.WAY table.now seat.old.me.0 act (Add number) word }
-    ensures seat { (seat.new.table_id ≡ seat.old.table_id) × (seat.new.me.1 ≡ seat.old.me.1) }
-    ensures told { Told (shape_of W.WAY table.now) seat.old.me.0 act result seat.new.me.0 }
-    ensures now { TellsNow (shape_of W.WAY table.now) seat.new.me.0 }
-{
-    let index = word_at(table, word);
-    table
-        .table
-        .shared
-        .fetch_add::<Tells<A>>(seat, index, number)
-}
-
-/// An addition.
-#[inline(always)]
-pub(crate) fn add<W: WaitWords>(
-    table: &CitrusTable<W>,
-    seat: &mut Token,
-    act: Act,
-    word: Field,
-    number: u64,
-) -> u64
-    requires table { seat.old.table_id ≡ table.now.id }
-    requires asks { Touches W.WAY table.now seat.old.me.0 act (Add number) word }
-    ensures seat { (seat.new.table_id ≡ seat.old.table_id) × (seat.new.me.1 ≡ seat.old.me.1) }
-    ensures told { Told (shape_of W.WAY table.now) seat.old.me.0 act result seat.new.me.0 }
-    ensures now { TellsNow (shape_of W.WAY table.now) seat.new.me.0 }
-{
-    adds_it::<W, Brand>(table, seat, act, word, number)
-}
-
-#[inline(always)]
-fn subtracts_it<W: WaitWords, A: Detail>(
-    table: &CitrusTable<W>,
-    seat: &mut Token,
-    act: Act,
-    word: Field,
-    number: u64,
-) -> u64
-    requires picked { (A.shape ≡ shape_of W.WAY table.now) × (A.act ≡ act) }
-    requires table { seat.old.table_id ≡ table.now.id }
-    requires one { number ≤ 1 }
-    requires asks { Touches W.WAY table.now seat.old.me.0 act (Subtract number) word }
-    ensures seat { (seat.new.table_id ≡ seat.old.table_id) × (seat.new.me.1 ≡ seat.old.me.1) }
-    ensures told { Told (shape_of W.WAY table.now) seat.old.me.0 act result seat.new.me.0 }
-    ensures now { TellsNow (shape_of W.WAY table.now) seat.new.me.0 }
-{
-    let index = word_at(table, word);
-    table
-        .table
-        .shared
-        .fetch_sub::<Tells<A>>(seat, index, number)
-}
-
-/// A subtraction of at most 1.
-#[inline(always)]
-pub(crate) fn subtract<W: WaitWords>(
-    table: &CitrusTable<W>,
-    seat: &mut Token,
-    act: Act,
-    word: Field,
-    number: u64,
-) -> u64
-    requires table { seat.old.table_id ≡ table.now.id }
-    requires one { number ≤ 1 }
-    requires asks { Touches W.WAY table.now seat.old.me.0 act (Subtract number) word }
-    ensures seat { (seat.new.table_id ≡ seat.old.table_id) × (seat.new.me.1 ≡ seat.old.me.1) }
-    ensures told { Told (shape_of W.WAY table.now) seat.old.me.0 act result seat.new.me.0 }
-    ensures now { TellsNow (shape_of W.WAY table.now) seat.new.me.0 }
-{
-    subtracts_it::<W, Brand>(table, seat, act, word, number)
-}
-
-#[inline(always)]
-fn flips_it<W: WaitWords, A: Detail>(
-    table: &CitrusTable<W>,
-    seat: &mut Token,
-    act: Act,
-    word: Field,
-) -> u64
-    requires picked { (A.shape ≡ shape_of W.WAY table.now) × (A.act ≡ act) }
-    requires table { seat.old.table_id ≡ table.now.id }
-    requires asks { Touches W.WAY table.now seat.old.me.0 act Flip word }
-    ensures seat { (seat.new.table_id ≡ seat.old.table_id) × (seat.new.me.1 ≡ seat.old.me.1) }
-    ensures told { Told (shape_of W.WAY table.now) seat.old.me.0 act result seat.new.me.0 }
-    ensures now { TellsNow (shape_of W.WAY table.now) seat.new.me.0 }
-{
-    let index = word_at(table, word);
-    table.table.shared.fetch_xor::<Tells<A>>(seat, index, 1)
-}
-
-/// An exchange-xor with 1.
-#[inline(always)]
-pub(crate) fn flip<W: WaitWords>(
-    table: &CitrusTable<W>,
-    seat: &mut Token,
-    act: Act,
-    word: Field,
-) -> u64
-    requires table { seat.old.table_id ≡ table.now.id }
-    requires asks { Touches W.WAY table.now seat.old.me.0 act Flip word }
-    ensures seat { (seat.new.table_id ≡ seat.old.table_id) × (seat.new.me.1 ≡ seat.old.me.1) }
-    ensures told { Told (shape_of W.WAY table.now) seat.old.me.0 act result seat.new.me.0 }
-    ensures now { TellsNow (shape_of W.WAY table.now) seat.new.me.0 }
-{
-    flips_it::<W, Brand>(table, seat, act, word)
+    touches_it::<W, Brand>(table, seat, act, word, access)
 }

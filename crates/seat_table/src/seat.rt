@@ -12,15 +12,16 @@ ghost use Rattle.seat_table.specs.Gains.{TellsNow};
 ghost use Rattle.seat_table.specs.Scans as scans;
 ghost use Rattle.seat_table.specs.Told.{Told};
 
-use crate::access::load;
+use crate::access::touch;
 use crate::rule::Nothing;
 use crate::scan::region;
 use crate::table::CitrusTable;
-use crate::told::{Cut, Glue, Share};
+use crate::told::{Cut, Glue};
 use crate::waiter::WaitWords;
 use arrayvec::ArrayVec;
 use core_acts::Act;
 use core_state::{Field, View};
+use prcu_marks::{Access, Share};
 use std::marker::{Brand, Model, PhantomData};
 
 /// How many slots that its place freed a seat notes.
@@ -382,7 +383,7 @@ impl<W: WaitWords> Seat<W> {
             marker: _,
         } = other;
         table.table.shared.join_seat::<Glue>(&mut seat, theirs);
-        load(table, &mut seat, Act::LoadClock, Field::Clock);
+        touch(table, &mut seat, Act::LoadClock, Field::Clock, Access::Load);
         Seat {
             seat,
             slots,

@@ -7,7 +7,7 @@ ghost use Rattle.seat_table.specs.Scans as scans;
 ghost use Rattle.seat_table.specs.Told.{IsAsked, Told};
 ghost use Rattle.seat_table.specs.Seats.{shape_of, unlisted};
 
-use crate::access::{add, exchange, flip, load, store, subtract};
+use crate::access::touch;
 use crate::scan::after_look;
 use crate::seat::Seat;
 use crate::table::CitrusTable;
@@ -16,7 +16,7 @@ use arrayvec::ArrayVec;
 use core_acts::{Act, Part, in_slot};
 use core_state::Field;
 use key_interval::{Keys, class_of};
-use prcu_marks::Side;
+use prcu_marks::{Access, Side};
 
 // Takes a slot off the list of retired slots.
 fn take_off(listed: &mut ArrayVec<u32, 16>, slot: u32)
@@ -32,7 +32,8 @@ pub fn load_clock<W: WaitWords>(table: &CitrusTable<W>, seat: &mut Seat<W>) -> u
     ensures seat { (seat.new.table ≡ seat.old.table) × (seat.new.listed ≡ seat.old.listed) × (seat.new.looked ≡ seat.old.looked) }
     ensures told { Told (shape_of W.WAY table.now) seat.old.view acts.LoadClock result seat.new.view }
 {
-    load(table, &mut seat.seat, Act::LoadClock, Field::Clock)
+    let act = Act::LoadClock;
+    touch(table, &mut seat.seat, act, Field::Clock, Access::Load)
 }
 
 /// Stores the own key word (K4).
@@ -43,7 +44,9 @@ pub fn announce_key<W: WaitWords>(table: &CitrusTable<W>, seat: &mut Seat<W>, ke
     ensures told { Told (shape_of W.WAY table.now) seat.old.view (acts.AnnounceKey key) key seat.new.view }
 {
     let word = Field::Announced { place: seat.place };
-    store(table, &mut seat.seat, Act::AnnounceKey { key }, word, key);
+    let act = Act::AnnounceKey { key };
+    let access = Access::Store { number: key };
+    touch(table, &mut seat.seat, act, word, access);
 }
 
 /// Stores the own stamp: a section is entered (K5).
@@ -62,7 +65,8 @@ pub fn enter_by_stamp<W: WaitWords>(
     seat.key = Some(key);
     seat.stamp = stamp;
     let act = Act::EnterByStamp { key, stamp };
-    store(table, &mut seat.seat, act, word, stamp);
+    let access = Access::Store { number: stamp };
+    touch(table, &mut seat.seat, act, word, access);
 }
 
 /// Makes the own stamp idle: the section is left (K6).
@@ -74,7 +78,8 @@ pub fn leave_by_stamp<W: WaitWords>(table: &CitrusTable<W>, seat: &mut Seat<W>)
 {
     let word = Field::Stamp { place: seat.place };
     seat.key = None;
-    store(table, &mut seat.seat, Act::LeaveByStamp, word, u64::MAX);
+    let access = Access::Store { number: u64::MAX };
+    touch(table, &mut seat.seat, Act::LeaveByStamp, word, access);
 }
 
 /// Adds 1 to the clock: a wait for the readers with one of these keys begins (K7).
@@ -89,7 +94,8 @@ pub fn begin_wait<W: WaitWords>(table: &CitrusTable<W>, seat: &mut Seat<W>, keys
     seat.tickets -= 1;
     seat.waits += 1;
     let act = Act::BeginWait { low, high };
-    add(table, &mut seat.seat, act, Field::Clock, 1)
+    let access = Access::Add { number: 1 };
+    touch(table, &mut seat.seat, act, Field::Clock, access)
 }
 
 /// Loads the key of a place, in a wait (K8).
@@ -105,7 +111,8 @@ pub fn look_key<W: WaitWords>(
     ensures told { Told (shape_of W.WAY table.now) seat.old.view (acts.LookKey place last) result seat.new.view }
 {
     let word = Field::Announced { place };
-    load(table, &mut seat.seat, Act::LookKey { place, last }, word)
+    let act = Act::LookKey { place, last };
+    touch(table, &mut seat.seat, act, word, Access::Load)
 }
 
 /// Loads the stamp of a place, in a wait (K8).
@@ -121,7 +128,8 @@ pub fn look_stamp<W: WaitWords>(
     ensures told { Told (shape_of W.WAY table.now) seat.old.view (acts.LookStamp place last) result seat.new.view }
 {
     let word = Field::Stamp { place };
-    load(table, &mut seat.seat, Act::LookStamp { place, last }, word)
+    let act = Act::LookStamp { place, last };
+    touch(table, &mut seat.seat, act, word, Access::Load)
 }
 
 /// Loads the life of the slot in hand or the spare (K9).
@@ -132,7 +140,8 @@ pub fn load_own_life<W: WaitWords>(table: &CitrusTable<W>, seat: &mut Seat<W>, s
     ensures told { Told (shape_of W.WAY table.now) seat.old.view (acts.LoadOwnLife slot) result seat.new.view }
 {
     let word = Field::Life { slot };
-    load(table, &mut seat.seat, Act::LoadOwnLife { slot }, word)
+    let act = Act::LoadOwnLife { slot };
+    touch(table, &mut seat.seat, act, word, Access::Load)
 }
 
 /// Loads the life of the slot in hand, which becomes the spare (K9).
@@ -143,7 +152,8 @@ pub fn keep_as_spare<W: WaitWords>(table: &CitrusTable<W>, seat: &mut Seat<W>, s
     ensures told { Told (shape_of W.WAY table.now) seat.old.view (acts.KeepAsSpare slot) result seat.new.view }
 {
     let word = Field::Life { slot };
-    let found = load(table, &mut seat.seat, Act::KeepAsSpare { slot }, word);
+    let act = Act::KeepAsSpare { slot };
+    let found = touch(table, &mut seat.seat, act, word, Access::Load);
     seat.hand = None;
     seat.spare = Some(slot);
     found
@@ -157,7 +167,8 @@ pub fn load_retired_life<W: WaitWords>(table: &CitrusTable<W>, seat: &mut Seat<W
     ensures told { Told (shape_of W.WAY table.now) seat.old.view (acts.LoadRetiredLife slot) result seat.new.view }
 {
     let word = Field::Life { slot };
-    load(table, &mut seat.seat, Act::LoadRetiredLife { slot }, word)
+    let act = Act::LoadRetiredLife { slot };
+    touch(table, &mut seat.seat, act, word, Access::Load)
 }
 
 /// Exchanges the free count for one less (K10).
@@ -167,15 +178,13 @@ pub fn reserve<W: WaitWords>(table: &CitrusTable<W>, seat: &mut Seat<W>, expecte
     ensures seat { (seat.new.table ≡ seat.old.table) × (seat.new.listed ≡ seat.old.listed) × (seat.new.looked ≡ seat.old.looked) }
     ensures told { Told (shape_of W.WAY table.now) seat.old.view (acts.Reserve expected) result seat.new.view }
 {
+    let token = &mut seat.seat;
     let act = Act::Reserve { expected };
-    let found = exchange(
-        table,
-        &mut seat.seat,
-        act,
-        Field::Free,
+    let access = Access::Exchange {
         expected,
-        expected - 1,
-    );
+        number: expected - 1,
+    };
+    let found = touch(table, token, act, Field::Free, access);
     if found == expected {
         seat.tickets -= 1;
         seat.free = expected - 1;
@@ -195,7 +204,11 @@ pub fn seize<W: WaitWords>(table: &CitrusTable<W>, seat: &mut Seat<W>, slot: u32
 {
     let word = Field::State { slot };
     let looked = after_look(seat.looked, slot, table.slots() + table.places());
-    let found = exchange(table, &mut seat.seat, Act::Seize { slot }, word, 0, 1);
+    let access = Access::Exchange {
+        expected: 0,
+        number: 1,
+    };
+    let found = touch(table, &mut seat.seat, Act::Seize { slot }, word, access);
     seat.looked = looked;
     if found == 0 {
         seat.hand = Some(slot);
@@ -219,7 +232,7 @@ pub fn fill<W: WaitWords>(
 {
     let word = in_slot(slot, part);
     let act = Act::Fill { slot, part, number };
-    store(table, &mut seat.seat, act, word, number);
+    touch(table, &mut seat.seat, act, word, Access::Store { number });
 }
 
 /// Raises the life of the slot in hand (K12).
@@ -236,7 +249,7 @@ pub fn raise_in_hand<W: WaitWords>(
 {
     let word = Field::Life { slot };
     let act = Act::RaiseInHand { slot, number };
-    store(table, &mut seat.seat, act, word, number);
+    touch(table, &mut seat.seat, act, word, Access::Store { number });
 }
 
 /// Raises the life of a retired slot, which becomes the spare and is taken off the list (K12).
@@ -257,7 +270,7 @@ pub fn raise_to_spare<W: WaitWords>(
     take_off(&mut seat.listed, slot);
     seat.spare = Some(slot);
     let act = Act::RaiseToSpare { slot, number };
-    store(table, &mut seat.seat, act, word, number);
+    touch(table, &mut seat.seat, act, word, Access::Store { number });
 }
 
 /// Raises the life of a retired slot, where the place has a spare (K12).
@@ -274,7 +287,7 @@ pub fn raise_retired<W: WaitWords>(
 {
     let word = Field::Life { slot };
     let act = Act::RaiseRetired { slot, number };
-    store(table, &mut seat.seat, act, word, number);
+    touch(table, &mut seat.seat, act, word, Access::Store { number });
 }
 
 /// Exchanges a slot's lock from 0 to the place plus 1 (K13).
@@ -286,7 +299,11 @@ pub fn lock<W: WaitWords>(table: &CitrusTable<W>, seat: &mut Seat<W>, slot: u32)
 {
     let word = Field::Lock { slot };
     let mine = seat.place as u64 + 1;
-    exchange(table, &mut seat.seat, Act::Lock { slot }, word, 0, mine)
+    let access = Access::Exchange {
+        expected: 0,
+        number: mine,
+    };
+    touch(table, &mut seat.seat, Act::Lock { slot }, word, access)
 }
 
 /// Gives a lock up (K14).
@@ -297,7 +314,8 @@ pub fn unlock<W: WaitWords>(table: &CitrusTable<W>, seat: &mut Seat<W>, slot: u3
     ensures told { Told (shape_of W.WAY table.now) seat.old.view (acts.Unlock slot) 0 seat.new.view }
 {
     let word = Field::Lock { slot };
-    store(table, &mut seat.seat, Act::Unlock { slot }, word, 0);
+    let access = Access::Store { number: 0 };
+    touch(table, &mut seat.seat, Act::Unlock { slot }, word, access);
 }
 
 /// Frees the slot in hand (K15).
@@ -309,7 +327,9 @@ pub fn free_in_hand<W: WaitWords>(table: &CitrusTable<W>, seat: &mut Seat<W>, sl
 {
     let word = Field::State { slot };
     seat.hand = None;
-    store(table, &mut seat.seat, Act::FreeInHand { slot }, word, 0);
+    let act = Act::FreeInHand { slot };
+    let access = Access::Store { number: 0 };
+    touch(table, &mut seat.seat, act, word, access);
 }
 
 /// Frees a retired slot, which is taken off the list (K15).
@@ -323,7 +343,9 @@ pub fn free_retired<W: WaitWords>(table: &CitrusTable<W>, seat: &mut Seat<W>, sl
 {
     let word = Field::State { slot };
     take_off(&mut seat.listed, slot);
-    store(table, &mut seat.seat, Act::FreeRetired { slot }, word, 0);
+    let act = Act::FreeRetired { slot };
+    let access = Access::Store { number: 0 };
+    touch(table, &mut seat.seat, act, word, access);
 }
 
 /// Adds 1 to the free count (K16).
@@ -333,7 +355,8 @@ pub fn count_free<W: WaitWords>(table: &CitrusTable<W>, seat: &mut Seat<W>)
     ensures seat { (seat.new.table ≡ seat.old.table) × (seat.new.listed ≡ seat.old.listed) × (seat.new.looked ≡ seat.old.looked) }
     ensures told { (found : ℕ) × Told (shape_of W.WAY table.now) seat.old.view acts.CountFree found seat.new.view }
 {
-    let found = add(table, &mut seat.seat, Act::CountFree, Field::Free, 1);
+    let access = Access::Add { number: 1 };
+    let found = touch(table, &mut seat.seat, Act::CountFree, Field::Free, access);
     seat.free = found + 1;
 }
 
@@ -351,7 +374,8 @@ pub fn search_load<W: WaitWords>(
     ensures told { Told (shape_of W.WAY table.now) seat.old.view (acts.SearchLoad slot part) result seat.new.view }
 {
     let word = in_slot(slot, part);
-    load(table, &mut seat.seat, Act::SearchLoad { slot, part }, word)
+    let act = Act::SearchLoad { slot, part };
+    touch(table, &mut seat.seat, act, word, Access::Load)
 }
 
 /// Loads a word of a slot, in a listing (K17).
@@ -368,7 +392,8 @@ pub fn list_load<W: WaitWords>(
     ensures told { Told (shape_of W.WAY table.now) seat.old.view (acts.ListLoad slot part) result seat.new.view }
 {
     let word = in_slot(slot, part);
-    load(table, &mut seat.seat, Act::ListLoad { slot, part }, word)
+    let act = Act::ListLoad { slot, part };
+    touch(table, &mut seat.seat, act, word, Access::Load)
 }
 
 /// Loads a word of a slot under its lock (K18).
@@ -385,7 +410,8 @@ pub fn locked_load<W: WaitWords>(
     ensures told { Told (shape_of W.WAY table.now) seat.old.view (acts.LockedLoad slot part) result seat.new.view }
 {
     let word = in_slot(slot, part);
-    load(table, &mut seat.seat, Act::LockedLoad { slot, part }, word)
+    let act = Act::LockedLoad { slot, part };
+    touch(table, &mut seat.seat, act, word, Access::Load)
 }
 
 /// Exchanges the front from an even number to the next (K19).
@@ -395,15 +421,13 @@ pub fn open_commit<W: WaitWords>(table: &CitrusTable<W>, seat: &mut Seat<W>, exp
     ensures seat { (seat.new.table ≡ seat.old.table) × (seat.new.listed ≡ seat.old.listed) × (seat.new.looked ≡ seat.old.looked) }
     ensures told { Told (shape_of W.WAY table.now) seat.old.view (acts.OpenCommit expected) result seat.new.view }
 {
+    let token = &mut seat.seat;
     let act = Act::OpenCommit { expected };
-    let found = exchange(
-        table,
-        &mut seat.seat,
-        act,
-        Field::Front,
+    let access = Access::Exchange {
         expected,
-        expected + 1,
-    );
+        number: expected + 1,
+    };
+    let found = touch(table, token, act, Field::Front, access);
     seat.front = if found == expected {
         expected + 1
     } else {
@@ -437,7 +461,8 @@ pub fn link_leaf<W: WaitWords>(
         key,
         value,
     };
-    store(table, &mut seat.seat, act, word, leaf as u64);
+    let number = leaf as u64;
+    touch(table, &mut seat.seat, act, word, Access::Store { number });
 }
 
 /// Bypasses a marked node, where child 0 is none (K21).
@@ -464,7 +489,8 @@ pub fn bypass<W: WaitWords>(
         child,
         key,
     };
-    store(table, &mut seat.seat, act, word, child as u64);
+    let number = child as u64;
+    touch(table, &mut seat.seat, act, word, Access::Store { number });
 }
 
 /// Marks a node (K22).
@@ -475,13 +501,9 @@ pub fn mark<W: WaitWords>(table: &CitrusTable<W>, seat: &mut Seat<W>, slot: u32,
     ensures told { Told (shape_of W.WAY table.now) seat.old.view (acts.Mark slot life) (life + 1) seat.new.view }
 {
     let word = Field::Life { slot };
-    store(
-        table,
-        &mut seat.seat,
-        Act::Mark { slot, life },
-        word,
-        life + 1,
-    );
+    let token = &mut seat.seat;
+    let access = Access::Store { number: life + 1 };
+    touch(table, token, Act::Mark { slot, life }, word, access);
 }
 
 /// Raises the tag of a side (K23).
@@ -500,7 +522,8 @@ pub fn raise_tag<W: WaitWords>(
 {
     let word = Field::Tag { slot, side };
     let act = Act::RaiseTag { slot, side, tag };
-    store(table, &mut seat.seat, act, word, tag + 1);
+    let access = Access::Store { number: tag + 1 };
+    touch(table, &mut seat.seat, act, word, access);
 }
 
 /// Makes the front even again (K24).
@@ -511,13 +534,9 @@ pub fn close_commit<W: WaitWords>(table: &CitrusTable<W>, seat: &mut Seat<W>, fr
     ensures told { Told (shape_of W.WAY table.now) seat.old.view (acts.CloseCommit front) front seat.new.view }
 {
     seat.front = front;
-    store(
-        table,
-        &mut seat.seat,
-        Act::CloseCommit { front },
-        Field::Front,
-        front,
-    );
+    let act = Act::CloseCommit { front };
+    let access = Access::Store { number: front };
+    touch(table, &mut seat.seat, act, Field::Front, access);
 }
 
 /// Links a copy of the successor, which is the spare, in a node's place (K25).
@@ -552,7 +571,8 @@ pub fn link_copy<W: WaitWords>(
         key,
         next_key,
     };
-    store(table, &mut seat.seat, act, word, copy as u64);
+    let number = copy as u64;
+    touch(table, &mut seat.seat, act, word, Access::Store { number });
 }
 
 /// Unlinks the old successor from its parent's left (K26).
@@ -573,7 +593,8 @@ pub fn unlink_left<W: WaitWords>(
         side: Side::Left,
     };
     let act = Act::UnlinkLeft { parent, old, child };
-    store(table, &mut seat.seat, act, word, child as u64);
+    let number = child as u64;
+    touch(table, &mut seat.seat, act, word, Access::Store { number });
 }
 
 /// Unlinks the old successor from the copy's right (K27).
@@ -594,7 +615,8 @@ pub fn unlink_right<W: WaitWords>(
         side: Side::Right,
     };
     let act = Act::UnlinkRight { copy, old, child };
-    store(table, &mut seat.seat, act, word, child as u64);
+    let number = child as u64;
+    touch(table, &mut seat.seat, act, word, Access::Store { number });
 }
 
 /// Loads a gate (K28).
@@ -605,7 +627,8 @@ pub fn load_gate<W: WaitWords>(table: &CitrusTable<W>, seat: &mut Seat<W>, class
     ensures told { Told (shape_of W.WAY table.now) seat.old.view (acts.LoadGate class) result seat.new.view }
 {
     let word = Field::Gate { class };
-    load(table, &mut seat.seat, Act::LoadGate { class }, word)
+    let act = Act::LoadGate { class };
+    touch(table, &mut seat.seat, act, word, Access::Load)
 }
 
 /// Adds 1 to a side of a class: a section is entered (K29).
@@ -619,13 +642,8 @@ pub fn enter_by_count<W: WaitWords>(table: &CitrusTable<W>, seat: &mut Seat<W>, 
     let word = Field::Count { class, side };
     seat.key = Some(key);
     seat.stamp = side as u64;
-    add(
-        table,
-        &mut seat.seat,
-        Act::EnterByCount { key, side },
-        word,
-        1,
-    );
+    let act = Act::EnterByCount { key, side };
+    touch(table, &mut seat.seat, act, word, Access::Add { number: 1 });
 }
 
 /// Takes 1 from a side of a class: the section is left (K30).
@@ -642,13 +660,9 @@ pub fn leave_by_count<W: WaitWords>(
 {
     let word = Field::Count { class, side };
     seat.key = None;
-    subtract(
-        table,
-        &mut seat.seat,
-        Act::LeaveByCount { class, side },
-        word,
-        1,
-    );
+    let act = Act::LeaveByCount { class, side };
+    let access = Access::Subtract { number: 1 };
+    touch(table, &mut seat.seat, act, word, access);
 }
 
 /// Loads a side of a class, in a wait (K31).
@@ -665,12 +679,8 @@ pub fn look_count<W: WaitWords>(
     ensures told { Told (shape_of W.WAY table.now) seat.old.view (acts.LookCount class side last) result seat.new.view }
 {
     let word = Field::Count { class, side };
-    load(
-        table,
-        &mut seat.seat,
-        Act::LookCount { class, side, last },
-        word,
-    )
+    let act = Act::LookCount { class, side, last };
+    touch(table, &mut seat.seat, act, word, Access::Load)
 }
 
 /// Turns a gate (K32).
@@ -682,7 +692,8 @@ pub fn turn_gate<W: WaitWords>(table: &CitrusTable<W>, seat: &mut Seat<W>, class
 {
     let word = Field::Gate { class };
     seat.turns += 1;
-    flip(table, &mut seat.seat, Act::TurnGate { class }, word)
+    let act = Act::TurnGate { class };
+    touch(table, &mut seat.seat, act, word, Access::Flip)
 }
 
 /// Stores the own stamp of a class: a section is entered (K33).
@@ -698,7 +709,8 @@ pub fn enter_by_row<W: WaitWords>(table: &CitrusTable<W>, seat: &mut Seat<W>, ke
     seat.key = Some(key);
     seat.stamp = stamp;
     let act = Act::EnterByRow { key, stamp };
-    store(table, &mut seat.seat, act, word, stamp);
+    let access = Access::Store { number: stamp };
+    touch(table, &mut seat.seat, act, word, access);
 }
 
 /// Makes the own stamp of a class idle: the section is left (K34).
@@ -711,13 +723,9 @@ pub fn leave_by_row<W: WaitWords>(table: &CitrusTable<W>, seat: &mut Seat<W>, cl
     let place = seat.place;
     let word = Field::Row { place, class };
     seat.key = None;
-    store(
-        table,
-        &mut seat.seat,
-        Act::LeaveByRow { class },
-        word,
-        u64::MAX,
-    );
+    let act = Act::LeaveByRow { class };
+    let access = Access::Store { number: u64::MAX };
+    touch(table, &mut seat.seat, act, word, access);
 }
 
 /// Loads a stamp of a class, in a wait (K35).
@@ -734,12 +742,8 @@ pub fn look_row<W: WaitWords>(
     ensures told { Told (shape_of W.WAY table.now) seat.old.view (acts.LookRow place class last) result seat.new.view }
 {
     let word = Field::Row { place, class };
-    load(
-        table,
-        &mut seat.seat,
-        Act::LookRow { place, class, last },
-        word,
-    )
+    let act = Act::LookRow { place, class, last };
+    touch(table, &mut seat.seat, act, word, Access::Load)
 }
 
 /// Replaces a value (K36).
@@ -758,7 +762,8 @@ pub fn replace_value<W: WaitWords>(
     let word = Field::Value { slot };
     seat.tickets -= 1;
     let act = Act::ReplaceValue { slot, key, value };
-    store(table, &mut seat.seat, act, word, value);
+    let access = Access::Store { number: value };
+    touch(table, &mut seat.seat, act, word, access);
 }
 
 /// Loads the front, in a section that becomes a listing, or is one (K37).
@@ -768,7 +773,8 @@ pub fn look_at_front<W: WaitWords>(table: &CitrusTable<W>, seat: &mut Seat<W>) -
     ensures seat { (seat.new.table ≡ seat.old.table) × (seat.new.listed ≡ seat.old.listed) × (seat.new.looked ≡ seat.old.looked) }
     ensures told { Told (shape_of W.WAY table.now) seat.old.view acts.LookAtFront result seat.new.view }
 {
-    let found = load(table, &mut seat.seat, Act::LookAtFront, Field::Front);
+    let act = Act::LookAtFront;
+    let found = touch(table, &mut seat.seat, act, Field::Front, Access::Load);
     seat.front = found;
     found
 }

@@ -33,7 +33,6 @@ use Rattle.prcu_marks.specs.declared.mark.Mark.TheVariants.{Done}
 use Rattle.prcu_marks.specs.Marks.{own_of, updates_of}
 use Rattle.core_state.specs.declared.words.Field.TheVariants.{Life, Link, Value}
 use Rattle.core_state.specs.views.Known.{known_in, known_of, known_under, lock_of}
-use Rattle.core_points.specs.DeleteFacts.{under}
 use Rattle.core_points.proofs.Locking.{slots_in}
 use Rattle.core_points.specs.Callers.{key_now, or_root}
 use Rattle.core_points.specs.Programs.{act_at}
@@ -88,7 +87,7 @@ module _ {k : Shape} {kept n : ℕ} {v w : View} where
   updated_leaf {key} {value} {leaf} {front} a t =
       updated t.marks [] (Put key value) front refl refl (further v _ t.goes refl) t.sees (allowed t.goes refl)
       (ap (λ (z : View). z.seen) t.goes)
-      ((t.gains).found (record { found = front; stored = false }) (((a.fits).point).2).turn_is)
+      ((t.gains).found (record { found = front; stored = false }) (((a.fits).point).bare).turn_is)
 
   -- a set's value was the key's, as the set loaded it
   pub updated_value : {key value s old front : ℕ} → IsAt k (Set key value) kept (at.Store (update.Value s old) front) v
@@ -97,8 +96,8 @@ module _ {k : Shape} {kept n : ℕ} {v w : View} where
   updated_value {key} {value} {s} {old} {front} a t = (
     updated t.marks [] (Set key value) front refl refl (further v _ t.goes refl) t.sees (allowed t.goes refl)
         (ap (λ (z : View). z.seen) t.goes)
-        (((t.gains).counted).found (record { found = front; stored = false }) ((((a.fits).point).1).0).turn_is),
-    (t.gains).was old (the_value v s ((a.fits).point).0 old (((a.fits).point).1).1),
+        (((t.gains).counted).found (record { found = front; stored = false }) ((((a.fits).point).1).quiet).turn_is),
+    (t.gains).was old (the_value v s ((a.fits).point).0 old (((a.fits).point).1).locks_are),
   )
 
   pub gone_store_leaf : {key value leaf front : ℕ} {spot : Spot} → IsAt k (Put key value) kept (at.Store (update.Leaf spot) front) v
@@ -163,7 +162,7 @@ linked_case : {k : Shape} {op : Op} {kept leaf front : ℕ} {v : View} {spot : S
     (a : IsAt k op kept (at.Store (update.Leaf spot) front) v) → IsSlotOf (Some leaf) v.hands.hand
     → act_at a.own (at.Store (update.Leaf spot) front) ≡ acts.LinkLeaf spot.slot spot.side leaf (key_of op) (value_in op)
 linked_case {op = op} {leaf = leaf} {v = v} {spot = spot} a is =
-    let hand : a.own.hand ≡ Some leaf = sym (slot_in_hand a.own.hand _ _ _ v.hands.hand ((a.fits).point).3)
+    let hand : a.own.hand ≡ Some leaf = sym (slot_in_hand a.own.hand _ _ _ v.hands.hand ((a.fits).point).hand)
     ∙ slot_of v.hands.hand leaf is in
     ap (λ x. acts.LinkLeaf spot.slot spot.side (or_root x) (key_now a.own) (value_in a.own.op)) hand
     ∙ ap (λ (x : Op). acts.LinkLeaf spot.slot spot.side leaf (key_of x) (value_in x)) a.op_is

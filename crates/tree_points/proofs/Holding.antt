@@ -45,7 +45,7 @@ slot_in_hand (Some s) life key value held fits = ap spare_slot fits.1 ∙ ap Som
 -- A leaf is filled.
 leaf_hand : {k : Shape} {op : Op} {kept i leaf : ℕ} {v : View} {spot : Spot} (a : IsAt k op kept (at.LeafField spot i) v)
     → IsSlotOf (Some leaf) v.hands.hand → a.own.hand ≡ Some leaf
-leaf_hand {leaf = leaf} {v = v} a is = let p = ((a.fits).point).2 in p.1 ∙ sym (ap spare_slot p.2) ∙ slot_of v.hands.hand leaf is
+leaf_hand {leaf = leaf} {v = v} a is = let p = (a.fits).point in p.taken ∙ sym (ap spare_slot p.in_hand) ∙ slot_of v.hands.hand leaf is
 
 leaf_case : {k : Shape} {kept leaf key value : ℕ} {v : View} {spot : Spot} (i : ℕ) (a : IsAt k (Put key value) kept (at.LeafField spot i) v)
     → IsSlotOf (Some leaf) v.hands.hand
@@ -132,7 +132,7 @@ pub passes_copy_lock_busy : {k : Shape} {op : Op} {kept n copy next_key : ℕ} {
 passes_copy_lock_busy {n = n} {copy = copy} {next_key = next_key} {d = d} {u = u} busy is a t =
     passes_as (at.CopyLock d u next_key) (at.Unlock last.Again) (acts.Lock copy) a refl (ap (λ x. acts.Lock (or_root x)) (own_spare a is))
     (ap (λ (x : Own). x.stage) (lock_busy a.own (or_root a.own.spare) n (at.CopyMark d u next_key) busy)
-    ∙ ap (λ b. cond b at.EnterClock (at.Unlock last.Again)) (ap is_none_left ((((a.fits).point).0).4) ∙ some_left (u.parent == d.node))) t
+    ∙ ap (λ b. cond b at.EnterClock (at.Unlock last.Again)) (ap is_none_left a.fits.point.0.locks_are ∙ some_left (u.parent == d.node))) t
   where
     some_left : (z : Bool) → is_none_left (first_locks (two_children d u) (cond z 3 4)) ≡ false
     some_left true = refl

@@ -41,19 +41,19 @@ holds_one v s known e = record { same = λ x. ap (λ (ls : List HeldLock). times
 
 pub locks_leaf_tag : {k : Shape} {op : Op} {kept life link : ℕ} {v : View} {spot : Spot} → IsAt k op kept (at.LeafTag spot life link) v
     → HasLocks (spot.slot ∷ []) v
-locks_leaf_tag {v = v} {spot = spot} a = holds_one v spot.slot _ (((a.fits).point).2).locks_are
+locks_leaf_tag {v = v} {spot = spot} a = holds_one v spot.slot _ (((a.fits).point).bare).locks_are
 
 pub locks_store_leaf : {k : Shape} {op : Op} {kept front : ℕ} {v : View} {spot : Spot}
     → IsAt k op kept (at.Store (update.Leaf spot) front) v → HasLocks (spot.slot ∷ []) v
-locks_store_leaf {v = v} {spot = spot} a = holds_one v spot.slot _ (((a.fits).point).2).locks_are
+locks_store_leaf {v = v} {spot = spot} a = holds_one v spot.slot _ (((a.fits).point).bare).locks_are
 
 pub locks_set_check : {k : Shape} {op : Op} {kept s generation : ℕ} {v : View} → IsAt k op kept (at.SetCheck s generation) v
     → HasLocks (s ∷ []) v
-locks_set_check {s = s} {v = v} a = holds_one v s _ ((a.fits).point).1
+locks_set_check {s = s} {v = v} a = holds_one v s _ ((a.fits).point).locks_are
 
 pub locks_store_value : {k : Shape} {op : Op} {kept front s old : ℕ} {v : View} → IsAt k op kept (at.Store (update.Value s old) front) v
     → HasLocks (s ∷ []) v
-locks_store_value {s = s} {v = v} a = holds_one v s _ (((a.fits).point).1).1
+locks_store_value {s = s} {v = v} a = holds_one v s _ (((a.fits).point).1).locks_are
 
 -- those of a delete are the first of its target's, the latest first
 pub locks_target_lock : {k : Shape} {op : Op} {kept i : ℕ} {v : View} {t : Target} → IsAt k op kept (at.TargetLock t i) v
@@ -62,7 +62,7 @@ locks_target_lock {v = v} a = record { same = subst (λ xs. SameLocks xs v.locks
 
 pub locks_copy_lock : {k : Shape} {op : Op} {kept next_key : ℕ} {v : View} {d : Node} {u : Successor}
     → IsAt k op kept (at.CopyLock d u next_key) v → HasLocks (all_locks d u) v
-locks_copy_lock {v = v} a = record { same = subst (λ xs. SameLocks xs v.locks) (((a.fits).point).0).4 ((a.fits).owns).locks_are }
+locks_copy_lock {v = v} a = record { same = subst (λ xs. SameLocks xs v.locks) (((a.fits).point).0).locks_are ((a.fits).owns).locks_are }
 
 -- A lock that was found free, or not.
 pub lock_free : (o : Own) (s n : ℕ) (next : Stage) → n ≡ 0 → past_lock o s n next ≡ go (record o { locks = s ∷ o.locks }) next
@@ -93,7 +93,7 @@ pub passes_leaf_lock_busy : {k : Shape} {op : Op} {kept n : ℕ} {v w : View} {s
 passes_leaf_lock_busy {n = n} {v = v} {spot = spot} busy a t =
     passes_as (at.LeafLock spot) at.EnterClock (acts.Lock spot.slot) a refl refl
     (busy_stage a.own spot.slot n (at.LeafLife spot) true busy
-    (ap is_none_left (no_locks a.own v (a.fits).owns (((a.fits).point).2).locks_are))) t
+    (ap is_none_left (no_locks a.own v (a.fits).owns (((a.fits).point).bare).locks_are))) t
 
 pub needs_set_lock : {k : Shape} {op : Op} {kept : ℕ} {v : View} {s generation : ℕ} → IsAt k op kept (at.SetLock s generation) v
     → TellsNow k v → Asks k v (acts.Lock s)
@@ -109,7 +109,7 @@ pub passes_set_lock_busy : {k : Shape} {op : Op} {kept n : ℕ} {v w : View} {s 
     → IsAt k op kept (at.SetLock s generation) v → Told k v (acts.Lock s) n w → IsAt k op kept at.EnterClock w
 passes_set_lock_busy {n = n} {v = v} {s = s} {generation = generation} busy a t =
     passes_as (at.SetLock s generation) at.EnterClock (acts.Lock s) a refl refl
-    (busy_stage a.own s n (at.SetCheck s generation) true busy (ap is_none_left (no_locks a.own v (a.fits).owns ((a.fits).point).1))) t
+    (busy_stage a.own s n (at.SetCheck s generation) true busy (ap is_none_left (no_locks a.own v a.fits.owns a.fits.point.locks_are))) t
 
 -- the locks of a delete
 pub needs_target_lock : {k : Shape} {op : Op} {kept i : ℕ} {v : View} {t : Target} → IsAt k op kept (at.TargetLock t i) v → TellsNow k v

@@ -49,7 +49,7 @@ module _ (o : Own) (v w : View) (aim : Aim) (f : Fits o (at.Begin (Reuse aim)) v
   idle = (f.point).0
 
   bare : Bare w [] None false
-  bare = let b = idle.1 in record {
+  bare = let b = idle.bare in record {
     locks_are = r.locks ∙ b.locks_are;
     turn_is = r.commit ∙ b.turn_is;
     settled = r.moving ∙ b.settled;
@@ -62,14 +62,15 @@ module _ (o : Own) (v w : View) (aim : Aim) (f : Fits o (at.Begin (Reuse aim)) v
   some_spare (Some held) ne = refl
 
   ready : Calm new w
-  ready = (
-    bare,
-    subst (λ x. HandFits x o.hand_life (key_now o) (value_in o.op) w.hands.hand) (sym idle.3) (r.hand ∙ idle.2),
-    record { empty = λ z. idle.3; room = λ z. omega arith; has_spare = λ z. some_spare w.hands.spare r.spare },
-  )
+  ready = record {
+    bare = bare;
+    hand = subst (λ x. HandFits x o.hand_life (key_now o) (value_in o.op) w.hands.hand) (sym idle.no_hand) (r.hand ∙ idle.empty);
+    ready = record { empty = λ z. idle.no_hand; room = λ z. omega arith; has_spare = λ z. some_spare w.hands.spare r.spare };
+  }
 
   enters_again : (m : ℕ) → owed_op o.op o.hand [] ≤ m → m + 4 * length o.rest + o.kept ≤ w.allowance.tickets → Fits new at.EnterClock w
-  enters_again m few paid = record { owns = owns; tickets = omega arith; unraised = λ z. unraised; point = (r.section ∙ idle.0, ready) }
+  enters_again m few paid =
+      record { owns = owns; tickets = omega arith; unraised = λ z. unraised; point = (r.section ∙ idle.outside, ready) }
 
 two_owed : {k : Shape} {kept key : ℕ} {stage : Stage} {v : View} (a : IsAt k (Del key) kept stage v) → owed_op a.own.op a.own.hand [] ≤ 2
 two_owed a = subst (λ (x : Op). owed_op x a.own.hand [] ≤ 2) (sym a.op_is) (omega arith)
@@ -93,13 +94,14 @@ reclaims_leaf {v = v} {w = w} {spot = spot} a r expected positive =
       owns = owns a.own v w (Leaf spot) a.fits r;
       tickets = (let paid = (a.fits).tickets in let one = r.paid in omega arith);
       unraised = λ z. unraised a.own v w (Leaf spot) a.fits r;
-      point = (
-        r.section ∙ i.0,
-        bare a.own v w (Leaf spot) a.fits r,
-        r.hand ∙ i.2,
-        i.3,
-        positive,
-        subst (λ (rs : List Reading). HasSpot (table_of a.own) rs (key_now a.own) spot) (sym r.records) for.0,
-        for.1,
-      );
+      point = record {
+        idle = record {
+          outside = r.section ∙ i.outside;
+          bare = bare a.own v w (Leaf spot) a.fits r;
+          empty = r.hand ∙ i.empty;
+          no_hand = i.no_hand;
+        };
+        some = positive;
+        takes = (subst (λ (rs : List Reading). HasSpot (table_of a.own) rs (key_now a.own) spot) (sym r.records) for.0, for.1);
+      };
     })

@@ -17,23 +17,23 @@ pub outside_enter : {k : Shape} {op : Op} {kept : ℕ} {v : View} → IsAt k op 
 outside_enter a = ((a.fits).point).0
 
 pub unlocked_enter : {k : Shape} {op : Op} {kept : ℕ} {v : View} → IsAt k op kept at.EnterClock v → v.locks ≡ []
-unlocked_enter a = ((((a.fits).point).1).0).locks_are
+unlocked_enter a = ((((a.fits).point).1).bare).locks_are
 
 pub inside_leave : {k : Shape} {op : Op} {kept : ℕ} {next : Then} {v : View} → IsAt k op kept (at.Leave next) v
     → (section : Section) × (v.section ≡ Some section)
 inside_leave {next = next} {v = v} a = by next (a.fits)
   where
     by : (next : Then) → Fits a.own (at.Leave next) v → (section : Section) × (v.section ≡ Some section)
-    by then.Absent f = let i = (((f.point).1).1).2 in (i.0, i.1)
-    by (then.Value value) f = let i = (((f.point).1).1).3 in (i.0, i.1)
-    by then.Old f = let i = (((f.point).1).1).3 in (i.0, i.1)
-    by (then.Link spot) f = let i = ((f.point).1).1 in (i.0, i.1)
-    by (then.Replace s generation) f = let i = (((f.point).1).1).2 in (i.0, i.1)
-    by (then.Delete t) f = let i = ((f.point).1).1 in (i.0, i.1)
+    by then.Absent f = let i = (((f.point).1).1).2 in (i.section, i.is)
+    by (then.Value value) f = let i = (((f.point).1).1).3 in (i.section, i.is)
+    by then.Old f = let i = (((f.point).1).1).3 in (i.section, i.is)
+    by (then.Link spot) f = let i = ((f.point).1).1 in (i.section, i.is)
+    by (then.Replace s generation) f = let i = (((f.point).1).1).2 in (i.section, i.is)
+    by (then.Delete t) f = let i = ((f.point).1).1 in (i.section, i.is)
 
 -- a search of another operation than a put has no slot in hand
 pub no_hand_enter : {k : Shape} {op : Op} {kept : ℕ} {v : View} → is_put op ≡ false → IsAt k op kept at.EnterClock v → v.hands.hand ≡ None
 no_hand_enter {v = v} other a =
     let p = ((a.fits).point).1 in
-    let none : a.own.hand ≡ None = (p.2).empty (ap is_put a.op_is ∙ other) in
-    subst (λ x. HandFits x a.own.hand_life (key_now a.own) (value_in a.own.op) v.hands.hand) none p.1
+    let none : a.own.hand ≡ None = (p.ready).empty (ap is_put a.op_is ∙ other) in
+    subst (λ x. HandFits x a.own.hand_life (key_now a.own) (value_in a.own.op) v.hands.hand) none p.hand

@@ -4,12 +4,10 @@ use Rattle.prcu_model.specs.declared.operation.Op.{Op}
 use Rattle.core_state.specs.declared.shape.Shape.{Shape}
 use Rattle.core_state.specs.declared.view.View.{View}
 use Rattle.core_points.specs.declared.stage.Aim.{Aim}
-use Rattle.core_points.specs.declared.stage.Aim.TheVariants.{Leaf, Spare, Room}
 use Rattle.core_points.specs.declared.stage.Update.{Update}
 use Rattle.core_points.specs.declared.stage.Stage.{Stage}
 use Rattle.core_points.specs.declared.stage.Stage.TheVariants as at
 use Rattle.core_points.specs.Callers.{Own}
-use Rattle.core_points.specs.Fits.{Fits}
 use Rattle.core_points.specs.Programs.{act_at, after}
 use Rattle.core_acts.specs.declared.act.Act.{Act}
 use Rattle.core_acts.specs.Acts.{Asks}
@@ -53,14 +51,9 @@ commits_any a expected even = moves_on a a.own refl
 -- A slot may be reserved with any number that is taken for the free count's.
 pub reserves_any : {k : Shape} {op : Op} {kept e : ℕ} {aim : Aim} {v : View} → IsAt k op kept (at.Reserve aim e) v → (expected : ℕ)
     → 1 ≤ expected → IsAt k op kept (at.Reserve aim expected) v
-reserves_any {e = e} {aim = aim} {v = v} a expected some = moves_on a a.own refl (by aim a.fits)
-  where
-    by : (aim : Aim) → Fits a.own (at.Reserve aim e) v → Fits a.own (at.Reserve aim expected) v
-    by (Leaf spot) f = let p = f.point in record {
-      owns = f.owns;
-      tickets = f.tickets;
-      unraised = f.unraised;
-      point = (p.0, p.1, p.2, p.3, some, p.5, p.6);
-    }
-    by Spare f = let p = f.point in record { owns = f.owns; tickets = f.tickets; unraised = f.unraised; point = (p.0, some, p.2, p.3, p.4) }
-    by Room f = absurd f.point
+reserves_any a expected some = moves_on a a.own refl (record {
+  owns = a.fits.owns;
+  tickets = a.fits.tickets;
+  unraised = a.fits.unraised;
+  point = record { idle = a.fits.point.idle; some = some; takes = a.fits.point.takes };
+})

@@ -1,5 +1,5 @@
 -- Seats joined one after another.
-use Rattle.std.proofs.Common.{◌≡◌, ℕ, zero, suc, ◌<◌, ◌≤◌, Bool, true, false, cond, List, [], ◌∷◌, ◌++◌, length, map, Some, inl, inr, refl, sym, ap, subst, ◌∙◌, arith, length-append}
+use Rattle.std.proofs.Common.{◌≡◌, ℕ, zero, suc, ◌<◌, ◌≤◌, List, [], ◌∷◌, ◌++◌, length, map, Some, inl, inr, refl, sym, ap, subst, ◌∙◌, arith, length-append}
 use Rattle.std.specs.List.{slice_get}
 use Rattle.std.proofs.lemmas.Bool.{cases_lt}
 use Rattle.std.proofs.lemmas.List.{get_or_append_left, get_or_push, length-map}
@@ -7,8 +7,9 @@ use Rattle.std.proofs.lemmas.Option.{slice_get-get_or, slice_get_within, get_or_
 use mathlib.Core.List.{IsPrefix}
 use Rattle.prcu_model.proofs.ListFacts.{prefix_self, prefix_trans}
 use Rattle.prcu_marks.specs.declared.mark.Mark.{Mark}
-use Rattle.prcu_marks.specs.Marks.{is_of, own_of}
+use Rattle.prcu_marks.specs.Marks.{own_of}
 use Rattle.prcu_marks.specs.Callers.{Caller}
+use Rattle.prcu_marks.proofs.OwnMarks.{own_twice}
 use Rattle.client_run.specs.Crews.{HaveMet}
 use Rattle.list_laws.specs.Counts.{times}
 use Rattle.core_state.specs.declared.view.View.{View}
@@ -20,15 +21,6 @@ use Rattle.core_acts.specs.Acts.{noted}
 use Rattle.core_acts.specs.declared.act.Act.TheVariants.{LoadClock}
 use Rattle.tree_run.specs.Callers.{ScriptClientAt}
 use Rattle.tree_run.specs.Runs.{script_caller, IsDone, StandsFor}
-
-own_here : (p : ℕ) (m : Mark) (own : List Mark) → own_of p own ≡ own → (b : Bool) → is_of p m ≡ b
-    → own_of p (cond b (m ∷ own) own) ≡ cond b (m ∷ own) own
-own_here p m own twice true is = ap (λ b. cond b (m ∷ own_of p own) (own_of p own)) is ∙ ap (λ xs. m ∷ xs) twice
-own_here p m own twice false is = twice
-
-own_twice : (p : ℕ) (h : List Mark) → own_of p (own_of p h) ≡ own_of p h
-own_twice p [] = refl
-own_twice p (m ∷ h) = own_here p m (own_of p h) (own_twice p h) (is_of p m) refl
 
 -- a client whose calls are made has met its own marks
 own_met : (i : ℕ) (c : ScriptClientAt) → c.tree.seat.view.allowance.place ≡ i

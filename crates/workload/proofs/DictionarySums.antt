@@ -1,5 +1,5 @@
 -- The sums over a dictionary whose keys and values are low.
-use Rattle.std.proofs.Common.{◌≡◌, ℕ, suc, ◌*◌, ◌<◌, ◌≤◌, Bool, true, false, cond, ◌&&◌, T, Option, Some, None, List, [], ◌∷◌, length, sum_by, refl, sym, ap, ◌∙◌, ◌⊎◌, inl, inr, arith}
+use Rattle.std.proofs.Common.{◌≡◌, ℕ, suc, ◌*◌, ◌<◌, ◌≤◌, Bool, true, false, cond, T, Option, Some, None, List, [], ◌∷◌, length, sum_by, refl, sym, ap, ◌∙◌, ◌⊎◌, inl, inr, arith}
 use Rattle.std.specs.FinMap as map
 use Rattle.std.specs.FinMap.Entries.{find, below_all, is_sorted}
 use Rattle.std.specs.Ordering.{nat_cmp, is_eq, is_lt, eq_by_cmp}
@@ -7,6 +7,7 @@ use Rattle.std.specs.declared.cmp.Ordering.TheVariants.{Less, Equal, Greater}
 use Rattle.std.specs.Cmp.{nat_cmp_total, tied_itself}
 use Rattle.std.specs.List.{All, AllByRecursion}
 use Rattle.std.proofs.lemmas.List.Sums.{sum_by-cons}
+use Rattle.std.proofs.Math.Facts.{and_yes}
 use Rattle.prcu_model.specs.declared.operation.Op.{Op}
 use Rattle.prcu_model.specs.declared.operation.Op.TheVariants.{Put, Get, Del, Set}
 use Rattle.prcu_model.specs.declared.operation.Update.{Update}
@@ -68,14 +69,6 @@ pub AreLow-history : (history : List Update) → All (λ u. IsLow (key_of u.op) 
 AreLow-history history low = AreLow-updated_all history map.empty low
     (λ key value there. let no : None ≡ Some value = sym (map.get-empty nat_cmp key) ∙ there in absurd (cc))
 
-first : (a b : Bool) → T (a && b) → T a
-first true b p = tt
-first false b p = p
-
-second : (a b : Bool) → T (a && b) → T b
-second true b p = p
-second false b p = absurd p
-
 not_tied : (q key : ℕ) → T (is_lt (nat_cmp q key)) → eq_by_cmp nat_cmp q key ≡ false
 not_tied q key lt =
     elim (nat_cmp q key) as (λ r. T (is_lt r) → is_eq r ≡ false) [
@@ -87,17 +80,17 @@ not_tied q key lt =
 find_below : (key : ℕ) (es : List (ℕ × ℕ)) → T (below_all nat_cmp key es) → find nat_cmp key es ≡ None
 find_below key [] below = refl
 find_below key (e ∷ es) below =
-    ap (λ b. cond b (Some e.1) (find nat_cmp key es)) (not_tied key e.0 (first _ _ below)) ∙ find_below key es (second _ _ below)
+    ap (λ b. cond b (Some e.1) (find nat_cmp key es)) (not_tied key e.0 (and_yes _ _ below).0) ∙ find_below key es (and_yes _ _ below).1
 
 entries_low : (es : List (ℕ × ℕ)) → T (is_sorted nat_cmp es) → ((key value : ℕ) → find nat_cmp key es ≡ Some value → IsLow key value)
     → AllByRecursion (λ e. IsLow e.0 e.1) es
 entries_low [] sorted low = tt
 entries_low (e ∷ es) sorted low = (
   low e.0 e.1 (ap (λ r. cond (is_eq r) (Some e.1) (find nat_cmp e.0 es)) (tied_itself nat_cmp_total e.0)),
-  entries_low es (second _ _ sorted) (λ key value there.
+  entries_low es (and_yes _ _ sorted).1 (λ key value there.
       elim (eq_by_cmp nat_cmp key e.0) as (λ b. eq_by_cmp nat_cmp key e.0 ≡ b → IsLow key value) [
         | true ↦ λ same.
-            let no : None ≡ Some value = sym (find_below e.0 es (first _ _ sorted)) ∙ ap (λ k. find nat_cmp k es) (sym (tied key e.0 same))
+            let no : None ≡ Some value = sym (find_below e.0 es (and_yes _ _ sorted).0) ∙ ap (λ k. find nat_cmp k es) (sym (tied key e.0 same))
             ∙ there in
             absurd (cc)
         | false ↦ λ other. low key value (ap (λ b. cond b (Some e.1) (find nat_cmp key es)) other ∙ there)

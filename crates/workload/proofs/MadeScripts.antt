@@ -2,23 +2,16 @@
 use Rattle.std.proofs.Common.{◌≡◌, ℕ, zero, suc, ◌+◌, ◌-◌, ◌*◌, ◌%◌, ◌^◌, ◌<◌, ◌≤◌, List, [], ◌∷◌, ◌++◌, length, map, refl, sym, ap, ◌∙◌, append_assoc, length-append, arith}
 use Rattle.std.specs.List.{range_with_len}
 use Rattle.std.proofs.lemmas.List.{append-nil}
-use Rattle.std.proofs.lemmas.List.Sums.{sum_by-append, sum_by-cons}
+use Rattle.std.proofs.lemmas.List.Sums.{sum_by-cons}
 use Rattle.std.proofs.lemmas.List.FromFn.{map-range_with_len_more, length-map-range_with_len}
 use Rattle.prcu_model.specs.declared.operation.Op.{Op}
 use Rattle.prcu_model.specs.Scripts.{with_op, op_count}
+use Rattle.prcu_model.proofs.AddedOps.{with_op-last, op_count-last}
 use Rattle.workload.specs.Draws.{made_op, made_ops, made_script, made_scripts}
 
 length-made_ops : (script state ops : ℕ) → length (made_ops script state ops) ≡ ops
 length-made_ops script state zero = refl
 length-made_ops script state (suc ops) = ap suc (length-made_ops script (made_op script state).1 ops)
-
-with_op-last : (first : List (List Op)) (begun : List Op) (op : Op) → with_op (first ++ begun ∷ []) op ≡ first ++ (begun ++ op ∷ []) ∷ []
-with_op-last [] begun op = refl
-with_op-last (s ∷ []) begun op = refl
-with_op-last (s ∷ t ∷ first) begun op = ap (λ x. s ∷ x) (with_op-last (t ∷ first) begun op)
-
-op_count-last : (first : List (List Op)) (begun : List Op) → op_count (first ++ begun ∷ []) ≡ op_count first + length begun
-op_count-last first begun = sum_by-append length first (begun ∷ []) ∙ omega arith
 
 -- Of the script's operations so many were made, and the generator's state gives the others.
 pub record HasBegun (first now : List (List Op)) (script state done ops : ℕ) (whole : List Op) : Type 0 where

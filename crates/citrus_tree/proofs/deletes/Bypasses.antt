@@ -1,16 +1,14 @@
 -- A bypass, point by point.
-use Rattle.std.proofs.Common.{◌≡◌, ◌≢◌, ℕ, ◌+◌, ◌*◌, ◌/◌, ◌<◌, ◌==◌, if◌then◌else◌, cond, Bool, true, false, List, [], ◌∷◌, map, Some, None, refl, sym, ap, subst, ◌∙◌, arith, eq-eqb, ne_eqb}
+use Rattle.std.proofs.Common.{◌≡◌, ◌≢◌, ℕ, ◌+◌, ◌*◌, ◌/◌, ◌<◌, ◌==◌, if◌then◌else◌, cond, Bool, true, false, List, map, Some, None, refl, sym, ap, subst, ◌∙◌, arith, eq-eqb, ne_eqb}
 use Rattle.prcu_marks.specs.declared.mark.Mark.{Mark}
 use Rattle.prcu_marks.specs.declared.mark.Side.{Side}
 use Rattle.prcu_marks.specs.declared.mark.Side.TheVariants.{Left, Right}
 use Rattle.prcu_model.specs.declared.operation.Op.{Op}
 use Rattle.core_state.specs.declared.shape.Shape.{Shape}
 use Rattle.core_state.specs.declared.view.HeldLock.{HeldLock}
-use Rattle.core_state.specs.declared.view.Known.{Known}
 use Rattle.core_state.specs.declared.words.Field.{Field}
-use Rattle.core_state.specs.memory.Memory.{same_field}
 use Rattle.core_state.specs.declared.words.Field.TheVariants.{Life, Link}
-use Rattle.core_state.specs.views.Known.{known_in, known_under, loaded_in}
+use Rattle.core_state.specs.views.Known.{known_in, known_under}
 use Rattle.core_state.specs.declared.view.View.{View}
 use Rattle.core_points.specs.declared.stage.Node.{Node}
 use Rattle.core_points.specs.declared.stage.Last.TheVariants as last
@@ -27,17 +25,7 @@ use Rattle.citrus_tree.specs.Going.{Opened, Closed}
 use Rattle.citrus_tree.specs.Deletes.{KeepsAll, relinked_at}
 use Rattle.citrus_tree.specs.Gone.{retired_marks}
 use Rattle.citrus_tree.proofs.deletes.Keeping.{keeps}
-
--- what was loaded is known
-pub loaded_known : (ls : List Known) (field : Field) (number : ℕ) → loaded_in ls field ≡ Some number → known_in ls field ≡ Some number
-loaded_known [] field number e = e
-loaded_known (l ∷ ls) field number e =
-    elim (same_field l.field field) as (λ b. cond b (cond l.stored None (Some l.number)) (loaded_in ls field) ≡ Some number
-    → cond b (Some l.number) (known_in ls field) ≡ Some number) [
-      | true ↦ λ f. elim l.stored as (λ b. cond b None (Some l.number) ≡ Some number
-          → Some l.number ≡ Some number) [ true ↦ λ g. absurd (cc) | false ↦ λ g. g ] f
-      | false ↦ λ f. loaded_known ls field number f
-    ] e
+use Rattle.tree_laws.proofs.locks.Locked.{loaded_known}
 
 pub opened_keeps : (v w : View) (front : ℕ) → Opened v front w → KeepsAll v w
 opened_keeps v w front e = keeps v w e.steps (allowed e.rest refl) (ap (λ (x : View). x.seen) e.rest) (ap (λ (x : View). x.wait) e.rest)
@@ -80,7 +68,7 @@ module _ {k : Shape} {op : Op} {kept : ℕ} (d : Node) (child : ℕ) (is : child
 -- with the front to be opened, and open
 pub bypass_paid : {k : Shape} {op : Op} {kept child e : ℕ} {v : View} (d : Node) → IsAt k op kept (at.Commit (update.Bypass d child) e) v
     → (v.moving ≡ None) × (v.commit ≡ None)
-bypass_paid d a = let q = ((a.fits.point).0).0 in (q.settled, q.turn_is)
+bypass_paid d a = let q = ((a.fits.point).0).quiet in (q.settled, q.turn_is)
 
 pub bypass_odd : {k : Shape} {op : Op} {kept child front : ℕ} {v : View} (d : Node)
     → IsAt k op kept (at.Even (update.Bypass d child) front) v → v.commit ≡ Some (record { found = front; stored = true })

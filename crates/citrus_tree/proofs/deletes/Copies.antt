@@ -102,7 +102,7 @@ module _ {k : Shape} {op : Op} {kept : ℕ} {d : Node} {u : Successor} {v : View
                 pub copied_value : KeepsValue d.node v v7
                 copied_value =
                     let q = at1.fits.point in
-                    let both = ((q.0).0).2 in
+                    let both = ((q.0).copying).both in
                     let apart : u.slot ≢ d.node = (both.3).apart.from_node in
                     let aside : copy ≢ d.node = (λ same. (q.1).node (ap or_root (own_spare at1 spare1) ∙ same)) in
                     value_on (value_load u.slot d.node part.Key refl t1)

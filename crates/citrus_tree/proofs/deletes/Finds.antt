@@ -53,7 +53,7 @@ pub slot_fits : {k : Shape} {op : Op} {kept : ℕ} {v : View} (d : Node) (u : Su
     → StoodInside k v → u.slot < 4294967296
 slot_fits d u a inside =
     let p = (a.fits.point).2 in
-    (inside.stood p.0 u.slot p.1 (((p.3).1).1).slot_stood).fits
+    (inside.stood p.section u.slot p.is (((p.known).1).1).slot_stood).fits
 
 pub record Walks (k : Shape) (d : Node) (parent slot : ℕ) (v w : View) : Type 0 where
   pub at : Comes k (at.SuccessorLeft d (walked_to d.node d.right)) v (at.SuccessorLeft d (walked_to parent slot)) w

@@ -60,7 +60,8 @@ pub needs_give : (k : Shape) (t : Target) (count left m : ℕ) (v w : View) → 
 needs_give k t count left m v w a e g = needs_unlock (has_next t left m w e g.locked) (unlocking left m e (g.at a.0 a.1 a.2))
 
 clock_locks : {k : Shape} {op : Op} {kept : ℕ} {w : View} → IsAt k op kept at.EnterClock w → HasLocks [] w
-clock_locks a = record { same = λ s. ap (λ (ls : List HeldLock). times s (map (λ (l : HeldLock). l.slot) ls)) (((a.fits.point).1).0).locks_are }
+clock_locks a = let bare = a.fits.point.1.bare in
+    record { same = λ s. ap (λ (ls : List HeldLock). times s (map (λ (l : HeldLock). l.slot) ls)) bare.locks_are }
 
 pub gives_on : (k : Shape) (t : Target) (count left m n : ℕ) (v w x : View) → StandsAt k (giving_up count) v → left ≡ suc m
     → GivesUp k t count left v w → Told k w (acts.Unlock (target_lock t m)) n x → GivesUp k t count m v x

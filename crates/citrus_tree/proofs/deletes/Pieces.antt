@@ -33,12 +33,13 @@ no_spare (Some held) is e = is
 pub has_spare : {k : Shape} {op : Op} {kept : ℕ} {v : View} (d : Node) (u : Successor) → IsAt k op kept (at.SuccessorKey d u) v
     → IsSlotOf None v.hands.spare → ⊥
 has_spare {v = v} d u a is = no_spare v.hands.spare is
-    (ap is_some a.fits.owns.spare_is ∙ (((a.fits.point).0).1).1.has_spare (((a.fits.point).0).1).0)
+    (let del = ((a.fits.point).copying).deleting in ap is_some a.fits.owns.spare_is ∙ del.1.has_spare del.0)
 
 pub few_moved : {k : Shape} {op : Op} {kept : ℕ} (s : SeatAt) (d : Node) (u : Successor) → IsAt k op kept (at.SuccessorKey d u) s.view
     → AreListed s → length s.listed < 15
 few_moved s d u a listed =
-    let room : length a.own.retired < 15 = (((a.fits.point).0).1).1.room (((a.fits.point).0).1).0 in
+    let del = ((a.fits.point).copying).deleting in
+    let room : length a.own.retired < 15 = del.1.room del.0 in
     let same : length (map (λ (r : Retired). r.slot) s.view.hands.retired) ≡ length a.own.retired = ap length a.fits.owns.retired_are in
     let long = listed_length s listed in
     let slots = slots_length s.view.hands.retired in

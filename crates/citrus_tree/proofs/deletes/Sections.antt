@@ -62,25 +62,25 @@ module _ {k : Shape} {kept key : ℕ} where
         point = (
           (a.fits.point).1,
           ap is_delete a.op_is,
-          (
-            record e.section { reading = i.reading },
-            i.inside,
-            record {
+          record {
+            section = record e.section { reading = i.reading };
+            is = i.inside;
+            stands = record {
               searches = e.no_list;
               key_is = e.key_is ∙ ap key_of (sym a.op_is);
               sought = i.key_is ∙ ap key_of (sym a.op_is);
               state_is = i.state_is;
               here = i.here;
-            },
-            (i.above, tt),
-          ),
+            };
+            known = (i.above, tt);
+          },
         );
       }))
 
   -- or nothing: the call is over
   pub at_end : {v w : View} → IsAt k (Del key) kept at.EnterClock v → Looked v key None w → IsDone k (Del key) kept w
   at_end {v} {w} a l =
-      let bare = ((a.fits.point).1).0 in
+      let bare = ((a.fits.point).1).bare in
       let hand = no_hand_enter refl a in
       subst (λ (z : View). IsDone k (Del key) kept z) (sym l.others) (moves_on a a.own refl (record {
         owns = a.fits.owns;

@@ -28,7 +28,7 @@ use Rattle.citrus_tree.proofs.deletes.Updates.{unlinked_gone}
 
 pub copy_paid : {k : Shape} {op : Op} {kept next_key copy e : ℕ} {v : View} (d : Node) (u : Successor)
     → IsAt k op kept (at.Commit (update.Copy d u next_key copy) e) v → (v.moving ≡ None) × (v.commit ≡ None)
-copy_paid d u a = let q = (((a.fits.point).0).0).0 in (q.settled, q.turn_is)
+copy_paid d u a = let q = (((a.fits.point).0).copying).quiet in (q.settled, q.turn_is)
 
 pub copy_odd : {k : Shape} {op : Op} {kept next_key copy front : ℕ} {v : View} (d : Node) (u : Successor)
     → IsAt k op kept (at.Even (update.Copy d u next_key copy) front) v → v.commit ≡ Some (record { found = front; stored = true })

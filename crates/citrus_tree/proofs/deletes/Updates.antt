@@ -115,7 +115,7 @@ module _ (k : Shape) (key kept : ℕ) (d : Node) (child front n : ℕ) (v w : Vi
     (a : IsAt k (Del key) kept (at.Store (update.Bypass d child) front) v)
     (t : Told k v (acts.Bypass d.parent d.side d.node child key) n w) where
   bypass_front : front + 2 ≡ 2 * length (updates_of w.seen)
-  bypass_front = t.gains.counted.found (record { found = front; stored = false }) ((a.fits.point).0).turn_is
+  bypass_front = t.gains.counted.found (record { found = front; stored = false }) ((a.fits.point).quiet).turn_is
 
   pub bypass_done : HasDone v (Del key) d.node [] (front / 2 + 1) w
   bypass_done = done_by_marks v w (Del key) t.marks d.node front (further v _ t.goes refl) t.sees (allowed t.goes refl)
@@ -158,7 +158,7 @@ module _ (k : Shape) (key kept : ℕ) (d : Node) (u : Successor) (next_key copy 
     (a : IsAt k (Del key) kept (at.Store (update.Copy d u next_key copy) front) v)
     (t : Told k v (acts.LinkCopy d.parent d.side d.node copy u.slot u.parent key next_key) n w) where
   copy_front : front + 2 ≡ 2 * length (updates_of w.seen)
-  copy_front = t.gains.counted.found (record { found = front; stored = false }) (((a.fits.point).0).0).turn_is
+  copy_front = t.gains.counted.found (record { found = front; stored = false }) (((a.fits.point).copying).quiet).turn_is
 
   copy_done : HasDone v (Del key) d.node [] (front / 2 + 1) w
   copy_done = done_by_marks v w (Del key) t.marks d.node front (further v _ t.goes refl) t.sees (allowed t.goes refl)

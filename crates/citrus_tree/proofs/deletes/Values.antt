@@ -105,40 +105,41 @@ both_at : {k : Shape} {op : Op} {kept : ℕ} {v : View} (d : Node) (u : Successo
 both_at {k} {op} {kept} {v} d u n a =
     let o : Own = a.own in
     let p = a.fits.point in
-    let c = p.0 in
-    let both = c.2 in
+    let c = p.copying in
+    let both = c.both in
     let kn : Known = read_at (Value d.node) n in
     let now : List HeldLock = change_lock d.node (note_lock kn) v.locks in
     moves_on a o refl (record {
       owns = owns_noted o v d.node (Value d.node) n false a.fits.owns;
       tickets = a.fits.tickets;
       unraised = λ z. a.fits.unraised refl;
-      point = (
-        (
-          quiet_noted o v d.node (Value d.node) n false None c.0,
-          c.1,
-          (
+      point = record {
+        copying = record {
+          quiet = quiet_noted o v d.node (Value d.node) n false None c.quiet;
+          deleting = c.deleting;
+          both = (
             both.0,
             both.1,
             node_to v.records v.locks now both.0 d (λ x e. loaded_more v.locks d.node kn d.parent (Life d.parent) x refl e)
                 (λ b x e. loaded_more v.locks d.node kn d.parent (Link d.parent b) x refl e)
                 (λ b x e. loaded_more v.locks d.node kn d.node (Link d.node b) x refl e) both.2,
             successor_still v.locks d.node kn both.0 d u (λ t. refl) (λ t. refl) both.3,
-          ),
-        ),
-        loaded_more v.locks d.node kn d.node (Life d.node) (2 * d.generation) refl p.1,
-        clear_changed d.node (note_lock kn) (λ l c. c) v.locks p.2,
-        subst (λ x. x ≤ 4) (sym (length_change d.node (note_lock kn) (λ l. refl) v.locks)) p.3,
-        p.4,
-        held_still v.locks d.node (note_lock kn) (λ l. refl) u.slot p.5,
-      );
+          );
+        };
+        unmarked = loaded_more v.locks d.node kn d.node (Life d.node) (2 * d.generation) refl p.unmarked;
+        clear = clear_changed d.node (note_lock kn) (λ l c. c) v.locks p.clear;
+        few = subst (λ x. x ≤ 4) (sym (length_change d.node (note_lock kn) (λ l. refl) v.locks)) p.few;
+        locks_are = p.locks_are;
+        held = held_still v.locks d.node (note_lock kn) (λ l. refl) u.slot p.held;
+      };
     })
 
 -- the node is locked
 node_locked : {k : Shape} {op : Op} {kept : ℕ} {v : View} (d : Node) (o : Option Successor) → IsAt k op kept (deleting d o) v
     → HasLock v d.node
 node_locked {v = v} d None a = let held = held_by_load v d.node (Life d.node) (2 * d.generation) (a.fits.point).unmarked in (held.0, held.1)
-node_locked {v = v} d (Some u) a = let held = held_by_load v d.node (Life d.node) (2 * d.generation) (a.fits.point).1 in (held.0, held.1)
+node_locked {v = v} d (Some u) a = let held = held_by_load v d.node (Life d.node) (2 * d.generation) (a.fits.point).unmarked in
+    (held.0, held.1)
 
 pub loads_value : {k : Shape} {op : Op} {kept : ℕ} {v : View} (d : Node) (o : Option Successor) → IsAt k op kept (deleting d o) v
     → IsAsked k v (acts.LockedLoad d.node part.Value)
@@ -220,7 +221,7 @@ value_lock {n = n} {v = v} s t ne told = record {
 pub copy_aside : {k : Shape} {op : Op} {kept next_key copy : ℕ} {v : View} (d : Node) (u : Successor)
     → IsAt k op kept (at.CopyLock d u next_key) v → IsSlotOf (Some copy) v.hands.spare → copy ≢ d.node
 copy_aside d u a spare same =
-    ((a.fits.point).1).0.node (ap or_root (own_spare a spare) ∙ same)
+    ((a.fits.point).1).aside.node (ap or_root (own_spare a spare) ∙ same)
 
 -- What an update took out stays so in the longer history.
 updates_grow : (h seen : List Mark) → IsPrefix h seen → IsPrefix (updates_of h) (updates_of seen)

@@ -34,6 +34,7 @@ use Rattle.node_slots.specs.Taking.{HasTaken, FoundNone, TriesInVain, exchange}
 use Rattle.node_slots.specs.Reclaiming.{HasReclaimed}
 use Rattle.node_slots.proofs.Listed.{listed_length}
 use Rattle.node_slots.proofs.Points.{back_ends, back_gone, back_retired, gives_all, none_begins, none_gone, none_is_full, none_retired_now, reclaim_gone, reclaim_retired, taken_gone, taken_retired}
+use Rattle.node_slots.proofs.Returning.{some_there}
 use Rattle.citrus_tree.specs.Going.{Goes, leaf_stage}
 use Rattle.citrus_tree.specs.Gone.{NeededRoom}
 use Rattle.citrus_tree.specs.Putting.{MakesRoom, Reused, old_stage}
@@ -97,10 +98,6 @@ module _ {k : Shape} {key value kept leaf : ℕ} {spot : Spot} {v : View} (is : 
           filled_at = passes_leaf 3 is3 at3 fourth
 
 -- The slot in hand is put back.
-pub hand_held : (hand : Option Held) (slot : ℕ) → IsSlotOf (Some slot) hand → (held : Held) × (hand ≡ Some held)
-hand_held None slot is = absurd is
-hand_held (Some held) slot is = (held, refl)
-
 pub goes_back : {slot : ℕ} {v w : View} → PutsBack v slot w → Goes v w []
 goes_back back = record {
   gone = back_gone back;
@@ -111,13 +108,13 @@ goes_back back = record {
 
 pub gives_up : (slot : ℕ) {v w : View} → IsSlotOf (Some slot) v.hands.hand
     → ((held : Held) → v.hands.hand ≡ Some held → PutsBack v held.slot w) → Goes v w []
-gives_up slot {v} {w} is back = let h = hand_held v.hands.hand slot is in goes_back (back h.0 h.1)
+gives_up slot {v} {w} is back = let h = some_there v.hands.hand slot is in goes_back (back h.0 h.1)
 
 pub gives_up_at : {k : Shape} {op : Op} {kept : ℕ} (slot : ℕ) {v w : View} → IsSlotOf (Some slot) v.hands.hand
     → ((held : Held) → v.hands.hand ≡ Some held → PutsBack v held.slot w)
     → IsAt k op kept (old_stage v.hands.hand) v → IsAt k op kept at.Finished w
 gives_up_at {k} {op} {kept} slot {v} {w} is back a =
-    let h = hand_held v.hands.hand slot is in
+    let h = some_there v.hands.hand slot is in
     back_ends (back h.0 h.1) (subst (λ hand. IsAt k op kept (old_stage hand) v) h.1 a)
 
 -- A slot was taken, or none was free.

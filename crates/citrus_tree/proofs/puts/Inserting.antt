@@ -60,7 +60,7 @@ left_view {v} {w} l = record v {
 -- Where a put stands after its search.
 module _ {k : Shape} {kept key value : ℕ} {v : View} (a : IsAt k (Put key value) kept at.EnterClock v) where
   own_hand : (h : Option Held) → v.hands.hand ≡ h → a.own.hand ≡ spare_slot h
-  own_hand h e = sym (slot_in_hand a.own.hand _ _ _ v.hands.hand ((a.fits.point).1).1) ∙ ap spare_slot e
+  own_hand h e = sym (slot_in_hand a.own.hand _ _ _ v.hands.hand ((a.fits.point).1).hand) ∙ ap spare_slot e
 
   -- the key is there
   pub old_at : {w : View} {old : ℕ} → Looked v key (Some old) w → IsAt k (Put key value) kept (old_stage w.hands.hand) w
@@ -71,7 +71,7 @@ module _ {k : Shape} {kept key value : ℕ} {v : View} (a : IsAt k (Put key valu
         owns = a.fits.owns;
         tickets = (let t = a.fits.tickets in omega arith);
         unraised = a.fits.unraised;
-        point = (refl, ((a.fits.point).1).0, e);
+        point = (refl, ((a.fits.point).1).bare, e);
       })
       by (Some held) e = moves_on a a.own refl (record {
         owns = a.fits.owns;
@@ -103,13 +103,24 @@ module _ {k : Shape} {kept key value : ℕ} {v : View} (a : IsAt k (Put key valu
         tickets = subst (λ (z : Op × Option ℕ). owed_op z.0 z.1 a.own.retired + 4 * length a.own.rest + a.own.kept ≤ v.allowance.tickets)
             (λ i. (a.op_is i, own_hand None e i)) a.fits.tickets;
         unraised = a.fits.unraised;
-        point = (refl, ((a.fits.point).1).0, e, own_hand None e, omega arith, has, ap is_put a.op_is);
+        point = record {
+          idle = record { outside = refl; bare = ((a.fits.point).1).bare; empty = e; no_hand = own_hand None e };
+          some = omega arith;
+          takes = (has, ap is_put a.op_is);
+        };
       })
       by (Some held) e = moves_on a a.own refl (record {
         owns = a.fits.owns;
         tickets = a.fits.tickets;
         unraised = a.fits.unraised;
-        point = (refl, (held.slot, own_hand (Some held) e), ((a.fits.point).1).0, ((a.fits.point).1).1, has, ap is_put a.op_is);
+        point = record {
+          outside = refl;
+          taken = (held.slot, own_hand (Some held) e);
+          bare = ((a.fits.point).1).bare;
+          hand = ((a.fits.point).1).hand;
+          has_spot = has;
+          puts = ap is_put a.op_is;
+        };
       })
 
 -- the marks of one more section

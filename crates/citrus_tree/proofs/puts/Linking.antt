@@ -96,11 +96,11 @@ fails_at {k} {op} {kept} {y} spot b e a = subst (λ z. IsAt k op kept (held_stag
 
 pub settled_leaf : {k : Shape} {op : Op} {kept e : ℕ} {spot : Spot} {y : View} → IsAt k op kept (at.Commit (update.Leaf spot) e) y
     → y.moving ≡ None
-settled_leaf a = (((a.fits.point).0).2).settled
+settled_leaf a = (((a.fits.point).0).bare).settled
 
 pub unpaid_leaf : {k : Shape} {op : Op} {kept e : ℕ} {spot : Spot} {y : View} → IsAt k op kept (at.Commit (update.Leaf spot) e) y
     → y.commit ≡ None
-unpaid_leaf a = (((a.fits.point).0).2).turn_is
+unpaid_leaf a = (((a.fits.point).0).bare).turn_is
 
 hand_if : (z : Bool) (x y : View) (hand : Option Held) → x.hands.hand ≡ hand → y.hands.hand ≡ hand → (cond z x y).hands.hand ≡ hand
 hand_if true x y hand a b = a

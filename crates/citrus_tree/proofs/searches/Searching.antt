@@ -1,10 +1,10 @@
 -- Searches in a section, hop by hop.
-use Rattle.std.proofs.Common.{◌≡◌, ◌/◌, ◌≢◌, ℕ, suc, ◌&&◌, cond, Bool, true, false, List, [], ◌∷◌, ◌++◌, Option, Some, None, refl, sym, ap, subst, ◌∙◌, arith, eq-eqb, ne_eqb}
+use Rattle.std.proofs.Common.{◌≡◌, ◌/◌, ◌≢◌, ℕ, ◌&&◌, cond, Bool, true, false, [], ◌∷◌, ◌++◌, Option, Some, None, refl, sym, ap, subst, ◌∙◌, arith, eq-eqb, ne_eqb}
 use mathlib.Core.List.{IsPrefix}
 use Rattle.prcu_marks.specs.declared.mark.Mark.{Mark}
 use Rattle.prcu_marks.specs.declared.mark.Mark.TheVariants.{Entered, Left as LeftMark}
 use Rattle.prcu_marks.specs.declared.mark.Side.{Side}
-use Rattle.prcu_marks.specs.declared.mark.Side.TheVariants.{Left, Right}
+use Rattle.prcu_marks.specs.declared.mark.Side.TheVariants.{Right}
 use Rattle.prcu_model.specs.Dictionary.{WasSaid}
 use Rattle.prcu_marks.specs.Marks.{updates_of, own_of}
 use Rattle.prcu_marks.proofs.MarkLists.{own_of-append}
@@ -26,6 +26,7 @@ use Rattle.core_state.specs.steps.Loads.{key_stand, linked_on, searched, loaded,
 use Rattle.core_state.specs.parts.ReaderParts.{state_slot}
 use Rattle.core_state.specs.steps.Sections.{fresh_reading}
 use Rattle.core_frames.proofs.views.SeatFacts.{works_there}
+use Rattle.core_frames.proofs.views.Fields.{side_self}
 use Rattle.core_acts.specs.declared.act.Act.TheVariants.{SearchLoad}
 use Rattle.core_acts.specs.declared.act.Part.{Part}
 use Rattle.core_acts.specs.declared.act.Part.TheVariants as part
@@ -39,16 +40,7 @@ use Rattle.seat_table.proofs.Sections.{made_none, made_more, made_both}
 use Rattle.citrus_tree.specs.Going.{Sought}
 use Rattle.citrus_tree.specs.Hops.{Records}
 use Rattle.citrus_tree.specs.Lookups.{is_load, is_of_lookup, state_parent, IsSearching, Looked}
-
-first_in : {A : Type 0} (xs : List A) (a : A) → IsIn (a ∷ xs) a
-first_in xs a = (0, refl)
-
-later_in : {A : Type 0} (xs : List A) (x a : A) → IsIn xs a → IsIn (x ∷ xs) a
-later_in xs x a there = (suc there.0, there.1)
-
-same_side-refl : (b : Side) → same_side b b ≡ true
-same_side-refl Left = refl
-same_side-refl Right = refl
+use Rattle.tree_laws.proofs.searches.Readings.{in_more}
 
 -- what a load makes of what a section found out, where its search stands at the word loaded
 abbrev noting_load : Reading → Field → ℕ → Reading
@@ -59,7 +51,7 @@ link_moves : (r : Reading) (s : ℕ) (b : Side) (n : ℕ) → r.state ≡ At s b
 link_moves r s b n e =
     let r' : Reading = noting_load r (Link s b) n in
     ap (λ z. searched r' z (Link s b) n) e ∙ ap (λ z. cond z (linked_on r' s b n) r')
-    (ap (λ z. z && same_side b b) (eq-eqb s s refl) ∙ same_side-refl b)
+    (ap (λ z. z && same_side b b) (eq-eqb s s refl) ∙ side_self b)
 
 key_moves : (r : Reading) (s p : ℕ) (b : Side) (n : ℕ) → r.state ≡ Unread s p b
     → loaded r (Key s) n ≡ record (noting_load r (Key s) n) { state = key_stand s p b (step_side r.key n) }
@@ -101,8 +93,8 @@ module _ (k : Shape) (v : View) (key : ℕ) where
     inside = e.inside ∙ ap (λ z. Some (record e.section { reading = z })) e.reading_is;
     key_is = refl;
     state_is = refl;
-    here = first_in [] 0;
-    above = first_in [] 0;
+    here = (0, refl);
+    above = (0, refl);
     others = refl;
     made = made_none is_load w.trail;
   }
@@ -176,7 +168,7 @@ module _ (k : Shape) (v : View) (key : ℕ) where
   reached s b n w x some_slot i t =
       let r : Reading = record (noting_load i.reading (Link s b) n) { state = Unread n s b; stood = n ∷ i.reading.stood } in
       at_link s b n w x i t r (ap (λ z. cond z (record (noting_load i.reading (Link s b) n) { state = Missed s b }) r)
-      (ne_eqb n 0 some_slot)) (Unread n s b) i.key_is refl (first_in i.reading.stood n) (later_in i.reading.stood n s i.here)
+      (ne_eqb n 0 some_slot)) (Unread n s b) i.key_is refl (0, refl) (in_more i.reading.stood n s i.here)
 
   pub needs_key : (s p : ℕ) (b : Side) (w : View) → IsSearching v key (Unread s p b) w → IsSlot k s → IsAsked k w (SearchLoad s part.Key)
   needs_key s p b w i slot = asks (Unread s p b) part.Key w i slot
@@ -366,6 +358,6 @@ module _ (k : Shape) (v : View) (key : ℕ) where
                 );
                 tag_is = ap (λ r. known_in r.loads (Tag s b)) both
                     ∙ ap (λ q. cond q (Some tag) (known_in i.reading.loads (Tag s b)))
-                    (ap (λ q. q && same_side b b) (eq-eqb s s refl) ∙ same_side-refl b);
+                    (ap (λ q. q && same_side b b) (eq-eqb s s refl) ∙ side_self b);
               }),
             )

@@ -55,8 +55,8 @@ module _ {k : Shape} {kept key value : ℕ} where
   no_hand : {v : View} (a : IsAt k (Set key value) kept at.EnterClock v) → (a.own.hand ≡ None) × (v.hands.hand ≡ None)
   no_hand {v} a =
       let calm = (a.fits.point).1 in
-      let none : a.own.hand ≡ None = (calm.2).empty (ap is_put a.op_is) in
-      (none, subst (λ h. HandFits h a.own.hand_life (key_now a.own) (value_in a.own.op) v.hands.hand) none calm.1)
+      let none : a.own.hand ≡ None = (calm.ready).empty (ap is_put a.op_is) in
+      (none, subst (λ h. HandFits h a.own.hand_life (key_now a.own) (value_in a.own.op) v.hands.hand) none calm.hand)
 
   -- its search has left the section with a record
   pub at_lock : {v w : View} {old : ℕ} {holder : Holder} → IsAt k (Set key value) kept at.EnterClock v → (l : Looked v key (Some old) w)
@@ -65,14 +65,14 @@ module _ {k : Shape} {kept key value : ℕ} where
       → IsAt k (Set key value) kept (at.SetLock holder.slot holder.generation) w
   at_lock {v} {w} {old} {holder} a l found generation below =
       let none = no_hand a in
-      let bare = ((a.fits.point).1).0 in
+      let bare = ((a.fits.point).1).bare in
       subst (λ (z : View). IsAt k (Set key value) kept (at.SetLock holder.slot holder.generation) z) (sym l.others)
       (moves_on a a.own refl (record {
         owns = a.fits.owns;
         tickets = a.fits.tickets;
         unraised = a.fits.unraised;
-        point = (
-          record {
+        point = record {
+          quiet = record {
             outside = refl;
             turn_is = bare.turn_is;
             settled = bare.settled;
@@ -80,18 +80,18 @@ module _ {k : Shape} {kept key value : ℕ} where
             paid = bare.paid;
             empty = none.1;
             no_hand = none.0;
-          },
-          bare.locks_are,
-          record {
+          };
+          locks_are = bare.locks_are;
+          found = record {
             reading = l.reading;
             kept = (0, refl);
             key_is = l.sought ∙ sym (ap key_of a.op_is);
             found = (found.0, found.1, None, found.2);
             recorded = generation;
             inside = (let s = a.slots_are in let p = a.places_are in omega arith);
-          },
-          ap is_set a.op_is,
-        );
+          };
+          sets = ap is_set a.op_is;
+        };
       }))
 
   -- or found nothing: the call is over
@@ -99,7 +99,7 @@ module _ {k : Shape} {kept key value : ℕ} where
       → IsDone k (Set key value) kept w
   at_end {v} {w} {answer} a l =
       let none = no_hand a in
-      let bare = ((a.fits.point).1).0 in
+      let bare = ((a.fits.point).1).bare in
       subst (λ (z : View). IsDone k (Set key value) kept z) (sym l.others) (moves_on a a.own refl (record {
         owns = a.fits.owns;
         tickets = (let t = a.fits.tickets in omega arith);
@@ -162,10 +162,10 @@ module _ {k : Shape} {key kept value s g : ℕ} {v : View} (a : IsAt k (Set key 
             committing = passes_set_value valuing third 0 refl
 
             pub settled : z.moving ≡ None
-            settled = (((committing.fits.point).0).1).0.settled
+            settled = (((committing.fits.point).0).1).quiet.settled
 
             pub unpaid : z.commit ≡ None
-            unpaid = (((committing.fits.point).0).1).0.turn_is
+            unpaid = (((committing.fits.point).0).1).quiet.turn_is
 
             module _ {front : ℕ} {o : View} (odd : Opened z front o)
                 (storing : IsAt k (Set key value) kept (at.Store (update.Value s old) front) o) where
@@ -234,5 +234,6 @@ module _ {k : Shape} {key kept value s g : ℕ} {v : View} (a : IsAt k (Set key 
                             number_is = number_is ∙ omega arith;
                             legal = fifth.informed.legal;
                           },
-                          fourth.gains.was old (the_value o s (storing.fits.point).0 old ((storing.fits.point).1).1) ∙ ap Some (sym old_is),
+                          fourth.gains.was old (the_value o s storing.fits.point.0 old storing.fits.point.1.locks_are)
+                              ∙ ap Some (sym old_is),
                         )

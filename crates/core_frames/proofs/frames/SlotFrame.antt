@@ -2,6 +2,7 @@
 -- these keeps them.
 use Rattle.std.proofs.Common.{◌≡◌, ℕ, ◌+◌, ◌≤◌, ◌==◌, List, length, set, sym, ap, subst, ◌∙◌, None, true}
 use mathlib.Core.Option.{some}
+use mathlib.Core.Logic.{dite}
 use lib.ListN.{get_elem?}
 use Rattle.prcu_marks.specs.declared.mark.Mark.{Mark}
 use Rattle.core_state.specs.declared.words.Field.TheVariants.{State, Life}
@@ -15,9 +16,11 @@ use Rattle.core_state.specs.memory.Memory.{Memory}
 use Rattle.core_state.specs.views.Views.{retired_of, slots_of}
 use Rattle.core_state.specs.tree.Chart.{Chart}
 use Rattle.core_state.specs.parts.SlotParts.{HasSpareToCome, HasFewSlots, IsRetired, IsRetiredOf, IsHeldKnown, AreHandsKnown, SlotParts}
-use Rattle.list_laws.proofs.Lists.{each_change, total_same}
+use Rattle.list_laws.proofs.Lists.{each_change, total_same, at_one, at_below}
 use Rattle.core_frames.proofs.marks.MarkFacts.{QuietMarks}
-use Rattle.core_frames.proofs.views.Same.{SameSlots, own_same, content_same, retired_same, spares_same, slots_same, still, OwnSlots, SameNodes, own_slots}
+use Rattle.core_frames.proofs.views.Same.{SameSlots, own_same, content_same, retired_same, spares_same, slots_same, OwnSlots, SameNodes, own_slots}
+use native.Mathlib.Decide.{ℕ_discrete}
+use Rattle.atomic_table.proofs.Lists.{set_here, set_else}
 
 -- Where nodes and states are the same, so are these parts: no lock word is read.
 module _ (m m' : Memory) (nodes : SameNodes m m') (states : (s : ℕ) → m' (State s) ≡ m (State s)) where
@@ -66,19 +69,28 @@ module _ (m m' : Memory) (nodes : SameNodes m m') (states : (s : ℕ) → m' (St
     unlinked = λ s p gone. t.unlinked s p (sym (quiet.gone s) ∙ gone);
   }
 
+-- A slot that is retired of some view stays so, where the step's view has its own ones still.
+pub retired_of_by : (vs : List View) (id : ℕ) (v w : View) → get_elem? vs id ≡ some v → (s : ℕ)
+    → ((r : Retired) → IsIn (retired_of v) r → r.slot ≡ s → (x : Retired) × IsIn (retired_of w) x × (x.slot ≡ s)) → IsRetiredOf vs s
+    → IsRetiredOf (set vs id w) s
+retired_of_by vs id v w there s own r = dite (ℕ_discrete r.id id)
+    (λ here.
+    (let is : r.view ≡ v = at_one vs id r.view v (subst (λ j. get_elem? vs j ≡ some r.view) here r.there) there in
+    let x = own r.retired (subst (λ (u : View). IsIn (retired_of u) r.retired) is r.has) r.slot in
+    record { id = id; view = w; retired = x.0; there = set_here vs id w (at_below vs id v there); has = x.1; slot = x.2 }))
+    (λ other. record {
+      id = r.id;
+      view = r.view;
+      retired = r.retired;
+      there = set_else vs id r.id w other ∙ r.there;
+      has = r.has;
+      slot = r.slot;
+    })
+
 -- Where the view changes what it has in hand, it has to say what that leaves.
 module _ (m : Memory) (n : ℕ) (g : Chart) (vs : List View) (id : ℕ) (v w : View) (h : List Mark) (there : get_elem? vs id ≡ some v) where
   pub retired_of_still : retired_of w ≡ retired_of v → (s : ℕ) → IsRetiredOf vs s → IsRetiredOf (set vs id w) s
-  retired_of_still same s r =
-      let z = still retired_of vs id v w there same r.id r.view r.there in
-      record {
-        id = r.id;
-        view = z.0;
-        retired = r.retired;
-        there = z.1;
-        has = subst (λ rs. IsIn rs r.retired) (sym z.2) r.has;
-        slot = r.slot;
-      }
+  retired_of_still same s = retired_of_by vs id v w there s (λ r has is. (r, subst (λ rs. IsIn rs r) (sym same) has, is))
 
   pub slots_by : ((s : ℕ) → times s (slots_of w) ≡ times s (slots_of v)) → (HasFewSlots v → HasFewSlots w)
       → (AreHandsKnown m v → AreHandsKnown m w) → (Each (retired_of v) (IsRetired m h) → Each (retired_of w) (IsRetired m h))

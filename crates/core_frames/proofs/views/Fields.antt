@@ -1,19 +1,12 @@
 -- What a store leaves in the fields.
-use Rattle.std.proofs.Common.{◌≡◌, ◌≢◌, ℕ, ◌==◌, ◌&&◌, Bool, true, false, cond, refl, sym, ap, ◌∙◌, eq-eqb}
-use Rattle.std.proofs.lemmas.Bool.{eqb-true}
+use Rattle.std.proofs.Common.{◌≡◌, ◌≢◌, ℕ, ◌==◌, Bool, true, false, cond, refl, sym, ap, ◌∙◌, eq-eqb}
+use Rattle.std.proofs.lemmas.Bool.{eqb-true, and_parts, and_from}
 use Rattle.prcu_marks.specs.declared.mark.Side.{Side}
 use Rattle.prcu_marks.specs.declared.mark.Side.TheVariants.{Left, Right}
 use Rattle.core_state.specs.declared.words.Field.{Field}
 use Rattle.core_state.specs.declared.words.Field.TheVariants.{Clock, Front, Free, Announced, Stamp, Gate, Count, Row, State, Lock, Life, Key, Value, Link, Tag}
 use Rattle.core_state.specs.memory.Memory.{Memory, same_side, same_field, stored}
 use Rattle.core_state.specs.views.Known.{IsOwnField, IsLoadable}
-
-pub and_both : (a b : Bool) → (a && b) ≡ true → (a ≡ true) × (b ≡ true)
-and_both true b e = (refl, e)
-and_both false b e = absurd (cc)
-
-both_and : (a b : Bool) → a ≡ true → b ≡ true → (a && b) ≡ true
-both_and a b e f = ap (λ z. z && b) e ∙ f
 
 pub side_is : (a b : Side) → same_side a b ≡ true → a ≡ b
 side_is Left Left e = refl
@@ -33,15 +26,15 @@ same_is Free Free e = refl
 same_is (Announced p) (Announced q) e = ap Announced (eqb-true p q e)
 same_is (Stamp p) (Stamp q) e = ap Stamp (eqb-true p q e)
 same_is (Gate c) (Gate d) e = ap Gate (eqb-true c d e)
-same_is (Count c a) (Count d b) e = let w = and_both (c == d) (a == b) e in λ i. Count (eqb-true c d w.0 i) (eqb-true a b w.1 i)
-same_is (Row p c) (Row q d) e = let w = and_both (p == q) (c == d) e in λ i. Row (eqb-true p q w.0 i) (eqb-true c d w.1 i)
+same_is (Count c a) (Count d b) e = let w = and_parts (c == d) (a == b) e in λ i. Count (eqb-true c d w.0 i) (eqb-true a b w.1 i)
+same_is (Row p c) (Row q d) e = let w = and_parts (p == q) (c == d) e in λ i. Row (eqb-true p q w.0 i) (eqb-true c d w.1 i)
 same_is (State s) (State t) e = ap State (eqb-true s t e)
 same_is (Lock s) (Lock t) e = ap Lock (eqb-true s t e)
 same_is (Life s) (Life t) e = ap Life (eqb-true s t e)
 same_is (Key s) (Key t) e = ap Key (eqb-true s t e)
 same_is (Value s) (Value t) e = ap Value (eqb-true s t e)
-same_is (Link s a) (Link t b) e = let w = and_both (s == t) (same_side a b) e in λ i. Link (eqb-true s t w.0 i) (side_is a b w.1 i)
-same_is (Tag s a) (Tag t b) e = let w = and_both (s == t) (same_side a b) e in λ i. Tag (eqb-true s t w.0 i) (side_is a b w.1 i)
+same_is (Link s a) (Link t b) e = let w = and_parts (s == t) (same_side a b) e in λ i. Link (eqb-true s t w.0 i) (side_is a b w.1 i)
+same_is (Tag s a) (Tag t b) e = let w = and_parts (s == t) (same_side a b) e in λ i. Tag (eqb-true s t w.0 i) (side_is a b w.1 i)
 same_is _ _ e = absurd (cc)
 
 pub same_self : (field : Field) → same_field field field ≡ true
@@ -51,15 +44,15 @@ same_self Free = refl
 same_self (Announced p) = eq-eqb p p refl
 same_self (Stamp p) = eq-eqb p p refl
 same_self (Gate c) = eq-eqb c c refl
-same_self (Count c a) = both_and (c == c) (a == a) (eq-eqb c c refl) (eq-eqb a a refl)
-same_self (Row p c) = both_and (p == p) (c == c) (eq-eqb p p refl) (eq-eqb c c refl)
+same_self (Count c a) = and_from (c == c) (a == a) (eq-eqb c c refl) (eq-eqb a a refl)
+same_self (Row p c) = and_from (p == p) (c == c) (eq-eqb p p refl) (eq-eqb c c refl)
 same_self (State s) = eq-eqb s s refl
 same_self (Lock s) = eq-eqb s s refl
 same_self (Life s) = eq-eqb s s refl
 same_self (Key s) = eq-eqb s s refl
 same_self (Value s) = eq-eqb s s refl
-same_self (Link s a) = both_and (s == s) (same_side a a) (eq-eqb s s refl) (side_self a)
-same_self (Tag s a) = both_and (s == s) (same_side a a) (eq-eqb s s refl) (side_self a)
+same_self (Link s a) = and_from (s == s) (same_side a a) (eq-eqb s s refl) (side_self a)
+same_self (Tag s a) = and_from (s == s) (same_side a a) (eq-eqb s s refl) (side_self a)
 
 pub stored_here : (m : Memory) (field : Field) (n : ℕ) → stored m field n field ≡ n
 stored_here m field n = ap (λ b. cond b n (m field)) (same_self field)

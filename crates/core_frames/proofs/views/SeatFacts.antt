@@ -16,7 +16,7 @@ use Rattle.list_laws.specs.Counts.{times, numbers_from, total}
 use Rattle.core_state.specs.views.Views.{Works, places_of, IsQuiet, IsUnused, unraised_among}
 use Rattle.core_state.specs.steps.Seating.{new_view}
 use Rattle.core_state.specs.parts.SeatParts.{ArePlaced}
-use Rattle.list_laws.proofs.Lists.{total_part, total_two, times_append, from_times}
+use Rattle.list_laws.proofs.Lists.{total_part, total_two, times_append, from_times, at_most_one}
 
 -- a place between the first and the last of a view is one of its places
 pub own_place : (v : View) (p : ℕ) → v.allowance.place ≤ p → p < v.allowance.place + v.allowance.places → 1 ≤ times p (places_of v)
@@ -30,10 +30,6 @@ works_there v works = own_place v v.allowance.place (omega arith) (omega arith)
 
 pub unused_there : (v : View) (p : ℕ) → IsUnused v p → 1 ≤ times p (places_of v)
 unused_there v p i = let low = i.0 in own_place v p (omega arith) i.1
-
-pub one_at_most : (b : Bool) (n : ℕ) → n ≡ cond b 1 0 → n ≤ 1
-one_at_most true n e = omega arith
-one_at_most false n e = omega arith
 
 some_is : (b : Bool) (n : ℕ) → n ≡ cond b 1 0 → 1 ≤ n → b ≡ true
 some_is true n e has = refl
@@ -72,7 +68,7 @@ module _ (places : ℕ) (vs : List View) (placed : ArePlaced places vs) where
       → 1 ≤ times p (places_of w) → i ≡ j
   places_apart i j p v w ei ej a b = dite (ℕ_discrete i j) (λ e. e) (λ ne.
       let two = total_two (λ (u : View). times p (places_of u)) vs i j v w ei ej ne in
-      let one = one_at_most (nat_lt p places) (total (λ (u : View). times p (places_of u)) vs) (placed p) in
+      let one = at_most_one (nat_lt p places) (total (λ (u : View). times p (places_of u)) vs) (placed p) in
       absurd (omega arith))
 
   -- a view's place is one of the table's

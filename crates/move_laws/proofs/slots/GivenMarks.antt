@@ -88,7 +88,10 @@ module _ (given : Bool) (s : ℕ) (h : List Mark) where
 
   -- the dictionary is the same, and so is what the marks say of other slots; of this one they say that it isn't unlinked
   pub used_updates : updates_of hs ≡ updates_of h
-  used_updates = updates_of-append h (used_mark given s ∷ []) ∙ elim given as (λ b. updates_of h ++ updates_of (used_mark b s ∷ []) ≡ updates_of h) [ true ↦ append-nil (updates_of h) | false ↦ append-nil (updates_of h) ]
+  used_updates = updates_of-append h (used_mark given s ∷ []) ∙ elim given as (λ b. updates_of h ++ updates_of (used_mark b s ∷ []) ≡ updates_of h) [
+    | true ↦ append-nil (updates_of h)
+    | false ↦ append-nil (updates_of h)
+  ]
 
   pub used_longer : (j : ℕ) (a : Mark) → get_elem? h j ≡ some a → get_elem? hs j ≡ some a
   used_longer j a e = at_longer h (used_mark given s ∷ []) j a e
@@ -101,7 +104,10 @@ module _ (given : Bool) (s : ℕ) (h : List Mark) where
       no_update = elim given as (λ b. used_mark b s ≡ Done u → ⊥) [ true ↦ λ e. absurd (cc) | false ↦ λ e. absurd (cc) ]
 
   gone_by : (t : ℕ) → gone_at t hs ≡ cond (s == t) None (gone_at t h)
-  gone_by t = gone_at-snoc t h (used_mark given s) ∙ elim given as (λ b. next_gone t (length h) (gone_at t h) (used_mark b s) ≡ cond (s == t) None (gone_at t h)) [ true ↦ refl | false ↦ refl ]
+  gone_by t = gone_at-snoc t h (used_mark given s) ∙ elim given as (λ b. next_gone t (length h) (gone_at t h) (used_mark b s) ≡ cond (s == t) None (gone_at t h)) [
+    | true ↦ refl
+    | false ↦ refl
+  ]
 
   pub used_gone : gone_at s hs ≡ None
   used_gone = gone_by s ∙ ap (λ b. cond b None (gone_at s h)) (eq-eqb s s refl)

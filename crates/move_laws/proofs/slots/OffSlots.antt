@@ -1,9 +1,7 @@
 -- A store in a slot that isn't linked: the parts on slots, and the whole.
 use Rattle.std.proofs.Common.{◌≡◌, ◌≢◌, ℕ, ◌+◌, ◌<◌, ◌≤◌, ◌==◌, List, set, Some, refl, sym, ap, subst, ◌∙◌, ⊎_elim, arith}
 use Rattle.std.proofs.lemmas.Bool.{cases_eq}
-use mathlib.Core.Logic.{dite}
-use mathlib.Core.Option.{some, some-injective}
-use native.Mathlib.Decide.{ℕ_discrete}
+use mathlib.Core.Option.{some}
 use lib.ListN.{get_elem?}
 use Rattle.prcu_marks.specs.Marks.{gone_at}
 use Rattle.core_state.specs.declared.words.Field.TheVariants.{State, Life}
@@ -15,17 +13,17 @@ use Rattle.list_laws.specs.Counts.{times, IsIn, Each}
 use Rattle.core_state.specs.memory.Lists.{flag, IsEven, IsOdd}
 use Rattle.core_state.specs.memory.Memory.{slot_count}
 use Rattle.core_state.specs.views.Views.{held_list, retired_of, spares_of, slots_of}
-use Rattle.core_state.specs.parts.SlotParts.{roles_of, HasFewSlots, IsRetired, IsRetiredOf, IsHeldKnown, AreHandsKnown, SlotParts}
+use Rattle.core_state.specs.parts.SlotParts.{roles_of, HasFewSlots, IsRetired, IsHeldKnown, AreHandsKnown, SlotParts}
 use Rattle.core_state.specs.Invariant.{HoldsNow}
-use Rattle.list_laws.proofs.Lists.{each_set, total_set, at_below}
+use Rattle.list_laws.proofs.Lists.{each_set, total_set}
 use Rattle.core_frames.proofs.views.Roles.{slots_count, retired_own, held_there, spare_among}
+use Rattle.core_frames.proofs.frames.SlotFrame.{retired_of_by}
 use Rattle.tree_laws.proofs.stores.Stores.{held_beside, content_away}
 use Rattle.core_state.specs.parts.CountParts.{CountParts}
 use Rattle.core_state.specs.parts.GraceParts.{GraceParts}
 use Rattle.tree_laws.proofs.frames.RestStays.{OuterParts, chart_stays}
 use Rattle.move_laws.proofs.slots.OffStep.{OffStep, on_apart, life_away, off_chart}
 use Rattle.move_laws.proofs.slots.OffLocks.{off_locks}
-use Rattle.atomic_table.proofs.Lists.{set_here, set_else}
 
 module _ (z : OffStep) where
   open z use {who.{m, vs, h, id, v, inv.{chart as g}}, m', hs, w, s}
@@ -120,23 +118,8 @@ module _ (z : OffStep) where
       retired = each_set (λ j u. Each (retired_of u) (IsRetired m' hs)) vs id w c.retired
           (λ j u ne e i r f. retired_away r (λ same. (let none = z.others j u ne e in let one = retired_own u r (i, f) in
           let a = ap (λ x. times x (slots_of u)) same in absurd (omega arith))) (t.retired j u e i r f));
-      unlinked = λ x p gone. unlinked_now x p gone (t.unlinked x p (z.marks.back x p gone));
+      unlinked = λ x p gone. retired_of_by vs id v w z.who.there x (c.unlinked x p gone) (t.unlinked x p (z.marks.back x p gone));
     }
-      where
-        unlinked_now : (t p : ℕ) → gone_at t hs ≡ Some p → IsRetiredOf vs t → IsRetiredOf us t
-        unlinked_now t p gone r = dite (ℕ_discrete r.id id)
-            (λ same.
-            (let it : r.view ≡ v = some-injective r.view v (sym r.there ∙ subst (λ j. get_elem? vs j ≡ some v) (sym same) z.who.there) in
-            let x = c.unlinked t p gone r.retired (subst (λ (u : View). IsIn (retired_of u) r.retired) it r.has) r.slot in
-            record { id = id; view = w; retired = x.0; there = set_here vs id w (at_below vs id v z.who.there); has = x.1; slot = x.2 }))
-            (λ other. record {
-              id = r.id;
-              view = r.view;
-              retired = r.retired;
-              there = set_else vs id r.id w other ∙ r.there;
-              has = r.has;
-              slot = r.slot;
-            })
 
     -- the invariant, with the parts on counts and grace, and those that speak of no slot
     pub off_law : OuterParts z.who.k m' us hs → CountParts z.who.k.tickets m' n g us hs → GraceParts us hs → HoldsNow z.who.k m' us hs

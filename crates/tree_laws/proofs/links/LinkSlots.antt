@@ -1,11 +1,9 @@
 -- The parts on slots after a step that stores one link and changes the chart at few slots.
 use Rattle.std.proofs.Common.{◌≡◌, ◌≢◌, ℕ, ◌+◌, ◌≤◌, ◌⊎◌, true, List, [], ◌∷◌, ◌++◌, map, Some, refl, sym, ap, subst, ◌∙◌, ⊎_elim, inl, inr, arith, ◌-◌}
 use Rattle.std.proofs.lemmas.Bool.{cases_eq}
-use mathlib.Core.Logic.{dite}
-use mathlib.Core.Option.{some, some-injective}
-use native.Mathlib.Decide.{ℕ_discrete}
+use mathlib.Core.Option.{some}
 use lib.ListN.{get_elem?}
-use Rattle.atomic_table.proofs.Lists.{set_here, set_else}
+use Rattle.atomic_table.proofs.Lists.{set_here}
 use Rattle.prcu_marks.specs.Marks.{gone_at}
 use Rattle.core_state.specs.declared.view.Held.{Held}
 use Rattle.core_state.specs.declared.view.Move.{Move}
@@ -22,6 +20,7 @@ use Rattle.core_state.specs.parts.SlotParts.{HasFewSlots, IsRetired, IsRetiredOf
 use Rattle.list_laws.proofs.Lists.{at_below, at_end, each_set, total_set, times_append, in_append, in_first, in_second}
 use Rattle.core_frames.proofs.chart.Ranges.{bool_cases}
 use Rattle.core_frames.proofs.views.Roles.{hand_own, spare_own, retired_own, linked_none, map_append, slots_count, spares_count, retired_count}
+use Rattle.core_frames.proofs.frames.SlotFrame.{retired_of_by}
 use Rattle.tree_laws.proofs.chart.ChartChanges.{shape_after}
 use Rattle.tree_laws.proofs.locks.Holders.{one_holder}
 use Rattle.tree_laws.proofs.links.LinkSteps.{LinkStep, words_after, views_after, below, unlinked_off, off_not_gone, Retires}
@@ -173,26 +172,7 @@ module _ (z : LinkStep) where
         }
 
         before : (s at : ℕ) → gone_at s h ≡ Some at → IsRetiredOf us s
-        before s at is =
-            let x = i.slots.unlinked s at is in
-            dite (ℕ_discrete x.id id)
-            (λ same. (let it : x.view ≡ v = some-injective x.view v (sym x.there ∙ subst (λ j. get_elem? vs j ≡ some v) (sym same) there) in
-            record {
-              id = id;
-              view = w;
-              retired = x.retired;
-              there = set_here vs id w (at_below vs id v there);
-              has = r.still_retired x.retired (subst (λ (u : View). IsIn (retired_of u) x.retired) it x.has);
-              slot = x.slot;
-            }))
-            (λ other. record {
-              id = x.id;
-              view = x.view;
-              retired = x.retired;
-              there = set_else vs id x.id w other ∙ x.there;
-              has = x.has;
-              slot = x.slot;
-            })
+        before s at is = retired_of_by vs id v w there s (λ x has same. (x, r.still_retired x has, same)) (i.slots.unlinked s at is)
 
   -- d is retired
   module _ (r : Retires z) where

@@ -28,7 +28,6 @@ use Rattle.core_state.specs.parts.ReaderParts.{IsAsRecorded}
 use Rattle.core_state.specs.Invariant.{HoldsNow}
 use Rattle.list_laws.proofs.Lists.{each_set, each_change, total_same}
 use Rattle.core_frames.proofs.chart.Ranges.{bool_cases}
-use Rattle.core_frames.proofs.views.Same.{still}
 use Rattle.core_frames.proofs.views.Roles.{own_off, retired_own}
 use Rattle.tree_laws.proofs.stores.Stores.{IsBesideSlots, stores_in}
 use Rattle.tree_laws.proofs.frames.ChartStays.{ChartStep, same_but}
@@ -39,6 +38,7 @@ use native.Mathlib.Decide.{ℕ_discrete}
 use Rattle.core_state.specs.memory.Lists.{sum_below, count_below}
 use Rattle.core_state.specs.views.Views.{emptied_among}
 use Rattle.core_frames.proofs.frames.CountFrame.{free_slots, generations_in, tags_raised, counts_by}
+use Rattle.core_frames.proofs.frames.SlotFrame.{retired_of_by}
 use Rattle.tree_laws.proofs.frames.GraceSteps.{grace_same}
 
 -- what the store leaves of the words
@@ -118,15 +118,7 @@ module _ (k : Shape) (m m' : Memory) (vs : List View) (h : List Mark) (id : ℕ)
       retired = each_set (λ j u. Each (retired_of u) (IsRetired m' h)) vs id w
           (λ j x e. retired_is id v x there (j, e) (t.retired id v there j x e))
           (λ j u ne e l x is. retired_is j u x e (l, is) (t.retired j u e l x is));
-      unlinked = λ s p gone. (let x = t.unlinked s p gone in let z = still retired_of vs id v w there refl x.id x.view x.there in
-          record {
-            id = x.id;
-            view = z.0;
-            retired = x.retired;
-            there = z.1;
-            has = subst (λ rs. IsIn rs x.retired) (sym z.2) x.has;
-            slot = x.slot;
-          });
+      unlinked = λ s p gone. retired_of_by vs id v w there s (λ r has is. (r, has, is)) (t.unlinked s p gone);
     }
       where
         free_off : (s : ℕ) → s < slot_count k → m (State s) ≡ 0 → g.linked s ≡ false

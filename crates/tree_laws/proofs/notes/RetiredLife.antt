@@ -1,11 +1,9 @@
 -- The life of a retired slot may be written down.
 use Rattle.std.proofs.Common.{◌≡◌, ◌⊎◌, ℕ, zero, suc, ◌+◌, ◌≤◌, ◌==◌, Bool, true, false, cond, List, [], ◌∷◌, ◌++◌, length, map, set, Some, refl, sym, ap, subst, ◌∙◌, inl, inr, ⊎_elim, arith}
 use Rattle.std.proofs.lemmas.Bool.{eqb-true}
-use mathlib.Core.Logic.{dite}
 use mathlib.Core.Option.{some, some-injective, some-ne-none}
-use native.Mathlib.Decide.{ℕ_discrete}
 use lib.ListN.{get_elem?}
-use Rattle.atomic_table.proofs.Lists.{at_map, set_here, set_else}
+use Rattle.atomic_table.proofs.Lists.{at_map}
 use Rattle.prcu_marks.specs.declared.mark.Mark.{Mark}
 use Rattle.prcu_marks.specs.Marks.{gone_at}
 use Rattle.core_state.specs.declared.shape.Shape.{Shape}
@@ -22,11 +20,11 @@ use Rattle.core_state.specs.views.Views.{Works, held_list, spares_of, joined_ret
 use Rattle.core_state.specs.parts.SlotParts.{IsRetired, IsRetiredOf, SlotParts}
 use Rattle.core_state.specs.parts.CountParts.{CountParts}
 use Rattle.core_state.specs.Invariant.{HoldsNow}
-use Rattle.list_laws.proofs.Lists.{at_below, in_append, in_first, in_second}
+use Rattle.list_laws.proofs.Lists.{in_append, in_first, in_second}
 use Rattle.core_frames.proofs.marks.MarkFacts.{quiet_same}
 use Rattle.core_frames.proofs.views.Same.{same_slots}
 use Rattle.core_frames.proofs.frames.CountFrame.{counts_kept}
-use Rattle.core_frames.proofs.frames.SlotFrame.{slots_by}
+use Rattle.core_frames.proofs.frames.SlotFrame.{slots_by, retired_of_by}
 use Rattle.core_frames.proofs.views.RetiredLists.{unraised_append}
 use Rattle.tree_laws.proofs.frames.ChartStays.{SameOutside, same_but}
 use Rattle.tree_laws.proofs.frames.RestStays.{hands_stay}
@@ -137,38 +135,12 @@ module _ (k : Shape) (m : Memory) (vs : List View) (h : List Mark) (id : ℕ) (v
 
   -- a retired slot of any view is one of the same view afterwards
   retired_forth : (s : ℕ) → IsRetiredOf vs s → IsRetiredOf (set vs id w) s
-  retired_forth s x = dite (ℕ_discrete x.id id)
-      (λ here. (let is : x.view ≡ v = some-injective x.view v (sym x.there ∙ subst (λ z. get_elem? vs z ≡ some v) (sym here) there) in
-      let now = set_here vs id w (at_below vs id v there) in
-      ⊎_elim
-      (λ (own : IsIn v.hands.retired x.retired). (let y = own_forth x.retired own in let z = y.1 in
-      record {
-        id = id;
-        view = w;
-        retired = one x.retired;
-        there = now;
-        has = in_first w.hands.retired (joined_retired v.allowance.joined) (one x.retired) y.0;
-        slot = z.slot_is ∙ x.slot;
-      }))
-      (λ (joined : IsIn (joined_retired v.allowance.joined) x.retired).
-      record {
-        id = id;
-        view = w;
-        retired = x.retired;
-        there = now;
-        has = in_second w.hands.retired (joined_retired v.allowance.joined) x.retired joined;
-        slot = x.slot;
-      })
-      (in_append v.hands.retired (joined_retired v.allowance.joined) x.retired
-      (subst (λ (u : View). IsIn (retired_of u) x.retired) is x.has))))
-      (λ ne. record {
-        id = x.id;
-        view = x.view;
-        retired = x.retired;
-        there = set_else vs id x.id w ne ∙ x.there;
-        has = x.has;
-        slot = x.slot;
-      })
+  retired_forth s = retired_of_by vs id v w there s (λ x has is. ⊎_elim
+      (λ (own : IsIn v.hands.retired x). (let y = own_forth x own in let z = y.1 in
+      (one x, in_first w.hands.retired (joined_retired v.allowance.joined) (one x) y.0, z.slot_is ∙ is)))
+      (λ (joined : IsIn (joined_retired v.allowance.joined) x).
+      (x, in_second w.hands.retired (joined_retired v.allowance.joined) x joined, is))
+      (in_append v.hands.retired (joined_retired v.allowance.joined) x has))
 
   slots : SlotParts m (slot_count k) g (set vs id w) h
   slots = slots_by m (slot_count k) g vs id v w h there (λ s. ap (times s) slots_are)

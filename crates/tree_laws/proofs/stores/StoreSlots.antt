@@ -1,10 +1,7 @@
 -- The parts on slots, after the store of a link or a value of a linked slot.
 use Rattle.std.proofs.Common.{◌≡◌, ◌≢◌, ℕ, ◌+◌, ◌-◌, ◌≤◌, ◌==◌, Bool, true, false, List, ◌++◌, length, map, set, Some, None, refl, sym, ap, subst, ◌∙◌, arith}
-use mathlib.Core.Logic.{dite}
-use mathlib.Core.Option.{some, some-injective}
-use native.Mathlib.Decide.{ℕ_discrete}
+use mathlib.Core.Option.{some}
 use lib.ListN.{get_elem?}
-use Rattle.atomic_table.proofs.Lists.{set_here, set_else}
 use Rattle.prcu_marks.specs.declared.mark.Mark.{Mark}
 use Rattle.prcu_marks.specs.Marks.{gone_at}
 use Rattle.core_state.specs.declared.shape.Shape.{Shape}
@@ -22,11 +19,12 @@ use Rattle.core_state.specs.views.Known.{HasLock, note_option}
 use Rattle.core_state.specs.views.Views.{held_list, joined_spares, joined_retired, spares_of, retired_of, slots_of}
 use Rattle.core_state.specs.parts.SlotParts.{HasSpareToCome, HasFewSlots, IsRetired, IsRetiredOf, IsHeldKnown, AreHandsKnown, SlotParts}
 use Rattle.core_state.specs.Invariant.{HoldsNow}
-use Rattle.list_laws.proofs.Lists.{at_below, each_set, total_same}
+use Rattle.list_laws.proofs.Lists.{each_set, total_same}
 use Rattle.core_frames.proofs.views.Same.{SamePlaces}
 use Rattle.core_frames.proofs.views.Fields.{stored_here, stored_else}
 use Rattle.tree_laws.proofs.stores.Stores.{StoresAt, held_beside}
 use Rattle.core_frames.proofs.views.Roles.{hand_own, spare_own, retired_own}
+use Rattle.core_frames.proofs.frames.SlotFrame.{retired_of_by}
 use Rattle.tree_laws.proofs.locks.Holders.{linked_apart, one_holder}
 use Rattle.tree_laws.proofs.notes.Notes.{hands_noted, note_option-none, note_option-still_none, note_option-slots}
 
@@ -137,24 +135,7 @@ module _ (k : Shape) (m : Memory) (vs : List View) (h : List Mark) (i : HoldsNow
 
     still_retired : ((r : Retired) → IsIn (retired_of v) r → IsIn (retired_of w) r) → (s : ℕ) → IsRetiredOf vs s
         → IsRetiredOf (set vs id w) s
-    still_retired keeps s r = dite (ℕ_discrete r.id id)
-        (λ same. (let view : r.view ≡ v = some-injective r.view v (sym r.there ∙ subst (λ z. get_elem? vs z ≡ some v) (sym same) there) in
-        record {
-          id = id;
-          view = w;
-          retired = r.retired;
-          there = set_here vs id w (at_below vs id v there);
-          has = keeps r.retired (subst (λ (z : View). IsIn (retired_of z) r.retired) view r.has);
-          slot = r.slot;
-        }))
-        (λ ne. record {
-          id = r.id;
-          view = r.view;
-          retired = r.retired;
-          there = set_else vs id r.id w ne ∙ r.there;
-          has = r.has;
-          slot = r.slot;
-        })
+    still_retired keeps s = retired_of_by vs id v w there s (λ r has is. (r, keeps r has, is))
 
     -- the same where the step unlinks no slot
     module _ (same_retired : w.hands.retired ≡ v.hands.retired) (gone : (s : ℕ) → gone_at s h' ≡ gone_at s h) where

@@ -63,10 +63,16 @@ places_count u p = times_append p (numbers_from u.allowance.place u.allowance.pl
 -- a place that left no marks entered no section and began no wait
 no_marks : (p : ℕ) (h : List Mark) → own_of p h ≡ [] → (entered_at p h ≡ 0) × (begun_at p h ≡ 0)
 no_marks p [] none = (refl, refl)
-no_marks p (Entered q c x ∷ h) none = elim (q == p) as (λ b. cond b (Entered q c x ∷ own_of p h) (own_of p h) ≡ [] → (cond b 1 0 + entered_at p h ≡ 0) × (begun_at p h ≡ 0)) [ true ↦ λ e. absurd (cc) | false ↦ λ e. let r = no_marks p h e in let a = r.0 in (omega arith, r.1) ] none
+no_marks p (Entered q c x ∷ h) none = elim (q == p) as (λ b. cond b (Entered q c x ∷ own_of p h) (own_of p h) ≡ [] → (cond b 1 0 + entered_at p h ≡ 0) × (begun_at p h ≡ 0)) [
+  | true ↦ λ e. absurd (cc)
+  | false ↦ λ e. let r = no_marks p h e in let a = r.0 in (omega arith, r.1)
+] none
 no_marks p (Left q c ∷ h) none = elim (q == p) as (λ b. cond b (Left q c ∷ own_of p h) (own_of p h) ≡ []
     → (entered_at p h ≡ 0) × (begun_at p h ≡ 0)) [ true ↦ λ e. absurd (cc) | false ↦ λ e. no_marks p h e ] none
-no_marks p (Began q c x y ∷ h) none = elim (q == p) as (λ b. cond b (Began q c x y ∷ own_of p h) (own_of p h) ≡ [] → (entered_at p h ≡ 0) × (cond b 1 0 + begun_at p h ≡ 0)) [ true ↦ λ e. absurd (cc) | false ↦ λ e. let r = no_marks p h e in let a = r.1 in (r.0, omega arith) ] none
+no_marks p (Began q c x y ∷ h) none = elim (q == p) as (λ b. cond b (Began q c x y ∷ own_of p h) (own_of p h) ≡ [] → (entered_at p h ≡ 0) × (cond b 1 0 + begun_at p h ≡ 0)) [
+  | true ↦ λ e. absurd (cc)
+  | false ↦ λ e. let r = no_marks p h e in let a = r.1 in (r.0, omega arith)
+] none
 no_marks p (Ended q c ∷ h) none = elim (q == p) as (λ b. cond b (Ended q c ∷ own_of p h) (own_of p h) ≡ []
     → (entered_at p h ≡ 0) × (begun_at p h ≡ 0)) [ true ↦ λ e. absurd (cc) | false ↦ λ e. no_marks p h e ] none
 no_marks p (Done u ∷ h) none = elim (u.caller == p) as (λ b. cond b (Done u ∷ own_of p h) (own_of p h) ≡ []

@@ -18,7 +18,7 @@ use Rattle.list_laws.specs.Counts.{times, IsIn, Each}
 use Rattle.core_state.specs.memory.Lists.{has, IsEven}
 use Rattle.core_state.specs.memory.Memory.{Memory, slot_count}
 use Rattle.core_state.specs.tree.Chart.{Chart}
-use Rattle.core_state.specs.views.Views.{retired_of, slots_of, spares_of, held_list, joined_retired, unraised_hand, unraised_among, unraised_of}
+use Rattle.core_state.specs.views.Views.{slots_of, spares_of, held_list, joined_retired, unraised_hand, unraised_among, unraised_of}
 use Rattle.core_state.specs.steps.Waits.{is_grace_for, is_move_grace, waited_retired, waited_move}
 use Rattle.core_state.specs.parts.SlotParts.{HasFewSlots, IsRetired, IsRetiredOf, IsHeldKnown, AreHandsKnown}
 use Rattle.core_state.specs.tree.Readers.{IsPending}
@@ -28,7 +28,7 @@ use Rattle.core_frames.proofs.views.Same.{same_slots}
 use Rattle.core_frames.proofs.frames.ReaderFrame.{emptied_still, readers_stay, see_by}
 use Rattle.core_frames.proofs.marks.MarkFacts.{quiet_same}
 use Rattle.core_frames.proofs.frames.LockFrame.{lock_frame}
-use Rattle.core_frames.proofs.frames.SlotFrame.{slots_by}
+use Rattle.core_frames.proofs.frames.SlotFrame.{slots_by, retired_of_by}
 use Rattle.core_frames.proofs.frames.TreeFrame.{IsForm, tree_by, moving_by, SameMoves, HadMove, same_form}
 use Rattle.core_state.specs.declared.shape.Shape.{Shape}
 use Rattle.core_frames.proofs.frames.WholeFrame.{SlotHalf}
@@ -138,19 +138,8 @@ module _ (vs : List View) (id : ℕ) (v : View) (there : get_elem? vs id ≡ som
     }
 
     unlinked_noted : (s : ℕ) → IsRetiredOf vs s → IsRetiredOf (set vs id w) s
-    unlinked_noted s r =
-        dite (ℕ_discrete r.id id)
-        (λ here. let x = in_noted wait v.hands.retired (joined_retired v.allowance.joined) r.retired
-        (subst (λ (u : View). IsIn (retired_of u) r.retired) (view_here r.id r.view here r.there) r.has) in
-        record { id = id; view = w; retired = x.0; there = set_here vs id w (at_below vs id v there); has = x.1; slot = x.2 ∙ r.slot })
-        (λ ne. record {
-          id = r.id;
-          view = r.view;
-          retired = r.retired;
-          there = set_else vs id r.id w ne ∙ r.there;
-          has = r.has;
-          slot = r.slot;
-        })
+    unlinked_noted s = retired_of_by vs id v w there s (λ r has is.
+        let x = in_noted wait v.hands.retired (joined_retired v.allowance.joined) r has in (x.0, x.1, x.2 ∙ is))
 
     moving_noted : (z : Move) (b : Bool) → IsMoving m g h v z → IsMoving m g h w (record z { waited = b })
     moving_noted z b = moving_by m m (same_slots m).nodes g h h v w z b z.copy.known (λ n x e. e) refl (λ s which. refl) (λ r x. x)

@@ -1,19 +1,18 @@
-use Rattle.std.proofs.Common.{rules, ◌%◌, inl, inr, refl, ap, sym, subst}
+use Rattle.std.proofs.Common.{rules, ◌%◌, inl, inr, refl, sym, subst}
 use Rattle.prcu_model.specs.declared.operation.Told.{Told}
-use Rattle.hash_core.specs.declared.view.View.{View}
 use Rattle.hash_core.specs.Steps.{fresh_hold}
 use Rattle.class_hash.specs.Replies.{Puts}
 use Rattle.class_hash.proofs.Trails.{adds_none}
-use Rattle.class_hash.proofs.Trying.{nothing_tried, searched_first, given_up_first, added_first, tried_again, tried_on, put_once, found_once}
+use Rattle.class_hash.proofs.Trying.{nothing_tried, searched_first, given_up_first, added_first, tried_again, tried_on, put_once, found_once, locked_holds}
 use Rattle.class_hash.proofs.Exactly.{full_exactly}
 use Rattle.class_hash.proofs.dictionary.put.Goals as goal
 
 pub lacks-requires-clause-held : goal.lacks-requires-clause-held
-lacks-requires-clause-held g c = (fresh_hold (c.args.key % 64), ap (λ (z : View). z.hold) c.lock_bucket.ensures.view.view)
+lacks-requires-clause-held g c = (fresh_hold (c.args.key % 64), locked_holds c.lock_bucket.ensures.view)
 
 pub returns-then-lacks-clause-view : goal.returns-then-lacks-clause-view
 returns-then-lacks-clause-view g c =
-    let f = c.lacks.ensures.walked (fresh_hold (c.args.key % 64)) (ap (λ (z : View). z.hold) c.lock_bucket.ensures.view.view) in
+    let f = c.lacks.ensures.walked (fresh_hold (c.args.key % 64)) (locked_holds c.lock_bucket.ensures.view) in
     subst (λ (t : Told). Puts c.args.table.now.capacities c.args.seat.now.view c.args.key c.args.value t c.add.new.seat.view)
     (sym c.told_added.ensures)
     (put_once c.requires.quiet c.loop.invariant.1 c.search.ensures.view c.lock_bucket.ensures.view f.1 c.lock_bucket.ensures.commit
@@ -40,7 +39,7 @@ returns-then-is_some-clause-full g c =
 
 pub loop-preserved : goal.loop-preserved
 loop-preserved g c =
-    let f = c.lacks.ensures.walked (fresh_hold (c.args.key % 64)) (ap (λ (z : View). z.hold) c.lock_bucket.ensures.view.view) in (
+    let f = c.lacks.ensures.walked (fresh_hold (c.args.key % 64)) (locked_holds c.lock_bucket.ensures.view) in (
       search rules,
       tried_again c.requires.quiet c.loop.invariant.1 c.search.ensures.view c.lock_bucket.ensures.view f.1 c.lock_bucket.ensures.commit
           c.free_bucket.new.seat.view c.free_bucket.ensures.view,
@@ -57,6 +56,6 @@ returns-then-is_some-clause-begins g c = searched_first c.loop.invariant.3 c.sea
 
 pub returns-then-lacks-clause-begins : goal.returns-then-lacks-clause-begins
 returns-then-lacks-clause-begins g c =
-    let f = c.lacks.ensures.walked (fresh_hold (c.args.key % 64)) (ap (λ (z : View). z.hold) c.lock_bucket.ensures.view.view) in
+    let f = c.lacks.ensures.walked (fresh_hold (c.args.key % 64)) (locked_holds c.lock_bucket.ensures.view) in
     added_first c.loop.invariant.3 c.search.ensures.view c.lock_bucket.ensures.view f.1 c.args.table.now.capacities c.add.new.seat.view
     c.args.value c.add.result c.add.ensures.full c.add.ensures.added

@@ -1,9 +1,7 @@
-use Rattle.std.proofs.Common.{rules, ◌≡◌, ℕ, List, ◌++◌, ◌∷◌, [], map, sym, ap, subst, ◌∙◌}
-use Rattle.list_laws.specs.Counts.{times}
-use Rattle.core_state.specs.declared.view.Retired.{Retired}
+use Rattle.std.proofs.Common.{rules, ◌≡◌, ℕ, List, ◌++◌, ◌∷◌, [], ap, subst, ◌∙◌}
 use Rattle.core_state.specs.declared.view.View.{View}
-use Rattle.core_state.specs.views.Views.{IsQuiet}
 use Rattle.seat_table.specs.Seats.{IsQuietSeat, SeatAt}
+use Rattle.seat_table.proofs.Seating.{still_quiet}
 use Rattle.exact_list.specs.Tries.{HasTried, Try}
 use Rattle.exact_list.specs.Answers.{EndAs}
 use Rattle.exact_list.proofs.Trying.{tried_both}
@@ -14,22 +12,9 @@ use Rattle.exact_list.proofs.listing.list.Goals as goal
 quiet_tried : (s t : SeatAt) (key : ℕ) (tries : List Try) → HasTried s.view key tries t.view → t.listed ≡ s.listed → IsQuietSeat s
     → IsQuietSeat t
 quiet_tried s t key tries tried listed quiet =
-    let q = quiet.view in record {
-      view = subst IsQuiet (sym tried.others) (record {
-        section = q.section;
-        locks = q.locks;
-        reserved = q.reserved;
-        hand = q.hand;
-        moving = q.moving;
-        owes = q.owes;
-        commit = q.commit;
-        raised = q.raised;
-      });
-      listed = record {
-        each = λ slot. ap (times slot) listed ∙ quiet.listed.each slot ∙ ap (λ (v : View). times slot
-            (map (λ (r : Retired). r.slot) v.hands.retired)) (sym tried.others);
-      };
-    }
+    let is = tried.others in
+    still_quiet s t (ap (λ (v : View). v.section) is) (ap (λ (v : View). v.locks) is) (ap (λ (v : View). v.hands) is)
+    (ap (λ (v : View). v.moving) is) (ap (λ (v : View). v.commit) is) listed quiet
 
 pub attempt-requires-in-Moved-clause-outside : goal.attempt-requires-in-Moved-clause-outside
 attempt-requires-in-Moved-clause-outside g c =

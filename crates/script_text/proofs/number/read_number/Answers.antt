@@ -14,4 +14,7 @@ pub returns : goal.returns
 returns c =
     let some : 0 < length c.args.bytes.now = grind (arith, nat_tests) in
     decimal_from_digits c.args.bytes.now _ c.read_digits.ensures some
-    (λ zero. elim c.else-bytes-gt1.branch [ else-bytes-gt1-via-then-bytes-gt1+else-bytes-eq48 w ↦ absurd (omega arith) | else-bytes-gt1-via-else-bytes-gt1 w ↦ omega arith ])
+    (λ zero. elim c.else-bytes-gt1.branch [
+      | else-bytes-gt1-via-then-bytes-gt1+else-bytes-eq48 w ↦ absurd (omega arith)
+      | else-bytes-gt1-via-else-bytes-gt1 w ↦ omega arith
+    ])

@@ -7,10 +7,10 @@ use Rattle.seat_table.specs.Onward.{IsOnward, IsLater}
 use Rattle.seat_table.specs.Waits.{reached}
 use Rattle.seat_table.specs.declared.wait.Grace.{Grace}
 use Rattle.d_wait.specs.declared.domain.Domain.{Domain}
-use Rattle.seat_table.proofs.Onward.{looks_none}
+use Rattle.seat_table.proofs.Onward.{looks_none, within_last}
 use Rattle.seat_table.proofs.Once.{finds_nothing, finds_then, finds_later}
 use Rattle.seat_table.proofs.Polling.{comes_to, goes_further, stops_further}
-use Rattle.d_wait.proofs.Onward.{later_self, later_then, looks_later, within_last}
+use Rattle.d_wait.proofs.Onward.{later_self, later_then, looks_later}
 use Rattle.d_wait.proofs.Sides.{goes_back, back_keys, back_clock}
 use Rattle.d_wait.proofs.domain.DomainWaitPart.poll.Goals as goal
 

@@ -1,5 +1,5 @@
 use Rattle.wait_laws.proofs.seats.Splitting.{split_keeps}
-use Rattle.wait_laws.proofs.laws.k1.Goals as goal
+use Rattle.wait_laws.proofs.laws.split.Goals as goal
 
 pub returns : goal.returns
 returns c = split_keeps
