@@ -69,7 +69,12 @@ grace_front a rest grace i j e p n low high q c x began ended entered before lea
     let t = grace i j e p n low high q c x (at_longer a rest i _ began) (at_longer a rest j _ ended)
     (at_longer a rest e _ entered) before least most in
     let end = at_below a j _ ended in
-    (t.0, t.1, t.2, at_front a rest t.0 _ (let less = t.2 in omega arith) t.3)
+    record {
+      at = t.at;
+      after = t.after;
+      before = t.before;
+      left = at_front a rest t.at _ (let less = t.before in omega arith) t.left;
+    }
 
 reuse_front : (a rest : List Mark) → Reuse (a ++ rest) → Reuse a
 reuse_front a rest reuse j s i p m o there reused last opened =

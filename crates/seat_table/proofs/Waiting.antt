@@ -159,7 +159,7 @@ have_left v wait steps new w e = record {
       ap (λ l. get_elem? l (length end)) e.leaves.marked ∙ at_last end (Ended v.allowance.place wait.count) (length end) refl in
       let t = e.informed.grace began
       (length end) at v.allowance.place wait.count wait.low wait.high q n x begins there entered before least most in
-      (t.0, t.3);
+      (t.at, t.left);
 }
 
 abbrev no_more : View → List StepMade → Trail

@@ -68,10 +68,10 @@ nothing_is_missed keys es kept found given version p c finding giving =
     let gone = kept.grace (rank es waited.began) (rank es waited.ended)
     (rank es inside.entered) waited.place waited.count waited.low waited.high p c inside.key began ended entered early holds.0
     holds.1 in
-    let left = back es gone.0 _ gone.3 in
+    let left = back es gone.at _ gone.left in
     let last = waited.last in
     let rank_is = left.2 in
-    let sooner = gone.2 in (
+    let sooner = gone.before in (
       left.0,
       left.1,
       dite (dec_le given left.0)

@@ -71,7 +71,7 @@ grace_longer h h' grows quiet grace i j e p n low high q c x began ended entered
     let b = quiet.began i p n low high (j, f) began in
     let short = at_below h i (Began p n low high) b in
     let r = grace i j e p n low high q c x b f (back_at h h' grows e (Entered q c x) (omega arith) entered) lt from to in
-    (r.0, r.1, r.2, longer_at h h' grows r.0 _ r.3)
+    record { at = r.at; after = r.after; before = r.before; left = longer_at h h' grows r.at _ r.left }
 
 pub grace_snoc : (h : List Mark) (m : Mark) → TurnsNoWait m → Grace h → Grace (h ++ m ∷ [])
 grace_snoc h m none grace = grace_longer h (h ++ m ∷ []) (prefix_snoc h m) (waits_snoc h m none) grace

@@ -43,7 +43,7 @@ pub record IsUnraisedOf (rs : List Retired) (s : ℕ) : Type 0 where
   pub slot : retired.slot ≡ s
   pub unraised : retired.raised ≡ false
 
--- and a retired one of the view
+-- one of the view's
 abbrev pub IsUnraised : View → ℕ → Type 0
 IsUnraised v s = IsUnraisedOf v.hands.retired s
 

@@ -19,7 +19,7 @@ use Rattle.core_state.specs.declared.view.Waiting.{Waiting}
 use Rattle.core_state.specs.declared.view.View.{View}
 use Rattle.list_laws.specs.Counts.{Each}
 use Rattle.core_state.specs.memory.Memory.{Memory, slot_count}
-use Rattle.core_state.specs.Marks.{begun, begun_at, Grace, HasWaited}
+use Rattle.core_state.specs.Marks.{begun, begun_at, Grace, HasWaited, WasLeft}
 use Rattle.core_state.specs.views.Views.{Works}
 use Rattle.core_state.specs.steps.Waits.{is_grace_for, is_move_grace, waited_retired, waited_move, ending}
 use Rattle.core_state.specs.parts.MarkParts.{WaitStands, MarkParts, HasEnded}
@@ -34,7 +34,7 @@ use Rattle.core_frames.proofs.views.Same.{same_slots}
 use Rattle.core_frames.proofs.frames.MarkFrame.{marks_snoc, mark_frame_by}
 use Rattle.core_frames.proofs.frames.CountFrame.{counts_still, sums_same}
 use Rattle.core_frames.proofs.frames.GraceFrame.{reuse_snoc, StaysNoted, clear_same, move_stays, retired_stays, waited_longer}
-use Rattle.wait_laws.proofs.waits.WaitMarks.{WasLeft, entered_open, left_or_open, began_same}
+use Rattle.wait_laws.proofs.waits.WaitMarks.{entered_open, left_or_open, began_same}
 use Rattle.wait_laws.proofs.Apart.{apart, joined_apart, moves_works, retired_works}
 use Rattle.core_frames.proofs.chart.Plain.{clocked_before}
 use Rattle.core_frames.proofs.frames.FrontFrame.{front_frame}
@@ -227,7 +227,7 @@ module _ (k : Shape) (m : Memory) (vs : List View) (h : List Mark) (id : ℕ) (v
       let was_entered = old_entered e q c x entered in
       ⊎_elim
       (λ (o : get_elem? h j ≡ some (Ended p n)). let r = i.grace.grace a j e p n low high q c x b o was_entered lt from to in
-      (r.0, r.1, r.2, at_longer h (mark ∷ []) r.0 _ r.3))
+      record { at = r.at; after = r.after; before = r.before; left = at_longer h (mark ∷ []) r.at _ r.left })
       (λ (t : (j ≡ length h) × (v.allowance.place ≡ p) × (wait.count ≡ n)).
       let place = t.1 in
       let it = this_wait a n low high t.2 (subst (λ z. get_elem? h a ≡ some (Began z n low high)) (sym place) b) in
@@ -236,7 +236,7 @@ module _ (k : Shape) (m : Memory) (vs : List View) (h : List Mark) (id : ℕ) (v
       let same_high = it.2 in
       let end = t.0 in
       let r = left_now e q c x was_entered (omega arith) (omega arith) (omega arith) in
-      (r.0, r.1, (let z = r.2 in omega arith), at_longer h (mark ∷ []) r.0 _ r.3))
+      record { at = r.at; after = r.after; before = omega (arith, r.before); left = at_longer h (mark ∷ []) r.at _ r.left })
       (new_end j p n ended)
 
   clear_for : (at low high : ℕ) → at < wait.began → wait.low ≤ low → high ≤ wait.high → IsClear vs at low high

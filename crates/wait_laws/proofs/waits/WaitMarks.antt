@@ -9,7 +9,7 @@ use Rattle.prcu_marks.specs.declared.mark.Mark.{Mark}
 use Rattle.prcu_marks.specs.declared.mark.Mark.TheVariants.{Entered, Left, Began, Ended, Done, Given, Unlinked, Freed}
 use Rattle.prcu_marks.specs.Marks.{Open, next_open, open_at}
 use Rattle.prcu_marks.proofs.MarkLists.{open_at-snoc}
-use Rattle.core_state.specs.Marks.{begun_at, AreMarks}
+use Rattle.core_state.specs.Marks.{begun_at, AreMarks, WasLeft}
 use Rattle.list_laws.proofs.Lists.{at_below}
 use Rattle.core_frames.proofs.marks.MarkFacts.{begun_at-append}
 use Rattle.core_frames.proofs.views.SeatFacts.{open_entered}
@@ -25,10 +25,6 @@ pub take_length : (h : List Mark) (j : ℕ) → j ≤ length h → length (take 
 take_length h zero le = refl
 take_length [] (suc j) le = absurd (omega arith)
 take_length (x ∷ h) (suc j) le = let r = take_length h j (omega arith) in omega arith
-
--- the section of a place with this number was left between two marks
-abbrev pub WasLeft : List Mark → ℕ → ℕ → ℕ → ℕ → Type 0
-WasLeft h q c e n = (l : ℕ) × (e < l) × (l < n) × (get_elem? h l ≡ some (Left q c))
 
 abbrev pub entered_open : ℕ → ℕ → ℕ → Open
 entered_open c x e = record { count = c; key = x; at = e }
@@ -46,7 +42,7 @@ module _ (places : ℕ) (h : List Mark) (t : AreMarks places h) (e q c x : ℕ) 
       let f : Some r.0 ≡ Some (entered_open c x e) = sym r.1 ∙ ap (λ z. open_at z (take j h)) same ∙ now in
       let g : r.0 ≡ entered_open c x e = cc in
       let count : d ≡ c = sym r.2 ∙ ap (λ (o : Open). o.count) g in
-      (j, lt, (omega arith), at ∙ (λ i. some (Left (same i) (count i))))))
+      record { at = j; after = lt; before = omega arith; left = at ∙ (λ i. some (Left (same i) (count i))) }))
       (λ ne. inr (ap (λ b. cond b None (Some (entered_open c x e))) (ne_eqb p q ne)))
   step j (Began p d a b) lt at now n = inr refl
   step j (Ended p d) lt at now n = inr refl
@@ -65,7 +61,7 @@ module _ (places : ℕ) (h : List Mark) (t : AreMarks places h) (e q c x : ℕ) 
       let n : e + 1 + suc d ≡ suc (e + 1 + d) = omega arith in
       let next = at_some h (e + 1 + d) (omega arith) in
       subst (λ z. WasLeft h q c e z ⊎ (open_at q (take z h) ≡ Some (entered_open c x e))) (sym n) (⊎_elim
-      (λ (w : WasLeft h q c e (e + 1 + d)). inl (w.0, w.1, (let a = w.2 in omega arith), w.3))
+      (λ (w : WasLeft h q c e (e + 1 + d)). inl (record { at = w.at; after = w.after; before = omega (arith, w.before); left = w.left }))
       (λ (now : open_at q (take (e + 1 + d) h) ≡ Some (entered_open c x e)). ⊎_elim (λ w. inl w)
       (λ (f : next_open q (length (take (e + 1 + d) h)) (Some (entered_open c x e)) next.0 ≡ Some (entered_open c x e)).
       inr (ap (open_at q) (take_next h (e + 1 + d) next.0 next.1) ∙ open_at-snoc q (take (e + 1 + d) h) next.0
