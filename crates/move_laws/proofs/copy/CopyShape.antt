@@ -273,7 +273,12 @@ module _ (k : CopyLink) where
     was_young = was_young;
     newly_old = newly_old;
     child = λ _. copy_below;
-    over = λ y e nz. inr (k.some, c_linked, omega (arith, c_key, k.next_low, next_keyed.low), copy_links Left ∙ e);
+    over = λ y e nz. inr (record {
+      some_slot = k.some;
+      linked = c_linked;
+      above = omega (arith, c_key, k.next_low, next_keyed.low);
+      left = copy_links Left ∙ e;
+    });
     adopted = λ x l nz _ up. below_hangs x (not_c x l) (h.hangs x l nz) up;
     fresh = λ _. record { young = c_young; within = k.within; keyed = copy_keyed; below = below_copy };
   }

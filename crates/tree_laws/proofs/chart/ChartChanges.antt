@@ -21,6 +21,13 @@ pub record IsFresh (new : Memory) (n : ℕ) (to : Chart) (c : ℕ) : Type 0 wher
   pub keyed : IsKeyed new to c
   pub below : (x : ℕ) (a : Side) → new (Link c a) ≡ x → x ≢ 0 → IsBelow new to c a x
 
+-- c stands above d's key, and its left leads to y
+pub record LeadsLeft (m new : Memory) (to : Chart) (d c y : ℕ) : Type 0 where
+  pub some_slot : c ≢ 0
+  pub linked : to.linked c ≡ true
+  pub above : m (Key d) ≤ m (Key c)
+  pub left : new (Link c Left) ≡ y
+
 -- Side b of slot p led to d, or nowhere, and leads to c from now on, or nowhere. Only d may be linked no more, and only c may be linked
 -- that
 -- wasn't. Each slot's range is what it was, with its bounds renamed: the lower ones by `lower` and the upper ones by `upper`.
@@ -47,8 +54,7 @@ pub record ChangesChart (m new : Memory) (n : ℕ) (g to : Chart) (p : ℕ) (b :
   pub newly_old : (s : ℕ) → g.linked s ≡ true → g.old s ≡ false → to.old s ≡ true → IsDisplaced new to s
   pub child : c ≢ 0 → IsBelow new to p b c
   -- a slot left of d is c, or left of c from now on
-  pub over : (y : ℕ) → m (Link d Left) ≡ y → y ≢ 0
-      → (y ≡ c) ⊎ ((c ≢ 0) × (to.linked c ≡ true) × (m (Key d) ≤ m (Key c)) × (new (Link c Left) ≡ y))
+  pub over : (y : ℕ) → m (Link d Left) ≡ y → y ≢ 0 → (y ≡ c) ⊎ LeadsLeft m new to d c y
   pub adopted : (x : ℕ) → g.linked x ≡ true → x ≢ 0 → d ≢ 0 → g.up x ≡ d → Hangs new to x
   pub fresh : g.linked c ≡ false → IsFresh new n to c
 

@@ -14,7 +14,7 @@ use Rattle.core_frames.proofs.chart.Endings.{ended_is}
 use Rattle.core_frames.proofs.chart.Places.{range_hop, carry, end_linked}
 use Rattle.core_frames.proofs.chart.Unique.{one_link}
 use Rattle.tree_laws.proofs.stores.Stores.{store_next, same_answer}
-use Rattle.tree_laws.proofs.chart.ChartChanges.{ChangesChart, low_after, high_after, same_rank}
+use Rattle.tree_laws.proofs.chart.ChartChanges.{ChangesChart, low_after, high_after, same_rank, LeadsLeft}
 
 module _ (m new : Memory) (n : ℕ) (g to : Chart) (p : ℕ) (b : Side) (d c : ℕ) (lower upper : ℕ → ℕ) (h : IsShaped m n g)
     (k : ChangesChart m new n g to p b d c lower upper) where
@@ -75,9 +75,9 @@ module _ (m new : Memory) (n : ℕ) (g to : Chart) (p : ℕ) (b : Side) (d c : �
       past s l lt ne e w nz r = ⊎_elim
           (λ (is_c : r.slot ≡ c). more (still_linked s l ne) (omega (arith, lt, k.stores.key s))
           (link_past s Left l nz (e ∙ w) ∙ sym is_c) r.some_slot r.rest)
-          (λ (t : (c ≢ 0) × (to.linked c ≡ true) × (m (Key d) ≤ m (Key c)) × (new (Link c Left) ≡ r.slot)).
-          more (still_linked s l ne) (omega (arith, lt, k.stores.key s)) (link_past s Left l nz (e ∙ w)) t.0
-          (more t.1 (omega (arith, r.less, t.2, k.stores.key c)) t.3 r.some_slot r.rest))
+          (λ (t : LeadsLeft m new to d c r.slot).
+          more (still_linked s l ne) (omega (arith, lt, k.stores.key s)) (link_past s Left l nz (e ∙ w)) t.some_slot
+          (more t.linked (omega (arith, r.less, t.above, k.stores.key c)) t.left r.some_slot r.rest))
           (k.over r.slot r.left r.some_slot)
 
   -- what a step has to say of the readers with a key
@@ -168,7 +168,7 @@ module _ (m new : Memory) (n : ℕ) (g to : Chart) (p : ℕ) (b : Side) (d c : �
   path_over : (e y : ℕ) → m (Link d Left) ≡ y → y ≢ 0 → (c ≢ 0 → OnRightLeft new e c) → OnRightLeft new e y
   path_over e y f nz way = ⊎_elim
       (λ (is_c : y ≡ c). subst (OnRightLeft new e) (sym is_c) (way (λ z. nz (is_c ∙ z))))
-      (λ (t : (c ≢ 0) × (to.linked c ≡ true) × (m (Key d) ≤ m (Key c)) × (new (Link c Left) ≡ y)). further (way t.0) t.3 nz)
+      (λ (t : LeadsLeft m new to d c y). further (way t.some_slot) t.left nz)
       (k.over y f nz)
 
   paths : (e s : ℕ) → g.linked e ≡ true → OnRightLeft m e s → Paths e s

@@ -335,12 +335,19 @@ module _ (vs us : List View) (id : ℕ) (v a b : View) (r : Regroups vs us id v 
           (λ i move is. absurd (idle_move a move is r.idle_a)) (λ move is. absurd (idle_move b move is idle_b)) t.moves;
     }
 
-  wait_was : (j : ℕ) (u : View) (wait : Waiting) → get_elem? us j ≡ some u → u.wait ≡ Some wait
-      → (i : ℕ) × (z : View) × (get_elem? vs i ≡ some z) × (z.wait ≡ Some wait)
+  -- a view that had the wait
+  record HadWait (wait : Waiting) : Type 0 where
+    pub at : ℕ
+    pub view : View
+    pub there : get_elem? vs at ≡ some view
+    pub waits : view.wait ≡ Some wait
+
+  wait_was : (j : ℕ) (u : View) (wait : Waiting) → get_elem? us j ≡ some u → u.wait ≡ Some wait → HadWait wait
   wait_was j u wait e is =
-      ⊎_elim (λ (at : get_elem? vs j ≡ some u). (j, u, at, is))
+      ⊎_elim (λ (at : get_elem? vs j ≡ some u). record { at = j; view = u; there = at; waits = is })
       (λ (n : (u ≡ a) ⊎ (u ≡ b)). ⊎_elim
-      (λ (f : u ≡ a). (id, v, r.there, (λ n. (sym r.rest n).wait) ∙ ap (λ (z : View). z.wait) (sym f) ∙ is))
+      (λ (f : u ≡ a). (let waits = (λ n. (sym r.rest n).wait) ∙ ap (λ (z : View). z.wait) (sym f) ∙ is in
+      record { at = id; view = v; there = r.there; waits = waits }))
       (λ (f : u ≡ b). absurd (let q : None ≡ Some wait = (λ n. (sym r.bare n).left.wait) ∙ ap (λ (z : View). z.wait) (sym f) ∙ is in cc)) n)
       (r.back j u e)
 
@@ -357,8 +364,8 @@ module _ (vs us : List View) (id : ℕ) (v a b : View) (r : Regroups vs us id v 
           stamped = λ section is. absurd (idle_section b section is idle_b);
         }) t.clocked;
     excused = λ i j x y wait section ei waits going ej inside older holds spot. (let z = wait_was i x wait ei waits in
-        t.excused z.0 j z.1 y wait section z.2 z.3 going (inside_back j y section ej inside) inside older holds spot);
-    turned = λ j u e wait is. (let z = wait_was j u wait e is in t.turned z.0 z.1 z.2 wait z.3);
+        t.excused z.at j z.view y wait section z.there z.waits going (inside_back j y section ej inside) inside older holds spot);
+    turned = λ j u e wait is. (let z = wait_was j u wait e is in t.turned z.at z.view z.there wait z.waits);
     eer = λ way. (let e = t.eer way in record {
       inside = λ j u at section is. e.inside j u (inside_back j u section at is) section is;
       outside = e.outside;
