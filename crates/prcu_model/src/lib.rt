@@ -9,7 +9,7 @@ pub mod plain_map;
 pub mod scripts;
 
 pub use dict::Dict;
-pub use lists::{LineList, ToldList};
+pub use lists::{LineList, RoomyList, ToldList};
 pub use memory::NoMemory;
 pub use operation::{Line, Op, Reply, Told, Update};
 pub use plain_map::PlainMap;
