@@ -271,16 +271,16 @@ module _ (k : Shape) (v w : View) where
     | inl none ↦ by [] none refl tt tt
     | inr move ↦
         by (Began v.allowance.place move.0 (key + 1) move.1 ∷ (Ended v.allowance.place move.0 ∷ [])) move.2 refl (refl, (refl, tt)) (
-      inr (let there = update_there (Explains (room_of k)) v w (Del key) (record { reply = Gone; number = number }) tries p.0 p.1 p.2 in
-          record {
-            position = length (updates_of p.0);
-            key = key;
-            update = there.0;
-            low_is = refl;
-            next = subst (λ d. callers.IsNextKey d key move.1) (sym there.1) move.3;
-          }),
-      (tt, tt),
-    )
+          inr (let there = update_there (Explains (room_of k)) v w (Del key) (record { reply = Gone; number = number }) tries p.0 p.1 p.2 in
+              record {
+                position = length (updates_of p.0);
+                key = key;
+                update = there.0;
+                low_is = refl;
+                next = subst (λ d. callers.IsNextKey d key move.1) (sym there.1) move.3;
+              }),
+          (tt, tt),
+        )
   ]
     where
       by : (after : List Mark) → p.1 ≡ after → updates_of after ≡ [] → AllByRecursion (IsLeftBy v.allowance.place key) after

@@ -332,7 +332,7 @@ module _ (P : Op → Type 0) where
   told_from_lines (line ∷ lines) all = let rest = told_from_lines lines all.1 in
       elim (tells_update line.reply) as (λ b.
       AllByRecursion (λ (q : Placed). P q.op) (cond b (record { position = line.number; op = line.op } ∷ told_updates lines)
-    (told_updates lines))) [
+      (told_updates lines))) [
         | true ↦ (all.0, rest)
         | false ↦ rest
       ]
