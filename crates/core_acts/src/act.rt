@@ -226,4 +226,12 @@ pub enum Act {
     },
     /// K37. The front is loaded in a section, which is a listing from then on.
     LookAtFront,
+    /// K38. A marked node and its marked child are replaced by the spare, with the child's key, and below it the slot in hand.
+    Rotate {
+        parent: u32,
+        side: Side,
+        node: u32,
+        child: u32,
+        top: u32,
+    },
 }

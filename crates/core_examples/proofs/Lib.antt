@@ -10,5 +10,6 @@ pub mod Puts
 pub mod Successors
 pub mod Deletes
 pub mod MovingDelete
+pub mod Rotating
 pub mod Reusing
 pub mod WaiterRuns

@@ -3,6 +3,7 @@ pub mod Hops
 pub mod Endings
 pub mod Absent
 pub mod Unique
+pub mod Goings
 pub mod Places
 pub mod Stands
 pub mod Passes

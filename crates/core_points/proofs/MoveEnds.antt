@@ -116,7 +116,7 @@ module _ (k : Shape) (h : List Mark) (o : Own) (v : View) (n : ℕ) where
       let p = f.point in
       let is = (p.0).move in
       let old = p.1 in
-      (old.lock, record { locked = old.locked; life_now = old.life; unmarked = omega arith; why = inr (is.move, is.is, is.old_is) })
+      (old.lock, record { locked = old.locked; life_now = old.life; unmarked = omega arith; why = inr (inl (is.move, is.is, is.old_is)) })
 
   pub next_old_mark : (m : Moving) → Fits o (at.OldMark m) v
       → Fits (after o n (at.OldMark m)) (at.OldRight m) (view_after v h n (act_at o (at.OldMark m)))

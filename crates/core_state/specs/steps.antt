@@ -7,4 +7,5 @@ pub mod Locks
 pub mod Loads
 pub mod Links
 pub mod Moves
+pub mod Rotations
 pub mod Steps

@@ -619,6 +619,37 @@ pub fn unlink_right<W: WaitWords>(
     touch(table, &mut seat.seat, act, word, Access::Store { number });
 }
 
+/// Replaces a marked node and its marked child: the spare, with the child's key, is linked in the node's place, and below it the slot in
+/// hand, with the node's key (K38).
+pub fn rotate<W: WaitWords>(
+    table: &CitrusTable<W>,
+    seat: &mut Seat<W>,
+    parent: u32,
+    side: Side,
+    node: u32,
+    child: u32,
+    top: u32,
+)
+    requires table { seat.old.table ≡ table.now }
+    requires asks { IsAsked (shape_of W.WAY table.now) seat.old.view (acts.Rotate parent side node child top) }
+    ensures seat { (seat.new.table ≡ seat.old.table) × (seat.new.listed ≡ seat.old.listed) × (seat.new.looked ≡ seat.old.looked) }
+    ensures told { Told (shape_of W.WAY table.now) seat.old.view (acts.Rotate parent side node child top) top seat.new.view }
+{
+    let word = Field::Link { slot: parent, side };
+    seat.tickets -= 1;
+    seat.hand = None;
+    seat.spare = None;
+    let act = Act::Rotate {
+        parent,
+        side,
+        node,
+        child,
+        top,
+    };
+    let number = top as u64;
+    touch(table, &mut seat.seat, act, word, Access::Store { number });
+}
+
 /// Loads a gate (K28).
 pub fn load_gate<W: WaitWords>(table: &CitrusTable<W>, seat: &mut Seat<W>, class: u32) -> u64
     requires table { seat.old.table ≡ table.now }

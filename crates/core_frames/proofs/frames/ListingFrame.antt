@@ -15,10 +15,11 @@ use Rattle.core_state.specs.declared.view.Visit.{Visit}
 use Rattle.core_state.specs.declared.view.View.{View}
 use Rattle.list_laws.specs.Counts.{Each}
 use Rattle.core_state.specs.memory.Memory.{Memory}
-use Rattle.prcu_marks.specs.declared.mark.Side.TheVariants.{Left as LeftSide, Right as RightSide}
 use Rattle.core_state.specs.tree.Chart.{Chart}
 use Rattle.core_state.specs.parts.TreeParts.{map_now}
-use Rattle.core_state.specs.parts.ListingParts.{IsBetween, HasBounds, GoesRight, WasOld, IsVisit, IsListing, ListingParts}
+use Rattle.core_state.specs.tree.Readers.{IsHeldBack}
+use Rattle.core_state.specs.parts.ListingParts.{IsBetween, GoesOn, here, StandsNow, IsVisit, IsListing, ListingParts}
+use Rattle.core_frames.proofs.chart.Goings.{carry_going}
 use Rattle.list_laws.proofs.Lists.{each_set}
 use Rattle.core_frames.proofs.marks.MarkFacts.{QuietMarks}
 use Rattle.core_frames.proofs.views.Same.{SameNodes}
@@ -29,27 +30,16 @@ module _ (m m' : Memory) (nodes : SameNodes m m') (front : m' Front ≡ m Front)
   map_kept : map_now h' ≡ map_now h
   map_kept = ap (λ us x. finite.get (map_of us) x) quiet.updates
 
-  right_same : (bounds : Gap) (s : ℕ) → GoesRight m g (map_now h) bounds s → GoesRight m' g (map_now h') bounds s
-  right_same bounds s i = subst (λ map. GoesRight m' g map bounds s) (sym map_kept) (⊎_elim
-      (λ (x : (m (Link s RightSide) ≡ 0) × ((y : ℕ) → IsBetween bounds y → map_now h y ≡ None)). inl (nodes.link s RightSide ∙ x.0, x.1))
-      (λ (x : (m (Link s RightSide) ≢ 0) × HasBounds g bounds (m (Link s RightSide)) × (g.old (m (Link s RightSide)) ≡ false)).
-      inr (
-        (λ e. x.0 (sym (nodes.link s RightSide) ∙ e)),
-        subst (HasBounds g bounds) (sym (nodes.link s RightSide)) x.1,
-        ap g.old (nodes.link s RightSide) ∙ x.2,
-      )) i)
-
-  old_same : (bounds : Gap) (s : ℕ) → WasOld m g h bounds s → WasOld m' g h' bounds s
-  old_same bounds s i = record {
-    at = i.at;
-    gone = quiet.gone s ∙ i.gone;
-    after_updates = λ j u e. i.after_updates j u (quiet.done j u e);
-    no_node = λ j p x e. i.no_node j p x (quiet.done j _ e);
-    left = nodes.link s LeftSide ∙ i.left;
-    key = i.key ∙ ap Some (sym (nodes.key s));
-    pair = ap (λ map. map (m' (Key s))) map_kept ∙ ap (map_now h) (nodes.key s) ∙ i.pair ∙ ap Some (sym (nodes.value s));
-    right = right_same bounds s i.right;
-  }
+  stands_same : (entered : ℕ) (t : Visit) → StandsNow m g h entered t → StandsNow m' g h' entered t
+  stands_same entered t i = subst (λ map. GoesOn m' g (IsHeldBack g h' entered) map t.bounds t.slot) (sym map_kept)
+      (carry_going m m' g g (IsHeldBack g h entered) (IsHeldBack g h' entered) (map_now h) (record {
+        linked = λ bounds s has. here has;
+        grow = λ s l. held_back_same g h h' entered s quiet l;
+        key = λ s l. nodes.key s;
+        value = λ s l. nodes.value s;
+        link = λ s b l. nodes.link s b;
+        rank = λ s c l known lt. lt;
+      }) t.bounds t.slot i)
 
   visit_same : (entered : ℕ) (t : Visit) → IsVisit m g h entered t → IsVisit m' g h' entered t
   visit_same entered t i = record {
@@ -66,7 +56,7 @@ module _ (m m' : Memory) (nodes : SameNodes m m') (front : m' Front ≡ m Front)
     now = λ even e. (let r = i.now even (sym front ∙ e) in record {
       facts = subst (λ map. Each listing.facts (λ (f : Fact). map f.key ≡ Some f.value)) (sym map_kept) r.facts;
       gaps = subst (λ map. Each listing.gaps (λ (gap : Gap). (y : ℕ) → IsBetween gap y → map y ≡ None)) (sym map_kept) r.gaps;
-      visits = λ j t at. ⊎_elim (λ b. inl b) (λ o. inr (old_same t.bounds t.slot o)) (r.visits j t at);
+      visits = λ j t at. stands_same section.entered t (r.visits j t at);
     });
   }
 

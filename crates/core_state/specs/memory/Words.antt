@@ -12,6 +12,11 @@ holder_of lock = if lock == 0 then None else Some (lock - 1)
 abbrev pub child_of : ℕ → Option ℕ
 child_of link = if link == 0 then None else Some link
 
+-- the other side
+abbrev pub across : Side → Side
+across Left = Right
+across Right = Left
+
 -- the numbers of a side's link and tag among the words of a slot's line
 abbrev pub side_number : Side → ℕ
 side_number Left = 4

@@ -4,11 +4,7 @@ use Rattle.std.specs.Prelude.{◌≡◌, ◌≢◌, ◌⊎◌, ℕ, ◌+◌, ◌
 use mathlib.Core.Option.{some}
 use lib.ListN.{get_elem?}
 use Rattle.prcu_marks.specs.declared.mark.Mark.{Mark}
-use Rattle.prcu_marks.specs.declared.mark.Mark.TheVariants.{Done}
-use Rattle.prcu_marks.specs.declared.mark.Side.TheVariants.{Left, Right}
-use Rattle.prcu_model.specs.declared.operation.Op.TheVariants.{Del}
-use Rattle.prcu_model.specs.declared.operation.Update.{Update}
-use Rattle.prcu_marks.specs.Marks.{gone_at}
+use Rattle.prcu_marks.specs.declared.mark.Side.{Side}
 use Rattle.core_state.specs.declared.words.Field.TheVariants.{Front, Key, Value, Link}
 use Rattle.core_state.specs.declared.view.Fact.{Fact}
 use Rattle.core_state.specs.declared.view.Gap.{Gap}
@@ -19,6 +15,7 @@ use Rattle.core_state.specs.declared.view.View.{View}
 use Rattle.list_laws.specs.Counts.{Each}
 use Rattle.core_state.specs.memory.Lists.{IsEven}
 use Rattle.core_state.specs.memory.Memory.{Memory}
+use Rattle.core_state.specs.steps.Loads.{narrowed}
 use Rattle.core_state.specs.tree.Chart.{Chart}
 use Rattle.core_state.specs.tree.Readers.{IsHeldBack}
 use Rattle.core_state.specs.parts.TreeParts.{map_now}
@@ -42,34 +39,26 @@ pub record HasBounds (g : Chart) (bounds : Gap) (s : ℕ) : Type 0 where
   pub low : g.low s ≡ low_bound bounds.low
   pub high : g.high s ≡ high_bound bounds.high
 
--- from an unlinked slot the walk goes on right: to a linked slot with all keys between the bounds, which is no old successor, or
--- nowhere, and then there is no such key
-abbrev pub GoesRight : Memory → Chart → (ℕ → Option ℕ) → Gap → ℕ → Type 0
-GoesRight m g map bounds s =
-    ((m (Link s Right) ≡ 0) × ((y : ℕ) → IsBetween bounds y → map y ≡ None))
-    ⊎ ((m (Link s Right) ≢ 0) × HasBounds g bounds (m (Link s Right)) × (g.old (m (Link s Right)) ≡ false))
-
--- The slot was an old successor: it was unlinked after the last update, and not by that update's step; its left is empty, its
--- key is the lower bound, and its pair is one of the map's: its copy has the same.
-pub record WasOld (m : Memory) (g : Chart) (h : List Mark) (bounds : Gap) (s : ℕ) : Type 0 where
-  pub at : ℕ
-  pub gone : gone_at s h ≡ Some at
-  pub after_updates : (j : ℕ) (u : Update) → get_elem? h j ≡ some (Done u) → j < at
-  pub no_node : (j p x : ℕ) → get_elem? h j ≡ some (Done (record { caller = p; op = Del x })) → at ≢ j + 1
-  pub left : m (Link s Left) ≡ 0
-  pub key : bounds.low ≡ Some (m (Key s))
-  pub pair : map_now h (m (Key s)) ≡ Some (m (Value s))
-  pub right : GoesRight m g (map_now h) bounds s
+-- From this slot the walk may go on: it is linked, and its keys are those between the bounds; or it was unlinked since the section was
+-- entered, its pair is one of the map's, and past its key, on each side, there is no key between the bounds, or a slot of a greater rank
+-- from which the walk may go on. live: the slots unlinked since. An old successor is such a slot, and one that a rotation replaced.
+pub data GoesOn (m : Memory) (g : Chart) (live : ℕ → Type 0) (map : ℕ → Option ℕ) : Gap → ℕ → Type 0 where
+  here : {bounds : Gap} {s : ℕ} → HasBounds g bounds s → GoesOn m g live map bounds s
+  past : {bounds : Gap} {s : ℕ} → live s → map (m (Key s)) ≡ Some (m (Value s))
+      → ((b : Side) → m (Link s b) ≡ 0 → (y : ℕ) → IsBetween (narrowed bounds (m (Key s)) b) y → map y ≡ None)
+      → ((b : Side) (c : ℕ) → m (Link s b) ≡ c → c ≢ 0 → g.rank s < g.rank c)
+      → ((b : Side) (c : ℕ) → m (Link s b) ≡ c → c ≢ 0 → GoesOn m g live map (narrowed bounds (m (Key s)) b) c)
+      → GoesOn m g live map bounds s
 
 -- where a listing has been, as long as nothing was updated: the rest of the bounds is there
-abbrev pub StandsNow : Memory → Chart → List Mark → Visit → Type 0
-StandsNow m g h t = HasBounds g t.bounds t.slot ⊎ WasOld m g h t.bounds t.slot
+abbrev pub StandsNow : Memory → Chart → List Mark → ℕ → Visit → Type 0
+StandsNow m g h entered t = GoesOn m g (IsHeldBack g h entered) (map_now h) t.bounds t.slot
 
 -- Where nothing was updated since a listing began: what it found is so now, and wherever it has been it may go on.
-pub record ListsNow (m : Memory) (g : Chart) (h : List Mark) (listing : Listing) : Type 0 where
+pub record ListsNow (m : Memory) (g : Chart) (h : List Mark) (entered : ℕ) (listing : Listing) : Type 0 where
   pub facts : Each listing.facts (λ (f : Fact). map_now h f.key ≡ Some f.value)
   pub gaps : Each listing.gaps (λ (gap : Gap). (y : ℕ) → IsBetween gap y → map_now h y ≡ None)
-  pub visits : Each listing.visits (StandsNow m g h)
+  pub visits : Each listing.visits (StandsNow m g h entered)
 
 -- Where a section's listing has been is a slot that is linked or was unlinked since the entry, with the key that was loaded.
 pub record IsVisit (m : Memory) (g : Chart) (h : List Mark) (entered : ℕ) (t : Visit) : Type 0 where
@@ -82,7 +71,7 @@ pub record IsListing (m : Memory) (g : Chart) (h : List Mark) (section : Section
   pub since : IsEven listing.front → 2 * section.from ≤ listing.front
   pub most : listing.front ≤ m Front
   pub visits : Each listing.visits (IsVisit m g h section.entered)
-  pub now : IsEven listing.front → m Front ≡ listing.front → ListsNow m g h listing
+  pub now : IsEven listing.front → m Front ≡ listing.front → ListsNow m g h section.entered listing
 
 pub record ListingParts (m : Memory) (g : Chart) (vs : List View) (h : List Mark) : Type 0 where
   pub listings : Each vs (λ v. (section : Section) (listing : Listing) → v.section ≡ Some section → section.listing ≡ Some listing

@@ -122,7 +122,8 @@ pub record BothChildren (v : View) (r : Reading) (parent : ℕ) (b : Side) (node
   pub old_life : (generation : ℕ) × LoadedGeneration r old generation × (loaded_in (known_under v old) (Life old) ≡ Some (2 * generation))
   pub old_left : loaded_in (known_under v old) (Link old Left) ≡ Some 0
 
--- K22: a locked slot is marked. It is the node of a delete whose records hold, or the old successor of the view's own move.
+-- K22: a locked slot is marked. It is the node of a delete whose records hold, the old successor of the view's own move, or a slot that has
+-- the generation of a record, which a rotation replaces.
 pub record IsNodeOfDelete (v : View) (node : ℕ) : Type 0 where
   pub reading : Reading
   pub parent : ℕ
@@ -136,11 +137,18 @@ pub record IsNodeOfDelete (v : View) (node : ℕ) : Type 0 where
 abbrev pub IsOldOfMove : View → ℕ → Type 0
 IsOldOfMove v slot = (move : Move) × (v.moving ≡ Some move) × (move.old ≡ slot)
 
+pub record IsRecordedNode (v : View) (node : ℕ) : Type 0 where
+  pub settled : v.moving ≡ None
+  pub reading : Reading
+  pub kept : IsIn v.records reading
+  pub unmarked : IsUnmarkedNode v reading node
+  pub some_slot : node ≢ 0
+
 pub record NeedsMark (v : View) (lock : HeldLock) (slot life : ℕ) : Type 0 where
   pub locked : lock_of v.locks slot ≡ Some lock
   pub life_now : known_in lock.known (Life slot) ≡ Some life
   pub unmarked : life % 2 ≡ 0
-  pub why : IsNodeOfDelete v slot ⊎ IsOldOfMove v slot
+  pub why : IsNodeOfDelete v slot ⊎ (IsOldOfMove v slot ⊎ IsRecordedNode v slot)
 
 abbrev pub with_mark : Bool → HeldLock → HeldLock
 with_mark marked lock = record lock { marked = marked }

@@ -14,7 +14,7 @@ use Rattle.core_state.specs.declared.shape.Waiter.TheVariants.{Eer, Domain, Deer
 use Rattle.core_state.specs.declared.words.Field.{Field}
 use Rattle.core_state.specs.declared.words.Field.TheVariants.{Clock, Front, Free, Announced, Stamp, Gate, Count, Row, State, Lock, Life, Value, Link, Tag}
 use Rattle.core_state.specs.declared.words.Kind.{Kind}
-use Rattle.core_state.specs.declared.words.Kind.TheVariants.{K3, K4, K5, K6, K7, K8, K9, K10, K11, K12, K13, K14, K15, K16, K17, K18, K19, K20, K21, K22, K23, K24, K25, K26, K27, K28, K29, K30, K31, K32, K33, K34, K35, K36, K37}
+use Rattle.core_state.specs.declared.words.Kind.TheVariants.{K3, K4, K5, K6, K7, K8, K9, K10, K11, K12, K13, K14, K15, K16, K17, K18, K19, K20, K21, K22, K23, K24, K25, K26, K27, K28, K29, K30, K31, K32, K33, K34, K35, K36, K37, K38}
 use Rattle.core_state.specs.declared.view.Clocked.{Clocked}
 use Rattle.core_state.specs.declared.view.Held.{Held}
 use Rattle.core_state.specs.declared.view.HeldLock.{HeldLock}
@@ -35,6 +35,7 @@ use Rattle.core_state.specs.steps.Locks.{NeedsLock, after_lock, NeedsUnlock, aft
 use Rattle.core_state.specs.steps.Loads.{NeedsSearchLoad, after_search_load, NeedsFrontLook, after_front_look, NeedsListLoad, after_list_load}
 use Rattle.core_state.specs.steps.Links.{NeedsLeafLink, after_leaf_link, NeedsBypass, after_bypass, NeedsMark, after_mark, NeedsReplace, after_replace}
 use Rattle.core_state.specs.steps.Moves.{NeedsCopyLink, after_copy_link, NeedsUnlinkOld, after_unlink_old}
+use Rattle.core_state.specs.steps.Rotations.{NeedsRotate, after_rotate, rotate_marks}
 
 -- the mark of an update
 abbrev pub done_by : View → Op → Mark
@@ -137,6 +138,11 @@ pub data IsStep (k : Shape) (h : List Mark) (v : View) : Kind → Field → ℕ 
   step27 : {n copy old child life : ℕ} (move : Move) (lock : HeldLock) → NeedsUnlinkOld v move lock copy old child life
       → copy ≡ move.copy.slot
       → IsStep k h v K27 (Link copy Right) n child (after_unlink_old v copy Right old child h) (Unlinked old ∷ [])
+  -- a rotation
+  step38 : {n parent node child top bottom outer inner far node_key node_value child_key child_value : ℕ} {b turn : Side} {upper lower : Held}
+      (r : Reading)
+      → NeedsRotate v r upper lower parent b node turn child top bottom outer inner far node_key node_value child_key child_value
+      → IsStep k h v K38 (Link parent b) n top (after_rotate v parent b node child top h) (rotate_marks node child)
 
 -- the kinds that store, and so find nothing
 abbrev pub is_store : Kind → Bool
@@ -157,6 +163,7 @@ is_store K27 = true
 is_store K33 = true
 is_store K34 = true
 is_store K36 = true
+is_store K38 = true
 is_store _ = false
 
 -- A step as a seat makes it: it is laid on in the trail, with the number found, or stored where the kind stores.

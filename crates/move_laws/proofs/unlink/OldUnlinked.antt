@@ -31,7 +31,7 @@ use Rattle.tree_laws.proofs.stores.Stores.{link_at, stores_link}
 use Rattle.tree_laws.proofs.locks.Holders.{linked_stays, move_holder}
 use Rattle.tree_laws.proofs.locks.Locked.{under_lock}
 use Rattle.core_frames.proofs.frames.Stepper.{Stepper}
-use Rattle.tree_laws.proofs.links.LinkSteps.{listings_by}
+use Rattle.tree_laws.proofs.links.LinkSteps.{listings_by, held, held_gone}
 use Rattle.core_frames.proofs.frames.FrontFrame.{front_by}
 use Rattle.tree_laws.proofs.bypass.Cutting.{Cut, cut_step, cut_kept}
 use Rattle.tree_laws.proofs.bypass.CutCounts.{counts_without_old}
@@ -163,23 +163,6 @@ module _ (who : Stepper) (move : Move) (lock : HeldLock) (child : ℕ) (b : Side
       ap (map_now h) (t.old_key ∙ sym t.copy_key) ∙ i.tree.map.sound move.copy.slot t.copy_linked t.copy_some t.copy_young
       ∙ ap Some t.same_value
 
-  -- the right of the old successor is no old successor: its view would have the lock of this one
-  young_right : child ≢ 0 → g.old child ≡ false
-  young_right ne = cases (g.old child) refl
-    where
-      cases : (z : Bool) → g.old child ≡ z → z ≡ false
-      cases false e = refl
-      cases true e =
-          let below = right_below m new n g q b u child i.tree.shape unlinks ne in
-          let o = i.tree.moves.every child below.linked e in
-          let t = i.tree.moves.each o.pending.id o.pending.view o.pending.there o.move o.pending.moving in
-          let parent : o.move.parent ≡ u = sym t.parent ∙ ap g.up o.old ∙ below.up in
-          let mine : Some o.move ≡ Some move = sym (move_holder k m vs h i o.move o.pending id v u there has_old (inr (inr parent)))
-          ∙ moving in
-          let same : o.move ≡ move = cc in
-          let old : child ≡ u = sym o.old ∙ ap (λ (z : Move). z.old) same in
-          absurd (let r = below.rank in let f = ap g.rank old in omega arith)
-
   pub unlinked_kept : IsKept k m h new (set vs id w) hs
   unlinked_kept =
       cut_kept cut
@@ -194,5 +177,5 @@ module _ (who : Stepper) (move : Move) (lock : HeldLock) (child : ℕ) (b : Side
       (unlinked_map m new n g q b u child i.tree.shape unlinks (map_now h) i.tree.map))
       (front_by m new vs id v w h hs there refl refl (λ e. refl) same_updates i.front)
       (listings_by (cut_step cut)
-      (λ listing even same lists. lists_unlinked m new n g q b u child i.tree.shape unlinks h i.tree.map i.marks.marks.deleted
-      (λ s at l gone. linked_stays k m vs h i s at l gone) young_right copied listing lists))
+      (λ entered early listing even same lists. lists_unlinked m new n g q b u child i.tree.shape unlinks h i.tree.map copied entered
+      (held (cut_step cut) entered) (held_gone (cut_step cut) entered early unlinks.replaces.node) listing lists))

@@ -21,7 +21,8 @@ use Rattle.core_state.specs.tree.Chart.{Belongs}
 use Rattle.core_state.specs.tree.Nodes.{OnRightLeft}
 use Rattle.core_state.specs.tree.Readers.{IsHeldBack, MayPass, IsOldFor}
 use Rattle.core_state.specs.parts.ReaderParts.{state_slot, IsReading, StandsWell, Answered, IsServed, IsStillLinked, IsRecord, IsMetBefore, AreAged, ReaderParts}
-use Rattle.core_state.specs.parts.ListingParts.{IsBetween, HasBounds, GoesRight, WasOld, IsVisit, IsListing, ListingParts}
+use Rattle.core_state.specs.parts.ListingParts.{IsBetween, GoesOn, here, StandsNow, IsVisit, IsListing, ListingParts}
+use Rattle.core_frames.proofs.chart.Goings.{carry_going}
 use Rattle.core_state.specs.parts.TreeParts.{map_now}
 use Rattle.list_laws.proofs.Lists.{each_set, in_second}
 use Rattle.core_frames.proofs.views.Same.{was}
@@ -151,22 +152,20 @@ module _ (P : ℕ → Type 0) (z : ChartStep P) where
     ages = aged_stays;
   }
 
-  -- an unlinked old successor at which a listing stands is what it was
-  old_stays : (bounds : Gap) (s : ℕ) → P s → gone_at s hs ≡ gone_at s h → WasOld m g h bounds s → WasOld m' g hs bounds s
-  old_stays bounds s kind gone o = let link = z.contents.link s Right kind in record {
-    at = o.at;
-    gone = gone ∙ o.gone;
-    after_updates = λ j u e. o.after_updates j u (z.done j u e);
-    no_node = λ j p x e. o.no_node j p x (z.done j _ e);
-    left = z.contents.link s Left kind ∙ o.left;
-    key = o.key ∙ ap Some (sym (z.contents.key s kind));
-    pair = ap (λ map. map (m' (Key s))) (map_stays P z) ∙ ap (map_now h) (z.contents.key s kind) ∙ o.pair
-        ∙ ap Some (sym (z.contents.value s kind));
-    right = subst (λ map. GoesRight m' g map bounds s) (sym (map_stays P z)) (⊎_elim
-        (λ (x : (m (Link s Right) ≡ 0) × ((y : ℕ) → IsBetween bounds y → map_now h y ≡ None)). inl (link ∙ x.0, x.1))
-        (λ (x : (m (Link s Right) ≢ 0) × HasBounds g bounds (m (Link s Right)) × (g.old (m (Link s Right)) ≡ false)).
-        inr ((λ q. x.0 (sym link ∙ q)), subst (HasBounds g bounds) (sym link) x.1, ap g.old link ∙ x.2)) o.right);
-  }
+  -- where a listing's walk goes on it does so still
+  going_stays : (j : ℕ) (u : View) (section : Section) → get_elem? vs j ≡ some u → u.section ≡ Some section → (t : Visit)
+      → StandsNow m g h section.entered t → StandsNow m' g hs section.entered t
+  going_stays j u section e inside t goes =
+      let kind = λ (s : ℕ) (l : IsHeldBack g h section.entered s). (z.met j u section e inside s l).0 in
+      subst (λ map. GoesOn m' g (IsHeldBack g hs section.entered) map t.bounds t.slot) (sym (map_stays P z))
+      (carry_going m m' g g (IsHeldBack g h section.entered) (IsHeldBack g hs section.entered) (map_now h) (record {
+        linked = λ bounds s has. here has;
+        grow = held_on j u section e inside;
+        key = λ s l. z.contents.key s (kind s l);
+        value = λ s l. z.contents.value s (kind s l);
+        link = λ s b l. z.contents.link s b (kind s l);
+        rank = λ s c l known lt. lt;
+      }) t.bounds t.slot goes)
 
   listing_stays : (j : ℕ) (u : View) (section : Section) (listing : Listing) → get_elem? vs j ≡ some u → u.section ≡ Some section
       → section.listing ≡ Some listing → IsListing m' g hs section listing
@@ -184,19 +183,13 @@ module _ (P : ℕ → Type 0) (z : ChartStep P) where
         now = λ even y. (let r = i.now even (sym front ∙ y) in record {
           facts = subst (λ map. Each listing.facts (λ (f : Fact). map f.key ≡ Some f.value)) (sym (map_stays P z)) r.facts;
           gaps = subst (λ map. Each listing.gaps (λ (gap : Gap). (y : ℕ) → IsBetween gap y → map y ≡ None)) (sym (map_stays P z)) r.gaps;
-          visits = λ n t at. ⊎_elim (λ b. inl b) (λ (o : WasOld m g h t.bounds t.slot). ⊎_elim
-              (λ (l : g.linked t.slot ≡ true). absurd (not_both t o l))
-              (λ (q : IsHeldBack g h section.entered t.slot). (let met = z.met j u section e inside t.slot q in
-              inr (old_stays t.bounds t.slot met.0 met.1 o))) (i.visits n t at).here) (r.visits n t at);
+          visits = λ n t at. going_stays j u section e inside t (r.visits n t at);
         });
       }
     where
       kind : (t : Visit) → IsVisit m g h section.entered t → P t.slot
       kind t r = ⊎_elim (λ (l : g.linked t.slot ≡ true). z.on t.slot l)
           (λ (q : IsHeldBack g h section.entered t.slot). (z.met j u section e inside t.slot q).0) r.here
-
-      not_both : (t : Visit) → WasOld m g h t.bounds t.slot → g.linked t.slot ≡ true → ⊥
-      not_both t o l = linked_stays k m vs h z.who.inv t.slot o.at l o.gone
 
   pub listings_stay : ListingParts m' g us hs
   listings_stay = record {

@@ -160,14 +160,15 @@ module _ (z : LinkStep) where
   }
 
   -- the parts on listings, by what becomes of those that nothing was made since
-  pub listings_by : ((listing : Listing) → IsEven listing.front → m Front ≡ listing.front → ListsNow m g h listing
-      → ListsNow (words_after z) to hs listing) → ListingParts (words_after z) to (views_after z) hs
+  pub listings_by : ((entered : ℕ) → entered < length h → (listing : Listing) → IsEven listing.front → m Front ≡ listing.front
+      → ListsNow m g h entered listing → ListsNow (words_after z) to hs entered listing) → ListingParts (words_after z) to (views_after z) hs
   listings_by now =
       listings_after m (words_after z) g to vs id w h hs (z.same.section ∙ z.outside) refl (λ s. refl)
       (λ j u section s e is. here_after section.entered (entered_before k m vs h i j u section e is) s)
-      (λ j u section listing e is even same lists. now listing even same lists) i.listings
+      (λ j u section listing e is even same lists.
+      now section.entered (entered_before k m vs h i j u section e is) listing even same lists) i.listings
 
   -- while the view's commit is under way the front is odd, and nothing holds of listings
   pub listings_of_commit : (commit : Commit) → HasCommit v commit → ListingParts (words_after z) to (views_after z) hs
-  listings_of_commit commit has = listings_by (λ listing even same _. absurd
+  listings_of_commit commit has = listings_by (λ entered early listing even same _. absurd
       (odd_front m m vs id v v there h h refl i.front commit has (subst IsEven (sym same) even)))

@@ -22,7 +22,7 @@ use Rattle.core_state.specs.memory.Lists.{has, IsEven}
 use Rattle.core_state.specs.memory.Memory.{Memory, stored, slot_count}
 use Rattle.core_state.specs.views.Known.{known_in, lock_of, known_under, HasLock, is_emptied, change_lock, note_lock, IsOwnField, LoadedGeneration}
 use Rattle.core_state.specs.views.Views.{Works, readings_of, open_reading, spares_of}
-use Rattle.core_state.specs.steps.Links.{NodeRecords, IsUnmarkedNode, FewChildren, BothChildren, IsNodeOfDelete, IsOldOfMove, NeedsMark, with_mark, after_mark}
+use Rattle.core_state.specs.steps.Links.{NodeRecords, IsUnmarkedNode, FewChildren, BothChildren, IsNodeOfDelete, IsOldOfMove, IsRecordedNode, NeedsMark, with_mark, after_mark}
 use Rattle.core_state.specs.tree.Chart.{Chart}
 use Rattle.core_state.specs.tree.Readers.{IsEmptied}
 use Rattle.core_state.specs.parts.SlotParts.{AreHandsKnown}
@@ -61,10 +61,9 @@ module _ (k : Shape) (m : Memory) (vs : List View) (h : List Mark) (id : ℕ) (v
   known_here : IsLockKnown m v slot lock
   known_here = i.locks.known id v there slot lock needs.locked
 
-  node_ready : (r : Reading) (parent left right : ℕ) (b : Side) → IsUnmarkedNode v r slot → NodeRecords v r parent b slot left right
-      → IsReady
-  node_ready r parent left right b node records =
-      let has : IsIn (readings_of v) r = in_second (open_reading v.section) v.records r records.kept in
+  recorded_ready : (r : Reading) → IsIn v.records r → IsUnmarkedNode v r slot → slot ≢ 0 → IsReady
+  recorded_ready r kept node some_slot =
+      let has : IsIn (readings_of v) r = in_second (open_reading v.section) v.records r kept in
       let l = lock_under v slot (Life slot) (2 * node.0) (loaded_known (known_under v slot) (Life slot) (2 * node.0) node.2) in
       let known : known_in lock.known (Life slot) ≡ Some (2 * node.0) =
       known_under_lock v slot lock (Life slot) (2 * node.0) needs.locked
@@ -73,17 +72,23 @@ module _ (k : Shape) (m : Memory) (vs : List View) (h : List Mark) (id : ℕ) (v
       let same : life ≡ 2 * node.0 = cc in
       let now : m (Life slot) ≡ 2 * node.0 = known_here.lives r node.0 has node.1 known in
       let loaded = node.1 in
-      let found = records.found in
       record {
         generation = node.0;
         life_is = same;
         now = now ∙ sym same;
         linked = (i.locks.readings id v there has.0 r has.1).linked slot loaded.0 loaded.1 (now ∙ ap (λ z. 2 * z) loaded.2);
-        some_slot = (let w = subst (StandsWell r) found.1 (i.readers.readings id v there has.0 r has.1).well in let reached = w.0 in
-            reached.some_slot);
+        some_slot = some_slot;
         no_copy = λ move is copy. (let t = i.tree.moves.each id v there move is in
-            t.unmet r node.0 records.kept (subst (λ z. LoadedGeneration r z node.0) (sym copy) loaded) (ap (λ z. m (Life z)) copy ∙ now));
+            t.unmet r node.0 kept (subst (λ z. LoadedGeneration r z node.0) (sym copy) loaded) (ap (λ z. m (Life z)) copy ∙ now));
       }
+
+  node_ready : (r : Reading) (parent left right : ℕ) (b : Side) → IsUnmarkedNode v r slot → NodeRecords v r parent b slot left right
+      → IsReady
+  node_ready r parent left right b node records =
+      let has : IsIn (readings_of v) r = in_second (open_reading v.section) v.records r records.kept in
+      let found = records.found in
+      recorded_ready r records.kept node
+      (let w = subst (StandsWell r) found.1 (i.readers.readings id v there has.0 r has.1).well in let reached = w.0 in reached.some_slot)
 
   old_ready : (move : Move) → v.moving ≡ Some move → move.old ≡ slot → IsReady
   old_ready move is old =
@@ -117,7 +122,8 @@ module _ (k : Shape) (m : Memory) (vs : List View) (h : List Mark) (id : ℕ) (v
       ⊎_elim (λ (y : FewChildren v x.reading x.parent x.side slot x.left x.right). ready y.records)
       (λ (y : (old_parent old : ℕ) × BothChildren v x.reading x.parent x.side slot x.left x.right old_parent old). (let z = y.2 in
       ready z.records)) x.children))
-      (λ (x : IsOldOfMove v slot). old_ready x.0 x.1 x.2) needs.why
+      (λ o. ⊎_elim (λ (x : IsOldOfMove v slot). old_ready x.0 x.1 x.2)
+      (λ (x : IsRecordedNode v slot). recorded_ready x.reading x.kept x.unmarked x.some_slot) o) needs.why
 
   abbrev marked_memory : Memory
   marked_memory = stored m (Life slot) (life + 1)

@@ -24,7 +24,8 @@ use Rattle.core_state.specs.tree.Chart.{Chart, IsInRange}
 use Rattle.core_state.specs.tree.Readers.{IsHeldBack}
 use Rattle.core_state.specs.parts.TreeParts.{map_now}
 use Rattle.core_state.specs.steps.Loads.{no_bounds, narrowed, visits_by_link, gaps_by_link, visits_by, facts_by, gaps_by, by_visits, listed_below, listed_root, listed}
-use Rattle.core_state.specs.parts.ListingParts.{low_bound, IsBetween, HasBounds, WasOld, StandsNow, IsVisit, IsListing}
+use Rattle.core_state.specs.parts.ListingParts.{IsBetween, HasBounds, GoesOn, here, past, StandsNow, IsVisit, IsListing}
+use Rattle.core_frames.proofs.chart.Goings.{none_past, below_past}
 use Rattle.core_state.specs.Invariant.{HoldsNow}
 use Rattle.core_frames.proofs.chart.Ranges.{bool_cases, after-node, next-left, next-right}
 use Rattle.core_frames.proofs.chart.Endings.{ended_is, answer-none}
@@ -59,9 +60,6 @@ module _ (k : Shape) (m : Memory) (vs : List View) (h : List Mark) (i : HoldsNow
   none_there : (y s : ℕ) → y < 2 ^ 64 → IsInRange g y s → next m y s ≡ 0 → (s ≢ 0 → m (Key s) ≢ y) → map y ≡ None
   none_there y s fits range last other = sym (ended_is m (slot_count k) g map y s i.tree.shape i.tree.map fits range last (map y) refl)
       ∙ answer-none m y s other
-
-  high_fits : (fuel s : ℕ) → g.rank s < fuel → g.linked s ≡ true → g.high s ≤ 2 ^ 64
-  high_fits fuel s lt l = unique.high_bound m (slot_count k) g i.tree.shape fuel s lt l
 
   abbrev IsNow : Fact → Type 0
   IsNow f = map f.key ≡ Some f.value
@@ -112,9 +110,9 @@ module _ (k : Shape) (m : Memory) (vs : List View) (h : List Mark) (i : HoldsNow
     now = λ even same. (let n = was.now even same in record {
       facts = n.facts;
       gaps = each_append IsBare (gaps_by_link no_bounds c) listing.gaps (one_gap no_bounds c (λ z. root_gap (link ∙ z))) n.gaps;
-      visits = each_append (StandsNow m g h) (visits_by_link no_bounds c) listing.visits
-          (one_visit (StandsNow m g h) no_bounds c (λ nz. (let b = shape.below 0 c Right shape.root link nz in
-          inl (record { linked = b.linked; low = b.low; high = b.high ∙ shape.root_high })))) n.visits;
+      visits = each_append (StandsNow m g h section.entered) (visits_by_link no_bounds c) listing.visits
+          (one_visit (StandsNow m g h section.entered) no_bounds c (λ nz. (let b = shape.below 0 c Right shape.root link nz in
+          here (record { linked = b.linked; low = b.low; high = b.high ∙ shape.root_high })))) n.visits;
     });
   }
 
@@ -136,59 +134,27 @@ module _ (k : Shape) (m : Memory) (vs : List View) (h : List Mark) (i : HoldsNow
         ∙ ap (λ z. Some (m (Value z))) old.old))
         (λ young. i.tree.map.sound s l nz young) (bool_cases (g.old s))
 
-    pair_now : HasBounds g bounds s ⊎ WasOld m g h bounds s → map (m (Key s)) ≡ Some (m (Value s))
-    pair_now stands = ⊎_elim (λ (b : HasBounds g bounds s). pair_linked b.linked) (λ (o : WasOld m g h bounds s). o.pair) stands
+    abbrev Going : Type 0
+    Going = GoesOn m g (IsHeldBack g h section.entered) map bounds s
+
+    pair_now : Going → map (m (Key s)) ≡ Some (m (Value s))
+    pair_now (here has) = pair_linked has.linked
+    pair_now (past l pair none rank more) = pair
 
     -- an empty side of the slot
-    range_left : (y : ℕ) → g.linked s ≡ true → g.low s ≤ y → y < m (Key s) → IsInRange g y s
-    range_left y l low lt = record {
-      linked = l;
-      low = low;
-      high = ⊎_elim (λ o. absurd (let a = (i.tree.shape.displaced s l o).low in omega arith))
-          (λ young. (let b = (i.tree.shape.keyed s l nz young).high in omega arith)) (bool_cases (g.old s));
-    }
-
-    range_right : (y : ℕ) → g.linked s ≡ true → m (Key s) < y → y < g.high s → IsInRange g y s
-    range_right y l gt high = record {
-      linked = l;
-      low = ⊎_elim (λ o. (let a = (i.tree.shape.displaced s l o).low in omega arith))
-          (λ young. (let b = (i.tree.shape.keyed s l nz young).low in omega arith)) (bool_cases (g.old s));
-      high = high;
-    }
-
-    gap_at : (key : ℕ) (b : Side) → m (Key s) ≡ key → m (Link s b) ≡ 0 → HasBounds g bounds s ⊎ WasOld m g h bounds s
-        → IsBare (narrowed bounds key b)
-    gap_at key Left is empty (inl b) y between =
-        let low = between.0 in let lt = between.1 in let e = b.low in
-        let range = range_left y b.linked (omega arith) (omega arith) in
-        none_there y s (let q = range.high in let r = high_fits (suc (g.rank s)) s (omega arith) b.linked in omega arith) range
-        (next-left m y s nz (omega arith) ∙ empty) (λ _ same. omega arith)
-    gap_at key Right is empty (inl b) y between =
-        let gt = between.0 in let lt = between.1 in let e = b.high in
-        let range = range_right y b.linked (omega arith) (omega arith) in
-        none_there y s (let q = range.high in let r = high_fits (suc (g.rank s)) s (omega arith) b.linked in omega arith) range
-        (next-right m y s nz (omega arith) ∙ empty) (λ _ same. omega arith)
-    gap_at key Left is empty (inr o) y between = absurd
-        (let low = between.0 in let lt = between.1 in let e = ap low_bound o.key in omega arith)
-    gap_at key Right is empty (inr o) y between =
-        ⊎_elim (λ (x : (m (Link s Right) ≡ 0) × ((z : ℕ) → IsBetween bounds z → map z ≡ None)). x.1 y
-        (let gt = between.0 in let e = ap low_bound o.key in omega arith, between.1))
-        (λ (x : (m (Link s Right) ≢ 0) × HasBounds g bounds (m (Link s Right)) × (g.old (m (Link s Right)) ≡ false)). absurd
-        (x.0 empty)) o.right
+    gap_at : (key : ℕ) (b : Side) → m (Key s) ≡ key → m (Link s b) ≡ 0 → Going → IsBare (narrowed bounds key b)
+    gap_at key b is empty (here has) = subst (λ x. IsBare (narrowed bounds x b)) is
+        (none_past m (slot_count k) g map i.tree.shape i.tree.map s nz bounds has b empty)
+    gap_at key b is empty (past l pair none rank more) = subst (λ x. IsBare (narrowed bounds x b)) is (none b empty)
 
     -- the slot below a side of it
-    bounds_at : (key c : ℕ) (b : Side) → m (Key s) ≡ key → m (Link s b) ≡ c → c ≢ 0 → HasBounds g bounds s ⊎ WasOld m g h bounds s
-        → HasBounds g (narrowed bounds key b) c
-    bounds_at key c Left is link nonzero (inl b) = let w = i.tree.shape.below s c Left b.linked link nonzero in
-        record { linked = w.linked; low = w.low ∙ b.low; high = w.high ∙ is }
-    bounds_at key c Right is link nonzero (inl b) = let w = i.tree.shape.below s c Right b.linked link nonzero in
-        record { linked = w.linked; low = w.low ∙ after-node m s nz ∙ ap (λ z. z + 1) is; high = w.high ∙ b.high }
-    bounds_at key c Left is link nonzero (inr o) = absurd (nonzero (sym link ∙ o.left))
-    bounds_at key c Right is link nonzero (inr o) =
-        ⊎_elim (λ (x : (m (Link s Right) ≡ 0) × ((z : ℕ) → IsBetween bounds z → map z ≡ None)). absurd (nonzero (sym link ∙ x.0)))
-        (λ (x : (m (Link s Right) ≢ 0) × HasBounds g bounds (m (Link s Right)) × (g.old (m (Link s Right)) ≡ false)).
-        (let w = subst (HasBounds g bounds) link x.1 in
-        record { linked = w.linked; low = w.low ∙ ap low_bound o.key ∙ ap (λ z. z + 1) is; high = w.high })) o.right
+    going_at : (key c : ℕ) (b : Side) → m (Key s) ≡ key → m (Link s b) ≡ c → c ≢ 0 → Going
+        → GoesOn m g (IsHeldBack g h section.entered) map (narrowed bounds key b) c
+    going_at key c b is link nonzero (here has) =
+        subst (λ x. GoesOn m g (IsHeldBack g h section.entered) map (narrowed bounds x b) c) is
+        (here (below_past m (slot_count k) g map i.tree.shape i.tree.map s nz bounds has b c link nonzero))
+    going_at key c b is link nonzero (past l pair none rank more) =
+        subst (λ x. GoesOn m g (IsHeldBack g h section.entered) map (narrowed bounds x b) c) is (more b c link nonzero)
 
   -- what a load finds at a visit
   module _ (t : Visit) (is : IsVisit m g h section.entered t) where
@@ -205,13 +171,13 @@ module _ (k : Shape) (m : Memory) (vs : List View) (h : List Mark) (i : HoldsNow
         })
     visits_found _ _ e l = each_none (IsVisit m g h section.entered)
 
-    module _ (stands : StandsNow m g h t) where
+    module _ (stands : StandsNow m g h section.entered t) where
       visits_stand : (key : Option ℕ) (field : Field) → t.key ≡ key → IsLoadable t.slot field
-          → Each (visits_by t key field (m field)) (StandsNow m g h)
-      visits_stand key (Key s) e l = each_one (StandsNow m g h) (record t { key = Some (m (Key s)) }) stands
-      visits_stand (Some key) (Link s b) e l = one_visit (StandsNow m g h) (narrowed t.bounds key b) (m (Link s b))
-          (λ nz. inl (bounds_at t.slot t.bounds is.node key (m (Link s b)) b (is.key key e) (ap (λ z. m (Link z b)) (sym l)) nz stands))
-      visits_stand _ _ e l = each_none (StandsNow m g h)
+          → Each (visits_by t key field (m field)) (StandsNow m g h section.entered)
+      visits_stand key (Key s) e l = each_one (StandsNow m g h section.entered) (record t { key = Some (m (Key s)) }) stands
+      visits_stand (Some key) (Link s b) e l = one_visit (StandsNow m g h section.entered) (narrowed t.bounds key b) (m (Link s b))
+          (λ nz. going_at t.slot t.bounds is.node key (m (Link s b)) b (is.key key e) (ap (λ z. m (Link z b)) (sym l)) nz stands)
+      visits_stand _ _ e l = each_none (StandsNow m g h section.entered)
 
       facts_found : (key : Option ℕ) (field : Field) → t.key ≡ key → IsLoadable t.slot field → Each (facts_by key field (m field)) IsNow
       facts_found (Some key) (Value s) e l = each_one IsNow (record { key = key; value = m (Value s) })
@@ -238,9 +204,9 @@ module _ (k : Shape) (m : Memory) (vs : List View) (h : List Mark) (i : HoldsNow
       gaps = each_append IsBare (by_visits (λ (t : Visit). gaps_by t t.key field (m field)) slot listing.visits) listing.gaps
           (each_by IsBare (λ (t : Visit). gaps_by t t.key field (m field)) slot listing.visits
           (λ t has e. gaps_found t (was.visits has.0 t has.1) (n.visits has.0 t has.1) t.key field refl (loadable_at t e))) n.gaps;
-      visits = each_append (StandsNow m g h) (by_visits
+      visits = each_append (StandsNow m g h section.entered) (by_visits
           (λ (t : Visit). visits_by t t.key field (m field)) slot listing.visits) listing.visits
-          (each_by (StandsNow m g h) (λ (t : Visit). visits_by t t.key field (m field)) slot listing.visits
+          (each_by (StandsNow m g h section.entered) (λ (t : Visit). visits_by t t.key field (m field)) slot listing.visits
           (λ t has e. visits_stand t (was.visits has.0 t has.1) (n.visits has.0 t has.1) t.key field refl (loadable_at t e))) n.visits;
     });
   }

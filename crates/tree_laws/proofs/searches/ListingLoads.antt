@@ -61,7 +61,7 @@ module _ (k : Shape) (m : Memory) (vs : List View) (h : List Mark) (id : ℕ) (v
     now = λ even e. record {
       facts = each_none (λ (f : Fact). map_now h f.key ≡ Some f.value);
       gaps = each_none (λ (gap : Gap). (y : ℕ) → IsBetween gap y → map_now h y ≡ None);
-      visits = each_none (StandsNow m i.chart h);
+      visits = each_none (StandsNow m i.chart h section.entered);
     };
   })
   listing_is (Some listing) lists l is =
