@@ -6,6 +6,7 @@ pub mod Spots
 pub mod Acts
 pub mod Updates
 pub mod Reuses
+pub mod Rotations
 pub mod Puts
 pub mod Successors
 pub mod Deletes

@@ -7,12 +7,11 @@ use Rattle.core_state.specs.declared.words.Field.TheVariants.{Key, Value, Life, 
 use Rattle.core_state.specs.declared.view.View.{View}
 use Rattle.core_state.specs.views.Known.{known_in, known_under, lock_of, is_emptied}
 use Rattle.core_state.specs.steps.Links.{HasCommit, NeedsMark, IsNodeOfDelete, IsOldOfMove, IsRecordedNode}
-use Rattle.core_state.specs.memory.Words.{across}
 use Rattle.core_state.specs.steps.Moves.{NeedsUnlinkOld}
 use Rattle.core_examples.proofs.Chosen.{hand_now, lock_now, moving_now, reading_now}
-use Rattle.core_examples.proofs.Tests.{all_of, passed, is_some, some_is, is_empty, is_number, number_is, none_is, false_is, not_same, first_in, is_missed, missed_is}
+use Rattle.core_examples.proofs.Tests.{all_of, passed, is_some, some_is, is_empty, is_number, number_is, false_is, not_same, first_in, is_missed, missed_is}
 use Rattle.core_examples.proofs.Records.{generation_of, is_recorded, recorded_is, is_found, found_is, few_tests, few_children, both_tests, both_children, marked_tests, marked_node}
-use Rattle.core_acts.specs.declared.act.Act.TheVariants.{LinkLeaf, Bypass, Mark, LinkCopy, UnlinkLeft, UnlinkRight, ReplaceValue, Rotate}
+use Rattle.core_acts.specs.declared.act.Act.TheVariants.{LinkLeaf, Bypass, Mark, LinkCopy, UnlinkLeft, UnlinkRight, ReplaceValue}
 use Rattle.core_acts.specs.Acts.{commit_of, spare_of}
 use Rattle.core_examples.proofs.Acts.{Step}
 
@@ -297,119 +296,5 @@ unlink_right parent old child = record {
     life_under v old,
     may_unlink v parent old child (t 0),
     eqb-true parent (moving_now v).copy.slot (t 1),
-  );
-}
-
--- a rotation: first the mark of each of its two slots
-abbrev pub mark_recorded : ℕ → ℕ → Step
-mark_recorded slot life = record {
-  act = Mark slot life;
-  tests = λ v. all_of (mark_tests v slot life) ∷ not (is_empty v.records) ∷ is_recorded v slot ∷ not (slot == 0) ∷ not (is_some v.moving) ∷ [];
-  met = λ v t. (
-    lock_now v slot,
-    why_mark v slot life (t 0)
-        (inr (inr (record {
-          settled = none_is v.moving (t 4);
-          reading = reading_now v;
-          kept = (0, first_in _ v.records (t 1));
-          unmarked = recorded_is v slot (t 2);
-          some_slot = not_same slot 0 (t 3);
-        }))),
-  );
-}
-
--- the two slots, what they lead to, and the new ones
-pub record Pair : Type 0 where
-  pub parent : ℕ
-  pub side : Side
-  pub node : ℕ
-  pub turn : Side
-  pub child : ℕ
-  pub top : ℕ
-  pub bottom : ℕ
-  pub outer : ℕ
-  pub inner : ℕ
-  pub far : ℕ
-  pub node_key : ℕ
-  pub node_value : ℕ
-  pub child_key : ℕ
-  pub child_value : ℕ
-
-abbrev pub rotate : Pair → Step
-rotate p = record {
-  act = Rotate p.parent p.side p.node p.child p.top;
-  tests = λ v.
-      not (is_some v.moving) ∷
-      nat_le 1 v.allowance.tickets ∷
-      nat_lt (length v.hands.retired) 15 ∷
-      not (is_empty v.records) ∷
-      is_recorded v p.parent ∷
-      is_number (known_in (known_under v p.parent) (Link p.parent p.side)) p.node ∷
-      all_of (marked_tests v p.node) ∷
-      all_of (marked_tests v p.child) ∷
-      is_number (known_in (known_under v p.node) (Link p.node p.turn)) p.child ∷
-      is_number (known_in (known_under v p.node) (Link p.node (across p.turn))) p.far ∷
-      is_number (known_in (known_under v p.child) (Link p.child p.turn)) p.outer ∷
-      is_number (known_in (known_under v p.child) (Link p.child (across p.turn))) p.inner ∷
-      is_number (known_in (known_under v p.node) (Key p.node)) p.node_key ∷
-      is_number (known_in (known_under v p.node) (Value p.node)) p.node_value ∷
-      is_number (known_in (known_under v p.child) (Key p.child)) p.child_key ∷
-      is_number (known_in (known_under v p.child) (Value p.child)) p.child_value ∷
-      is_some v.hands.spare ∷
-      ((spare_of v).slot == p.top) ∷
-      is_some v.hands.hand ∷
-      ((hand_now v).slot == p.bottom) ∷
-      not (hand_now v).raised ∷
-      is_number (known_in (spare_of v).known (Key p.top)) p.child_key ∷
-      is_number (known_in (spare_of v).known (Value p.top)) p.child_value ∷
-      is_number (known_in (spare_of v).known (Link p.top p.turn)) p.outer ∷
-      is_number (known_in (spare_of v).known (Link p.top (across p.turn))) p.bottom ∷
-      is_number (known_in (hand_now v).known (Key p.bottom)) p.node_key ∷
-      is_number (known_in (hand_now v).known (Value p.bottom)) p.node_value ∷
-      is_number (known_in (hand_now v).known (Link p.bottom p.turn)) p.inner ∷
-      is_number (known_in (hand_now v).known (Link p.bottom (across p.turn))) p.far ∷
-      [];
-  met = λ v t. (
-    reading_now v,
-    spare_of v,
-    hand_now v,
-    p.turn,
-    p.bottom,
-    p.outer,
-    p.inner,
-    p.far,
-    p.node_key,
-    p.node_value,
-    p.child_key,
-    p.child_value,
-    record {
-      settled = none_is v.moving (t 0);
-      ticket = leb-true 1 v.allowance.tickets (t 1);
-      room = ltb-true _ _ (t 2);
-      kept = (0, first_in _ v.records (t 3));
-      parent_now = recorded_is v p.parent (t 4);
-      link_now = number_is _ _ (t 5);
-      node_marked = marked_node v p.node (t 6);
-      child_marked = marked_node v p.child (t 7);
-      turn_now = number_is _ _ (t 8);
-      far_now = number_is _ _ (t 9);
-      outer_now = number_is _ _ (t 10);
-      inner_now = number_is _ _ (t 11);
-      node_key_now = number_is _ _ (t 12);
-      node_value_now = number_is _ _ (t 13);
-      child_key_now = number_is _ _ (t 14);
-      child_value_now = number_is _ _ (t 15);
-      spare_is = (some_is _ v.hands.spare (t 16), eqb-true _ _ (t 17));
-      hand_is = (some_is _ v.hands.hand (t 18), eqb-true _ _ (t 19));
-      unraised = false_is _ (t 20);
-      top_key = number_is _ _ (t 21);
-      top_value = number_is _ _ (t 22);
-      top_outer = number_is _ _ (t 23);
-      top_bottom = number_is _ _ (t 24);
-      bottom_key = number_is _ _ (t 25);
-      bottom_value = number_is _ _ (t 26);
-      bottom_inner = number_is _ _ (t 27);
-      bottom_far = number_is _ _ (t 28);
-    },
   );
 }

@@ -6,6 +6,7 @@ use Rattle.prcu_marks.specs.declared.mark.Mark.TheVariants.{Unlinked}
 use Rattle.prcu_marks.specs.declared.mark.Side.{Side}
 use Rattle.core_state.specs.declared.words.Field.TheVariants.{Key, Value, Link}
 use Rattle.core_state.specs.declared.view.Held.{Held}
+use Rattle.core_state.specs.declared.view.Known.{Known}
 use Rattle.core_state.specs.declared.view.Reading.{Reading}
 use Rattle.core_state.specs.declared.view.View.{View}
 use Rattle.list_laws.specs.Counts.{IsIn}
@@ -14,10 +15,31 @@ use Rattle.core_state.specs.views.Known.{known_in, known_under, change_lock, not
 use Rattle.core_state.specs.steps.Slots.{IsInHand, IsSpare}
 use Rattle.core_state.specs.steps.Links.{IsUnmarkedNode, IsMarkedNode, with_mark, newly_retired}
 
--- K38: side b of the parent leads to a node, and its side `turn` to a child; both are marked by this view. The spare, with the child's key,
--- is linked in the node's place, and below it the slot in hand, with the node's key.
-pub record NeedsRotate (v : View) (r : Reading) (upper lower : Held) (parent : ℕ) (b : Side) (node : ℕ) (turn : Side)
-    (child top bottom outer inner far node_key node_value child_key child_value : ℕ) : Type 0 where
+-- By what is known of it a slot has this pair, and leads to these slots on a side and on the other.
+pub record IsKnownAs (known : List Known) (slot key value : ℕ) (side : Side) (near far : ℕ) : Type 0 where
+  pub key_is : known_in known (Key slot) ≡ Some key
+  pub value_is : known_in known (Value slot) ≡ Some value
+  pub near_is : known_in known (Link slot side) ≡ Some near
+  pub far_is : known_in known (Link slot (across side)) ≡ Some far
+
+-- What a rotation finds at a node and its child. The child hangs on side `turn` of the node. On that side of the child hangs `outer`, on its
+-- other side `inner`, and on the other side of the node `far`; 0 stands for nothing. `bottom` is the new slot that comes below.
+pub record Rotation : Type 0 where
+  pub turn : Side
+  pub node_key : ℕ
+  pub node_value : ℕ
+  pub child_key : ℕ
+  pub child_value : ℕ
+  pub outer : ℕ
+  pub inner : ℕ
+  pub far : ℕ
+  pub bottom : ℕ
+
+-- K38: side b of the parent, which has the generation of a record and is unmarked, leads to a node. The node and its child are marked by
+-- this view, with the generations of the record. The spare has the child's pair; it leads to what hangs on the child's outer side, and to the
+-- slot in hand. That one has the node's pair, and leads to the rest. The view has a ticket for the second of the two slots that go.
+pub record NeedsRotate (v : View) (r : Reading) (upper lower : Held) (parent : ℕ) (b : Side) (node child top : ℕ)
+    (turning : Rotation) : Type 0 where
   pub settled : v.moving ≡ None
   pub ticket : 1 ≤ v.allowance.tickets
   pub room : length v.hands.retired < 15
@@ -26,26 +48,15 @@ pub record NeedsRotate (v : View) (r : Reading) (upper lower : Held) (parent : �
   pub link_now : known_in (known_under v parent) (Link parent b) ≡ Some node
   pub node_marked : IsMarkedNode v r node
   pub child_marked : IsMarkedNode v r child
-  pub turn_now : known_in (known_under v node) (Link node turn) ≡ Some child
-  pub far_now : known_in (known_under v node) (Link node (across turn)) ≡ Some far
-  pub outer_now : known_in (known_under v child) (Link child turn) ≡ Some outer
-  pub inner_now : known_in (known_under v child) (Link child (across turn)) ≡ Some inner
-  pub node_key_now : known_in (known_under v node) (Key node) ≡ Some node_key
-  pub node_value_now : known_in (known_under v node) (Value node) ≡ Some node_value
-  pub child_key_now : known_in (known_under v child) (Key child) ≡ Some child_key
-  pub child_value_now : known_in (known_under v child) (Value child) ≡ Some child_value
+  pub node_is : IsKnownAs (known_under v node) node turning.node_key turning.node_value turning.turn child turning.far
+  pub child_is : IsKnownAs (known_under v child) child turning.child_key turning.child_value turning.turn turning.outer turning.inner
   pub spare_is : IsSpare v upper top
-  pub hand_is : IsInHand v lower bottom
+  pub hand_is : IsInHand v lower turning.bottom
   pub unraised : lower.raised ≡ false
-  pub top_key : known_in upper.known (Key top) ≡ Some child_key
-  pub top_value : known_in upper.known (Value top) ≡ Some child_value
-  pub top_outer : known_in upper.known (Link top turn) ≡ Some outer
-  pub top_bottom : known_in upper.known (Link top (across turn)) ≡ Some bottom
-  pub bottom_key : known_in lower.known (Key bottom) ≡ Some node_key
-  pub bottom_value : known_in lower.known (Value bottom) ≡ Some node_value
-  pub bottom_inner : known_in lower.known (Link bottom turn) ≡ Some inner
-  pub bottom_far : known_in lower.known (Link bottom (across turn)) ≡ Some far
+  pub top_is : IsKnownAs upper.known top turning.child_key turning.child_value turning.turn turning.outer turning.bottom
+  pub bottom_is : IsKnownAs lower.known turning.bottom turning.node_key turning.node_value turning.turn turning.inner turning.far
 
+-- its marks: the upper slot leads to the lower one, so it is unlinked first
 abbrev pub rotate_marks : ℕ → ℕ → List Mark
 rotate_marks node child = Unlinked node ∷ (Unlinked child ∷ [])
 

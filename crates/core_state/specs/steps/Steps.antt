@@ -35,7 +35,7 @@ use Rattle.core_state.specs.steps.Locks.{NeedsLock, after_lock, NeedsUnlock, aft
 use Rattle.core_state.specs.steps.Loads.{NeedsSearchLoad, after_search_load, NeedsFrontLook, after_front_look, NeedsListLoad, after_list_load}
 use Rattle.core_state.specs.steps.Links.{NeedsLeafLink, after_leaf_link, NeedsBypass, after_bypass, NeedsMark, after_mark, NeedsReplace, after_replace}
 use Rattle.core_state.specs.steps.Moves.{NeedsCopyLink, after_copy_link, NeedsUnlinkOld, after_unlink_old}
-use Rattle.core_state.specs.steps.Rotations.{NeedsRotate, after_rotate, rotate_marks}
+use Rattle.core_state.specs.steps.Rotations.{Rotation, NeedsRotate, after_rotate, rotate_marks}
 
 -- the mark of an update
 abbrev pub done_by : View → Op → Mark
@@ -139,9 +139,8 @@ pub data IsStep (k : Shape) (h : List Mark) (v : View) : Kind → Field → ℕ 
       → copy ≡ move.copy.slot
       → IsStep k h v K27 (Link copy Right) n child (after_unlink_old v copy Right old child h) (Unlinked old ∷ [])
   -- a rotation
-  step38 : {n parent node child top bottom outer inner far node_key node_value child_key child_value : ℕ} {b turn : Side} {upper lower : Held}
-      (r : Reading)
-      → NeedsRotate v r upper lower parent b node turn child top bottom outer inner far node_key node_value child_key child_value
+  step38 : {n parent node child top : ℕ} {b : Side} {upper lower : Held} {turning : Rotation} (r : Reading)
+      → NeedsRotate v r upper lower parent b node child top turning
       → IsStep k h v K38 (Link parent b) n top (after_rotate v parent b node child top h) (rotate_marks node child)
 
 -- the kinds that store, and so find nothing

@@ -58,11 +58,10 @@ module _ (k : Shape) (m : Memory) (vs : List View) (h : List Mark) (id : ℕ) (v
     (there : get_elem? vs id ≡ some v) (works : Works v) where
   case38 : (field : Field) (found left : ℕ) (w : View) (marks : List Mark) → IsStep k h v K38 field found left w marks
       → IsKept k m h (stored m field left) (set vs id w) (h ++ marks)
-  case38 field found left w marks (step38 {parent = p} {node = x} {child = y} {top = top} {bottom = bottom} {outer = outer} {inner = inner}
-      {far = far} {node_key = x_key} {node_value = x_value} {child_key = y_key} {child_value = y_value} {b = b} {turn = t} {upper = upper}
-      {lower = lower} reading needs) =
-      subst (λ q. NeedsRotate v reading upper lower p b x t y q lower.slot outer inner far x_key x_value y_key y_value
-      → IsKept k m h (stored m (Link p b) q) (set vs id (after_rotate v p b x y q h)) (h ++ rotate_marks x y))
+  case38 field found left w marks (step38 {parent = p} {node = x} {child = y} {top = top} {b = b} {upper = upper} {lower = lower}
+      {turning = turning} reading needs) =
+      subst (λ s. NeedsRotate v reading upper lower p b x y s turning
+      → IsKept k m h (stored m (Link p b) s) (set vs id (after_rotate v p b x y s h)) (h ++ rotate_marks x y))
       needs.spare_is.1
       (λ same. rotate_kept (record {
         who = record { k = k; m = m; vs = vs; h = h; id = id; v = v; inv = i; there = there; works = works };
@@ -72,18 +71,11 @@ module _ (k : Shape) (m : Memory) (vs : List View) (h : List Mark) (id : ℕ) (v
         p = p;
         b = b;
         x = x;
-        t = t;
         y = y;
-        outer = outer;
-        inner = inner;
-        far = far;
-        x_key = x_key;
-        x_value = x_value;
-        y_key = y_key;
-        y_value = y_value;
+        turning = turning;
         needs = same;
       }))
-      (subst (λ q. NeedsRotate v reading upper lower p b x t y top q outer inner far x_key x_value y_key y_value) (sym needs.hand_is.1) needs)
+      needs
 
 pub keeps38 : Keeps K38
 keeps38 k m vs h id v w field left marks i there works is_field step = case38 k m vs h id v i there works field (m field) left w marks step

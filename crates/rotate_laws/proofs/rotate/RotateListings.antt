@@ -23,7 +23,7 @@ use Rattle.rotate_laws.proofs.rotate.RotateNeeds.{RotateStep, x_on, y_on, x_some
 use Rattle.rotate_laws.proofs.rotate.RotateReaders.{Stay, stay_of, stays_on, gone_not_new, held, held_x, held_y, here_after}
 
 module _ (z : RotateStep) where
-  open z use {who.{k, m, vs, h, id, v, there, inv as i, inv.{chart as g}}, upper.{slot as top}, lower.{slot as sub}, p, b, x, t, y}
+  open z use {who.{k, m, vs, h, id, v, there, inv as i, inv.{chart as g}}, upper.{slot as top}, lower.{slot as sub}, p, b, x, y, turning.{turn as t}}
 
   abbrev n : ℕ
   n = slot_count k

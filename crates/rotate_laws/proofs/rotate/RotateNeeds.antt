@@ -29,10 +29,10 @@ use Rattle.tree_laws.proofs.locks.LockHeld.{lock_outside}
 use Rattle.tree_laws.proofs.locks.Locked.{loaded_known, under_lock, no_end_of, young_locked, IsAlive, alive, alive_field}
 use Rattle.tree_laws.proofs.stores.Stores.{stores_link}
 use Rattle.core_state.specs.memory.Words.{across}
-use Rattle.core_state.specs.steps.Rotations.{NeedsRotate, after_rotate, rotate_marks}
+use Rattle.core_state.specs.steps.Rotations.{IsKnownAs, Rotation, NeedsRotate, after_rotate, rotate_marks}
 use Rattle.rotate_laws.proofs.chart.Turns.{Turn, Turns, turned, x_not_y}
 
--- The step: the words, the view and what it has.
+-- The step: the words, the view and what it has. Side b of p leads to x, and a side of x to y.
 pub record RotateStep : Type 0 where
   pub who : Stepper
   pub r : Reading
@@ -41,16 +41,9 @@ pub record RotateStep : Type 0 where
   pub p : ℕ
   pub b : Side
   pub x : ℕ
-  pub t : Side
   pub y : ℕ
-  pub outer : ℕ
-  pub inner : ℕ
-  pub far : ℕ
-  pub x_key : ℕ
-  pub x_value : ℕ
-  pub y_key : ℕ
-  pub y_value : ℕ
-  pub needs : NeedsRotate who.v r upper lower p b x t y upper.slot lower.slot outer inner far x_key x_value y_key y_value
+  pub turning : Rotation
+  pub needs : NeedsRotate who.v r upper lower p b x y upper.slot turning
 
 -- a node that the view has marked, with the generation of a record
 module _ (who : Stepper) (r : Reading) (d : ℕ) (has : IsIn (readings_of who.v) r) (marked : IsMarkedNode who.v r d) where
@@ -74,7 +67,7 @@ module _ (who : Stepper) (r : Reading) (d : ℕ) (has : IsIn (readings_of who.v)
   marked_some e = let a = marked_on.1 in let c = inv.slots.root in let f = ap (λ s. m (Life s)) e in absurd (omega arith)
 
 module _ (z : RotateStep) where
-  open z use {who, who.{k, m, vs, h, id, v, there, inv, inv.{chart as g}}, r, upper, upper.{slot as top}, lower, lower.{slot as sub}, p, b, x, t, y, needs}
+  open z use {who, who.{k, m, vs, h, id, v, there, inv, inv.{chart as g}}, r, upper, upper.{slot as top}, lower, lower.{slot as sub}, p, b, x, y, turning, turning.{turn as t}, needs}
 
   abbrev n : ℕ
   n = slot_count k
@@ -175,6 +168,11 @@ module _ (z : RotateStep) where
       let on = (inv.locks.readings j w e has.0 q has.1).linked c loaded.0 loaded.1 (omega arith) in
       let q : true ≡ false = sym on ∙ off in absurd (cc)
 
+  -- what the slot in hand has, by its own number
+  sub_is : IsKnownAs lower.known sub turning.node_key turning.node_value t turning.inner turning.far
+  sub_is = subst (λ s. IsKnownAs lower.known s turning.node_key turning.node_value t turning.inner turning.far) (sym needs.hand_is.1)
+      needs.bottom_is
+
   abbrev pub turn : Turn
   turn = record { p = p; b = b; x = x; t = t; y = y; top = top; sub = sub }
 
@@ -187,7 +185,7 @@ module _ (z : RotateStep) where
     parent = parent_alive.on;
     link = link_is;
     some_x = x_some;
-    leads = x_field (Link x t) y needs.turn_now;
+    leads = x_field (Link x t) y needs.node_is.near_is;
     some_y = y_some;
     x_young = young_locked k m vs h inv id v there needs.settled x x_lock x_on.0;
     y_young = young_locked k m vs h inv id v there needs.settled y y_lock y_on.0;
@@ -198,16 +196,18 @@ module _ (z : RotateStep) where
     sub_some = some_of sub sub_off;
     top_within = own_below m n g vs h inv.slots id v there top top_own;
     sub_within = own_below m n g vs h inv.slots id v there sub sub_own;
-    top_key = (top_known (Key top) z.y_key needs.top_key).1 ∙ sym (y_field (Key y) z.y_key needs.child_key_now);
-    top_value = (top_known (Value top) z.y_value needs.top_value).1 ∙ sym (y_field (Value y) z.y_value needs.child_value_now);
-    top_outer = (top_known (Link top t) z.outer needs.top_outer).1 ∙ sym (y_field (Link y t) z.outer needs.outer_now);
-    top_inner = (top_known (Link top (across t)) sub needs.top_bottom).1;
-    sub_key = (sub_known (Key sub) z.x_key needs.bottom_key).1 ∙ sym (x_field (Key x) z.x_key needs.node_key_now);
-    sub_value = (sub_known (Value sub) z.x_value needs.bottom_value).1 ∙ sym (x_field (Value x) z.x_value needs.node_value_now);
-    sub_inner = (sub_known (Link sub t) z.inner needs.bottom_inner).1
-        ∙ sym (y_field (Link y (across t)) z.inner needs.inner_now);
-    sub_outer = (sub_known (Link sub (across t)) z.far needs.bottom_far).1
-        ∙ sym (x_field (Link x (across t)) z.far needs.far_now);
+    top_key = (top_known (Key top) turning.child_key needs.top_is.key_is).1 ∙ sym (y_field (Key y) turning.child_key needs.child_is.key_is);
+    top_value = (top_known (Value top) turning.child_value needs.top_is.value_is).1
+        ∙ sym (y_field (Value y) turning.child_value needs.child_is.value_is);
+    top_outer = (top_known (Link top t) turning.outer needs.top_is.near_is).1 ∙ sym (y_field (Link y t) turning.outer needs.child_is.near_is);
+    top_inner = (top_known (Link top (across t)) turning.bottom needs.top_is.far_is).1 ∙ sym needs.hand_is.1;
+    sub_key = (sub_known (Key sub) turning.node_key sub_is.key_is).1 ∙ sym (x_field (Key x) turning.node_key needs.node_is.key_is);
+    sub_value = (sub_known (Value sub) turning.node_value sub_is.value_is).1
+        ∙ sym (x_field (Value x) turning.node_value needs.node_is.value_is);
+    sub_inner = (sub_known (Link sub t) turning.inner sub_is.near_is).1
+        ∙ sym (y_field (Link y (across t)) turning.inner needs.child_is.far_is);
+    sub_outer = (sub_known (Link sub (across t)) turning.far sub_is.far_is).1
+        ∙ sym (x_field (Link x (across t)) turning.far needs.node_is.far_is);
   }
 
   abbrev pub to : Chart
