@@ -53,6 +53,7 @@ PICTURES = {
         "core_laws": "all kinds of step",
         "wait_laws": "laws: seats, sections, waits, locks",
         "move_laws": "laws: moves, slots used again",
+        "rotate_laws": "laws: rotations",
         "tree_laws": "laws: loads, inserts, deletes",
         "core_examples": "runs on literal words",
         "core_frames": "what a step leaves, what follows",

@@ -8,7 +8,7 @@ import sys
 ROOT = os.path.dirname(os.path.dirname(os.path.abspath(__file__)))
 PAGE = f"{ROOT}/docs/TREE_INVARIANT.md"
 BEGIN, END = "<!-- made by build/steps.py -->\n", "<!-- end of what build/steps.py makes -->\n"
-GROUPS = ("Sections", "Waits", "Slots", "Locks", "Loads", "Links", "Moves")
+GROUPS = ("Sections", "Waits", "Slots", "Locks", "Loads", "Links", "Moves", "Rotations")
 
 
 def text_of(path):

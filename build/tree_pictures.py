@@ -1,5 +1,5 @@
 #!/usr/bin/env python3
-"""Draws the tree's pictures: docs/pictures/delete_two_children.svg, empty_side.svg and slot_life.svg."""
+"""Draws the tree's pictures: docs/pictures/delete_two_children.svg, rotation.svg, empty_side.svg and slot_life.svg."""
 import os
 
 ROOT = os.path.dirname(os.path.dirname(os.path.abspath(__file__)))
@@ -86,6 +86,36 @@ def delete_two_children():
     ])
 
 
+def rotation():
+    top, upper, lower, twenty, forty, seventy = (125, 52), (75, 105), (105, 160), (38, 232), (108, 240), (215, 232)
+    new_upper, new_lower = (185, 105), (165, 160)
+
+    def whole(kind, parent_kind):
+        return [node(*top, "root", parent_kind), node(*upper, "30", kind), node(*lower, "50", kind), node(*twenty, "20", "plain"),
+                node(*forty, "40", "plain"), node(*seventy, "70", "plain")]
+
+    def ways(kind):
+        return [arrow(upper, twenty, kind), arrow(upper, lower, kind), arrow(lower, forty, kind), arrow(lower, seventy, kind)]
+
+    def copies(kind):
+        return [node(*new_upper, "50", "copy"), node(*new_lower, "30", "copy"), arrow(new_upper, new_lower, kind),
+                arrow(new_upper, seventy, kind), arrow(new_lower, twenty, kind), arrow(new_lower, forty, kind)]
+
+    first = whole("locked", "locked") + ways("plain") + [arrow(top, upper), reader(53, 105, "get 40")]
+    second = whole("marked", "locked") + ways("plain") + copies("gone") + [arrow(top, upper), reader(53, 105, "get 40")]
+    beside = copies("new") + [arrow(top, new_upper, "new")]
+    third = whole("gone", "locked") + ways("gone") + beside + [reader(53, 105, "get 40")]
+    fourth = whole("gone", "plain") + ways("gone") + beside + [
+        reader(96, 259, "get 40"), words(196, 50, "later: get 40", 11, BLUE), words(196, 63, "meets the new two", 11, BLUE)]
+    picture("rotation", "A rotation of 30 and its child 50", [
+        frame(0, "1. found and locked", first, ["30 and its child 50 are to change places.", "Thick: locked by the seat."]),
+        frame(1, "2. two are filled, two are marked", second,
+              ["Two new slots have the pairs and links", "that stand under the locks. Red: marked."]),
+        frame(2, "3. one store", third, ["The parent leads to the new 50.", "No pair changed, and no update is made."]),
+        frame(3, "4. readers go on", fourth, ["The old 30 and 50 are retired. By their", "links a reader comes back to the tree."]),
+    ])
+
+
 def empty_side():
     top, ten, forty, low = (125, 80), (70, 145), (180, 145), (135, 205)
 
@@ -143,5 +173,6 @@ def slot_life():
 if __name__ == "__main__":
     os.makedirs(OUT, exist_ok=True)
     delete_two_children()
+    rotation()
     empty_side()
     slot_life()

@@ -20,7 +20,8 @@ use Rattle.core_examples.proofs.Updates.{mark_tests, why_mark}
 abbrev pub mark_recorded : ℕ → ℕ → Step
 mark_recorded slot life = record {
   act = Mark slot life;
-  tests = λ v. all_of (mark_tests v slot life) ∷ not (is_empty v.records) ∷ is_recorded v slot ∷ not (slot == 0) ∷ not (is_some v.moving) ∷ [];
+  tests = λ v. all_of (mark_tests v slot life) ∷ not (is_empty v.records) ∷ is_recorded v slot ∷ not (slot == 0) ∷ not (is_some v.moving)
+      ∷ [];
   met = λ v t. (
     lock_now v slot,
     why_mark v slot life (t 0)

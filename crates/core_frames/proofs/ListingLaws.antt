@@ -123,8 +123,8 @@ listings_go_on k m vs h i id v section listing t there inside lists even same ha
     let l = i.listings.listings id v there section listing inside lists in
     let stands = (l.now even same).visits has.0 t has.1 in
     let live = IsHeldBack i.chart h section.entered in
-    let small : (s : ℕ) → live s → s < slot_count k = λ s r. gone_within k m vs h i s r.at r.gone in
-    (
+    let small : (s : ℕ) → live s → s < slot_count k = λ s r. gone_within k m vs h i s r.at r.gone in (
       follows k m vs h i y fits live (λ s r. r.out) small t.slot (inr (t.bounds, between, stands)),
-      λ move hops pending way. passes_going k m vs h i y fits live (λ s r. r.out) small hops t.bounds t.slot between stands move pending way,
+      λ move hops pending way.
+          passes_going k m vs h i y fits live (λ s r. r.out) small hops t.bounds t.slot between stands move pending way,
     )

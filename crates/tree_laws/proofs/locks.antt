@@ -1,6 +1,7 @@
 pub mod Relocking
 pub mod Holders
 pub mod Locked
+pub mod Marked
 pub mod LockSteps
 pub mod LockHeld
 pub mod UnderLock

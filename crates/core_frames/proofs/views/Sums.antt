@@ -84,26 +84,28 @@ sum_one_more f g u n un e =
     omega arith
 
 -- tests of flags
+pub flag_false : (x : Bool) → flag (x && false) ≡ 0
+flag_false true = refl
+flag_false false = refl
+
+pub flag_true : (x : Bool) → flag (x && true) ≡ flag x
+flag_true true = refl
+flag_true false = refl
+
+pub young_flags : (a b x y : Bool) → a ≡ x → b ≡ y → flag (a && not b) ≡ flag (x && not y)
+young_flags a b x y e f = λ i. flag (e i && not (f i))
+
+pub old_flags : (a b x y : Bool) → a ≡ x → b ≡ y → flag (a && b) ≡ flag (x && y)
+old_flags a b x y e f = λ i. flag (e i && f i)
+
 pub flag_root : (x : Bool) (s : ℕ) → s ≡ 0 → flag (x && not (s == 0)) ≡ 0
-flag_root x s e = ap (λ b. flag (x && not b)) (eq-eqb s 0 e) ∙ out x
-  where
-    out : (x : Bool) → flag (x && false) ≡ 0
-    out true = refl
-    out false = refl
+flag_root x s e = ap (λ b. flag (x && not b)) (eq-eqb s 0 e) ∙ flag_false x
 
 pub flag_node : (x : Bool) (s : ℕ) → s ≢ 0 → flag (x && not (s == 0)) ≡ flag x
-flag_node x s ne = ap (λ b. flag (x && not b)) (ne_eqb s 0 ne) ∙ same x
-  where
-    same : (x : Bool) → flag (x && true) ≡ flag x
-    same true = refl
-    same false = refl
+flag_node x s ne = ap (λ b. flag (x && not b)) (ne_eqb s 0 ne) ∙ flag_true x
 
 pub young_root : (x o : Bool) (s : ℕ) → s ≡ 0 → flag (x && (not (s == 0) && not o)) ≡ 0
-young_root x o s e = ap (λ b. flag (x && (not b && not o))) (eq-eqb s 0 e) ∙ out x
-  where
-    out : (x : Bool) → flag (x && false) ≡ 0
-    out true = refl
-    out false = refl
+young_root x o s e = ap (λ b. flag (x && (not b && not o))) (eq-eqb s 0 e) ∙ flag_false x
 
 pub young_node : (x o : Bool) (s : ℕ) → s ≢ 0 → flag (x && (not (s == 0) && not o)) ≡ flag (x && not o)
 young_node x o s ne = ap (λ b. flag (x && (not b && not o))) (ne_eqb s 0 ne)

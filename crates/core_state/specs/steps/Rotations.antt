@@ -22,8 +22,8 @@ pub record IsKnownAs (known : List Known) (slot key value : ℕ) (side : Side) (
   pub near_is : known_in known (Link slot side) ≡ Some near
   pub far_is : known_in known (Link slot (across side)) ≡ Some far
 
--- What a rotation finds at a node and its child. The child hangs on side `turn` of the node. On that side of the child hangs `outer`, on its
--- other side `inner`, and on the other side of the node `far`; 0 stands for nothing. `bottom` is the new slot that comes below.
+-- What a rotation finds at a node and its child. The child hangs on side `turn` of the node. On that side of the child hangs `outer`, on
+-- its other side `inner`, and on the other side of the node `far`; 0 stands for nothing. `bottom` is the new slot that comes below.
 pub record Rotation : Type 0 where
   pub turn : Side
   pub node_key : ℕ
@@ -36,8 +36,8 @@ pub record Rotation : Type 0 where
   pub bottom : ℕ
 
 -- K38: side b of the parent, which has the generation of a record and is unmarked, leads to a node. The node and its child are marked by
--- this view, with the generations of the record. The spare has the child's pair; it leads to what hangs on the child's outer side, and to the
--- slot in hand. That one has the node's pair, and leads to the rest. The view has a ticket for the second of the two slots that go.
+-- this view, with the generations of the record. The spare has the child's pair; it leads to what hangs on the child's outer side, and to
+-- the slot in hand. That one has the node's pair, and leads to the rest. The view has a ticket for the second of the two slots that go.
 pub record NeedsRotate (v : View) (r : Reading) (upper lower : Held) (parent : ℕ) (b : Side) (node child top : ℕ)
     (turning : Rotation) : Type 0 where
   pub settled : v.moving ≡ None

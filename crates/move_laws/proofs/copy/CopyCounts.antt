@@ -18,7 +18,7 @@ use Rattle.move_laws.proofs.copy.CopySlots.{node_not_copy, linked_after}
 use Rattle.tree_laws.proofs.updates.DeleteMarks.{delete_longer, delete_count, delete_legal}
 use Rattle.tree_laws.proofs.stores.StoreFront.{front_made}
 use Rattle.tree_laws.proofs.chart.ChangedFunctions.{put, put-same, put-other}
-use Rattle.core_frames.proofs.views.Sums.{sum_equal, sum_add, in_one, not_one, one_sum, sum_swapped, sum_one_more, flag_root, flag_node, young_root, young_node}
+use Rattle.core_frames.proofs.views.Sums.{flag_false, young_flags, old_flags, sum_equal, sum_add, in_one, not_one, one_sum, sum_swapped, sum_one_more, flag_root, flag_node, young_root, young_node}
 use Rattle.tree_laws.proofs.notes.Notes.{note_option-unraised}
 use Rattle.core_frames.proofs.views.RetiredLists.{unraised_append}
 use Rattle.tree_laws.proofs.updates.Deletion.{node_marked, node_young, settled, some_node, has_key}
@@ -65,32 +65,22 @@ module _ (z : CopyStep) where
   now_old : (s : ℕ) → s ≡ z.u → to.old s ≡ true
   now_old s e = put-same (put g.old c false) z.u true s e
 
-  both_flags : (a b x y : Bool) → a ≡ x → b ≡ y → flag (a && not b) ≡ flag (x && not y)
-  both_flags a b x y e f = λ i. flag (e i && not (f i))
-
-  old_flags : (a b x y : Bool) → a ≡ x → b ≡ y → flag (a && b) ≡ flag (x && y)
-  old_flags a b x y e f = λ i. flag (e i && f i)
-
-  none_false : (x : Bool) → flag (x && false) ≡ 0
-  none_false true = refl
-  none_false false = refl
-
   -- a slot that holds a pair, with those that no longer do
   young_at : (s : ℕ) → s ≢ 0 → flag (to.linked s && not (to.old s)) + times s (z.d ∷ []) + times s (z.u ∷ [])
       ≡ flag (g.linked s && not (g.old s)) + times s (c ∷ [])
   young_at s nz = ⊎_elim
       (λ (e : s ≡ c).
-      (let a = both_flags (to.linked s) (to.old s) true false (ap to.linked e ∙ c_linked (copy_link z))
+      (let a = young_flags (to.linked s) (to.old s) true false (ap to.linked e ∙ c_linked (copy_link z))
       (ap to.old e ∙ c_young (copy_link z)) in
-      let b = both_flags (g.linked s) (g.old s) false (g.old s) (ap g.linked e ∙ copy_off z) refl in
+      let b = young_flags (g.linked s) (g.old s) false (g.old s) (ap g.linked e ∙ copy_off z) refl in
       let x = in_one s c e in
       let y = not_one s z.d (λ f. node_not_copy z (sym f ∙ e)) in
       let t = not_one s z.u (λ f. old_not_copy (sym f ∙ e)) in
       omega arith))
       (λ nc. ⊎_elim
       (λ (e : s ≡ z.d).
-      (let a = both_flags (to.linked s) (to.old s) false (to.old s) (off s nc e) refl in
-      let b = both_flags (g.linked s) (g.old s) true false (ap g.linked e ∙ (node_marked (deletion z)).0)
+      (let a = young_flags (to.linked s) (to.old s) false (to.old s) (off s nc e) refl in
+      let b = young_flags (g.linked s) (g.old s) true false (ap g.linked e ∙ (node_marked (deletion z)).0)
       (ap g.old e ∙ node_young (deletion z)) in
       let x = not_one s c nc in
       let y = in_one s z.d e in
@@ -98,14 +88,14 @@ module _ (z : CopyStep) where
       omega arith))
       (λ nd. ⊎_elim
       (λ (e : s ≡ z.u).
-      (let a = both_flags (to.linked s) (to.old s) true true (on s nc nd ∙ ap g.linked e ∙ (old_alive z).on) (now_old s e) in
-      let b = both_flags (g.linked s) (g.old s) true false (ap g.linked e ∙ (old_alive z).on) (ap g.old e ∙ old_young z) in
+      (let a = young_flags (to.linked s) (to.old s) true true (on s nc nd ∙ ap g.linked e ∙ (old_alive z).on) (now_old s e) in
+      let b = young_flags (g.linked s) (g.old s) true false (ap g.linked e ∙ (old_alive z).on) (ap g.old e ∙ old_young z) in
       let x = not_one s c nc in
       let y = not_one s z.d nd in
       let t = in_one s z.u e in
       omega arith))
       (λ nu.
-      (let a = both_flags (to.linked s) (to.old s) (g.linked s) (g.old s) (on s nc nd) (same_old s nc nu) in
+      (let a = young_flags (to.linked s) (to.old s) (g.linked s) (g.old s) (on s nc nd) (same_old s nc nu) in
       let x = not_one s c nc in
       let y = not_one s z.d nd in
       let t = not_one s z.u nu in
@@ -147,20 +137,20 @@ module _ (z : CopyStep) where
   old_more = sum_one_more (λ s. flag (g.linked s && g.old s)) (λ s. flag (to.linked s && to.old s)) z.u n u_below (λ s. ⊎_elim
       (λ (e : s ≡ c).
       (let a = old_flags (to.linked s) (to.old s) (to.linked s) false refl (ap to.old e ∙ c_young (copy_link z))
-      ∙ none_false (to.linked s) in
+      ∙ flag_false (to.linked s) in
       let b = old_flags (g.linked s) (g.old s) false (g.old s) (ap g.linked e ∙ copy_off z) refl in
       let t = not_one s z.u (λ f. old_not_copy (sym f ∙ e)) in
       omega arith))
       (λ nc. ⊎_elim
       (λ (e : s ≡ z.d).
       (let a = old_flags (to.linked s) (to.old s) false (to.old s) (off s nc e) refl in
-      let b = old_flags (g.linked s) (g.old s) (g.linked s) false refl (ap g.old e ∙ node_young (deletion z)) ∙ none_false (g.linked s) in
+      let b = old_flags (g.linked s) (g.old s) (g.linked s) false refl (ap g.old e ∙ node_young (deletion z)) ∙ flag_false (g.linked s) in
       let t = not_one s z.u (λ f. old_not_node (sym f ∙ e)) in
       omega arith))
       (λ nd. ⊎_elim
       (λ (e : s ≡ z.u).
       (let a = old_flags (to.linked s) (to.old s) true true (on s nc nd ∙ ap g.linked e ∙ (old_alive z).on) (now_old s e) in
-      let b = old_flags (g.linked s) (g.old s) (g.linked s) false refl (ap g.old e ∙ old_young z) ∙ none_false (g.linked s) in
+      let b = old_flags (g.linked s) (g.old s) (g.linked s) false refl (ap g.old e ∙ old_young z) ∙ flag_false (g.linked s) in
       let t = in_one s z.u e in
       omega arith))
       (λ nu.

@@ -51,14 +51,16 @@ module _ (m new : Memory) (n : ℕ) (g : Chart) (q : ℕ) (b : Side) (u r : ℕ)
   u_link a = k.replaces.stores.link u a
       (λ e. absurd (let x = (at m new n g q b u r (λ x. x) (λ x. x) shape splices).rank in let y = ap g.rank e in omega arith))
 
-  module _ (live later : ℕ → Type 0) (out : (s : ℕ) → live s → g.linked s ≡ false) (grow : (s : ℕ) → live s → later s) (gone : later u) where
+  module _ (live later : ℕ → Type 0) (out : (s : ℕ) → live s → g.linked s ≡ false) (grow : (s : ℕ) → live s → later s)
+      (gone : later u) where
     linked_going : (bounds : Gap) (s : ℕ) → HasBounds g bounds s → GoesOn new to later (map_now h) bounds s
     linked_going bounds s has = ⊎_elim
         (λ (e : s ≡ u). subst (GoesOn new to later (map_now h) bounds) (sym e)
         (unlinked_going m n g (map_now h) shape holds u k.replaces.node bounds (subst (HasBounds g bounds) e has) new to later gone copied
         (k.replaces.stores.key u) (k.replaces.stores.value u) u_link
         (λ a c f nz. (shape.below u c a u_linked f nz).rank)
-        (λ a c f nz below. here (bounds_kept _ c (λ e. (let w = (shape.below u c a u_linked f nz).rank in let y = ap g.rank e in omega arith)) below))))
+        (λ a c f nz below. here (bounds_kept _ c (λ e. (let w = (shape.below u c a u_linked f nz).rank in let y = ap g.rank e in
+        omega arith)) below))))
         (λ ne. here (bounds_kept bounds s ne has)) (cases_eq s u)
 
     off_link : (s : ℕ) (a : Side) → live s → new (Link s a) ≡ m (Link s a)
@@ -81,5 +83,6 @@ module _ (m new : Memory) (n : ℕ) (g : Chart) (q : ℕ) (b : Side) (u r : ℕ)
   lists_unlinked entered grow gone listing t = record {
     facts = subst (λ map. Each listing.facts (λ (f : Fact). map f.key ≡ Some f.value)) (sym map_kept) t.facts;
     gaps = subst (λ map. Each listing.gaps (λ (gap : Gap). (y : ℕ) → IsBetween gap y → map y ≡ None)) (sym map_kept) t.gaps;
-    visits = λ j v at. going_kept (IsHeldBack g h entered) (IsHeldBack to h' entered) (λ s x. x.out) grow gone v.bounds v.slot (t.visits j v at);
+    visits = λ j v at. going_kept (IsHeldBack g h entered) (IsHeldBack to h' entered) (λ s x. x.out) grow gone v.bounds v.slot
+        (t.visits j v at);
   }

@@ -1,6 +1,6 @@
 -- Readers, walks and sides of slots over a rotation: who stands at one of the two slots that go stands at one that was unlinked since, and
 -- goes on by its old links.
-use Rattle.std.proofs.Common.{zero, suc, ◌≡◌, ◌≢◌, ℕ, ◌+◌, ◌*◌, ◌<◌, ◌≤◌, ◌^◌, true, false, refl, sym, ap, ◌∙◌, subst, arith, ◌⊎◌, inl, inr, ⊎_elim}
+use Rattle.std.proofs.Common.{zero, suc, ◌≡◌, ◌≢◌, ℕ, ◌+◌, ◌*◌, ◌<◌, ◌≤◌, true, false, refl, sym, ap, ◌∙◌, subst, arith, ◌⊎◌, inl, inr, ⊎_elim}
 use Rattle.std.specs.Prelude.{Option}
 use Rattle.std.proofs.lemmas.Bool.{cases_eq}
 use Rattle.prcu_marks.specs.declared.mark.Side.{Side}
@@ -8,13 +8,13 @@ use Rattle.prcu_marks.specs.declared.mark.Side.TheVariants.{Left, Right}
 use Rattle.core_state.specs.declared.words.Field.TheVariants.{Key, Link}
 use Rattle.core_state.specs.memory.Memory.{Memory}
 use Rattle.core_state.specs.tree.Nodes.{next, answer_at, OnRightLeft, first, further}
-use Rattle.core_state.specs.tree.Chart.{Chart, low_of, high_of, IsShaped, IsInRange, IsBelow, Belongs}
+use Rattle.core_state.specs.tree.Chart.{Chart, low_of, IsShaped, IsInRange, Belongs}
 use Rattle.core_state.specs.tree.Readers.{Spine, bottom, more, Place, in_range, at_old, at_end, on, Walks, at_linked, at_stop, at_live}
 use Rattle.core_frames.proofs.chart.Ranges.{next-left}
 use Rattle.core_frames.proofs.chart.Places.{range_hop, end_linked}
 use Rattle.tree_laws.proofs.stores.Stores.{store_next, same_answer, link_at}
 use Rattle.core_state.specs.memory.Words.{across}
-use Rattle.rotate_laws.proofs.chart.Turns.{Turn, Turns, turned, Stays, at_x, at_y, x_not_y, x_not_p, y_not_p, not_top, not_sub, still, top_on, sub_on, rank_else, old_else, low_else, high_else, low_after, high_after, past_parent, link_off, top_not_p, sub_not_p, top_outer, top_inner, sub_inner, sub_outer, leads_x, leads_y, child_stays}
+use Rattle.rotate_laws.proofs.chart.Turns.{Turn, Turns, turned, Stays, at_x, at_y, x_not_p, y_not_p, not_top, not_sub, still, top_on, sub_on, rank_else, old_else, low_else, high_else, low_after, high_after, past_parent, link_off, top_outer, top_inner, sub_outer, leads_x, leads_y, child_stays}
 
 module _ (m new : Memory) (n : ℕ) (g : Chart) (z : Turn) (h : IsShaped m n g) (k : Turns m new n g z) where
   open z use {p, b, x, t, y, top, sub}
@@ -34,12 +34,14 @@ module _ (m new : Memory) (n : ℕ) (g : Chart) (z : Turn) (h : IsShaped m n g) 
   y_linked : g.linked y ≡ true
   y_linked = (at_y m new n g z h k).linked
 
-  stays_by : (s : ℕ) → g.linked s ≡ true → (s ≡ x) ⊎ ((s ≡ y) ⊎ Stay s)
+  pub stays_by : (s : ℕ) → g.linked s ≡ true → (s ≡ x) ⊎ ((s ≡ y) ⊎ Stay s)
   stays_by s l = ⊎_elim (λ (e : s ≡ x). inl e)
-      (λ nx. ⊎_elim (λ (e : s ≡ y). inr (inl e)) (λ ny. inr (inr (record { on = l; not_x = nx; not_y = ny }))) (cases_eq s y)) (cases_eq s x)
+      (λ nx. ⊎_elim (λ (e : s ≡ y). inr (inl e)) (λ ny. inr (inr (record { on = l; not_x = nx; not_y = ny }))) (cases_eq s y))
+      (cases_eq s x)
 
   -- Left links of the two slots that go, and of the new ones.
-  -- Where y hangs on x's left, y's left is the new upper slot's; else x's left is the new lower slot's, which hangs on the upper one's left.
+  -- Where y hangs on x's left, y's left is the new upper slot's; else x's left is the new lower slot's, which hangs on the upper one's
+  -- left.
   record Lefts : Type 0 where
     pub by_left : t ≡ Left → (m (Link x Left) ≡ y) × (new (Link top Left) ≡ m (Link y Left))
     pub by_right : t ≡ Right → (new (Link top Left) ≡ sub) × (new (Link sub Left) ≡ m (Link x Left)) × (m (Key x) < m (Key y))
@@ -94,13 +96,15 @@ module _ (m new : Memory) (n : ℕ) (g : Chart) (z : Turn) (h : IsShaped m n g) 
   over_top : (q u : ℕ) → GoesOn q u x → ((m (Link x Left) ≡ y) → GoesOn q u y) → (t ≡ Left) ⊎ (t ≡ Right) → Spine new to q u top
   over_top q u gx gy (inl e) =
       let w = lefts.by_left e in let a = gy w.0 in
-      more (top_on m new n g z h k) (let less = a.less in let f = k.stores.key top in let c = k.top_key in omega arith) (w.1 ∙ a.left) a.some_slot
+      more (top_on m new n g z h k) (let less = a.less in let f = k.stores.key top in let c = k.top_key in omega arith) (w.1 ∙ a.left)
+      a.some_slot
       (a.rest (λ v. omega (arith, (h.below y a.slot Left y_linked a.left a.some_slot).rank, ap g.rank v)))
   over_top q u gx gy (inr e) =
       let w = lefts.by_right e in
       more (top_on m new n g z h k)
       (let less = gx.less in let f = k.stores.key top in let c = k.top_key in let d = w.2 in omega arith) w.0 k.sub_some
-      (more (sub_on m new n g z h k) (let less = gx.less in let f = k.stores.key sub in let c = k.sub_key in omega arith) (w.1 ∙ gx.left) gx.some_slot
+      (more (sub_on m new n g z h k) (let less = gx.less in let f = k.stores.key sub in let c = k.sub_key in omega arith)
+      (w.1 ∙ gx.left) gx.some_slot
       (gx.rest (λ v. (let r = leads_y m new n g z h k x Left x_linked (gx.left ∙ v) in
       let bad : Left ≡ Right = r.1 ∙ e in absurd (cc)))))
 
@@ -334,7 +338,8 @@ module _ (m new : Memory) (n : ℕ) (g : Chart) (z : Turn) (h : IsShaped m n g) 
     off_left s l = link_off m new n g z h k s Left (λ v. (let a = out s l in let c = k.parent in cc (ap g.linked v)))
 
     pub walks_turn : (s : ℕ) → Walks m g e live s → Walks new to e later s
-    walks_turn s (at_linked l way) = ⊎_elim (λ (v : s ≡ x). subst (Walks new to e later) (sym v) (walk_upper (subst (OnRightLeft m e) v way)))
+    walks_turn s (at_linked l way) = ⊎_elim
+        (λ (v : s ≡ x). subst (Walks new to e later) (sym v) (walk_upper (subst (OnRightLeft m e) v way)))
         (λ w. ⊎_elim (λ (v : s ≡ y). subst (Walks new to e later) (sym v) (walk_lower (subst (OnRightLeft m e) v way)))
         (λ w. walk_still s w way) w) (stays_by s l)
     walks_turn s (at_stop l f) = at_stop (grow s l) (off_left s l ∙ f)

@@ -1,6 +1,7 @@
--- A rotation: a slot and its child are replaced by two new ones in one store. Side b of p leads to x, and side t of x to y; from now on it
--- leads to `top`, which has y's key, and whose other side leads to `sub`, which has x's. The chart after it is a shape and holds the same map.
-use Rattle.std.proofs.Common.{zero, suc, ◌≡◌, ◌≢◌, ℕ, ◌+◌, ◌*◌, ◌<◌, ◌≤◌, ◌==◌, if◌then◌else◌, cond, true, false, refl, sym, ap, ◌∙◌, subst, arith, ◌⊎◌, inl, inr, ⊎_elim, eq-eqb, ne_eqb}
+-- A rotation: a slot and its child are replaced by two new ones in one store. Side b of p leads to x, and side t of x to y; from now on p
+-- leads to `top`, which has y's key, and whose other side leads to `sub`, which has x's. The chart after it is a shape and holds the same
+-- map.
+use Rattle.std.proofs.Common.{zero, suc, ◌≡◌, ◌≢◌, ℕ, ◌+◌, ◌*◌, ◌<◌, ◌==◌, if◌then◌else◌, cond, true, false, refl, sym, ap, ◌∙◌, subst, arith, ◌⊎◌, inl, inr, ⊎_elim, eq-eqb, ne_eqb}
 use Rattle.std.specs.Prelude.{Option, Some}
 use Rattle.std.proofs.lemmas.Bool.{cases_eq}
 use Rattle.prcu_marks.specs.declared.mark.Side.{Side}
@@ -8,7 +9,7 @@ use Rattle.prcu_marks.specs.declared.mark.Side.TheVariants.{Left, Right}
 use Rattle.core_state.specs.declared.words.Field.TheVariants.{Key, Value, Link}
 use Rattle.core_state.specs.memory.Memory.{Memory}
 use Rattle.core_state.specs.tree.Nodes.{after}
-use Rattle.core_state.specs.tree.Chart.{Chart, low_of, high_of, Belongs, IsBelow, Hangs, IsKeyed, IsDisplaced, IsShaped, HoldsMap, IsInRange, HoldsPair}
+use Rattle.core_state.specs.tree.Chart.{Chart, low_of, high_of, IsBelow, Hangs, IsKeyed, IsDisplaced, IsShaped, HoldsMap, HoldsPair}
 use Rattle.core_frames.proofs.frames.Contents.{pair_by}
 use Rattle.core_frames.proofs.chart.Unique.{one_link}
 use Rattle.tree_laws.proofs.stores.Stores.{StoresLink, cases_side, same_after, hangs_at, link_at}
@@ -106,8 +107,7 @@ hung_else g z s nx ny = (
 hung_x : (g : Chart) (z : Turn) (s : ℕ) → z.x ≢ z.y → g.up s ≡ z.x → (hung_up g z s ≡ z.sub) × (hung_side g z s ≡ g.side s)
 unfolding hung_up hung_side
 hung_x g z s ne is =
-    let ny : g.up s ≢ z.y = λ e. ne (sym is ∙ e) in
-    (
+    let ny : g.up s ≢ z.y = λ e. ne (sym is ∙ e) in (
       ap (λ v. cond v (by_side (g.side s) z.t z.top z.sub) (cond (g.up s == z.x) z.sub (g.up s))) (ne_eqb (g.up s) z.y ny)
           ∙ ap (λ v. cond v z.sub (g.up s)) (eq-eqb (g.up s) z.x is),
       ap (λ v. cond v z.t (g.side s)) (ne_eqb (g.up s) z.y ny),
@@ -177,8 +177,7 @@ module _ (m new : Memory) (g to : Chart) (x y top sub : ℕ) where
   -- their keys are in their ranges
   keys_in : (t : Side) → AreRanged m new g to x y top sub t → IsKeyed new to top × IsKeyed new to sub
   keys_in Left r =
-      let a = r.y_keyed in let c = r.x_keyed in
-      (
+      let a = r.y_keyed in let c = r.x_keyed in (
         record {
           low = omega (arith, a.low, r.top_low, r.top_key, r.y_low);
           high = omega (arith, a.high, r.y_high, c.high, r.top_high, r.top_key);
@@ -189,8 +188,7 @@ module _ (m new : Memory) (g to : Chart) (x y top sub : ℕ) where
         },
       )
   keys_in Right r =
-      let a = r.y_keyed in let c = r.x_keyed in
-      (
+      let a = r.y_keyed in let c = r.x_keyed in (
         record {
           low = omega (arith, a.low, r.y_low, r.x_after, c.low, r.top_low, r.top_key);
           high = omega (arith, a.high, r.y_high, r.top_high, r.top_key);

@@ -1,16 +1,15 @@
 -- A listing over a rotation: one that has been at a slot that goes may go on from there.
-use Rattle.std.proofs.Common.{◌≡◌, ◌≢◌, ℕ, ◌+◌, ◌*◌, ◌<◌, true, false, List, length, refl, sym, ap, ◌∙◌, subst, arith, ◌⊎◌, inl, inr, ⊎_elim}
-use Rattle.std.specs.Prelude.{Option, Some, None}
+use Rattle.std.proofs.Common.{◌≡◌, ◌≢◌, ℕ, ◌+◌, ◌*◌, ◌<◌, true, false, length, refl, sym, ap, ◌∙◌, subst, arith, ◌⊎◌, inl, inr, ⊎_elim}
+use Rattle.std.specs.Prelude.{Some, None}
 use Rattle.std.proofs.lemmas.Bool.{cases_eq}
-use mathlib.Core.Option.{some}
-use lib.ListN.{get_elem?}
-use Rattle.core_state.specs.declared.words.Field.TheVariants.{Front}
+use Rattle.prcu_marks.specs.declared.mark.Side.{Side}
+use Rattle.core_state.specs.declared.words.Field.TheVariants.{Key, Link}
 use Rattle.core_state.specs.declared.view.Fact.{Fact}
 use Rattle.core_state.specs.declared.view.Gap.{Gap}
 use Rattle.core_state.specs.declared.view.Listing.{Listing}
 use Rattle.list_laws.specs.Counts.{Each}
 use Rattle.core_state.specs.memory.Memory.{Memory, slot_count}
-use Rattle.core_state.specs.tree.Chart.{HoldsMap}
+use Rattle.core_state.specs.steps.Loads.{narrowed}
 use Rattle.core_state.specs.tree.Readers.{IsHeldBack}
 use Rattle.core_state.specs.parts.ListingParts.{IsBetween, HasBounds, GoesOn, here, ListsNow, ListingParts}
 use Rattle.core_state.specs.parts.TreeParts.{map_now}
@@ -23,7 +22,7 @@ use Rattle.rotate_laws.proofs.rotate.RotateNeeds.{RotateStep, x_on, y_on, x_some
 use Rattle.rotate_laws.proofs.rotate.RotateReaders.{Stay, stay_of, stays_on, gone_not_new, held, held_x, held_y, here_after}
 
 module _ (z : RotateStep) where
-  open z use {who.{k, m, vs, h, id, v, there, inv as i, inv.{chart as g}}, upper.{slot as top}, lower.{slot as sub}, p, b, x, y, turning.{turn as t}}
+  open z use {who.{k, m, vs, h, id, v, there, inv as i, inv.{chart as g}}, upper.{slot as top}, lower.{slot as sub}, p, b, x, y}
 
   abbrev n : ℕ
   n = slot_count k
@@ -35,7 +34,8 @@ module _ (z : RotateStep) where
   rank_of s nt ns = rank_else m later n g (turn z) i.tree.shape (turns z) s nt ns
 
   rank_linked : (s : ℕ) → g.linked s ≡ true → (to z).rank s ≡ 2 * g.rank s + 1
-  rank_linked s l = rank_of s (not_top m later n g (turn z) i.tree.shape (turns z) s l) (not_sub m later n g (turn z) i.tree.shape (turns z) s l)
+  rank_linked s l = rank_of s (not_top m later n g (turn z) i.tree.shape (turns z) s l)
+      (not_sub m later n g (turn z) i.tree.shape (turns z) s l)
 
   module _ (entered : ℕ) (early : entered < length h) where
     abbrev live : ℕ → Type 0
@@ -57,11 +57,21 @@ module _ (z : RotateStep) where
           high = high_else m later n g (turn z) i.tree.shape (turns z) s nt ns ∙ has.high;
         })
 
+    -- past a slot that goes the walk goes on as it did, where it does so from the slots to which that one leads
+    goes_past : (bounds : Gap) (s : ℕ) → HasBounds g bounds s → s ≢ 0 → s ≢ p → g.old s ≡ false → live_later s
+        → ((a : Side) (c : ℕ) → m (Link s a) ≡ c → c ≢ 0 → HasBounds g (narrowed bounds (m (Key s)) a) c
+        → Going (narrowed bounds (m (Key s)) a) c)
+        → Going bounds s
+    goes_past bounds s has node away young gone more = unlinked_going m n g (map_now h) i.tree.shape i.tree.map s node bounds has later
+        (to z) live_later gone (i.tree.map.sound s has.linked node young) refl refl
+        (λ a. link_off m later n g (turn z) i.tree.shape (turns z) s a away)
+        (λ a c e nz. (let w = i.tree.shape.below s c a has.linked e nz in
+        omega (arith, w.rank, rank_linked s has.linked, rank_linked c w.linked)))
+        more
+
     lower_going : (bounds : Gap) → HasBounds g bounds y → Going bounds y
-    lower_going bounds has = unlinked_going m n g (map_now h) i.tree.shape i.tree.map y (y_some z) bounds has later (to z) live_later
-        (held_y z entered early) (i.tree.map.sound y (y_on z).0 (y_some z) (turns z).y_young) refl refl
-        (λ a. link_off m later n g (turn z) i.tree.shape (turns z) y a (y_not_p m later n g (turn z) i.tree.shape (turns z)))
-        (λ a c e nz. (let w = i.tree.shape.below y c a (y_on z).0 e nz in omega (arith, w.rank, rank_linked y (y_on z).0, rank_linked c w.linked)))
+    lower_going bounds has = goes_past bounds y has (y_some z) (y_not_p m later n g (turn z) i.tree.shape (turns z)) (turns z).y_young
+        (held_y z entered early)
         (λ a c e nz below. (let w = i.tree.shape.below y c a (y_on z).0 e nz in
         stays_going _ c (record {
           on = w.linked;
@@ -70,13 +80,12 @@ module _ (z : RotateStep) where
         }) below))
 
     upper_going : (bounds : Gap) → HasBounds g bounds x → Going bounds x
-    upper_going bounds has = unlinked_going m n g (map_now h) i.tree.shape i.tree.map x (x_some z) bounds has later (to z) live_later
-        (held_x z entered early) (i.tree.map.sound x (x_on z).0 (x_some z) (turns z).x_young) refl refl
-        (λ a. link_off m later n g (turn z) i.tree.shape (turns z) x a (x_not_p m later n g (turn z) i.tree.shape (turns z)))
-        (λ a c e nz. (let w = i.tree.shape.below x c a (x_on z).0 e nz in omega (arith, w.rank, rank_linked x (x_on z).0, rank_linked c w.linked)))
+    upper_going bounds has = goes_past bounds x has (x_some z) (x_not_p m later n g (turn z) i.tree.shape (turns z)) (turns z).x_young
+        (held_x z entered early)
         (λ a c e nz below. (let w = i.tree.shape.below x c a (x_on z).0 e nz in
         ⊎_elim (λ (f : c ≡ y). subst (Going _) (sym f) (lower_going _ (subst (HasBounds g _) f below)))
-        (λ ny. stays_going _ c (record { on = w.linked; not_x = λ f. omega (arith, w.rank, ap g.rank f); not_y = ny }) below) (cases_eq c y)))
+        (λ ny. stays_going _ c (record { on = w.linked; not_x = λ f. omega (arith, w.rank, ap g.rank f); not_y = ny }) below)
+        (cases_eq c y)))
 
     linked_going : (bounds : Gap) (s : ℕ) → HasBounds g bounds s → Going bounds s
     linked_going bounds s has = ⊎_elim (λ (e : s ≡ x). subst (Going bounds) (sym e) (upper_going bounds (subst (HasBounds g bounds) e has)))
@@ -84,13 +93,15 @@ module _ (z : RotateStep) where
         (λ r. stays_going bounds s r has) r) (stay_of z s has.linked)
 
     off_link : (s : ℕ) → live s → s ≢ p
-    off_link s r e = let on = (turns z).parent in let off = r.out in let q : true ≡ false = sym on ∙ ap g.linked (sym e) ∙ off in absurd (cc)
+    off_link s r e = let on = (turns z).parent in let off = r.out in let q : true ≡ false = sym on ∙ ap g.linked (sym e) ∙ off in
+        absurd (cc)
 
     known_rank : (s : ℕ) → (g.linked s ≡ true) ⊎ live s → (to z).rank s ≡ 2 * g.rank s + 1
     known_rank s (inl l) = rank_linked s l
     known_rank s (inr r) = let ne = gone_not_new z s r.at r.gone in rank_of s ne.0 ne.1
 
-    pub going_after : (bounds : Gap) (s : ℕ) → GoesOn m g live (map_now h) bounds s → GoesOn later (to z) live_later (map_now (hs z)) bounds s
+    pub going_after : (bounds : Gap) (s : ℕ) → GoesOn m g live (map_now h) bounds s
+        → GoesOn later (to z) live_later (map_now (hs z)) bounds s
     going_after bounds s goes = subst (λ map. GoesOn later (to z) live_later map bounds s)
         (sym (two_map v.allowance.place h x y (not_same z))) (carry_going m later g (to z) live live_later (map_now h) (record {
           linked = linked_going;
@@ -113,4 +124,5 @@ module _ (z : RotateStep) where
   pub rotate_listings : ListingParts later (to z) (us z) (hs z)
   rotate_listings = listings_after m later g (to z) vs id (w z) h (hs z) (outside z) refl (λ s. refl)
       (λ j u section s e is. here_after z section.entered (entered_before k m vs h i j u section e is) s)
-      (λ j u section listing e is even same lists. rotate_lists section.entered (entered_before k m vs h i j u section e is) listing lists) i.listings
+      (λ j u section listing e is even same lists. rotate_lists section.entered (entered_before k m vs h i j u section e is) listing lists)
+      i.listings

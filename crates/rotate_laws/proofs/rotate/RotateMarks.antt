@@ -1,9 +1,9 @@
 -- The marks of a rotation: two slots are unlinked, the upper one first.
-use Rattle.std.proofs.Common.{◌≡◌, ◌≢◌, ℕ, ◌+◌, List, [], ◌∷◌, ◌++◌, length, Some, None, refl, sym, ap, subst, ◌∙◌, arith, append_assoc, length-append, append-nil}
+use Rattle.std.proofs.Common.{◌≡◌, ◌≢◌, ℕ, ◌+◌, List, [], ◌∷◌, ◌++◌, length, Some, sym, ap, subst, ◌∙◌, arith, append_assoc, length-append, append-nil}
 use Rattle.std.specs.FinMap as finite
 use Rattle.prcu_marks.specs.declared.mark.Mark.{Mark}
 use Rattle.prcu_marks.specs.declared.mark.Mark.TheVariants.{Unlinked}
-use Rattle.prcu_model.specs.Dictionary.{map_of, WasSaid}
+use Rattle.prcu_model.specs.Dictionary.{map_of}
 use Rattle.prcu_marks.specs.Marks.{updates_of, gone_at, last_unlinked}
 use Rattle.prcu_marks.proofs.MarkLists.{updates_of-append}
 use Rattle.core_state.specs.Marks.{AreMarks, Reuse}

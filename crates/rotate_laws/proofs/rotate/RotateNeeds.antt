@@ -1,5 +1,5 @@
 -- A rotation: what its needs give of the words and the chart.
-use Rattle.std.proofs.Common.{◌≡◌, ◌≢◌, ℕ, ◌+◌, ◌*◌, ◌/◌, ◌<◌, ◌≤◌, true, false, List, set, length, ◌++◌, Some, None, refl, sym, ap, subst, ◌∙◌, inr, arith}
+use Rattle.std.proofs.Common.{◌≡◌, ◌≢◌, ℕ, ◌+◌, ◌*◌, ◌/◌, ◌≤◌, true, false, List, set, length, ◌++◌, Some, None, refl, sym, ap, subst, ◌∙◌, arith}
 use mathlib.Core.Option.{some}
 use lib.ListN.{get_elem?}
 use Rattle.prcu_marks.specs.declared.mark.Mark.{Mark}
@@ -17,16 +17,17 @@ use Rattle.list_laws.specs.Counts.{times, IsIn}
 use Rattle.core_state.specs.memory.Lists.{IsEven, IsOdd}
 use Rattle.core_state.specs.memory.Memory.{Memory, stored, slot_count}
 use Rattle.core_state.specs.views.Known.{known_in, known_under, HasLock, LoadedGeneration}
-use Rattle.core_state.specs.views.Views.{readings_of, open_reading, spares_of, slots_of, held_list}
-use Rattle.core_state.specs.steps.Links.{IsMarkedNode, newly_retired}
+use Rattle.core_state.specs.views.Views.{readings_of, open_reading, spares_of, slots_of}
+use Rattle.core_state.specs.steps.Links.{newly_retired}
 use Rattle.core_state.specs.tree.Chart.{Chart}
 use Rattle.core_state.specs.parts.SlotParts.{IsHeldKnown}
 use Rattle.list_laws.proofs.Lists.{in_second}
 use Rattle.core_frames.proofs.views.Roles.{hand_own, spare_own, spare_among, held_there, slots_count, own_below, own_off, own_once, not_gone}
 use Rattle.core_frames.proofs.frames.Stepper.{Stepper}
 use Rattle.core_frames.proofs.frames.PlainFrames.{SameForMore, same_for_more}
+use Rattle.tree_laws.proofs.locks.Marked.{marked_lock, marked_linked, marked_field, marked_some}
 use Rattle.tree_laws.proofs.locks.LockHeld.{lock_outside}
-use Rattle.tree_laws.proofs.locks.Locked.{loaded_known, under_lock, no_end_of, young_locked, IsAlive, alive, alive_field}
+use Rattle.tree_laws.proofs.locks.Locked.{loaded_known, no_end_of, young_locked, IsAlive, alive, alive_field}
 use Rattle.tree_laws.proofs.stores.Stores.{stores_link}
 use Rattle.core_state.specs.memory.Words.{across}
 use Rattle.core_state.specs.steps.Rotations.{IsKnownAs, Rotation, NeedsRotate, after_rotate, rotate_marks}
@@ -45,29 +46,9 @@ pub record RotateStep : Type 0 where
   pub turning : Rotation
   pub needs : NeedsRotate who.v r upper lower p b x y upper.slot turning
 
--- a node that the view has marked, with the generation of a record
-module _ (who : Stepper) (r : Reading) (d : ℕ) (has : IsIn (readings_of who.v) r) (marked : IsMarkedNode who.v r d) where
-  open who use {k, m, vs, h, id, v, there, inv, inv.{chart as g}}
-
-  marked_on : (g.linked d ≡ true) × IsOdd (m (Life d))
-  marked_on = (inv.locks.kept id v there d marked.lock marked.locked).marked marked.marked
-
-  marked_life : m (Life d) ≡ 2 * marked.generation + 1
-  marked_life =
-      let e = (inv.locks.known id v there d marked.lock marked.locked).marked_life marked.marked in
-      let f : Some (m (Life d)) ≡ Some (2 * marked.generation + 1) = sym e ∙ marked.life in
-      cc
-
-  marked_field : (field : Field) (number : ℕ) → known_in (known_under v d) field ≡ Some number → m field ≡ number
-  marked_field field number known =
-      (inv.locks.known id v there d marked.lock marked.locked).fields r marked.generation number field has marked.recorded
-      (inr (marked_life, marked.marked)) (under_lock v d marked.lock field number marked.locked known)
-
-  marked_some : d ≢ 0
-  marked_some e = let a = marked_on.1 in let c = inv.slots.root in let f = ap (λ s. m (Life s)) e in absurd (omega arith)
-
 module _ (z : RotateStep) where
-  open z use {who, who.{k, m, vs, h, id, v, there, inv, inv.{chart as g}}, r, upper, upper.{slot as top}, lower, lower.{slot as sub}, p, b, x, y, turning, turning.{turn as t}, needs}
+  open z use {who, who.{k, m, vs, h, id, v, there, inv, inv.{chart as g}}, r, upper, upper.{slot as top}, lower, lower.{slot as sub}}
+  open z use {p, b, x, y, turning, turning.{turn as t}, needs}
 
   abbrev n : ℕ
   n = slot_count k
@@ -86,10 +67,10 @@ module _ (z : RotateStep) where
   link_is = alive_field k m vs h inv id v there r p kept parent_alive (Link p b) x needs.link_now
 
   pub x_on : (g.linked x ≡ true) × IsOdd (m (Life x))
-  x_on = marked_on who r x kept needs.node_marked
+  x_on = marked_linked who r x kept needs.node_marked
 
   pub y_on : (g.linked y ≡ true) × IsOdd (m (Life y))
-  y_on = marked_on who r y kept needs.child_marked
+  y_on = marked_linked who r y kept needs.child_marked
 
   pub x_field : (field : Field) (number : ℕ) → known_in (known_under v x) field ≡ Some number → m field ≡ number
   x_field = marked_field who r x kept needs.node_marked
@@ -98,10 +79,10 @@ module _ (z : RotateStep) where
   y_field = marked_field who r y kept needs.child_marked
 
   pub x_lock : HasLock v x
-  x_lock = (needs.node_marked.lock, needs.node_marked.locked)
+  x_lock = marked_lock who r x kept needs.node_marked
 
   pub y_lock : HasLock v y
-  y_lock = (needs.child_marked.lock, needs.child_marked.locked)
+  y_lock = marked_lock who r y kept needs.child_marked
 
   pub x_some : x ≢ 0
   x_some = marked_some who r x kept needs.node_marked
@@ -199,7 +180,8 @@ module _ (z : RotateStep) where
     top_key = (top_known (Key top) turning.child_key needs.top_is.key_is).1 ∙ sym (y_field (Key y) turning.child_key needs.child_is.key_is);
     top_value = (top_known (Value top) turning.child_value needs.top_is.value_is).1
         ∙ sym (y_field (Value y) turning.child_value needs.child_is.value_is);
-    top_outer = (top_known (Link top t) turning.outer needs.top_is.near_is).1 ∙ sym (y_field (Link y t) turning.outer needs.child_is.near_is);
+    top_outer = (top_known (Link top t) turning.outer needs.top_is.near_is).1
+        ∙ sym (y_field (Link y t) turning.outer needs.child_is.near_is);
     top_inner = (top_known (Link top (across t)) turning.bottom needs.top_is.far_is).1 ∙ sym needs.hand_is.1;
     sub_key = (sub_known (Key sub) turning.node_key sub_is.key_is).1 ∙ sym (x_field (Key x) turning.node_key needs.node_is.key_is);
     sub_value = (sub_known (Value sub) turning.node_value sub_is.value_is).1

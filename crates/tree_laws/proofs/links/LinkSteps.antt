@@ -161,7 +161,8 @@ module _ (z : LinkStep) where
 
   -- the parts on listings, by what becomes of those that nothing was made since
   pub listings_by : ((entered : ℕ) → entered < length h → (listing : Listing) → IsEven listing.front → m Front ≡ listing.front
-      → ListsNow m g h entered listing → ListsNow (words_after z) to hs entered listing) → ListingParts (words_after z) to (views_after z) hs
+      → ListsNow m g h entered listing → ListsNow (words_after z) to hs entered listing)
+      → ListingParts (words_after z) to (views_after z) hs
   listings_by now =
       listings_after m (words_after z) g to vs id w h hs (z.same.section ∙ z.outside) refl (λ s. refl)
       (λ j u section s e is. here_after section.entered (entered_before k m vs h i j u section e is) s)

@@ -23,6 +23,7 @@ use Rattle.list_laws.proofs.Lists.{in_second}
 use Rattle.core_frames.proofs.chart.Unique.{one_key}
 use Rattle.tree_laws.proofs.locks.Locked.{loaded_known, under_lock, IsAlive, alive, alive_field, young_locked, no_end_of}
 use Rattle.core_frames.proofs.frames.Stepper.{Stepper}
+use Rattle.tree_laws.proofs.locks.Marked.{marked_lock, marked_linked, marked_life, marked_field}
 use Rattle.tree_laws.proofs.updates.Updates.{there_of}
 
 -- the delete's record r, side b of the parent p, the node d and its links
@@ -66,18 +67,13 @@ module _ (z : Deletion) where
 
   -- the node
   pub node_marked : (g.linked d ≡ true) × IsOdd (m (Life d))
-  node_marked = (inv.locks.kept id v there d marked.lock marked.locked).marked marked.marked
+  node_marked = marked_linked z.who r d kept marked
 
   pub node_life : m (Life d) ≡ 2 * marked.generation + 1
-  node_life =
-      let e = (inv.locks.known id v there d marked.lock marked.locked).marked_life marked.marked in
-      let f : Some (m (Life d)) ≡ Some (2 * marked.generation + 1) = sym e ∙ marked.life in
-      cc
+  node_life = marked_life z.who r d kept marked
 
   pub node_field : (field : Field) (number : ℕ) → known_in (known_under v d) field ≡ Some number → m field ≡ number
-  node_field field number known =
-      (inv.locks.known id v there d marked.lock marked.locked).fields r marked.generation number field kept marked.recorded
-      (inr (node_life, marked.marked)) (under_lock v d marked.lock field number marked.locked known)
+  node_field = marked_field z.who r d kept marked
 
   pub left_is : m (Link d Left) ≡ z.left
   left_is = node_field (Link d Left) z.left (loaded_known (known_under v d) (Link d Left) z.left records.left_now)
@@ -95,7 +91,7 @@ module _ (z : Deletion) where
   node_key = let l = marked.recorded in reading_kept.keys d l.0 r.key l.1 (let a = node_life in let e = l.2 in omega arith) found.1
 
   pub node_lock : HasLock v d
-  node_lock = (marked.lock, marked.locked)
+  node_lock = marked_lock z.who r d kept marked
 
   pub node_young : g.old d ≡ false
   node_young = young_locked k m vs h inv id v there settled d node_lock node_marked.0
