@@ -71,7 +71,8 @@ typedef struct { uint64_t key, value; } citrus_pair;
  *            out of the index and not yet given back
  *   handles  1 to CITRUS_MAX_HANDLES: how many there can be at once. Each has a place, and a closed one leaves it to a reopen
  *   waiter   CITRUS_EER, CITRUS_DOMAIN or CITRUS_DEER
- * It takes all memory of the index at once, and only a list, a first, a share or a reopen takes more later; its time grows with the slots.
+ * It takes all memory of the index, and twice as much until it comes back; only a list, a first, a share or a reopen takes more later. Its
+ * time grows with the slots.
  * DONE; BAD_ARGUMENT or NO_MEMORY, and then the handle is as it was. */
 int32_t citrus_open(citrus_handle *handle, uint32_t slots, uint32_t handles, uint32_t waiter);
 

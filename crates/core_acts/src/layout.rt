@@ -1,19 +1,21 @@
 //! Where a word stands in the row of a table's words.
 //!
 //! Callers on different processors wait for each other where they write words of one line of memory, which is 64 bytes, and lines are
-//! fetched two at a time. So the clock, the front and the free count have 128 bytes each to themselves, and so has each place's key and
-//! stamp, each class's gate and counts, and each place's row of stamps. What a search loads of a slot stands in one line: its lock, life,
-//! key, value, links and tags. The states, at which only those look who take a slot, stand in a row of their own behind.
+//! fetched two at a time. So the clock, the front and the free count stand 128 bytes or more from all other words. So do a place's key and
+//! stamp, a class's gate and counts, and a place's row of stamps (`words_stand_apart`): wherever the row begins they share no line, and no
+//! pair of lines, with other words. What a search loads of a slot stands in one line: its lock, life, key, value, links and tags. The
+//! states, at which only those look who take a slot, stand in a row of their own behind. Neighbouring slots are 64 bytes from each other, and
+//! states 8.
 //!
 //! A line begins at a multiple of 64 bytes. glibc puts a row that it maps by itself 16 bytes behind such a multiple, and any other row
 //! behind some multiple of 16. It maps rows of 128 KiB and more; once a mapped block was given back, only rows that are larger than that
-//! block, up to 32 MiB. So 14 words of room stand before the first: with them a mapped row is laid out as told here. In any other a slot
-//! may stand in two lines, and words that two places write still have 128 bytes between them.
+//! block, up to 32 MiB. So 14 words of room stand before the first: with them each place, class and slot of a mapped row begins a line. In
+//! any other a slot may stand in two lines, and so may a class's words.
 //!
 //! Two lines at a time: Intel's optimization manual on adjacent lines, and `CachePadded` of crossbeam.
 ghost use Rattle.std.specs.Prelude.{◌≡◌, ◌+◌, ◌*◌, ◌≤◌};
 ghost use Rattle.core_state.specs.declared.shape.Shape.{Shape};
-ghost use Rattle.core_state.specs.memory.Memory.{line, waiter_room, waiter_base, word_of};
+ghost use Rattle.core_state.specs.memory.Memory.{line, waiter_room, waiter_base, word_count, word_of};
 ghost use Rattle.core_acts.specs.Acts.{in_slot};
 
 use crate::act::Part;
@@ -32,7 +34,13 @@ pub const LEAD: usize = 14;
 /// Gates of the second waiter, and stamps of each place for the third.
 pub const CLASSES: usize = 64;
 
-/// Where the waiter's words begin.
+/// The room of a place's key and stamp, and of a class's gate and counts: a line, and behind it what sets the next ones apart.
+pub const OWN_ROOM: usize = LINE + APART;
+
+/// The room of a place's row of stamps.
+pub const ROW_ROOM: usize = CLASSES + APART;
+
+// Where the waiter's words begin.
 const WAITER: usize = LEAD + 3 * APART;
 
 /// The index of a field's word, in a table of this waiter with so many slots and places.
@@ -44,15 +52,12 @@ pub fn index_of(waiter: Waiter, slots: u32, places: u32, field: Field) -> usize
         Field::Clock => LEAD,
         Field::Front => LEAD + APART,
         Field::Free => LEAD + 2 * APART,
-        Field::Announced { place } => WAITER + APART * place as usize,
-        Field::Stamp { place } => WAITER + APART * place as usize + 1,
-        Field::Gate { class } => WAITER + APART * class as usize,
-        Field::Count { class, side } => WAITER + APART * class as usize + 1 + side as usize,
-        Field::Row { place, class } => WAITER + CLASSES * place as usize + class as usize,
-        Field::State { slot } => {
-            let count = slots as usize + places as usize + 1;
-            line_of(waiter, places, count) + slot as usize
-        }
+        Field::Announced { place } => WAITER + OWN_ROOM * place as usize,
+        Field::Stamp { place } => WAITER + OWN_ROOM * place as usize + 1,
+        Field::Gate { class } => WAITER + OWN_ROOM * class as usize,
+        Field::Count { class, side } => WAITER + OWN_ROOM * class as usize + 1 + side as usize,
+        Field::Row { place, class } => WAITER + ROW_ROOM * place as usize + class as usize,
+        Field::State { slot } => states(waiter, slots, places) + slot as usize,
         Field::Lock { slot } => line_of(waiter, places, slot as usize),
         Field::Life { slot } => line_of(waiter, places, slot as usize) + 1,
         Field::Key { slot } => line_of(waiter, places, slot as usize) + 2,
@@ -62,6 +67,13 @@ pub fn index_of(waiter: Waiter, slots: u32, places: u32, field: Field) -> usize
         Field::Tag { slot, side } => line_of(waiter, places, slot as usize)
             + tag_field(side) as usize,
     }
+}
+
+/// How many words the row of such a table has: the states of all slots are its last.
+pub fn row_length(waiter: Waiter, slots: u32, places: u32) -> usize
+    ensures length { (k : Shape) → k.waiter ≡ waiter → k.slots ≡ slots → k.places ≡ places → result ≡ word_count k }
+{
+    states(waiter, slots, places) + slots as usize + places as usize + 1
 }
 
 /// The field of a part of a slot.
@@ -78,16 +90,24 @@ pub fn in_slot(slot: u32, part: Part) -> Field
     }
 }
 
-// Where the line of a slot begins; behind the last slot's the states begin.
+// Where the states begin, behind the line of the last slot.
+#[inline(always)]
+fn states(waiter: Waiter, slots: u32, places: u32) -> usize
+    ensures { result ≡ waiter_base + waiter_room waiter places + line * (slots + places + 1) }
+{
+    line_of(waiter, places, slots as usize + places as usize + 1)
+}
+
+// Where the line of a slot begins.
 #[inline(always)]
 fn line_of(waiter: Waiter, places: u32, slot: usize) -> usize
     requires slot { slot ≤ 8589934592 }
     ensures { result ≡ waiter_base + waiter_room waiter places + line * slot }
 {
     let room = match waiter {
-        Waiter::Eer => APART * places as usize,
-        Waiter::Domain => APART * CLASSES,
-        Waiter::Deer => CLASSES * places as usize,
+        Waiter::Eer => OWN_ROOM * places as usize,
+        Waiter::Domain => OWN_ROOM * CLASSES,
+        Waiter::Deer => ROW_ROOM * places as usize,
     };
     WAITER + room + LINE * slot
 }

@@ -33,7 +33,8 @@ pub fn searches_stand()
     ensures { SearchesStand }
 {}
 
-/// Who may pass a pending move's old successor.
+/// Which readers with a key of a pending move's interval pass its old successor: those entered before its update, as long as it wasn't
+/// waited for.
 pub fn few_pass()
     ensures { FewPass }
 {}
@@ -58,7 +59,7 @@ pub fn listings_go_on()
     ensures { ListingsGoOn }
 {}
 
-/// Where the free count is 0 the dictionary is large.
+/// Where the free count is 0 and a place has nothing reserved, in hand, owed or under way, the dictionary is large.
 pub fn empty_is_full()
     ensures { EmptyIsFull }
 {}

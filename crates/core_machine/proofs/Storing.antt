@@ -29,7 +29,8 @@ use Rattle.core_points.specs.Fits.{Fits}
 use Rattle.core_points.specs.Laws.{is_finished}
 use Rattle.seat_table.specs.Gains.{WordFits}
 use Rattle.seat_table.proofs.Facts.{word_fits}
-use Rattle.seat_table.proofs.Memories.{memory-word, memory-stored, word_inside}
+use Rattle.core_acts.proofs.Places.{word_inside}
+use Rattle.seat_table.proofs.Memories.{memory-word, memory-stored}
 use Rattle.core_frames.proofs.views.Fields.{same_self}
 use Rattle.core_machine.specs.Runs.{Core, core, told_in, moved, shape_of, step, steps}
 use Rattle.core_machine.specs.Laws.{IsMachine}

@@ -55,7 +55,7 @@ use Rattle.prcu_marks.specs.Accesses.{left_by, said_by, StaysWord}
 use Rattle.core_acts.specs.Acts.{field_of, access_of, Asks}
 use Rattle.core_acts.proofs.Acting.{has_word}
 use Rattle.seat_table.specs.Gains.{Sees, IsInformed, WordFits, IsApart, IsSlot, StoodInside, HasSide, StaysIn, TellsApart}
-use Rattle.seat_table.proofs.Memories.{word_inside}
+use Rattle.core_acts.proofs.Places.{word_inside}
 
 -- a list's beginning has the same elements
 at_front : {A : Type 0} (a rest : List A) (i : ℕ) (x : A) → i < length a → get_elem? (a ++ rest) i ≡ some x → get_elem? a i ≡ some x

@@ -11,7 +11,7 @@ use crate::seat::Seat;
 use crate::waiter::{WaitWords, waiter_of};
 use arrayvec::ArrayVec;
 use atomic_table::Table;
-use core_acts::{APART, CLASSES, LEAD, LINE};
+use core_acts::{APART, CLASSES, LEAD, LINE, OWN_ROOM, ROW_ROOM, row_length};
 use core_state::shape::Waiter;
 use core_state::{Shape, View};
 use prcu_model::NoMemory;
@@ -70,7 +70,7 @@ fn add_place(words: &mut Vec<u64>) -> Result<(), AllocError>
 {
     words.push(0)?;
     words.push(u64::MAX)?;
-    add_many(words, APART - 2, 0)
+    add_many(words, OWN_ROOM - 2, 0)
 }
 
 fn add_places(words: &mut Vec<u64>, places: usize) -> Result<(), AllocError>
@@ -88,8 +88,8 @@ fn add_waiter(words: &mut Vec<u64>, waiter: Waiter, places: usize) -> Result<(),
 {
     match waiter {
         Waiter::Eer => add_places(words, places),
-        Waiter::Domain => add_many(words, APART * CLASSES, 0),
-        Waiter::Deer => add_many(words, CLASSES * places, u64::MAX),
+        Waiter::Domain => add_many(words, OWN_ROOM * CLASSES, 0),
+        Waiter::Deer => add_many(words, ROW_ROOM * places, u64::MAX),
     }
 }
 
@@ -99,7 +99,8 @@ pub fn words_of(alloc: Global, shape: &Shape) -> Result<Vec<u64>, AllocError>
 {
     let slots = shape.slots as usize;
     let places = shape.places as usize;
-    let mut words = Vec::new(alloc);
+    // With all of its room from the start: a list that grows asks for up to twice as much.
+    let mut words = Vec::with_capacity(alloc, row_length(shape.waiter, shape.slots, shape.places))?;
     add_many(&mut words, LEAD + 2 * APART, 0)?;
     add_alone(&mut words, shape.slots as u64)?;
     add_waiter(&mut words, shape.waiter, places)?;

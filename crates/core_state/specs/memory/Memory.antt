@@ -36,15 +36,23 @@ lead = 14
 abbrev pub classes : ℕ
 classes = 64
 
+-- A place's key and stamp, or a class's gate and sides, have a line and so much room behind it that the next ones stand sixteen words from
+-- the line's last. So does a place's row of stamps.
+abbrev pub own_room : ℕ
+own_room = line + apart
+
+abbrev pub row_room : ℕ
+row_room = classes + apart
+
 -- where the waiter's words begin
 abbrev pub waiter_base : ℕ
 waiter_base = lead + 3 * apart
 
 -- how much room the waiter has, for so many places
 abbrev pub waiter_room : Waiter → ℕ → ℕ
-waiter_room Eer places = apart * places
-waiter_room Domain places = apart * classes
-waiter_room Deer places = classes * places
+waiter_room Eer places = own_room * places
+waiter_room Domain places = own_room * classes
+waiter_room Deer places = row_room * places
 
 -- where the slots' lines begin
 abbrev pub slot_base : Shape → ℕ
@@ -62,11 +70,11 @@ abbrev pub word_of : Shape → Field → ℕ
 word_of k Clock = lead
 word_of k Front = lead + apart
 word_of k Free = lead + 2 * apart
-word_of k (Announced p) = waiter_base + apart * p
-word_of k (Stamp p) = waiter_base + apart * p + 1
-word_of k (Gate c) = waiter_base + apart * c
-word_of k (Count c side) = waiter_base + apart * c + 1 + side
-word_of k (Row p c) = waiter_base + classes * p + c
+word_of k (Announced p) = waiter_base + own_room * p
+word_of k (Stamp p) = waiter_base + own_room * p + 1
+word_of k (Gate c) = waiter_base + own_room * c
+word_of k (Count c side) = waiter_base + own_room * c + 1 + side
+word_of k (Row p c) = waiter_base + row_room * p + c
 word_of k (State s) = state_base k + s
 word_of k (Lock s) = slot_base k + line * s
 word_of k (Life s) = slot_base k + line * s + 1
