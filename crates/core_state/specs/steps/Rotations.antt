@@ -15,12 +15,13 @@ use Rattle.core_state.specs.steps.Slots.{IsInHand, IsSpare}
 use Rattle.core_state.specs.steps.Links.{IsUnmarkedNode, IsMarkedNode, with_mark, newly_retired}
 
 -- K38: side b of the parent leads to a node, and its side `turn` to a child; both are marked by this view. The spare, with the child's key,
--- is linked in the node's place, and below it the slot in hand, with the node's key.
-pub record NeedsRotate (v : View) (r : Reading) (upper lower : Held) (parent : ℕ) (b : Side) (node : ℕ) (turn : Side)
+-- is linked in the node's place, and below it the slot in hand, with the node's key. A place may hold back so many retired slots, and has
+-- room for two more.
+pub record NeedsRotate (most : ℕ) (v : View) (r : Reading) (upper lower : Held) (parent : ℕ) (b : Side) (node : ℕ) (turn : Side)
     (child top bottom outer inner far node_key node_value child_key child_value : ℕ) : Type 0 where
   pub settled : v.moving ≡ None
   pub ticket : 1 ≤ v.allowance.tickets
-  pub room : length v.hands.retired < 15
+  pub room : length v.hands.retired + 1 < most
   pub kept : IsIn v.records r
   pub parent_now : IsUnmarkedNode v r parent
   pub link_now : known_in (known_under v parent) (Link parent b) ≡ Some node

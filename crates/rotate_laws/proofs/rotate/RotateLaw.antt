@@ -61,7 +61,7 @@ module _ (k : Shape) (m : Memory) (vs : List View) (h : List Mark) (id : ℕ) (v
   case38 field found left w marks (step38 {parent = p} {node = x} {child = y} {top = top} {bottom = bottom} {outer = outer} {inner = inner}
       {far = far} {node_key = x_key} {node_value = x_value} {child_key = y_key} {child_value = y_value} {b = b} {turn = t} {upper = upper}
       {lower = lower} reading needs) =
-      subst (λ q. NeedsRotate v reading upper lower p b x t y q lower.slot outer inner far x_key x_value y_key y_value
+      subst (λ q. NeedsRotate k.room v reading upper lower p b x t y q lower.slot outer inner far x_key x_value y_key y_value
       → IsKept k m h (stored m (Link p b) q) (set vs id (after_rotate v p b x y q h)) (h ++ rotate_marks x y))
       needs.spare_is.1
       (λ same. rotate_kept (record {
@@ -83,7 +83,7 @@ module _ (k : Shape) (m : Memory) (vs : List View) (h : List Mark) (id : ℕ) (v
         y_value = y_value;
         needs = same;
       }))
-      (subst (λ q. NeedsRotate v reading upper lower p b x t y top q outer inner far x_key x_value y_key y_value) (sym needs.hand_is.1) needs)
+      (subst (λ q. NeedsRotate k.room v reading upper lower p b x t y top q outer inner far x_key x_value y_key y_value) (sym needs.hand_is.1) needs)
 
 pub keeps38 : Keeps K38
 keeps38 k m vs h id v w field left marks i there works is_field step = case38 k m vs h id v i there works field (m field) left w marks step

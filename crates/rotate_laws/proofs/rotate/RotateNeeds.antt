@@ -50,7 +50,7 @@ pub record RotateStep : Type 0 where
   pub x_value : ℕ
   pub y_key : ℕ
   pub y_value : ℕ
-  pub needs : NeedsRotate who.v r upper lower p b x t y upper.slot lower.slot outer inner far x_key x_value y_key y_value
+  pub needs : NeedsRotate who.k.room who.v r upper lower p b x t y upper.slot lower.slot outer inner far x_key x_value y_key y_value
 
 -- a node that the view has marked, with the generation of a record
 module _ (who : Stepper) (r : Reading) (d : ℕ) (has : IsIn (readings_of who.v) r) (marked : IsMarkedNode who.v r d) where
