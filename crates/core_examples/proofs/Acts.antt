@@ -28,7 +28,7 @@ use Rattle.core_examples.proofs.States.{State, AllAsked, after, reached, over, â
 
 -- a table with five slots, one place and the first waiter
 abbrev pub small : Shape
-small = record { waiter = Eer; slots = 5; places = 1; tickets = 100 }
+small = record { waiter = Eer; slots = 5; places = 1; room = 16; tickets = 100 }
 
 -- an act, the tests of its needs, and that they are met where all tests are true
 pub record Step : Type 0 where

@@ -1,6 +1,6 @@
 -- Steps of a rotation.
 use Rattle.std.proofs.lemmas.Bool.{eqb-true, ltb-true, leb-true}
-use Rattle.std.proofs.Common.{◌≡◌, ℕ, ◌==◌, nat_le, nat_lt, not, Bool, true, List, [], ◌∷◌, length, inr}
+use Rattle.std.proofs.Common.{◌≡◌, ℕ, ◌+◌, ◌==◌, nat_le, nat_lt, not, Bool, true, List, [], ◌∷◌, length, inr}
 use Rattle.prcu_marks.specs.declared.mark.Side.{Side}
 use Rattle.core_state.specs.declared.words.Field.TheVariants.{Key, Value, Link}
 use Rattle.core_state.specs.declared.view.Known.{Known}
@@ -13,7 +13,7 @@ use Rattle.core_examples.proofs.Tests.{all_of, passed, is_some, some_is, is_empt
 use Rattle.core_examples.proofs.Records.{is_recorded, recorded_is, marked_tests, marked_node}
 use Rattle.core_acts.specs.declared.act.Act.TheVariants.{Mark, Rotate}
 use Rattle.core_acts.specs.Acts.{spare_of}
-use Rattle.core_examples.proofs.Acts.{Step}
+use Rattle.core_examples.proofs.Acts.{Step, small}
 use Rattle.core_examples.proofs.Updates.{mark_tests, why_mark}
 
 -- a node is marked that has the generation of a record
@@ -56,7 +56,7 @@ rotate parent b node child top turning = record {
   tests = λ v.
       not (is_some v.moving) ∷
       nat_le 1 v.allowance.tickets ∷
-      nat_lt (length v.hands.retired) 15 ∷
+      nat_lt (length v.hands.retired + 1) small.room ∷
       not (is_empty v.records) ∷
       is_recorded v parent ∷
       is_number (known_in (known_under v parent) (Link parent b)) node ∷

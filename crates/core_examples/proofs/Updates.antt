@@ -1,6 +1,6 @@
 -- Steps that update the tree, or that mark a node of it: inserts, replaced values, deletes, and moves.
 use Rattle.std.proofs.lemmas.Bool.{and_parts, eqb-true, leb-true, ltb-true}
-use Rattle.std.proofs.Common.{◌≡◌, ◌⊎◌, ℕ, ◌*◌, ◌%◌, ◌==◌, ◌&&◌, nat_lt, nat_le, not, cond, Bool, true, List, [], ◌∷◌, length, refl, inl, inr, unwrap_or}
+use Rattle.std.proofs.Common.{◌≡◌, ◌⊎◌, ℕ, ◌+◌, ◌*◌, ◌%◌, ◌==◌, ◌&&◌, nat_lt, nat_le, not, cond, Bool, true, List, [], ◌∷◌, length, refl, inl, inr, unwrap_or}
 use Rattle.prcu_marks.specs.declared.mark.Side.{Side}
 use Rattle.prcu_marks.specs.declared.mark.Side.TheVariants.{Left, Right}
 use Rattle.core_state.specs.declared.words.Field.TheVariants.{Key, Value, Life, Link, Tag}
@@ -13,7 +13,7 @@ use Rattle.core_examples.proofs.Tests.{all_of, passed, is_some, some_is, is_empt
 use Rattle.core_examples.proofs.Records.{generation_of, is_recorded, recorded_is, is_found, found_is, few_tests, few_children, both_tests, both_children, marked_tests, marked_node}
 use Rattle.core_acts.specs.declared.act.Act.TheVariants.{LinkLeaf, Bypass, Mark, LinkCopy, UnlinkLeft, UnlinkRight, ReplaceValue}
 use Rattle.core_acts.specs.Acts.{commit_of, spare_of}
-use Rattle.core_examples.proofs.Acts.{Step}
+use Rattle.core_examples.proofs.Acts.{Step, small}
 
 -- the node of a delete: where it hangs, its slot, and its links
 pub record Node : Type 0 where
@@ -117,7 +117,7 @@ bypass node key = record {
   act = Bypass node.parent node.side node.slot (cond (node.left == 0) node.right node.left) key;
   tests = λ v.
       can_commit v ∷
-      nat_lt (length v.hands.retired) 16 ∷
+      nat_lt (length v.hands.retired) small.room ∷
       all_of (few_tests v node.parent node.side node.slot node.left node.right) ∷
       all_of (marked_tests v node.slot) ∷
       ((reading_now v).key == key) ∷
@@ -203,7 +203,7 @@ link_copy node copy old_parent old key next_key value = record {
   act = LinkCopy node.parent node.side node.slot copy old old_parent key next_key;
   tests = λ v.
       can_commit v ∷
-      nat_lt (length v.hands.retired) 15 ∷
+      nat_lt (length v.hands.retired + 1) small.room ∷
       all_of (both_tests v node.parent node.side node.slot node.left node.right old_parent old) ∷
       all_of (marked_tests v node.slot) ∷
       is_some v.hands.spare ∷

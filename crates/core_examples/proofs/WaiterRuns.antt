@@ -24,7 +24,7 @@ use Rattle.std.proofs.lemmas.Bool.{leb-true, ltb-true}
 
 -- the second waiter
 abbrev counted : Shape
-counted = record { waiter = Domain; slots = 1; places = 1; tickets = 10 }
+counted = record { waiter = Domain; slots = 1; places = 1; room = 16; tickets = 10 }
 
 abbrev counted_start : State
 counted_start = record { words = words_with 1 (many 0 (own_room * classes)) 3 (1 ∷ 1 ∷ 0 ∷ []); view = first_view counted; marks = [] }
@@ -138,7 +138,7 @@ counted_ended = refl
 
 -- the third waiter
 abbrev rowed : Shape
-rowed = record { waiter = Deer; slots = 1; places = 1; tickets = 10 }
+rowed = record { waiter = Deer; slots = 1; places = 1; room = 16; tickets = 10 }
 
 abbrev rowed_start : State
 rowed_start = record { words = words_with 1 (many idle row_room) 3 (1 ∷ 1 ∷ 0 ∷ []); view = first_view rowed; marks = [] }

@@ -1,5 +1,6 @@
 -- Where the free count is 0 the dictionary is large: each slot is somewhere. It is never larger than the slots: each place keeps one.
 use Rattle.std.proofs.Common.{◌≡◌, ℕ, zero, suc, ◌+◌, ◌-◌, ◌*◌, ◌<◌, ◌≤◌, ◌==◌, not, ◌&&◌, Bool, true, false, List, [], ◌∷◌, ◌++◌, length, map, Option, Some, None, refl, sym, ap, subst, ◌∙◌, arith, eq-eqb, ne_eqb, length-append}
+use Rattle.std.proofs.Math.Nat.{le-mul_of_pos_right, mul-le-mul_left}
 use Rattle.std.proofs.lemmas.Bool.{lt-ltb}
 use mathlib.Core.Logic.{dite}
 use mathlib.Core.Option.{some, some-injective, some-ne-none}
@@ -88,16 +89,16 @@ has_most : (o : Option Move) → has o ≤ 1
 has_most None = omega arith
 has_most (Some move) = omega arith
 
--- the slots that stay at spent places: at most 17 each
-joined_few : (ss : List Spent) → Each ss (λ (s : Spent). length s.retired ≤ 16)
-    → length (joined_spares ss) + length (joined_retired ss) ≤ 17 * length ss
-joined_few [] few = omega arith
-joined_few (s ∷ ss) few =
+-- the slots that stay at spent places: a spare each, and so many retired ones at most
+joined_few : (most : ℕ) (ss : List Spent) → Each ss (λ (s : Spent). length s.retired ≤ most)
+    → length (joined_spares ss) + length (joined_retired ss) ≤ (most + 1) * length ss
+joined_few most [] few = omega arith
+joined_few most (s ∷ ss) few =
     let a = length-append (slot_list s.spare) (joined_spares ss) in
     let b = length-append s.retired (joined_retired ss) in
     let c = length_slot s.spare in
     let d = few 0 s refl in
-    let e = joined_few ss (λ i t at. few (suc i) t at) in
+    let e = joined_few most ss (λ i t at. few (suc i) t at) in
     omega arith
 
 -- what a view has of slots, with what it has reserved, owes and has under way
@@ -126,39 +127,46 @@ places_length v =
     omega arith
 
 -- a slot reserved, or one in hand
-one_hand : (v : View) → HasFewSlots v → flag v.hands.reserved + length (held_list v.hands.hand) ≤ 1
+one_hand : {most : ℕ} (v : View) → HasFewSlots most v → flag v.hands.reserved + length (held_list v.hands.hand) ≤ 1
 one_hand v few = cases v.hands.reserved refl
   where
     cases : (b : Bool) → v.hands.reserved ≡ b → flag v.hands.reserved + length (held_list v.hands.hand) ≤ 1
     cases true e = let a = ap flag e in let b = ap (λ o. length (held_list o)) (few.one e) in omega arith
     cases false e = let a = ap flag e in let b = length_held v.hands.hand in omega arith
 
--- a place that is worked at has at most twenty slots, another fewer
-share_most : (v : View) → HasFewSlots v → (v.allowance.places ≡ 0 → v ≡ spent_view) → share v ≤ 20 * length (places_of v)
-share_most v few spent =
+-- a place that is worked at has at most four slots beside its retired ones, another fewer
+share_most : (most : ℕ) (v : View) → HasFewSlots most v → (v.allowance.places ≡ 0 → v ≡ spent_view)
+    → share v ≤ (most + 4) * length (places_of v)
+share_most most v few spent =
     let a = slots_length v in
-    let b = places_length v in
-    let c = joined_few v.allowance.joined few.joined in
+    let b = ap (λ n. (most + 4) * n) (places_length v) in
+    let c = joined_few most v.allowance.joined few.joined in
     let d = one_hand v few in
     let e = flag_most v.hands.owes in
     let f = has_most v.moving in
     let g = length_held v.hands.spare in
     let r = few.few in
-    dite (dec_le 1 v.allowance.places) (λ works. omega arith)
+    dite (dec_le 1 v.allowance.places) (λ works. (let own = le-mul_of_pos_right most works in omega arith))
     (λ none. (let z : share v ≡ 0 = ap share (spent (omega arith)) in omega arith))
 
-share_own : (v : View) → HasFewSlots v → HoldsNothing v → share v + 20 ≤ 20 * length (places_of v) + (1 + length v.hands.retired)
-share_own v few nothing =
+share_own : (most : ℕ) (v : View) → HasFewSlots most v → HoldsNothing v
+    → share v + (most + 4) ≤ (most + 4) * length (places_of v) + (1 + length v.hands.retired)
+share_own most v few nothing =
     let a = slots_length v in
-    let b = places_length v in
-    let c = joined_few v.allowance.joined few.joined in
+    let b = ap (λ n. (most + 4) * n) (places_length v) in
+    let c = joined_few most v.allowance.joined few.joined in
     let d = ap flag nothing.reserved in
     let e = ap flag nothing.owes in
     let f = ap has nothing.moving in
     let g = length_held v.hands.spare in
     let h = ap (λ o. length (held_list o)) nothing.hand in
     let works = nothing.works in
+    let own = le-mul_of_pos_right most works in
     omega arith
+
+one_less : (c n : ℕ) → 1 ≤ n → c * n ≡ c * (n - 1) + c
+one_less c n positive = ap (λ x. c * x) (let e : n ≡ (n - 1) + 1 = omega arith in e) ∙ (let d : (x : ℕ) → c * (x + 1) ≡ c * x + c =
+    λ x. omega arith in d (n - 1))
 
 module _ (k : Shape) (m : Memory) (vs : List View) (h : List Mark) (i : HoldsNow k m vs h) where
   -- linked slots are the root, those that hold pairs, and old successors
@@ -229,14 +237,15 @@ empty_is_full k m vs h i id v there nothing empty =
     let c = i.counts.free in
     let d = i.counts.pairs in
     let e = i.counts.olds in
-    let f = total_le_but share (λ (u : View). 20 * length (places_of u)) vs id 20 (1 + length v.hands.retired) v there
-    (share_own v (few id v there) nothing) (λ j u at. share_most u (few j u at) (spent j u at)) in
-    let g = total_times 20 (λ (u : View). length (places_of u)) vs in
-    let p = all_places k m vs h i in
+    let each : ℕ = k.room + 4 in
+    let f = total_le_but share (λ (u : View). each * length (places_of u)) vs id each (1 + length v.hands.retired) v there
+    (share_own k.room v (few id v there) nothing) (λ j u at. share_most k.room u (few j u at) (spent j u at)) in
+    let g = total_times each (λ (u : View). length (places_of u)) vs in
+    let p = mul-le-mul_left each (all_places k m vs h i) in
     let q = total_add (λ (u : View). flag u.hands.reserved) (λ (u : View). flag u.hands.owes + (has u.moving + length (slots_of u))) vs in
     let r = total_add (λ (u : View). flag u.hands.owes) (λ (u : View). has u.moving + length (slots_of u)) vs in
     let t = total_add (λ (u : View). has u.moving) (λ (u : View). length (slots_of u)) vs in
-    let s = i.table.some_place in
+    let s = one_less each k.places i.table.some_place in
     omega arith
 
 -- a list with an element isn't empty
@@ -259,7 +268,7 @@ joined_some (s ∷ ss) spare =
     one (Some t) e = let a = ap (λ x. length (slot_list x)) e in omega arith
 
 -- so does one that is worked at
-share_least : (v : View) → HasFewSlots v → (v.allowance.places ≡ 0 → v ≡ spent_view) → length (places_of v) ≤ length (slots_of v)
+share_least : {most : ℕ} (v : View) → HasFewSlots most v → (v.allowance.places ≡ 0 → v ≡ spent_view) → length (places_of v) ≤ length (slots_of v)
 share_least v few spent =
     let a = slots_length v in
     let b = places_length v in

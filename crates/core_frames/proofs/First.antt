@@ -227,11 +227,11 @@ module _ (k : Shape) (m : Memory) (table : IsShape k) (fresh : IsFresh k m) wher
         states = λ s lt. dite (dec_le s k.places) (λ low. (let e = state_one s lt low in omega arith))
             (λ high. (let e = state_zero s lt (omega arith) in omega arith));
       };
-      few = each_one HasFewSlots (first_view k) (record {
+      few = each_one (HasFewSlots k.room) (first_view k) (record {
         one = λ e. refl;
         few = omega arith;
         room = λ move is. omega arith;
-        joined = each_none (λ (s : Spent). length s.retired ≤ 16);
+        joined = each_none (λ (s : Spent). length s.retired ≤ k.room);
         joined_spare = each_none HasSpareToCome;
         next_spare = λ works none. absurd (cc);
       });

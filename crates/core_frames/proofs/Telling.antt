@@ -177,6 +177,7 @@ module _ (k : Shape) (m : Memory) (vs : List View) (h : List Mark) (inv : HoldsN
 pub told_of : ViewsAreTold
 told_of k m vs h id v inv there works = record {
   some_place = inv.table.some_place;
+  some_room = inv.table.some_room;
   loads = tells_loads k m vs h inv id v there;
   older = tells_older k m vs h inv id v there;
   alone = tells_alone k m vs h inv id v there;

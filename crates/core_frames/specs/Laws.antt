@@ -120,7 +120,7 @@ StoodIsYoung = (k : Shape) (m : Memory) (vs : List View) (h : List Mark) (i : Ho
     → (i.chart.linked s ≡ true) ⊎ ((at : ℕ) × (gone_at s h ≡ Some at) × (section.entered < at))
 
 -- Where the free count is 0, a place with nothing reserved, in hand, owed or under way shows that the dictionary is large: its pairs,
--- with its retired slots and twenty for each other place, are as many as the slots.
+-- with its retired slots and for each other place as many as it may hold back and four, are as many as the slots.
 pub record HoldsNothing (v : View) : Type 0 where
   pub works : Works v
   pub reserved : v.hands.reserved ≡ false
@@ -131,7 +131,7 @@ pub record HoldsNothing (v : View) : Type 0 where
 abbrev pub EmptyIsFull : Type 0
 EmptyIsFull = (k : Shape) (m : Memory) (vs : List View) (h : List Mark) → HoldsNow k m vs h → (id : ℕ) (v : View) → get_elem? vs id ≡ some v
     → HoldsNothing v → m Free ≡ 0
-    → k.slots ≤ finite.len (map_of (updates_of h)) + length v.hands.retired + 20 * (k.places - 1)
+    → k.slots ≤ finite.len (map_of (updates_of h)) + length v.hands.retired + (k.room + 4) * (k.places - 1)
 
 -- The dictionary has no more pairs than there are slots for them: each place keeps a slot.
 abbrev pub PairsFit : Type 0

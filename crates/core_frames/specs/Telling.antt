@@ -62,9 +62,10 @@ abbrev pub TellsOldLinks : ℕ → View → Type 0
 TellsOldLinks n v = (move : Move) → v.moving ≡ Some move → (b : Side) (child : ℕ)
     → known_in (known_under v move.old) (Link move.old b) ≡ Some child → IsChild n child
 
--- What the rule tells of the view, where the table has so many slots and places, and these are its words and all marks.
-pub record IsToldOf (slots places : ℕ) (v : View) (h : List Mark) (word : Field → ℕ) : Type 0 where
+-- What the rule tells of the view, where the table has so many slots, places and room at a place, and these are its words and all marks.
+pub record IsToldOf (slots places room : ℕ) (v : View) (h : List Mark) (word : Field → ℕ) : Type 0 where
   pub some_place : 1 ≤ places
+  pub some_room : 16 ≤ room
   pub loads : (s : ℕ) (field : Field) → Tells v s field (word field)
   pub older : Each v.hands.retired (λ (r : Retired). r.unlinked < length h)
   pub alone : TellsAlone v
@@ -86,4 +87,4 @@ pub record IsToldOf (slots places : ℕ) (v : View) (h : List Mark) (word : Fiel
 -- The rule tells so much of each view that works at a place.
 abbrev pub ViewsAreTold : Type 0
 ViewsAreTold = (k : Shape) (m : Memory) (vs : List View) (h : List Mark) (id : ℕ) (v : View) → HoldsNow k m vs h → get_elem? vs id ≡ some v
-    → Works v → IsToldOf k.slots k.places v h m
+    → Works v → IsToldOf k.slots k.places k.room v h m

@@ -51,8 +51,8 @@ use Rattle.core_points.proofs.Unlocks.{needs_unlock, next_unlock}
 use Rattle.tree_laws.proofs.locks.Locked.{loaded_known}
 
 pub rule_tells : RuleTells
-rule_tells k m vs h id o v inv there works slots places =
-    subst (λ (z : ℕ × ℕ). IsToldOf z.0 z.1 v h m) (λ i. (slots i, places i)) (told_of k m vs h id v inv there works)
+rule_tells k m vs h id o v inv there works slots places room =
+    subst (λ (z : ℕ × ℕ × ℕ). IsToldOf z.0 z.1 z.2 v h m) (λ i. (slots i, places i, room i)) (told_of k m vs h id v inv there works)
 
 none_are : (rs : List Retired) (os : List ℕ) → map (λ (r : Retired). r.slot) rs ≡ os → rs ≢ [] → is_none_left os ≡ false
 none_are [] os e ne = absurd (ne refl)
@@ -87,7 +87,7 @@ is_aside o v h word d u told owns p =
           s.link;
     }
 
-module _ (k : Shape) (h : List Mark) (o : Own) (w : View) (places : k.places ≡ o.places) where
+module _ (k : Shape) (h : List Mark) (o : Own) (w : View) (places : k.places ≡ o.places) (room : k.room ≡ o.room) where
   leaves : (key : ℕ) (state : SearchState) (more : Section → Type 0) → Inside w key state more → (s : Section) × (w.section ≡ Some s)
   leaves key state more i = (i.section, i.is)
 
@@ -133,8 +133,8 @@ module _ (k : Shape) (h : List Mark) (o : Own) (w : View) (places : k.places ≡
   needs_all word told n (at.Commit u expected) eer f = needs_commit k h o w n u expected f
   needs_all word told n (at.Store (update.Leaf spot) front) eer f = needs_store k h o w n spot front f
   needs_all word told n (at.Store (update.Value s old) front) eer f = needs_set_store k h o w n s old front f
-  needs_all word told n (at.Store (update.Bypass d child) front) eer f = needs_bypass k h o w n d child front f
-  needs_all word told n (at.Store (update.Copy d u next_key copy) front) eer f = needs_copy_store k h o w n d u next_key copy front f
+  needs_all word told n (at.Store (update.Bypass d child) front) eer f = needs_bypass k h o w n d child front room told.some_room f
+  needs_all word told n (at.Store (update.Copy d u next_key copy) front) eer f = needs_copy_store k h o w n d u next_key copy front room told.some_room f
   needs_all word told n (at.Even u front) eer f = needs_even k h o w n u front f
   needs_all word told n (at.Unlock l) eer f = needs_unlock k h o w n l f
   needs_all word told n (at.SetLife s) eer f = needs_set_life k h o w n s f
@@ -164,11 +164,11 @@ module _ (k : Shape) (h : List Mark) (o : Own) (w : View) (places : k.places ≡
   needs_all word told n (at.Unlink m child) eer f = needs_unlink k h o w n m child f
 
 pub needs_are_given : NeedsAreGiven
-needs_are_given k h o v word n stage eer places told f = needs_all k h o v places word told n stage eer f
+needs_are_given k h o v word n stage eer places room told f = needs_all k h o v places room word told n stage eer f
 
 -- a shape, for what doesn't speak of it
 any : Shape
-any = record { waiter = Eer; slots = 0; places = 0; tickets = 0 }
+any = record { waiter = Eer; slots = 0; places = 0; room = 0; tickets = 0 }
 
 module _ (h : List Mark) (o : Own) (v : View) where
   next_all : (word : Field → ℕ) → IsTold o v h word → (stage : Stage) → is_finished stage ≡ false → Fits o stage v
@@ -302,6 +302,7 @@ trails_are_free h o v word stage kind field number = (
   (λ f. record { owns = f.owns; tickets = f.tickets; unraised = f.unraised; point = f.point }),
   (λ told. record {
     some_place = told.some_place;
+    some_room = told.some_room;
     loads = told.loads;
     older = told.older;
     alone = told.alone;

@@ -109,7 +109,7 @@ none_retired (r ∷ rs) os e none = absurd (let q : false ≡ true = ap is_none_
 full_said : (k : Shape) (m : Memory) (vs : List View) (h : List Mark) (id : ℕ) (v : View) (o : Own) (spot : Spot) (expected : ℕ)
     → HoldsNow k m vs h → get_elem? vs id ≡ some v
     → Fits o (at.Reserve (Leaf spot) expected) v → is_none_left o.retired ≡ true → m Free ≡ 0
-    → k.slots ≤ finite.len (map_of (updates_of h)) + 20 * (k.places - 1)
+    → k.slots ≤ finite.len (map_of (updates_of h)) + (k.room + 4) * (k.places - 1)
 full_said k m vs h id v o spot expected inv there f none empty =
     let i = (f.point).idle in
     let b = i.bare in

@@ -2,7 +2,7 @@
 use Rattle.std.proofs.lemmas.Bool.{le-leb}
 use mathlib.Core.Logic.{dite}
 use native.Mathlib.Decide.{dec_le}
-use Rattle.std.proofs.Common.{ap, ◌+◌, zero, Some, ◌∙◌, ne_eqb, ◌≡◌, ℕ, suc, ◌*◌, ◌^◌, ◌==◌, ◌<◌, ◌≤◌, nat_le, cond, Bool, true, false, List, [], ◌∷◌, ◌++◌, length, Option, None, refl, sym, subst, arith}
+use Rattle.std.proofs.Common.{ap, ◌+◌, zero, Some, ◌∙◌, ne_eqb, ◌≡◌, ℕ, suc, ◌*◌, ◌^◌, ◌==◌, ◌<◌, ◌≤◌, nat_le, cond, Bool, true, false, List, [], ◌∷◌, ◌++◌, length, Option, None, refl, sym, subst, arith, ◌-◌}
 use Rattle.prcu_model.specs.declared.operation.Op.{Op}
 use Rattle.prcu_model.specs.declared.operation.Op.TheVariants.{Put, Get, Del, Set}
 use Rattle.prcu_model.specs.declared.operation.Reply.{Reply}
@@ -37,13 +37,13 @@ pub positive : (x : ℕ) → 1 ≤ cond (x == 0) 1 x
 positive zero = omega arith
 positive (suc x) = subst (λ b. 1 ≤ cond b 1 (suc x)) (sym (ne_eqb (suc x) 0 (λ e. absurd (omega arith)))) (omega arith)
 
-pub ready_put : (op : Op) (hand spare : Option ℕ) (retired : List ℕ) → is_put op ≡ true → IsReady op hand spare retired
+pub ready_put : {most : ℕ} (op : Op) (hand spare : Option ℕ) (retired : List ℕ) → is_put op ≡ true → IsReady most op hand spare retired
 ready_put (Put key value) hand spare retired e = record { empty = λ z. cc; room = λ z. cc; has_spare = λ z. cc }
 ready_put (Get key) hand spare retired e = cc
 ready_put (Del key) hand spare retired e = cc
 ready_put (Set key value) hand spare retired e = cc
 
-pub ready_set : (op : Op) (hand spare : Option ℕ) (retired : List ℕ) → is_set op ≡ true → hand ≡ None → IsReady op hand spare retired
+pub ready_set : {most : ℕ} (op : Op) (hand spare : Option ℕ) (retired : List ℕ) → is_set op ≡ true → hand ≡ None → IsReady most op hand spare retired
 ready_set (Set key value) hand spare retired e none = record { empty = λ z. none; room = λ z. cc; has_spare = λ z. cc }
 ready_set (Put key value) hand spare retired e none = cc
 ready_set (Get key) hand spare retired e none = cc
@@ -70,7 +70,7 @@ module _ (o : Own) (v : View) (free : IsFree o v) where
       + o.places) o.spare o.retired o.locks v.allowance.place v.allowance.places v.hands.spare v.hands.retired v.locks
   owns_op op ops fit = owns_for (key_of op) ops (fit 0 op refl) (λ i a e. fit (suc i) a e)
 
-  starts : (op : Op) (ops : List Op) → IsReady op o.hand o.spare o.retired → Each (op ∷ ops) (λ later. key_of later < 2 ^ 64)
+  starts : (op : Op) (ops : List Op) → IsReady o.room op o.hand o.spare o.retired → Each (op ∷ ops) (λ later. key_of later < 2 ^ 64)
       → 4 * length (op ∷ ops) + o.kept ≤ v.allowance.tickets
       → Fits (record o { op = op; rest = ops; stage = at.EnterClock }) at.EnterClock v
   starts op ops ready fit paid = record {
@@ -88,7 +88,7 @@ module _ (o : Own) (v : View) (free : IsFree o v) where
   }
 
   -- an operation that isn't a delete
-  ready_other : (op : Op) → is_delete op ≡ false → IsReady op o.hand o.spare o.retired
+  ready_other : (op : Op) → is_delete op ≡ false → IsReady o.room op o.hand o.spare o.retired
   ready_other op other = record {
     empty = λ z. free.empty;
     room = λ is. absurd (let q : true ≡ false = sym is ∙ other in cc);
@@ -101,16 +101,16 @@ module _ (o : Own) (v : View) (free : IsFree o v) where
   first (Put key value) ops fit paid = starts (Put key value) ops (ready_other (Put key value) refl) fit paid
   first (Get key) ops fit paid = starts (Get key) ops (ready_other (Get key) refl) fit paid
   first (Set key value) ops fit paid = starts (Set key value) ops (ready_other (Set key value) refl) fit paid
-  first (Del key) ops fit paid = many (nat_le 15 (length o.retired)) refl
+  first (Del key) ops fit paid = many (nat_le o.room (length o.retired + 1)) refl
     where
       idle : Idle (record o { op = Del key; rest = ops; stage = at.EnterClock }) (plain v)
       idle = record { outside = free.outside; bare = free.bare; empty = free.no_hand; no_hand = free.empty }
 
-      few : nat_le 15 (length o.retired) ≡ false → length o.retired < 15
-      few e = dite (dec_le 15 (length o.retired)) (λ le. absurd (let q : true ≡ false = sym (le-leb 15 (length o.retired) le) ∙ e in cc))
-          (λ lt. omega arith)
+      few : nat_le o.room (length o.retired + 1) ≡ false → length o.retired ≤ o.room - 2
+      few e = dite (dec_le o.room (length o.retired + 1))
+          (λ le. absurd (let q : true ≡ false = sym (le-leb o.room (length o.retired + 1) le) ∙ e in cc)) (λ lt. omega arith)
 
-      has_spare : length o.retired < 15 → (z : Bool) → is_some o.spare ≡ z → let st : Stage =
+      has_spare : length o.retired ≤ o.room - 2 → (z : Bool) → is_some o.spare ≡ z → let st : Stage =
           cond z at.EnterClock (at.Reserve Spare (cond (o.free == 0) 1 o.free)) in
           Fits (record o { op = Del key; rest = ops; stage = st }) st v
       has_spare room true e = starts (Del key) ops (record { empty = λ z. free.empty; room = λ z. room; has_spare = λ z. e }) fit paid
@@ -125,7 +125,7 @@ module _ (o : Own) (v : View) (free : IsFree o v) where
         };
       }
 
-      many : (z : Bool) → nat_le 15 (length o.retired) ≡ z → let st : Stage = cond z (at.Begin (Reuse Room)) (spare_first o) in
+      many : (z : Bool) → nat_le o.room (length o.retired + 1) ≡ z → let st : Stage = cond z (at.Begin (Reuse Room)) (spare_first o) in
           Fits (record o { op = Del key; rest = ops; stage = st }) st v
       many true e = record { owns = owns_op (Del key) ops fit; unraised = λ z. free.unraised; tickets = omega arith; point = (idle, refl) }
       many false e = has_spare (few e) (is_some o.spare) refl

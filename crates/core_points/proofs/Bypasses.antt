@@ -1,5 +1,5 @@
 -- The points of a delete of a node with at most one child: what each step needs is known, and what the next point needs is known after it.
-use Rattle.std.proofs.Common.{◌≡◌, ◌≢◌, ℕ, suc, ◌+◌, ◌*◌, ◌==◌, cond, Bool, true, false, List, [], ◌∷◌, ◌++◌, length, map, Some, None, refl, sym, ap, subst, ◌∙◌, inl, ⊎_elim, arith}
+use Rattle.std.proofs.Common.{◌≡◌, ◌≢◌, ℕ, suc, ◌+◌, ◌*◌, ◌==◌, cond, Bool, true, false, List, [], ◌∷◌, ◌++◌, length, map, Some, None, refl, sym, ap, subst, ◌∙◌, inl, ⊎_elim, arith, ◌≤◌}
 use mathlib.Core.Option.{some}
 use lib.ListN.{get_elem?}
 use Rattle.prcu_marks.specs.declared.mark.Mark.{Mark}
@@ -204,9 +204,9 @@ module _ (k : Shape) (h : List Mark) (o : Own) (v : View) (n : ℕ) where
       }
 
   -- the store
-  pub needs_bypass : (d : Node) (child front : ℕ) → Fits o (at.Store (update.Bypass d child) front) v
+  pub needs_bypass : (d : Node) (child front : ℕ) → k.room ≡ o.room → 16 ≤ o.room → Fits o (at.Store (update.Bypass d child) front) v
       → Needs k v n (act_at o (at.Store (update.Bypass d child) front))
-  needs_bypass d child front f =
+  needs_bypass d child front room some_room f =
       let p = f.point in
       let few = p.few in
       let r : Reading = few.0 in (
@@ -216,7 +216,7 @@ module _ (k : Shape) (h : List Mark) (o : Own) (v : View) (n : ℕ) where
         d.right,
         record {
           has_commit = record { commit_is = (p.quiet).turn_is; unmade = refl; ticket = (let t = f.tickets in omega arith) };
-          room = (let room = ((p.deleting).1).room (p.deleting).0 in
+          room = (let few = ((p.deleting).1).room (p.deleting).0 in
               let long = same_length v.hands.retired o.retired f.owns.retired_are in omega arith);
           records = few_children v r d few.2 few.3;
           marked = marked_node v r d few.2 p.marked;

@@ -502,9 +502,9 @@ module _ (k : Shape) (h : List Mark) (o : Own) (v : View) (n : ℕ) where
       }
 
   -- the link of the copy
-  pub needs_copy_store : (d : Node) (u : Successor) (next_key copy front : ℕ) → Fits o (at.Store (update.Copy d u next_key copy) front) v
+  pub needs_copy_store : (d : Node) (u : Successor) (next_key copy front : ℕ) → k.room ≡ o.room → 16 ≤ o.room → Fits o (at.Store (update.Copy d u next_key copy) front) v
       → Needs k v n (act_at o (at.Store (update.Copy d u next_key copy) front))
-  needs_copy_store d u next_key copy front f =
+  needs_copy_store d u next_key copy front room some_room f =
       let p = f.point in
       let c = p.copying in
       let both = c.both in
@@ -519,7 +519,7 @@ module _ (k : Shape) (h : List Mark) (o : Own) (v : View) (n : ℕ) where
         x.value,
         record {
           has_commit = record { commit_is = (c.quiet).turn_is; unmade = refl; ticket = (let t = f.tickets in omega arith) };
-          room = (let room = ((c.deleting).1).room (c.deleting).0 in
+          room = (let few = ((c.deleting).1).room (c.deleting).0 in
               let long = same_length v.hands.retired o.retired f.owns.retired_are in omega arith);
           records = both_children v r d u both.2 both.3;
           marked = marked_node v r d both.2 p.marked;

@@ -16,12 +16,12 @@ use Rattle.core_points.proofs.All.{needs_are_given, next_fits, rule_tells, trail
 use Rattle.core_points.proofs.Within.{acts_are_within}
 
 pub points_keep : PointsKeep
-points_keep k m vs h id o v inv there eer slots places going f =
+points_keep k m vs h id o v inv there eer slots places room going f =
     let a : Act = act_at o o.stage in
     let works : Works v = f.owns.works in
-    let told : IsTold o v h m = rule_tells k m vs h id o v inv.now there works slots places in
-    let has = acts_are_within k h o v m o.stage (λ is. eer) slots places told f in
-    let needs = needs_are_given k h o v m 0 o.stage (λ is. eer) places told f in
+    let told : IsTold o v h m = rule_tells k m vs h id o v inv.now there works slots places room in
+    let has = acts_are_within k h o v m o.stage (λ is. eer) slots places room told f in
+    let needs = needs_are_given k h o v m 0 o.stage (λ is. eer) places room told f in
     let keeps : (p : ℕ) → v.allowance.place ≡ p → Invariant k (stored m (field_of p a) (left v a (m (field_of p a))))
     (set vs id (done v a h (m (field_of p a)))) (h ++ marks v a (m (field_of p a)))
     × KeepsPast m h (stored m (field_of p a) (left v a (m (field_of p a))))

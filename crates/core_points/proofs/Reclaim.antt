@@ -1,6 +1,6 @@
 -- The points of a wait for everybody, and of giving back the retired slots: what each step needs is known, and what the next point needs is
 -- known after it.
-use Rattle.std.proofs.Common.{◌≡◌, ℕ, zero, suc, ◌+◌, nat_le, nat_lt, ◌||◌, not, ◌*◌, ◌==◌, ◌<◌, ◌≤◌, ◌&&◌, cond, Bool, true, false, List, [], ◌∷◌, length, map, Option, Some, None, refl, sym, ap, subst, ◌∙◌, arith, eq-eqb}
+use Rattle.std.proofs.Common.{◌≡◌, ℕ, zero, suc, ◌+◌, nat_le, nat_lt, ◌||◌, not, ◌*◌, ◌==◌, ◌<◌, ◌≤◌, ◌&&◌, cond, Bool, true, false, List, [], ◌∷◌, length, map, Option, Some, None, refl, sym, ap, subst, ◌∙◌, arith, eq-eqb, ◌-◌}
 use Rattle.std.proofs.lemmas.Bool.{eqb-true, lt-ltb}
 use mathlib.Core.Logic.{dite}
 use native.Mathlib.Decide.{ℕ_discrete}
@@ -73,7 +73,7 @@ pub giving_fits : (o : Own) (aim : Aim) (w : View) → SpareComes o → Owns o w
     → Fits (giving o aim) (giving o aim).stage w
 giving_fits o aim w comes owns idle for paid unraised waited = by_left (is_none_left o.retired) refl
   where
-    none_left : (xs : List ℕ) → is_none_left xs ≡ true → length xs < 15
+    none_left : (xs : List ℕ) → is_none_left xs ≡ true → length xs ≤ o.room - 2
     none_left [] none = omega arith
     none_left (s ∷ xs) none = cc
 

@@ -186,6 +186,6 @@ module _ (k : Shape) (h : List Mark) (o : Own) (v : View) (word : Field → ℕ)
       (λ x. slot_in m.successor.parent (subst (λ t. t < table_of o) (x.3).parent_is (told.move_within x.0 (x.3).moving)))
 
 pub acts_are_within : ActsAreWithin
-acts_are_within k h o v word stage eer slots places told f =
+acts_are_within k h o v word stage eer slots places room told f =
     subst (λ p. IsWord k (field_of p (act_at o stage))) f.owns.same
-    (within k h o v word slots places told stage eer f (needs_are_given k h o v word 0 stage eer places told f))
+    (within k h o v word slots places told stage eer f (needs_are_given k h o v word 0 stage eer places room told f))

@@ -14,13 +14,14 @@ use Rattle.core_points.specs.declared.stage.Waits.{Waits}
 use Rattle.core_points.specs.declared.stage.Waits.TheVariants.{Reuse, Move}
 use Rattle.core_points.specs.declared.stage.Stage.{Stage}
 
--- What a caller keeps: its place in a table of so many places and slots, its operation and those after it, where it is in it, what it
+-- What a caller keeps: its place in a table of so many places and slots, and of so much room at a place, its operation and those after it, where it is in it, what it
 -- told, the slots of its place, its locks (the latest first), what its place last found or left in the free count and in the front, and how
 -- many of its tickets are none of its operations'.
 pub record Own : Type 0 where
   pub place : ℕ
   pub places : ℕ
   pub slots : ℕ
+  pub room : ℕ
   pub op : Op
   pub rest : List Op
   pub stage : Stage

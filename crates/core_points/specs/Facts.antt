@@ -1,6 +1,6 @@
 -- What the view of a caller knows of what the caller keeps: the parts of which the points are made.
 -- Source: docs/TREE_CALLS.md, "The calls".
-use Rattle.std.specs.Prelude.{◌≡◌, ℕ, ◌+◌, ◌*◌, ◌^◌, ◌<◌, ◌≤◌, ◌==◌, if◌then◌else◌, Bool, true, false, List, [], ◌∷◌, length, map, Option, Some, None}
+use Rattle.std.specs.Prelude.{◌≡◌, ℕ, ◌+◌, ◌-◌, ◌*◌, ◌^◌, ◌<◌, ◌≤◌, ◌==◌, if◌then◌else◌, Bool, true, false, List, [], ◌∷◌, length, map, Option, Some, None}
 use Rattle.prcu_marks.specs.declared.mark.Side.{Side}
 use Rattle.prcu_marks.specs.declared.mark.Side.TheVariants.{Left, Right}
 use Rattle.prcu_model.specs.declared.operation.Op.{Op}
@@ -161,28 +161,28 @@ abbrev pub Owns : Own → View → Type 0
 Owns o v = OwnsParts o.place (key_now o) o.rest o.scan
     (o.slots + o.places) o.spare o.retired o.locks v.allowance.place v.allowance.places v.hands.spare v.hands.retired v.locks
 
--- What a call has before it searches: only a put has a slot in hand, and a delete has a spare and room among its retired slots.
-pub record IsReady (op : Op) (hand spare : Option ℕ) (retired : List ℕ) : Type 0 where
+-- What a call has before it searches: only a put has a slot in hand, and a delete has a spare and, of the place's room, two left.
+pub record IsReady (most : ℕ) (op : Op) (hand spare : Option ℕ) (retired : List ℕ) : Type 0 where
   pub empty : is_put op ≡ false → hand ≡ None
-  pub room : is_delete op ≡ true → length retired < 15
+  pub room : is_delete op ≡ true → length retired ≤ most - 2
   pub has_spare : is_delete op ≡ true → is_some spare ≡ true
 
 abbrev pub Ready : Own → Type 0
-Ready o = IsReady o.op o.hand o.spare o.retired
+Ready o = IsReady o.room o.op o.hand o.spare o.retired
 
 -- the slot in hand of a caller is a filled one
 abbrev pub Hand : Own → View → Type 0
 Hand o v = HandFits o.hand o.hand_life (key_now o) (value_in o.op) v.hands.hand
 
 -- with nothing under way but a filled slot in hand
-pub record CalmParts (op : Op) (o_hand o_spare : Option ℕ) (life : ℕ) (o_retired : List ℕ) (locks : List HeldLock) (turn : Option Commit)
+pub record CalmParts (most : ℕ) (op : Op) (o_hand o_spare : Option ℕ) (life : ℕ) (o_retired : List ℕ) (locks : List HeldLock) (turn : Option Commit)
     (moving : Option Move) (reserves owes : Bool) (held : Option Held) : Type 0 where
   pub bare : BareParts [] None false locks turn moving reserves owes
   pub hand : HandFits o_hand life (key_of op) (value_in op) held
-  pub ready : IsReady op o_hand o_spare o_retired
+  pub ready : IsReady most op o_hand o_spare o_retired
 
 abbrev pub Calm : Own → View → Type 0
-Calm o v = CalmParts o.op o.hand o.spare o.hand_life o.retired v.locks v.commit v.moving v.hands.reserved v.hands.owes v.hands.hand
+Calm o v = CalmParts o.room o.op o.hand o.spare o.hand_life o.retired v.locks v.commit v.moving v.hands.reserved v.hands.owes v.hands.hand
 
 -- a put that has a slot in hand, a record, and this much under way
 pub record Putting (o : Own) (v : View) (spot : Spot) (locks : List HeldLock) (commit : Option Commit) : Type 0 where
@@ -212,20 +212,20 @@ AimsAt n op records aim = is_delete op ≡ true
 abbrev pub ForAim : Own → View → Aim → Type 0
 ForAim o v aim = AimsAt (table_of o) o.op v.records aim
 
--- a delete that takes a spare
-pub record LacksSpare (op : Op) (spare : Option ℕ) (retired : List ℕ) : Type 0 where
+-- a delete that takes a spare, with two left of the room of its place
+pub record LacksSpare (most : ℕ) (op : Op) (spare : Option ℕ) (retired : List ℕ) : Type 0 where
   pub deletes : is_delete op ≡ true
-  pub room : length retired < 15
+  pub room : length retired ≤ most - 2
   pub no_spare : spare ≡ None
 
 -- what a slot is taken for: a put's spot, or a delete's spare
-abbrev pub TakesAt : ℕ → Op → Option ℕ → List ℕ → List Reading → Aim → Type 0
-TakesAt n op spare retired records (Leaf spot) = AimsAt n op records (Leaf spot)
-TakesAt n op spare retired records Spare = LacksSpare op spare retired
-TakesAt n op spare retired records Room = ⊥
+abbrev pub TakesAt : ℕ → ℕ → Op → Option ℕ → List ℕ → List Reading → Aim → Type 0
+TakesAt n most op spare retired records (Leaf spot) = AimsAt n op records (Leaf spot)
+TakesAt n most op spare retired records Spare = LacksSpare most op spare retired
+TakesAt n most op spare retired records Room = ⊥
 
 abbrev pub TakesFor : Own → View → Aim → Type 0
-TakesFor o v aim = TakesAt (table_of o) o.op o.spare o.retired v.records aim
+TakesFor o v aim = TakesAt (table_of o) o.room o.op o.spare o.retired v.records aim
 
 -- before a slot is reserved, where some are free
 pub record Reserving (o : Own) (v : View) (aim : Aim) (expected : ℕ) : Type 0 where
@@ -267,7 +267,7 @@ pub record Keeping (o : Own) (v : View) (s : ℕ) : Type 0 where
   pub held : Held
   pub in_hand : v.hands.hand ≡ Some held
   pub slot_is : held.slot ≡ s
-  pub lacks : LacksSpare o.op o.spare o.retired
+  pub lacks : LacksSpare o.room o.op o.spare o.retired
 
 -- the life of the slot in hand was raised
 pub record HasRaised (o_hand : Option ℕ) (hand : Option Held) : Type 0 where

@@ -30,12 +30,13 @@ use Rattle.core_points.specs.Fits.{Fits}
 -- What the invariant tells a view that works at a place.
 abbrev pub RuleTells : Type 0
 RuleTells = (k : Shape) (m : Memory) (vs : List View) (h : List Mark) (id : ℕ) (o : Own) (v : View) → HoldsNow k m vs h
-    → get_elem? vs id ≡ some v → Works v → k.slots ≡ o.slots → k.places ≡ o.places → IsTold o v h m
+    → get_elem? vs id ≡ some v → Works v → k.slots ≡ o.slots → k.places ≡ o.places → k.room ≡ o.room → IsTold o v h m
 
 -- At each point of each call, what its act needs is given. Only the waiter's own acts ask which waiter it is.
 abbrev pub NeedsAreGiven : Type 0
 NeedsAreGiven = (k : Shape) (h : List Mark) (o : Own) (v : View) (word : Field → ℕ) (n : ℕ) (stage : Stage)
-    → (is_step (act_at o stage) ≡ false → k.waiter ≡ Eer) → k.places ≡ o.places → IsTold o v h word → Fits o stage v
+    → (is_step (act_at o stage) ≡ false → k.waiter ≡ Eer) → k.places ≡ o.places → k.room ≡ o.room → IsTold o v h word
+    → Fits o stage v
     → Needs k v n (act_at o stage)
 
 abbrev pub is_finished : Stage → Bool
@@ -57,8 +58,8 @@ TrailsAreFree = (h : List Mark) (o : Own) (v : View) (word : Field → ℕ) (sta
 -- The word of the act is one of the table's.
 abbrev pub ActsAreWithin : Type 0
 ActsAreWithin = (k : Shape) (h : List Mark) (o : Own) (v : View) (word : Field → ℕ) (stage : Stage)
-    → (is_step (act_at o stage) ≡ false → k.waiter ≡ Eer) → k.slots ≡ o.slots → k.places ≡ o.places → IsTold o v h word → Fits o stage v
-    → IsWord k (field_of o.place (act_at o stage))
+    → (is_step (act_at o stage) ≡ false → k.waiter ≡ Eer) → k.slots ≡ o.slots → k.places ≡ o.places → k.room ≡ o.room → IsTold o v h word
+    → Fits o stage v → IsWord k (field_of o.place (act_at o stage))
 
 -- A caller between two calls fits the first point of its next one, with four tickets for each operation and those that it keeps.
 abbrev pub CallsBegin : Type 0
@@ -74,7 +75,7 @@ NewViewsAreFree = (o : Own) (tickets : ℕ) (seen : List Mark) → o.hand ≡ No
 -- A view that makes the act of its point keeps the invariant, and fits the next point.
 abbrev pub PointsKeep : Type 0
 PointsKeep = (k : Shape) (m : Memory) (vs : List View) (h : List Mark) (id : ℕ) (o : Own) (v : View) → Invariant k m vs h
-    → get_elem? vs id ≡ some v → k.waiter ≡ Eer → k.slots ≡ o.slots → k.places ≡ o.places
+    → get_elem? vs id ≡ some v → k.waiter ≡ Eer → k.slots ≡ o.slots → k.places ≡ o.places → k.room ≡ o.room
     → is_finished o.stage ≡ false → Fits o o.stage v
     → let a : Act = act_at o o.stage in let field : Field = field_of o.place a in let n : ℕ = m field in let w : View = done v a h n in
     let o' : Own = after o (said v a n) o.stage in

@@ -114,7 +114,7 @@ abbrev pub spare_first : Own → Stage
 spare_first o = if is_some o.spare then at.EnterClock else taking o Spare
 
 abbrev pub first_point : Own → Op → Stage
-first_point o (Del key) = if nat_le 15 (length o.retired) then at.Begin (Reuse Room) else spare_first o
+first_point o (Del key) = if nat_le o.room (length o.retired + 1) then at.Begin (Reuse Room) else spare_first o
 first_point o _ = at.EnterClock
 
 abbrev pub begun_with : Own → List Op → Own

@@ -37,7 +37,7 @@ IsSaid k m h o v (at.Leave (then.Value value)) =
 IsSaid k m h o v (at.Leave then.Old) = (section : Section) × (v.section ≡ Some section)
     × ((value : ℕ) × WasSaid (updates_of h) (key_now o) section.from (Some value))
 IsSaid k m h o v (at.Reserve (Leaf spot) expected) =
-    is_none_left o.retired ≡ true → m Free ≡ 0 → k.slots ≤ finite.len (map_of (updates_of h)) + 20 * (k.places - 1)
+    is_none_left o.retired ≡ true → m Free ≡ 0 → k.slots ≤ finite.len (map_of (updates_of h)) + (k.room + 4) * (k.places - 1)
 IsSaid k m h o v (at.Store u front) = ((front + 2) / 2 ≡ length (updates_of h) + 1) × ReplacesOld h o u
 IsSaid k m h o v _ = Unit {0}
 

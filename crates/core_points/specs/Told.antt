@@ -17,7 +17,7 @@ SpareComes o = is_some o.spare ≡ false → is_none_left o.retired ≡ false
 
 -- What the rule tells of the view at its step, with these words.
 abbrev pub IsTold : Own → View → List Mark → (Field → ℕ) → Type 0
-IsTold o v h word = IsToldOf o.slots o.places v h word
+IsTold o v h word = IsToldOf o.slots o.places o.room v h word
 
 -- Outside a section, with nothing under way and nothing in hand.
 pub record IsFree (o : Own) (v : View) : Type 0 where

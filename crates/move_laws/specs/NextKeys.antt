@@ -23,5 +23,5 @@ abbrev pub CopiesHaveNextKeys : Type 0
 CopiesHaveNextKeys = (k : Shape) (m : Memory) (vs : List View) (h : List Mark) (id : ℕ) (v : View) → HoldsNow k m vs h
     → get_elem? vs id ≡ some v → Works v
     → (commit : Commit) (r : Reading) (held : Held) (parent : ℕ) (b : Side) (node copy old old_parent left right next value : ℕ)
-    → NeedsCopyLink v commit r held parent b node copy old old_parent left right next value
+    → NeedsCopyLink k.room v commit r held parent b node copy old old_parent left right next value
     → IsNextKey (map_of (updates_of h)) r.key next

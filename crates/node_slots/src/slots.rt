@@ -85,7 +85,7 @@ pub fn retire<W: WaitWords>(seat: &mut Seat<W>, slot: u32)
     requires unlinked { (i : ℕ) × (r : Retired) × IsRetiredAt seat.old.view i r slot }
     requires unlocked { HasLock seat.old.view slot → ⊥ }
     requires unlisted { IsIn seat.old.listed slot → ⊥ }
-    requires few { length seat.old.listed < 16 }
+    requires few { length seat.old.listed < seat.old.table.room }
     ensures seat { (seat.new.table ≡ seat.old.table) × (seat.new.view ≡ seat.old.view) }
     ensures listed { seat.new.listed ≡ seat.old.listed ++ slot ∷ [] }
 {

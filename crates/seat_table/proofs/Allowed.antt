@@ -104,7 +104,7 @@ module _ (k : Shape) (slots id : ℕ) (me : Me Nothing View) (c : Act) (word : �
 -- the shape that clauses see is the table's
 pub same_shape : (way : ℕ) (key k : Shape) → key.waiter ≡ way_of way → k ≡ with_way way key → k ≡ key
 same_shape way key k is same = let e = sym is in
-    same ∙ (λ i. record { waiter = e i; slots = key.slots; places = key.places; tickets = key.tickets })
+    same ∙ (λ i. record { waiter = e i; slots = key.slots; places = key.places; room = key.room; tickets = key.tickets })
 
 -- the same over the rule of a table, for what a call has picked
 pub as_table : (key k picked_shape : Shape) (picked c : Act) (slots id : ℕ) (me : Me Nothing View) (word : ℕ) (f : ℕ → ℕ)

@@ -210,7 +210,7 @@ module _ (k : Shape) (m : Memory) (vs : List View) (h : List Mark) (i : HoldsNow
         ∙ ap (λ b. cond b empty (with_free u n)) second in
         let seen : w.seen ≡ h = ap (λ (z : View). z.seen) is in
         let retired : w.hands.retired ≡ v.hands.retired = ap (λ (z : View). z.hands.retired) is in
-        subst (λ (z : List Mark × List Retired). k.slots ≤ finite.len (map_of (updates_of z.0)) + length z.1 + 20 * (k.places - 1))
+        subst (λ (z : List Mark × List Retired). k.slots ≤ finite.len (map_of (updates_of z.0)) + length z.1 + (k.room + 4) * (k.places - 1))
         (λ i. (sym seen i, sym retired i))
         (empty_is_full k m vs h i id v at (record {
           works = works;

@@ -242,7 +242,7 @@ rule_starts k words shape is = subst (λ z. Rule k z (first_view k ∷ [])) (sym
 
 module _ (way : ℕ) (k : Shape) (is : k.waiter ≡ way_of way) (shape : IsShape k) where
   abbrev first_at : TableId → TableAt
-  first_at table = record { id = table; slots = k.slots; places = k.places; tickets = k.tickets }
+  first_at table = record { id = table; slots = k.slots; places = k.places; room = k.room; tickets = k.tickets }
 
   abbrev first_numbers : Numbers
   first_numbers = record {
@@ -284,8 +284,13 @@ module _ (way : ℕ) (k : Shape) (is : k.waiter ≡ way_of way) (shape : IsShape
   )
     where
       room : HasPlace (first_at table) (first_view k)
-      room = let some_place = shape.some_place in let few_places = shape.few_places in
-          record { works = some_place; inside = omega arith; few_places = few_places }
+      room = let some_place = shape.some_place in record {
+        works = some_place;
+        inside = omega arith;
+        few_places = shape.few_places;
+        some_room = shape.some_room;
+        few_room = shape.few_room;
+      }
 
       side : HasSide (shape_of way (first_at table)) (first_view k)
       side = record { small = λ section inside domain. absurd (cc) }
@@ -312,12 +317,14 @@ module _ (way : ℕ) (k : Shape) (is : k.waiter ≡ way_of way) (shape : IsShape
       × (k.places ≡ key.places)
   first_table key words e all = subst (λ (z : Shape). (words ≡ word_count (with_way way z)) × IsShape (with_way way z)
       × (z.waiter ≡ way_of way) × (k.slots ≡ z.slots) × (k.places ≡ z.places)) (sym e) (
-        all ∙ ap (λ w. word_count (record { waiter = w; slots = k.slots; places = k.places; tickets = k.tickets })) is,
+        all ∙ ap (λ w. word_count (record { waiter = w; slots = k.slots; places = k.places; room = k.room; tickets = k.tickets })) is,
         record {
           some_slot = shape.some_slot;
           few_slots = shape.few_slots;
           some_place = shape.some_place;
           few_places = shape.few_places;
+          some_room = shape.some_room;
+          few_room = shape.few_room;
           few_tickets = shape.few_tickets;
         },
         is,

@@ -90,14 +90,14 @@ pub record TellsNow (k : Shape) (v : View) : Type 0 where
   pub marks : List Mark
   pub sees : Sees v marks
   pub word : Field → ℕ
-  pub tells : IsToldOf k.slots k.places v marks word
+  pub tells : IsToldOf k.slots k.places k.room v marks word
   pub apart : TellsApart v
 
 -- What it told of the view before the step, with all marks before it and the words there were: by them the step found its number.
 pub record TellsBefore (k : Shape) (v : View) (a : Act) (h : List Mark) (found : ℕ) : Type 0 where
   pub word : Field → ℕ
   pub found_is : said_by (access_of v.allowance.place a) (word (field_of v.allowance.place a)) ≡ found
-  pub tells : IsToldOf k.slots k.places v h word
+  pub tells : IsToldOf k.slots k.places k.room v h word
 
 -- At no front of what the seat has seen were there more pairs than the table was made with slots, and no mark is of a place that the
 -- table hasn't.
@@ -126,7 +126,7 @@ pub record AreGone (k : Shape) (v w : View) : Type 0 where
 
 -- the dictionary is as large as Full asks for, with the slots that the place has retired
 abbrev pub IsFull : Shape → View → Type 0
-IsFull k w = k.slots ≤ finite.len (map_of (updates_of w.seen)) + length w.hands.retired + 20 * (k.places - 1)
+IsFull k w = k.slots ≤ finite.len (map_of (updates_of w.seen)) + length w.hands.retired + (k.room + 4) * (k.places - 1)
 
 -- after the free count was found
 pub record FindsFull (k : Shape) (v : View) (found : ℕ) (w : View) : Type 0 where

@@ -21,16 +21,17 @@ way_of zero = Eer
 way_of (suc zero) = Domain
 way_of (suc (suc _)) = Deer
 
--- a table: which it is, and for how many slots, places and tickets it was made
+-- a table: which it is, for how many slots, places and tickets it was made, and how many retired slots a place may hold back
 pub record TableAt : Type 0 where
   pub id : TableId
   pub slots : ℕ
   pub places : ℕ
+  pub room : ℕ
   pub tickets : ℕ
 
 -- the shape of a table with the waiter of this number
 abbrev pub shape_of : ℕ → TableAt → Shape
-shape_of way t = record { waiter = way_of way; slots = t.slots; places = t.places; tickets = t.tickets }
+shape_of way t = record { waiter = way_of way; slots = t.slots; places = t.places; room = t.room; tickets = t.tickets }
 
 -- a seat: of which table it is, what it knows, the retired slots that it lists, and the slot to which its scans for a free one have come
 pub record SeatAt : Type 0 where
@@ -39,11 +40,13 @@ pub record SeatAt : Type 0 where
   pub listed : List ℕ
   pub looked : ℕ
 
--- The seat works at a place of the table, which has at most 64.
+-- The seat works at a place of the table, which has at most 64, each with room for 16 to 256 retired slots.
 pub record HasPlace (t : TableAt) (v : View) : Type 0 where
   pub works : 1 ≤ v.allowance.places
   pub inside : v.allowance.place + v.allowance.places ≤ t.places
   pub few_places : t.places ≤ 64
+  pub some_room : 16 ≤ t.room
+  pub few_room : t.room ≤ 256
 
 -- The waits of its place and its tickets are few, and so are the gates that it turned.
 pub record HasFew (v : View) : Type 0 where
@@ -76,7 +79,7 @@ IsLastFound first number (Some latest) = number ≡ latest
 
 -- the shape that a table was told, with the waiter of this number
 abbrev pub with_way : ℕ → Shape → Shape
-with_way way k = record { waiter = way_of way; slots = k.slots; places = k.places; tickets = k.tickets }
+with_way way k = record { waiter = way_of way; slots = k.slots; places = k.places; room = k.room; tickets = k.tickets }
 
 -- the slots that are listed, without one
 abbrev pub unlisted : ℕ → List ℕ → List ℕ

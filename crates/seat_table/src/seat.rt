@@ -20,6 +20,7 @@ use crate::told::{Cut, Glue};
 use crate::waiter::WaitWords;
 use arrayvec::ArrayVec;
 use core_acts::Act;
+use core_state::shape::MOST_ROOM;
 use core_state::{Field, View};
 use prcu_marks::{Access, Share};
 use std::marker::{Brand, Model, PhantomData};
@@ -33,6 +34,7 @@ pub struct Seat<W: WaitWords> {
     pub(crate) seat: atomic_table::Seat<Nothing, View>,
     pub(crate) slots: u32,
     pub(crate) table_places: u32,
+    pub(crate) table_room: u32,
     pub(crate) table_tickets: u64,
     pub(crate) place: u32,
     pub(crate) places: u32,
@@ -46,7 +48,7 @@ pub struct Seat<W: WaitWords> {
     pub(crate) free: u64,
     pub(crate) front: u64,
     pub(crate) looked: u32,
-    pub(crate) listed: ArrayVec<u32, 16>,
+    pub(crate) listed: ArrayVec<u32, MOST_ROOM>,
     pub(crate) freed: ArrayVec<u32, MOST_FREED>,
     pub(crate) marker: PhantomData<W>,
 }
@@ -63,6 +65,7 @@ impl<W: WaitWords> Model for Seat<W> {
         id = s.seat.table_id;
         slots = s.slots;
         places = s.table_places;
+        room = s.table_room;
         tickets = s.table_tickets;
       };
       view = s.seat.me.0;
@@ -71,7 +74,7 @@ impl<W: WaitWords> Model for Seat<W> {
     } };
 
     ghost invariant = { λ s. (s.seat.me.1 ≡ []) × IsSeat W.WAY
-        (record { id = s.seat.table_id; slots = s.slots; places = s.table_places; tickets = s.table_tickets })
+        (record { id = s.seat.table_id; slots = s.slots; places = s.table_places; room = s.table_room; tickets = s.table_tickets })
         (record {
           place = s.place;
           places = s.places;
@@ -156,12 +159,20 @@ impl<W: WaitWords> Seat<W> {
         let _place = self.place;
     }
 
+    /// How many retired slots a place of its table may hold back.
+    pub fn room(&self) -> usize
+        ensures room { result ≡ self.now.table.room }
+        ensures few { (16 ≤ result) × (result ≤ 256) }
+    {
+        self.table_room as usize
+    }
+
     /// Lists a retired slot, as the last one.
     pub fn list_retired(&mut self, slot: u32)
         requires retired { (i : ℕ) × (r : Retired) × IsRetiredAt self.old.view i r slot }
         requires unlocked { HasLock self.old.view slot → ⊥ }
         requires unlisted { TellsNow (shape_of W.WAY self.old.table) self.old.view → IsIn self.old.listed slot → ⊥ }
-        requires few { length self.old.listed < 16 }
+        requires few { length self.old.listed < self.old.table.room }
         ensures seat { (self.new.table ≡ self.old.table) × (self.new.view ≡ self.old.view) × (self.new.looked ≡ self.old.looked) }
         ensures listed { self.new.listed ≡ self.old.listed ++ slot ∷ [] }
     {
@@ -247,6 +258,7 @@ fn cut<W: WaitWords, A: Share>(
         seat: mut first,
         slots,
         table_places,
+        table_room,
         table_tickets,
         place,
         places,
@@ -271,6 +283,7 @@ fn cut<W: WaitWords, A: Share>(
             seat: first,
             slots,
             table_places,
+            table_room,
             table_tickets,
             place,
             places: places - away,
@@ -292,6 +305,7 @@ fn cut<W: WaitWords, A: Share>(
             seat: second,
             slots,
             table_places,
+            table_room,
             table_tickets,
             place: new_place,
             places: away,
@@ -344,6 +358,7 @@ impl<W: WaitWords> Seat<W> {
             mut seat,
             slots,
             table_places,
+            table_room,
             table_tickets,
             place,
             places,
@@ -365,6 +380,7 @@ impl<W: WaitWords> Seat<W> {
             seat: theirs,
             slots: _,
             table_places: _,
+            table_room: _,
             table_tickets: _,
             place: _,
             places: _,
@@ -388,6 +404,7 @@ impl<W: WaitWords> Seat<W> {
             seat,
             slots,
             table_places,
+            table_room,
             table_tickets,
             place,
             places,

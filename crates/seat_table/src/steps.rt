@@ -15,11 +15,12 @@ use crate::waiter::WaitWords;
 use arrayvec::ArrayVec;
 use core_acts::{Act, Part, in_slot};
 use core_state::Field;
+use core_state::shape::MOST_ROOM;
 use key_interval::{Keys, class_of};
 use prcu_marks::{Access, Side};
 
 // Takes a slot off the list of retired slots.
-fn take_off(listed: &mut ArrayVec<u32, 16>, slot: u32)
+fn take_off(listed: &mut ArrayVec<u32, MOST_ROOM>, slot: u32)
     ensures { listed.new.items ≡ unlisted slot listed.old.items }
 {
     listed.retain(|x| *x != slot);

@@ -12,7 +12,7 @@ use crate::waiter::{WaitWords, waiter_of};
 use arrayvec::ArrayVec;
 use atomic_table::Table;
 use core_acts::{APART, CLASSES, LEAD, LINE, OWN_ROOM, ROW_ROOM, row_length};
-use core_state::shape::Waiter;
+use core_state::shape::{ROOM, Waiter};
 use core_state::{Shape, View};
 use prcu_model::NoMemory;
 use std::alloc::{AllocError, Global};
@@ -39,6 +39,7 @@ impl<W: WaitWords> Model for CitrusTable<W> {
       id = t.table.shared.table_id;
       slots = t.table.shared.key.slots;
       places = t.table.shared.key.places;
+      room = t.table.shared.key.room;
       tickets = t.table.shared.key.tickets;
     } };
 
@@ -112,7 +113,8 @@ pub fn words_of(alloc: Global, shape: &Shape) -> Result<Vec<u64>, AllocError>
 
 impl<W: WaitWords> CitrusTable<W> {
     /// A table with so many slots beside the root and one spare for each place, and the one seat on it, which works at place 0
-    /// and has all other places unused and all tickets. `NoMemory` may come where memory is short; then nothing is made.
+    /// and has all other places unused and all tickets. A place may hold back 16 retired slots. `NoMemory` may come where memory is short;
+    /// then nothing is made.
     pub fn new(
         alloc: Global,
         slots: u32,
@@ -124,6 +126,28 @@ impl<W: WaitWords> CitrusTable<W> {
         requires places { (1 ≤ places) × (places ≤ 64) }
         requires tickets { tickets ≤ most_tickets }
         ensures table { IfOk result (λ made. (made.0.slots ≡ slots) × (made.0.places ≡ places) × (made.0.tickets ≡ tickets)) }
+        ensures room { IfOk result (λ made. made.0.room ≡ 16) }
+        ensures seat { IfOk result (λ made. (made.1 ≡ fresh_seat W.WAY made.0) × IsQuietSeat made.1) }
+    {
+        CitrusTable::with_room(alloc, slots, places, ROOM, tickets)
+    }
+
+    /// The same, where a place may hold back so many retired slots. With more of them it waits for readers less often, and keeps more
+    /// memory from the others.
+    pub fn with_room(
+        alloc: Global,
+        slots: u32,
+        places: u32,
+        room: u32,
+        tickets: u64,
+    ) -> Result<(CitrusTable<W>, Seat<W>), NoMemory>
+        requires way { W.WAY ≤ 2 }
+        requires slots { (1 ≤ slots) × (slots ≤ 2097152) }
+        requires places { (1 ≤ places) × (places ≤ 64) }
+        requires room { (16 ≤ room) × (room ≤ 256) }
+        requires tickets { tickets ≤ most_tickets }
+        ensures table { IfOk result (λ made. (made.0.slots ≡ slots) × (made.0.places ≡ places) × (made.0.tickets ≡ tickets)) }
+        ensures room { IfOk result (λ made. made.0.room ≡ room) }
         ensures seat { IfOk result (λ made. (made.1 ≡ fresh_seat W.WAY made.0) × IsQuietSeat made.1) }
     {
         let waiter = waiter_of::<W>();
@@ -131,6 +155,7 @@ impl<W: WaitWords> CitrusTable<W> {
             waiter,
             slots,
             places,
+            room,
             tickets,
         };
         let words = words_of(alloc, &shape)?;
@@ -139,6 +164,7 @@ impl<W: WaitWords> CitrusTable<W> {
             seat,
             slots,
             table_places: places,
+            table_room: room,
             table_tickets: tickets,
             place: 0,
             places,

@@ -22,7 +22,7 @@ impl Detail for Brand {
     ghost use Rattle.core_state.specs.declared.shape.Waiter.TheVariants.{Eer};
     ghost use Rattle.core_acts.specs.declared.act.Act.TheVariants.{LoadClock};
 
-    ghost shape = { record { waiter = Eer; slots = 0; places = 0; tickets = 0 } };
+    ghost shape = { record { waiter = Eer; slots = 0; places = 0; room = 0; tickets = 0 } };
 
     ghost act = { LoadClock };
 }

@@ -63,6 +63,7 @@ new_own k op kept v = record {
   place = v.allowance.place;
   places = k.places;
   slots = k.slots;
+  room = k.room;
   op = op;
   rest = [];
   stage = at.Finished;
@@ -116,6 +117,7 @@ module _ (k : Shape) (op : Op) (kept : ℕ) (v : View) (quiet : IsQuiet v) (work
     op_is = refl;
     slots_are = refl;
     places_are = refl;
+    room_is = refl;
     last = refl;
     keeps = refl;
     fits = subst (λ x. Fits (begun_with (new_own k op kept v) (op ∷ [])) x v) is
@@ -137,30 +139,27 @@ slots_length [] = refl
 slots_length (r ∷ rs) = ap suc (slots_length rs)
 
 pub begins_room : {k : Shape} {kept key : ℕ} {v : View} → IsQuiet v → Works v → 1 ≤ k.places → key < 2 ^ 64 → kept + 4 ≤ v.allowance.tickets
-    → 15 ≤ length v.hands.retired → IsAt k (Del key) kept (at.Begin (Reuse Room)) v
+    → k.room ≤ length v.hands.retired + 1 → IsAt k (Del key) kept (at.Begin (Reuse Room)) v
 begins_room {k} {kept} {key} {v} quiet works some_place fits paid many =
     let o : Own = new_own k (Del key) kept v in
     call k (Del key) kept v quiet works some_place fits paid (at.Begin (Reuse Room))
     (ap (λ z. cond z (at.Begin (Reuse Room)) (spare_first o))
-    (le-leb 15 (length o.retired) (subst (λ n. 15 ≤ n) (sym (slots_length v.hands.retired)) many)))
-
-few_retired : (n : ℕ) → n < 15 → nat_le 15 n ≡ false
-few_retired n lt = lt-leb 15 n lt
+    (le-leb k.room (length o.retired + 1) (subst (λ n. k.room ≤ n + 1) (sym (slots_length v.hands.retired)) many)))
 
 has_spare : (held : Option Held) → held ≢ None → is_some (spare_slot held) ≡ true
 has_spare None ne = absurd (ne refl)
 has_spare (Some held) ne = refl
 
-module _ (k : Shape) (key kept : ℕ) (v : View) (few : length v.hands.retired < 15) where
+module _ (k : Shape) (key kept : ℕ) (v : View) (few : length v.hands.retired + 1 < k.room) where
   abbrev o : Own
   o = new_own k (Del key) kept v
 
   first_is : first_point o (Del key) ≡ spare_first o
   first_is = ap (λ z. cond z (at.Begin (Reuse Room)) (spare_first o))
-      (few_retired (length o.retired) (subst (λ n. n < 15) (sym (slots_length v.hands.retired)) few))
+      (lt-leb k.room (length o.retired + 1) (subst (λ n. n + 1 < k.room) (sym (slots_length v.hands.retired)) few))
 
 pub begins_delete : {k : Shape} {kept key : ℕ} {v : View} → IsQuiet v → Works v → 1 ≤ k.places → key < 2 ^ 64
-    → kept + 4 ≤ v.allowance.tickets → length v.hands.retired < 15 → v.hands.spare ≢ None → IsAt k (Del key) kept at.EnterClock v
+    → kept + 4 ≤ v.allowance.tickets → length v.hands.retired + 1 < k.room → v.hands.spare ≢ None → IsAt k (Del key) kept at.EnterClock v
 begins_delete {k} {kept} {key} {v} quiet works some_place fits paid few given =
     let o : Own = new_own k (Del key) kept v in
     call k (Del key) kept v quiet works some_place fits paid at.EnterClock
@@ -168,7 +167,7 @@ begins_delete {k} {kept} {key} {v} quiet works some_place fits paid few given =
     (has_spare v.hands.spare given))
 
 pub begins_spare : {k : Shape} {kept key : ℕ} {v : View} → IsQuiet v → Works v → 1 ≤ k.places → key < 2 ^ 64
-    → kept + 4 ≤ v.allowance.tickets → length v.hands.retired < 15 → v.hands.spare ≡ None
+    → kept + 4 ≤ v.allowance.tickets → length v.hands.retired + 1 < k.room → v.hands.spare ≡ None
     → (expected : ℕ) → 1 ≤ expected → IsAt k (Del key) kept (at.Reserve Spare expected) v
 begins_spare {k} {kept} {key} {v} quiet works some_place fits paid few none expected positive =
     let o : Own = new_own k (Del key) kept v in

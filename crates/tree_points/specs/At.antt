@@ -20,6 +20,7 @@ pub record IsAt (k : Shape) (op : Op) (kept : ℕ) (stage : Stage) (v : View) : 
   pub op_is : own.op ≡ op
   pub slots_are : own.slots ≡ k.slots
   pub places_are : own.places ≡ k.places
+  pub room_is : own.room ≡ k.room
   pub last : own.rest ≡ []
   pub keeps : own.kept ≡ kept
   pub fits : Fits own stage v

@@ -1,6 +1,6 @@
 -- The parts on slots read the slots' words, the hands, places and moves of views, and where slots were unlinked. A step that leaves
 -- these keeps them.
-use Rattle.std.proofs.Common.{◌≡◌, ℕ, ◌+◌, ◌≤◌, ◌==◌, List, length, set, sym, ap, subst, ◌∙◌, None, true}
+use Rattle.std.proofs.Common.{◌≡◌, ℕ, ◌+◌, ◌<◌, ◌≤◌, ◌==◌, List, length, set, sym, ap, subst, ◌∙◌, None, true}
 use mathlib.Core.Option.{some}
 use mathlib.Core.Logic.{dite}
 use lib.ListN.{get_elem?}
@@ -52,8 +52,8 @@ module _ (m m' : Memory) (nodes : SameNodes m m') (states : (s : ℕ) → m' (St
     after_wait = i.after_wait;
   }
 
-  pub slots_elsewhere : (n : ℕ) (g : Chart) (vs : List View) (h h' : List Mark) → QuietMarks h h' → SlotParts m n g vs h
-      → SlotParts m' n g vs h'
+  pub slots_elsewhere : {room : ℕ} (n : ℕ) (g : Chart) (vs : List View) (h h' : List Mark) → QuietMarks h h' → SlotParts room m n g vs h
+      → SlotParts room m' n g vs h'
   slots_elsewhere n g vs h h' quiet t = record {
     roles = record {
       once = λ s lt. ap (λ x. flag (x == 0) + flag (g.linked s) + total (λ (u : View). times s (slots_of u)) vs) (states s)
@@ -92,10 +92,11 @@ module _ (m : Memory) (n : ℕ) (g : Chart) (vs : List View) (id : ℕ) (v w : V
   pub retired_of_still : retired_of w ≡ retired_of v → (s : ℕ) → IsRetiredOf vs s → IsRetiredOf (set vs id w) s
   retired_of_still same s = retired_of_by vs id v w there s (λ r has is. (r, subst (λ rs. IsIn rs r) (sym same) has, is))
 
-  pub slots_by : ((s : ℕ) → times s (slots_of w) ≡ times s (slots_of v)) → (HasFewSlots v → HasFewSlots w)
+  pub slots_by : {room : ℕ} → ((s : ℕ) → times s (slots_of w) ≡ times s (slots_of v)) → (HasFewSlots room v → HasFewSlots room w)
       → (AreHandsKnown m v → AreHandsKnown m w) → (Each (retired_of v) (IsRetired m h) → Each (retired_of w) (IsRetired m h))
-      → ((s : ℕ) → IsRetiredOf vs s → IsRetiredOf (set vs id w) s) → SlotParts m n g vs h → SlotParts m n g (set vs id w) h
-  slots_by slots few hands retired forth t =
+      → ((s : ℕ) → IsRetiredOf vs s → IsRetiredOf (set vs id w) s) → SlotParts room m n g vs h
+      → SlotParts room m n g (set vs id w) h
+  slots_by {room} slots few hands retired forth t =
       let whole : (s : ℕ) → total (λ (u : View). times s (slots_of u)) (set vs id w) ≡ total (λ (u : View). times s (slots_of u)) vs =
       λ s. total_same (λ (u : View). times s (slots_of u)) vs id v w there (slots s) in
       record {
@@ -104,7 +105,7 @@ module _ (m : Memory) (n : ℕ) (g : Chart) (vs : List View) (id : ℕ) (v w : V
           beyond = λ s far. whole s ∙ t.roles.beyond s far;
           states = t.roles.states;
         };
-        few = each_change HasFewSlots HasFewSlots vs id v w there few (λ u i. i) t.few;
+        few = each_change (HasFewSlots room) (HasFewSlots room) vs id v w there few (λ u i. i) t.few;
         free = t.free;
         root = t.root;
         hands = each_change (AreHandsKnown m) (AreHandsKnown m) vs id v w there hands (λ u i. i) t.hands;
@@ -119,12 +120,12 @@ pub record SameForSlots (v w : View) : Type 0 where
   pub moving : w.moving ≡ v.moving
   pub one : (v.hands.reserved ≡ true → v.hands.hand ≡ None) → w.hands.reserved ≡ true → w.hands.hand ≡ None
 
-few_same : (v w : View) → SameForSlots v w → HasFewSlots v → HasFewSlots w
-few_same v w e i = record {
+few_same : {most : ℕ} (v w : View) → SameForSlots v w → HasFewSlots most v → HasFewSlots most w
+few_same {most} v w e i = record {
   one = e.one i.one;
-  few = subst (λ (x : OwnSlots). length x.retired ≤ 16) (sym e.own) i.few;
-  room = λ move is. subst (λ (x : OwnSlots). length x.retired ≤ 15) (sym e.own) (i.room move (sym e.moving ∙ is));
-  joined = subst (λ (x : OwnSlots). Each x.joined (λ (s : Spent). length s.retired ≤ 16)) (sym e.own) i.joined;
+  few = subst (λ (x : OwnSlots). length x.retired ≤ most) (sym e.own) i.few;
+  room = λ move is. subst (λ (x : OwnSlots). length x.retired < most) (sym e.own) (i.room move (sym e.moving ∙ is));
+  joined = subst (λ (x : OwnSlots). Each x.joined (λ (s : Spent). length s.retired ≤ most)) (sym e.own) i.joined;
   joined_spare = subst (λ (x : OwnSlots). Each x.joined HasSpareToCome) (sym e.own) i.joined_spare;
   next_spare = λ works none. (let r = i.next_spare (subst (λ (x : OwnSlots). 1 ≤ x.places) e.own works)
       ((λ n. (sym e.own n).spare) ∙ none) in (r.0, subst (λ (x : OwnSlots). IsIn x.retired r.0) (sym e.own) r.1, r.2));
@@ -138,9 +139,9 @@ hands_view m v w e i = record {
   spares = λ s has. i.spares s (subst (λ l. 1 ≤ times s l) (spares_same v w e.own) has);
 }
 
-pub slot_frame : (m m' : Memory) (n : ℕ) (g : Chart) (vs : List View) (id : ℕ) (v w : View) (h h' : List Mark)
-    → get_elem? vs id ≡ some v → SameSlots m m' → SameForSlots v w → QuietMarks h h' → SlotParts m n g vs h
-    → SlotParts m' n g (set vs id w) h'
+pub slot_frame : {room : ℕ} (m m' : Memory) (n : ℕ) (g : Chart) (vs : List View) (id : ℕ) (v w : View) (h h' : List Mark)
+    → get_elem? vs id ≡ some v → SameSlots m m' → SameForSlots v w → QuietMarks h h' → SlotParts room m n g vs h
+    → SlotParts room m' n g (set vs id w) h'
 slot_frame m m' n g vs id v w h h' there slots same quiet t =
     slots_by m' n g vs id v w h' there (λ s. ap (times s) (slots_same v w same.own)) (few_same v w same) (hands_view m' v w same)
     (λ rs. subst (λ x. Each x (IsRetired m' h')) (sym (retired_same v w same.own)) rs)

@@ -89,7 +89,7 @@ seat_side u = record {
 
 -- The groups that read what views have of slots.
 pub record SlotHalf (k : Shape) (m : Memory) (g : Chart) (vs : List View) (h : List Mark) : Type 0 where
-  pub slots : SlotParts m (slot_count k) g vs h
+  pub slots : SlotParts k.room m (slot_count k) g vs h
   pub locks : LockParts m (slot_count k) g vs
   pub tree : TreeParts m (slot_count k) g vs h
   pub readers : ReaderParts m g vs h

@@ -67,7 +67,7 @@ module _ (v : View) where
   pub spare_own : (held : Held) → v.hands.spare ≡ Some held → 1 ≤ times held.slot (slots_of v)
   spare_own held is = let a = spare_among held is in let b = slots_count v held.slot in omega arith
 
-module _ (m : Memory) (n : ℕ) (g : Chart) (vs : List View) (h : List Mark) (t : SlotParts m n g vs h) where
+module _ {room : ℕ} (m : Memory) (n : ℕ) (g : Chart) (vs : List View) (h : List Mark) (t : SlotParts room m n g vs h) where
   below : (s : ℕ) → 1 ≤ total (λ (u : View). times s (slots_of u)) vs → s < n
   below s some_role = dite (dec_le n s) (λ far. absurd (let e = t.roles.beyond s far in omega arith)) (λ near. omega arith)
 

@@ -34,13 +34,13 @@ pub record HaveOneRole (m : Memory) (n : ℕ) (g : Chart) (vs : List View) : Typ
 abbrev pub HasSpareToCome : Spent → Type 0
 HasSpareToCome s = s.spare ≡ None → (r : Retired) × IsIn s.retired r × (r.raised ≡ false)
 
--- A place has at most one slot reserved or in hand, and at most 16 retired, while a move is pending 15; without a spare it has a
--- retired slot whose generation wasn't raised. So had those that were joined.
-pub record HasFewSlots (v : View) : Type 0 where
+-- A place has at most one slot reserved or in hand, and at most so many retired, while a move is pending one less; without a spare it has
+-- a retired slot whose generation wasn't raised. So had those that were joined.
+pub record HasFewSlots (most : ℕ) (v : View) : Type 0 where
   pub one : v.hands.reserved ≡ true → v.hands.hand ≡ None
-  pub few : length v.hands.retired ≤ 16
-  pub room : (move : Move) → v.moving ≡ Some move → length v.hands.retired ≤ 15
-  pub joined : Each v.allowance.joined (λ (s : Spent). length s.retired ≤ 16)
+  pub few : length v.hands.retired ≤ most
+  pub room : (move : Move) → v.moving ≡ Some move → length v.hands.retired < most
+  pub joined : Each v.allowance.joined (λ (s : Spent). length s.retired ≤ most)
   pub joined_spare : Each v.allowance.joined HasSpareToCome
   pub next_spare : Works v → v.hands.spare ≡ None → (r : Retired) × IsIn v.hands.retired r × (r.raised ≡ false)
 
@@ -79,10 +79,10 @@ pub record AreHandsKnown (m : Memory) (v : View) : Type 0 where
   pub spares : (s : ℕ) → 1 ≤ times s (spares_of v) → IsEven (m (Life s))
 
 -- Each slot is in one role. Those that are free, in hand, spares or copies are unmarked, and what their holder knows of them is so;
--- those that are retired are those unlinked and not given back.
-pub record SlotParts (m : Memory) (n : ℕ) (g : Chart) (vs : List View) (h : List Mark) : Type 0 where
+-- those that are retired are those unlinked and not given back, at each place as many as it has room for.
+pub record SlotParts (room : ℕ) (m : Memory) (n : ℕ) (g : Chart) (vs : List View) (h : List Mark) : Type 0 where
   pub roles : HaveOneRole m n g vs
-  pub few : Each vs HasFewSlots
+  pub few : Each vs (HasFewSlots room)
   pub free : (s : ℕ) → s < n → m (State s) ≡ 0 → IsEven (m (Life s))
   pub root : m (Life 0) ≡ 0
   pub hands : Each vs (AreHandsKnown m)

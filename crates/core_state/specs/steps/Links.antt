@@ -174,10 +174,10 @@ abbrev pub relinked : ℕ → Side → ℕ → ℕ → List HeldLock → List He
 relinked parent b child gone locks =
     change_lock gone (with_mark false) (if child == 0 then change_lock parent (with_emptied b true) locks else locks)
 
--- K21: a marked node is bypassed: its parent's link leads to its only child, or nowhere.
-pub record NeedsBypass (v : View) (commit : Commit) (r : Reading) (parent : ℕ) (b : Side) (node child left right : ℕ) : Type 0 where
+-- K21: a marked node is bypassed: its parent's link leads to its only child, or nowhere. A place may hold back so many retired slots.
+pub record NeedsBypass (most : ℕ) (v : View) (commit : Commit) (r : Reading) (parent : ℕ) (b : Side) (node child left right : ℕ) : Type 0 where
   pub has_commit : HasCommit v commit
-  pub room : length v.hands.retired < 16
+  pub room : length v.hands.retired < most
   pub records : FewChildren v r parent b node left right
   pub marked : IsMarkedNode v r node
   pub child_is : child ≡ (if left == 0 then right else left)

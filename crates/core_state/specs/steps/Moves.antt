@@ -18,11 +18,11 @@ use Rattle.core_state.specs.steps.Slots.{IsSpare}
 use Rattle.core_state.specs.steps.Links.{HasCommit, updating, BothChildren, IsMarkedNode, with_mark, newly_retired, relinked}
 
 -- K25: the spare, which has the successor's key and value and the node's links, is linked in the place of the marked node. A
--- move is pending from then on.
-pub record NeedsCopyLink (v : View) (commit : Commit) (r : Reading) (held : Held) (parent : ℕ) (b : Side)
+-- move is pending from then on. A place may hold back so many retired slots, and has room for two more.
+pub record NeedsCopyLink (most : ℕ) (v : View) (commit : Commit) (r : Reading) (held : Held) (parent : ℕ) (b : Side)
     (node copy old old_parent left right next_key value : ℕ) : Type 0 where
   pub has_commit : HasCommit v commit
-  pub room : length v.hands.retired < 15
+  pub room : length v.hands.retired + 1 < most
   pub records : BothChildren v r parent b node left right old_parent old
   pub marked : IsMarkedNode v r node
   pub spare_is : IsSpare v held copy

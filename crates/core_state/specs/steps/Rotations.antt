@@ -38,11 +38,12 @@ pub record Rotation : Type 0 where
 -- K38: side b of the parent, which has the generation of a record and is unmarked, leads to a node. The node and its child are marked by
 -- this view, with the generations of the record. The spare has the child's pair; it leads to what hangs on the child's outer side, and to
 -- the slot in hand. That one has the node's pair, and leads to the rest. The view has a ticket for the second of the two slots that go.
-pub record NeedsRotate (v : View) (r : Reading) (upper lower : Held) (parent : ℕ) (b : Side) (node child top : ℕ)
+-- A place may hold back so many retired slots, and has room for two more.
+pub record NeedsRotate (most : ℕ) (v : View) (r : Reading) (upper lower : Held) (parent : ℕ) (b : Side) (node child top : ℕ)
     (turning : Rotation) : Type 0 where
   pub settled : v.moving ≡ None
   pub ticket : 1 ≤ v.allowance.tickets
-  pub room : length v.hands.retired < 15
+  pub room : length v.hands.retired + 1 < most
   pub kept : IsIn v.records r
   pub parent_now : IsUnmarkedNode v r parent
   pub link_now : known_in (known_under v parent) (Link parent b) ≡ Some node

@@ -120,7 +120,7 @@ pub data IsStep (k : Shape) (h : List Mark) (v : View) : Kind → Field → ℕ 
       → NeedsLeafLink v commit r lock held slot b leaf value generation tag
       → IsStep k h v K20 (Link slot b) n leaf (after_leaf_link v commit slot b leaf r.key value h) (done_by v (Put r.key value) ∷ [])
   step21 : {n parent node child left right : ℕ} {commit : Commit} {b : Side} (r : Reading)
-      → NeedsBypass v commit r parent b node child left right
+      → NeedsBypass k.room v commit r parent b node child left right
       → IsStep k h v K21 (Link parent b) n child (after_bypass v commit parent b node child r.key h)
       (done_by v (Del r.key) ∷ (Unlinked node ∷ []))
   step22 : {n slot life : ℕ} (lock : HeldLock) → NeedsMark v lock slot life
@@ -129,7 +129,7 @@ pub data IsStep (k : Shape) (h : List Mark) (v : View) : Kind → Field → ℕ 
       → IsStep k h v K36 (Value slot) n value (after_replace v commit slot r.key value h) (done_by v (Set r.key value) ∷ [])
   -- a move
   step25 : {n parent node copy old old_parent left right next_key value : ℕ} {commit : Commit} {held : Held} {b : Side} (r : Reading)
-      → NeedsCopyLink v commit r held parent b node copy old old_parent left right next_key value
+      → NeedsCopyLink k.room v commit r held parent b node copy old old_parent left right next_key value
       → IsStep k h v K25 (Link parent b) n copy (after_copy_link v commit held parent b node old old_parent r.key next_key h)
       (done_by v (Del r.key) ∷ (Unlinked node ∷ []))
   step26 : {n parent old child life : ℕ} (move : Move) (lock : HeldLock) → NeedsUnlinkOld v move lock parent old child life
@@ -140,7 +140,7 @@ pub data IsStep (k : Shape) (h : List Mark) (v : View) : Kind → Field → ℕ 
       → IsStep k h v K27 (Link copy Right) n child (after_unlink_old v copy Right old child h) (Unlinked old ∷ [])
   -- a rotation
   step38 : {n parent node child top : ℕ} {b : Side} {upper lower : Held} {turning : Rotation} (r : Reading)
-      → NeedsRotate v r upper lower parent b node child top turning
+      → NeedsRotate k.room v r upper lower parent b node child top turning
       → IsStep k h v K38 (Link parent b) n top (after_rotate v parent b node child top h) (rotate_marks node child)
 
 -- the kinds that store, and so find nothing

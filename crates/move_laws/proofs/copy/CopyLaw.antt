@@ -160,7 +160,7 @@ module _ (k : Shape) (m : Memory) (vs : List View) (h : List Mark) (id : ℕ) (v
       → IsKept k m h (stored m field left) (set vs id w) (h ++ marks)
   case25 w field found left marks (step25 {parent = p} {node = d} {copy = c} {old = u} {old_parent = q} {left = l} {right = r}
       {next_key = next_key} {value = value} {commit = commit} {held = held} {b = b} reading needs) =
-      subst (λ x. NeedsCopyLink v commit reading held p b d x u q l r next_key value
+      subst (λ x. NeedsCopyLink k.room v commit reading held p b d x u q l r next_key value
       → IsKept k m h (stored m (Link p b) x) (set vs id (after_copy_link v commit held p b d u q reading.key next_key h))
       (h ++ Done (record { caller = v.allowance.place; op = Del reading.key }) ∷ Unlinked d ∷ []))
       needs.spare_is.1

@@ -56,7 +56,7 @@ pub record CopyStep : Type 0 where
   pub right : ℕ
   pub next_key : ℕ
   pub value : ℕ
-  pub needs : NeedsCopyLink who.v commit r held p b d held.slot u q left right next_key value
+  pub needs : NeedsCopyLink who.k.room who.v commit r held p b d held.slot u q left right next_key value
 
 abbrev pub update_of : CopyStep → Update
 update_of z = delete_update z.who.h z.who.v.allowance.place z.r.key z.d

@@ -19,7 +19,7 @@ use Rattle.tree_laws.proofs.updates.Deletion.{node_marked, parent_alive}
 use Rattle.tree_laws.proofs.links.LinkSlots.{SlotsGo, hand_noted, spare_stays, retired_times, retired_or_gone, retired_grows, gone_among, gone_in_retired, slots_become}
 
 module _ (z : CopyStep) where
-  open z use {who.{m, vs, h, id, v, there, inv, inv.{chart as g}}, held.{slot as c}}
+  open z use {who.{k, m, vs, h, id, v, there, inv, inv.{chart as g}}, held.{slot as c}}
   open copied z use {n, new, to, w, us, hs, gone, known}
 
   pub node_not_copy : z.d ≢ c
@@ -57,7 +57,7 @@ module _ (z : CopyStep) where
       (cases_eq s z.d))
       (cases_eq s c)
 
-  few_mine : HasFewSlots w
+  few_mine : HasFewSlots k.room w
   few_mine =
       let i = inv.slots.few id v there in
       let l = length-append v.hands.retired (gone ∷ []) in

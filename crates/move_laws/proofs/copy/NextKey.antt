@@ -71,5 +71,5 @@ copy_next k m vs h id v inv at works commit r held parent b node copy old old_pa
   right = right;
   next_key = next;
   value = value;
-  needs = subst (λ c. NeedsCopyLink v commit r held parent b node c old old_parent left right next value) (sym needs.spare_is.1) needs;
+  needs = subst (λ c. NeedsCopyLink k.room v commit r held parent b node c old old_parent left right next value) (sym needs.spare_is.1) needs;
 })

@@ -26,7 +26,7 @@ use Rattle.move_laws.proofs.slots.OffStep.{OffStep, on_apart, life_away, off_cha
 use Rattle.move_laws.proofs.slots.OffLocks.{off_locks}
 
 module _ (z : OffStep) where
-  open z use {who.{m, vs, h, id, v, inv.{chart as g}}, m', hs, w, s}
+  open z use {who.{k, m, vs, h, id, v, inv.{chart as g}}, m', hs, w, s}
 
   abbrev n : ℕ
   n = slot_count z.who.k
@@ -78,7 +78,7 @@ module _ (z : OffStep) where
     pub roles : (t : ℕ) → t ≢ s → times t (slots_of w) ≡ times t (slots_of v)
     pub low : m' (State s) ≤ 1
     pub even : m' (State s) ≡ 0 → IsEven (m' (Life s))
-    pub few : HasFewSlots w
+    pub few : HasFewSlots k.room w
     pub hands : AreHandsKnown m' w
     pub retired : Each (retired_of w) (IsRetired m' hs)
     pub unlinked : (t p : ℕ) → gone_at t hs ≡ Some p → (r : Retired) → IsIn (retired_of v) r → r.slot ≡ t
@@ -100,7 +100,7 @@ module _ (z : OffStep) where
         (λ ne. (let r = c.roles t ne in let word = ap (λ x. flag (x == 0)) (z.stores.away t (State t) ne refl) in omega arith))
         (cases_eq t s)
 
-    pub slots_now : SlotParts m' n g us hs
+    pub slots_now : SlotParts k.room m' n g us hs
     slots_now = let t = z.who.inv.slots in record {
       roles = record {
         once = once_now;
@@ -109,7 +109,7 @@ module _ (z : OffStep) where
         states = λ x lt. ⊎_elim (λ (on : x ≡ s). subst (λ y. m' (State y) ≤ 1) (sym on) c.low)
             (λ ne. subst (λ y. y ≤ 1) (sym (z.stores.away x (State x) ne refl)) (t.roles.states x lt)) (cases_eq x s);
       };
-      few = each_set (λ j u. HasFewSlots u) vs id w c.few (λ j u ne e. t.few j u e);
+      few = each_set (λ j u. HasFewSlots k.room u) vs id w c.few (λ j u ne e. t.few j u e);
       free = λ x lt e. ⊎_elim (λ (on : x ≡ s). subst (λ y. IsEven (m' (Life y))) (sym on) (c.even (ap (λ y. m' (State y)) (sym on) ∙ e)))
           (λ ne. even_away x ne (t.free x lt (sym (z.stores.away x (State x) ne refl) ∙ e))) (cases_eq x s);
       root = life_away z 0 (on_apart z 0 z.who.inv.tree.shape.root) ∙ t.root;

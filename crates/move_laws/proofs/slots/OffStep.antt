@@ -55,7 +55,7 @@ pub no_marks : (s : ℕ) (h : List Mark) → SameElse s h h
 no_marks s h = record { updates = refl; longer = λ j a e. e; done = λ j u e. e; else = λ t _. refl; back = λ t p e. e }
 
 -- a slot that is among those of one view is no other view's
-pub no_others : (m : Memory) (n : ℕ) (g : Chart) (vs : List View) (h : List Mark) → SlotParts m n g vs h → (id : ℕ) (v : View)
+pub no_others : {room : ℕ} (m : Memory) (n : ℕ) (g : Chart) (vs : List View) (h : List Mark) → SlotParts room m n g vs h → (id : ℕ) (v : View)
     → get_elem? vs id ≡ some v → (s : ℕ) → 1 ≤ times s (slots_of v)
     → (j : ℕ) (u : View) → j ≢ id → get_elem? vs j ≡ some u → times s (slots_of u) ≡ 0
 no_others m n g vs h t id v there s mine j u ne e =

@@ -168,7 +168,7 @@ module _ (z : RaiseStep) where
     -- what is left to say of the slots of the view
     record RaisedSlots : Type 0 where
       pub same : (t : ℕ) → times t (slots_of w) ≡ times t (slots_of v)
-      pub few : HasFewSlots w
+      pub few : HasFewSlots k.room w
       pub spare : (held : Held) → c.spare ≡ Some held → IsHeldKnown m' held
       pub spares : (t : ℕ) → t ≢ s → 1 ≤ times t (spares_of w) → 1 ≤ times t (spares_of v)
       pub retired : Each c.retired (IsRetired m' c.hs)

@@ -105,7 +105,7 @@ module _ (k : Shape) (m : Memory) (vs : List View) (h : List Mark) (id : ℕ) (v
       pub unraised : (t : ℕ) → IsUnraised v t → (t ≢ z.slot) × IsUnraised w t
       pub role : flag (x == 0) + times slot (slots_of w) ≡ flag (m (State slot) == 0) + times slot (slots_of v)
       pub roles : (t : ℕ) → t ≢ slot → times t (slots_of w) ≡ times t (slots_of v)
-      pub few : HasFewSlots w
+      pub few : HasFewSlots k.room w
       pub known : AreHandsKnown m' w
       pub retired : (y : Retired) → IsIn (retired_of w) y → (y.slot ≢ slot) × IsIn (retired_of v) y
       pub kept : (y : Retired) → IsIn (retired_of v) y → y.slot ≢ slot → IsIn (retired_of w) y

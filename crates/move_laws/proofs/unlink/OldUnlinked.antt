@@ -93,7 +93,7 @@ module _ (who : Stepper) (move : Move) (lock : HeldLock) (child : ℕ) (b : Side
   has_old : HasLock v u
   has_old = (lock, locked)
 
-  room : length v.hands.retired < 16
+  room : length v.hands.retired < k.room
   room = let r = (i.slots.few id v there).room move moving in omega arith
 
   unlinks : Unlinks m new g q b u child

@@ -60,7 +60,7 @@ module _ (k : Shape) (m : Memory) (vs : List View) (h : List Mark) (id : ℕ) (v
       → IsKept k m h (stored m field left) (set vs id w) (h ++ marks)
   case38 field found left w marks (step38 {parent = p} {node = x} {child = y} {top = top} {b = b} {upper = upper} {lower = lower}
       {turning = turning} reading needs) =
-      subst (λ s. NeedsRotate v reading upper lower p b x y s turning
+      subst (λ s. NeedsRotate k.room v reading upper lower p b x y s turning
       → IsKept k m h (stored m (Link p b) s) (set vs id (after_rotate v p b x y s h)) (h ++ rotate_marks x y))
       needs.spare_is.1
       (λ same. rotate_kept (record {

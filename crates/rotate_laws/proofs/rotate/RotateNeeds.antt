@@ -44,7 +44,7 @@ pub record RotateStep : Type 0 where
   pub x : ℕ
   pub y : ℕ
   pub turning : Rotation
-  pub needs : NeedsRotate who.v r upper lower p b x y upper.slot turning
+  pub needs : NeedsRotate who.k.room who.v r upper lower p b x y upper.slot turning
 
 module _ (z : RotateStep) where
   open z use {who, who.{k, m, vs, h, id, v, there, inv, inv.{chart as g}}, r, upper, upper.{slot as top}, lower, lower.{slot as sub}}

@@ -67,7 +67,7 @@ pub record Cut : Type 0 where
   pub has_parent : HasLock who.v p
   pub has_node : HasLock who.v d
   pub knows : (field : Field) (number : ℕ) → known_in (known_under who.v d) field ≡ Some number → who.m field ≡ number
-  pub room : length who.v.hands.retired < 16
+  pub room : length who.v.hands.retired < who.k.room
   pub plain : PlainMarks who.v.allowance.place who.h hs
   pub marks : AreMarks who.k.places hs
   pub said : (key from : ℕ) (o : Option ℕ) → WasSaid (updates_of who.h) key from o → WasSaid (updates_of hs) key from o
@@ -184,12 +184,12 @@ module _ (z : Cut) where
           (λ ne. (let q = ap flag (put-other g.linked d false s ne) in let x = times_other s d [] (λ f. ne (sym f)) in omega arith))
           (cases_eq s d)
 
-  few_slots : HasFewSlots v → HasFewSlots w
+  few_slots : HasFewSlots k.room v → HasFewSlots k.room w
   few_slots t = record {
     one = λ y. z.hand ∙ hand_noted cut_step known ∙ t.one (sym z.reserved ∙ y);
     few = (let l = ap length z.retired ∙ length-append v.hands.retired (gone ∷ []) in let room = z.room in omega arith);
     room = λ move is. absurd (let q : None ≡ Some move = sym z.moving ∙ is in cc);
-    joined = subst (λ js. Each js (λ (s : Spent). length s.retired ≤ 16)) (sym z.same.places.joined) t.joined;
+    joined = subst (λ js. Each js (λ (s : Spent). length s.retired ≤ k.room)) (sym z.same.places.joined) t.joined;
     joined_spare = subst (λ js. Each js HasSpareToCome) (sym z.same.places.joined) t.joined_spare;
     next_spare = λ works none. (gone, gone_among cut_step retires, refl);
   }

@@ -30,7 +30,7 @@ use Rattle.tree_laws.proofs.updates.DeleteMarks.{delete_update, both_marks, dele
 use Rattle.core_state.specs.declared.view.Move.{Move}
 
 module _ (who : Stepper) (commit : Commit) (r : Reading) (p : ℕ) (b : Side) (d c left right : ℕ)
-    (needs : NeedsBypass who.v commit r p b d c left right) where
+    (needs : NeedsBypass who.k.room who.v commit r p b d c left right) where
   open who use {k, m, vs, h, id, v, there, inv as i, inv.{chart as g}}
 
   abbrev n : ℕ

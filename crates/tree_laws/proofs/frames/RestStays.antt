@@ -93,7 +93,7 @@ module _ (P : ℕ → Type 0) (z : ChartStep P) where
   us = set vs id w
 
   -- the invariant, with the parts on slots, locks, counts and grace
-  pub chart_stays : OuterParts k m' us hs → SlotParts m' (slot_count k) inv.chart us hs → LockParts m' (slot_count k) inv.chart us
+  pub chart_stays : OuterParts k m' us hs → SlotParts k.room m' (slot_count k) inv.chart us hs → LockParts m' (slot_count k) inv.chart us
       → CountParts k.tickets m' (slot_count k) inv.chart us hs → GraceParts us hs → HoldsNow k m' us hs
   chart_stays outer slots locks counts grace = record {
     table = inv.table;
@@ -141,7 +141,7 @@ module _ (k : Shape) (m : Memory) (vs : List View) (h : List Mark) (id : ℕ) (v
     done = λ j u e. e;
   }
 
-  pub hands_stay : SlotParts m (slot_count k) i.chart (set vs id w) h → CountParts k.tickets m (slot_count k) i.chart (set vs id w) h
+  pub hands_stay : SlotParts k.room m (slot_count k) i.chart (set vs id w) h → CountParts k.tickets m (slot_count k) i.chart (set vs id w) h
       → GraceParts (set vs id w) h → ((s : ℕ) → IsUnraised v s → IsUnraised w s) → HoldsNow k m (set vs id w) h
   hands_stay slots counts grace unraised = chart_stays any step (outer_same k m m vs h id v w i there works (λ f _. refl) view seen) slots
       (lock_frame m m (slot_count k) i.chart vs id v w there (same_slots m) (record {

@@ -18,7 +18,7 @@ module _ (z : LinkStep) where
 
   -- the parts that the step changes
   pub record LinkParts : Type 0 where
-    pub slots : SlotParts (words_after z) (slot_count k) to (views_after z) hs
+    pub slots : SlotParts k.room (words_after z) (slot_count k) to (views_after z) hs
     pub locks : LockParts (words_after z) (slot_count k) to (views_after z)
     pub counts : CountParts k.tickets (words_after z) (slot_count k) to (views_after z) hs
     pub map : HoldsMap (words_after z) to (map_now hs)

@@ -100,7 +100,7 @@ module _ (z : LinkStep) where
   -- what the step says of slots: which the view has afterwards, and what it knows of them
   pub record SlotsGo : Type 0 where
     pub mine : HasLock v p
-    pub few : HasFewSlots v → HasFewSlots w
+    pub few : HasFewSlots k.room v → HasFewSlots k.room w
     pub swaps : (s : ℕ) → times s (slots_of w) + flag (to.linked s) ≡ times s (slots_of v) + flag (g.linked s)
     pub hand : (x : Held) → w.hands.hand ≡ Some x → v.hands.hand ≡ Some x
     pub spare : (x : Held) → w.hands.spare ≡ Some x → v.hands.spare ≡ Some x
@@ -140,7 +140,7 @@ module _ (z : LinkStep) where
     was_in_range s far = ⊎_elim (λ (l : g.linked s ≡ true). absurd (let lt = i.tree.shape.within s l in omega arith)) (λ off. ap flag off)
         (bool_cases (g.linked s))
 
-    pub slots_after : SlotParts new n to us hs
+    pub slots_after : SlotParts k.room new n to us hs
     slots_after = record {
       roles = record {
         once = λ s lt. (let a = total_set (λ (u : View). times s (slots_of u)) vs id v w there in let q = i.slots.roles.once s lt in
@@ -149,7 +149,7 @@ module _ (z : LinkStep) where
             let e = r.swaps s in let x = in_range s far in let y = was_in_range s far in omega arith);
         states = i.slots.roles.states;
       };
-      few = each_set (λ j u. HasFewSlots u) vs id w (r.few (i.slots.few id v there)) (λ j u ne e. i.slots.few j u e);
+      few = each_set (λ j u. HasFewSlots k.room u) vs id w (r.few (i.slots.few id v there)) (λ j u ne e. i.slots.few j u e);
       free = i.slots.free;
       root = i.slots.root;
       hands = each_set (λ j u. AreHandsKnown new u) vs id w hands_mine (λ j u ne e. hands_other j u ne e);

@@ -92,7 +92,7 @@ module _ (k : Shape) (m m' : Memory) (vs : List View) (h : List Mark) (id : ℕ)
     abbrev g : Chart
     g = i.chart
 
-    slots : SlotParts m' (slot_count k) g (set vs id w) h
+    slots : SlotParts k.room m' (slot_count k) g (set vs id w) h
     slots = let t = i.slots in let same = λ (s : ℕ). total_same (λ (u : View). times s (slots_of u)) vs id v w there refl in record {
       roles = record {
         once = λ s lt. ap (λ x. flag (x == 0) + flag (g.linked s) + total (λ (u : View). times s (slots_of u)) (set vs id w))
@@ -100,7 +100,7 @@ module _ (k : Shape) (m m' : Memory) (vs : List View) (h : List Mark) (id : ℕ)
         beyond = λ s far. same s ∙ t.roles.beyond s far;
         states = λ s lt. subst (λ x. x ≤ 1) (sym (stores.state s)) (t.roles.states s lt);
       };
-      few = each_change HasFewSlots HasFewSlots vs id v w there
+      few = each_change (HasFewSlots k.room) (HasFewSlots k.room) vs id v w there
           (λ x. record {
             one = x.one;
             few = x.few;

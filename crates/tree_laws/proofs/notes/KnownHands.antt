@@ -34,7 +34,7 @@ module _ (k : Shape) (m : Memory) (vs : List View) (h : List Mark) (id : ℕ) (v
   g = i.chart
 
   -- the invariant, with the parts on slots and on counts
-  pub hands_rest : SlotParts m (slot_count k) g (set vs id w) h → CountParts k.tickets m (slot_count k) g (set vs id w) h
+  pub hands_rest : SlotParts k.room m (slot_count k) g (set vs id w) h → CountParts k.tickets m (slot_count k) g (set vs id w) h
       → HoldsNow k m (set vs id w) h
   hands_rest slots counts =
       let same : SameOutside v w = same_but v v.locks w.hands v.seen in
@@ -56,7 +56,7 @@ module _ (k : Shape) (m : Memory) (vs : List View) (h : List Mark) (id : ℕ) (v
         ++ (numbers_from (v.allowance.place + 2) (v.allowance.places - 1) ++ joined_spares v.allowance.joined))
         ++ map (λ (r : Retired). r.slot) (retired_of v))
 
-    slots : SlotParts m (slot_count k) g (set vs id w) h
+    slots : SlotParts k.room m (slot_count k) g (set vs id w) h
     slots = slots_by m (slot_count k) g vs id v w h there (λ s. ap (times s) slots_are)
         (λ x. record {
           one = λ e. same.no_hand (x.one e);

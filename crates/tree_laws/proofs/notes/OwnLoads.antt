@@ -74,7 +74,7 @@ module _ (k : Shape) (m : Memory) (vs : List View) (h : List Mark) (id : ℕ) (v
           (λ same. subst (λ z. IsEven (m (Life z))) same ((i.slots.hands id v there).hand held e).1)
           (λ ne. absurd (let c = times_other s held.slot [] ne in omega arith))
 
-  slots : SlotParts m (slot_count k) g (set vs id w) h
+  slots : SlotParts k.room m (slot_count k) g (set vs id w) h
   slots = slots_by m (slot_count k) g vs id v w h there same_times
       (λ x. record {
         one = λ e. refl;

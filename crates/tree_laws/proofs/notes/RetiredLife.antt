@@ -1,5 +1,5 @@
 -- The life of a retired slot may be written down.
-use Rattle.std.proofs.Common.{◌≡◌, ◌⊎◌, ℕ, zero, suc, ◌+◌, ◌≤◌, ◌==◌, Bool, true, false, cond, List, [], ◌∷◌, ◌++◌, length, map, set, Some, refl, sym, ap, subst, ◌∙◌, inl, inr, ⊎_elim, arith}
+use Rattle.std.proofs.Common.{◌≡◌, ◌⊎◌, ℕ, zero, suc, ◌+◌, ◌<◌, ◌≤◌, ◌==◌, Bool, true, false, cond, List, [], ◌∷◌, ◌++◌, length, map, set, Some, refl, sym, ap, subst, ◌∙◌, inl, inr, ⊎_elim, arith}
 use Rattle.std.proofs.lemmas.Bool.{eqb-true}
 use mathlib.Core.Option.{some, some-injective, some-ne-none}
 use lib.ListN.{get_elem?}
@@ -142,12 +142,12 @@ module _ (k : Shape) (m : Memory) (vs : List View) (h : List Mark) (id : ℕ) (v
       (x, in_second w.hands.retired (joined_retired v.allowance.joined) x joined, is))
       (in_append v.hands.retired (joined_retired v.allowance.joined) x has))
 
-  slots : SlotParts m (slot_count k) g (set vs id w) h
+  slots : SlotParts k.room m (slot_count k) g (set vs id w) h
   slots = slots_by m (slot_count k) g vs id v w h there (λ s. ap (times s) slots_are)
       (λ x. record {
         one = x.one;
-        few = subst (λ n. n ≤ 16) (sym (length_map v.hands.retired)) x.few;
-        room = λ move is. subst (λ n. n ≤ 15) (sym (length_map v.hands.retired)) (x.room move is);
+        few = subst (λ n. n ≤ k.room) (sym (length_map v.hands.retired)) x.few;
+        room = λ move is. subst (λ n. n < k.room) (sym (length_map v.hands.retired)) (x.room move is);
         joined = x.joined;
         joined_spare = x.joined_spare;
         next_spare = λ here none. (let y = x.next_spare here none in let z = own_forth y.0 y.1 in let q = z.1 in

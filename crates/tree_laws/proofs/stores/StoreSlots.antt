@@ -121,13 +121,13 @@ module _ (k : Shape) (m : Memory) (vs : List View) (h : List Mark) (i : HoldsNow
             cases true l = absurd (let none = linked_apart k m vs h i r.slot l j u e in let one = retired_own u r has in omega arith)
             cases false l = refl
 
-    few_same : length w.hands.retired ≤ 16 → ((r : Retired) → IsIn v.hands.retired r → IsIn w.hands.retired r) → HasFewSlots v
-        → HasFewSlots w
+    few_same : length w.hands.retired ≤ k.room → ((r : Retired) → IsIn v.hands.retired r → IsIn w.hands.retired r) → HasFewSlots k.room v
+        → HasFewSlots k.room w
     few_same few more t = record {
       one = λ q. c.hand ∙ note_option-still_none p new v.hands.hand (t.one (sym c.reserved ∙ q));
       few = few;
       room = λ move is. absurd (let q : None ≡ Some move = sym c.moving ∙ is in cc);
-      joined = subst (λ x. Each x (λ (s : Spent). length s.retired ≤ 16)) (sym c.places.joined) t.joined;
+      joined = subst (λ x. Each x (λ (s : Spent). length s.retired ≤ k.room)) (sym c.places.joined) t.joined;
       joined_spare = subst (λ ss. Each ss HasSpareToCome) (sym c.places.joined) t.joined_spare;
       next_spare = λ works none. (let r = t.next_spare (subst (λ x. 1 ≤ x) c.places.places works)
           (note_option-none p new v.hands.spare (sym c.spare ∙ none)) in (r.0, more r.0 r.1, r.2));
@@ -145,7 +145,7 @@ module _ (k : Shape) (m : Memory) (vs : List View) (h : List Mark) (i : HoldsNow
       slots_same : slots_of w ≡ slots_of v
       slots_same = λ z. hand_list_noted z ++ (spares_noted z ++ map (λ (r : Retired). r.slot) (retired_same z))
 
-      pub slots_stored : SlotParts m' (slot_count k) i.chart (set vs id w) h'
+      pub slots_stored : SlotParts k.room m' (slot_count k) i.chart (set vs id w) h'
       slots_stored = record {
         roles = record {
           once = λ s lt. (let a = i.slots.roles.once s lt in let b = ap (λ x. flag (x == 0)) (stores.state s) in let d = whole s in
@@ -153,8 +153,8 @@ module _ (k : Shape) (m : Memory) (vs : List View) (h : List Mark) (i : HoldsNow
           beyond = λ s far. whole s ∙ i.slots.roles.beyond s far;
           states = λ s lt. subst (λ x. x ≤ 1) (sym (stores.state s)) (i.slots.roles.states s lt);
         };
-        few = each_set (λ j u. HasFewSlots u) vs id w
-            (few_same (subst (λ rs. length rs ≤ 16) (sym same_retired) (i.slots.few id v there).few)
+        few = each_set (λ j u. HasFewSlots k.room u) vs id w
+            (few_same (subst (λ rs. length rs ≤ k.room) (sym same_retired) (i.slots.few id v there).few)
             (λ r has. subst (λ rs. IsIn rs r) (sym same_retired) has) (i.slots.few id v there)) (λ j u ne e. i.slots.few j u e);
         free = λ s lt e. even_same s (i.slots.free s lt (sym (stores.state s) ∙ e));
         root = stores.life 0 ∙ i.slots.root;

@@ -224,7 +224,7 @@ module _ (k : Shape) (m : Memory) (vs : List View) (h : List Mark) (i : HoldsNow
         turns = (let a = sum (λ (u : View). u.counts.turns + turns_to_come u.wait) in omega arith);
       }
 
-  few_both : HasFewSlots both
+  few_both : HasFewSlots k.room both
   few_both =
       let f = i.slots.few id v there in
       let g = i.slots.few j other there_other in
@@ -232,8 +232,8 @@ module _ (k : Shape) (m : Memory) (vs : List View) (h : List Mark) (i : HoldsNow
         one = f.one;
         few = f.few;
         room = f.room;
-        joined = each_append (λ (s : Spent). length s.retired ≤ 16) v.allowance.joined (spent_places other) f.joined
-            (each_spent (λ (s : Spent). length s.retired ≤ 16) other g.few (λ p. omega arith) g.joined);
+        joined = each_append (λ (s : Spent). length s.retired ≤ k.room) v.allowance.joined (spent_places other) f.joined
+            (each_spent (λ (s : Spent). length s.retired ≤ k.room) other g.few (λ p. omega arith) g.joined);
         joined_spare = each_append HasSpareToCome v.allowance.joined (spent_places other) f.joined_spare
             (each_spent HasSpareToCome other (λ none. g.next_spare works_other (no_spare other.hands.spare none))
             (λ p none. absurd (let q : Some (p + 1) ≡ None = none in cc)) g.joined_spare);
@@ -260,7 +260,7 @@ module _ (k : Shape) (m : Memory) (vs : List View) (h : List Mark) (i : HoldsNow
     spares = λ s some_time. absurd (let c : times s (spares_of spent_view) ≡ 0 = refl in omega arith);
   }
 
-  few_spent : HasFewSlots spent_view
+  few_spent : HasFewSlots k.room spent_view
   few_spent = record {
     one = λ e. refl;
     few = omega arith;

@@ -409,16 +409,16 @@ module _ (vs us : List View) (id : ℕ) (v a b : View) (r : Regroups vs us id v 
         olds = t.olds ∙ sym pending;
       }
 
-  slots_regroup : (m : Memory) (n : ℕ) (g : Chart) (h : List Mark) → SameSums vs us → HasFewSlots a → HasFewSlots b → AreHandsKnown m a
-      → AreHandsKnown m b → Each (retired_of a) (IsRetired m h)
-      → ((s : ℕ) → IsRetiredOf vs s → IsRetiredOf us s) → SlotParts m n g vs h → SlotParts m n g us h
-  slots_regroup m n g h sums few_a few_b hands_a hands_b retired_a unlinked t = record {
+  slots_regroup : {room : ℕ} (m : Memory) (n : ℕ) (g : Chart) (h : List Mark) → SameSums vs us → HasFewSlots room a → HasFewSlots room b
+      → AreHandsKnown m a → AreHandsKnown m b → Each (retired_of a) (IsRetired m h)
+      → ((s : ℕ) → IsRetiredOf vs s → IsRetiredOf us s) → SlotParts room m n g vs h → SlotParts room m n g us h
+  slots_regroup {room} m n g h sums few_a few_b hands_a hands_b retired_a unlinked t = record {
     roles = record {
       once = λ s lt. ap (λ x. flag (m (State s) == 0) + flag (g.linked s) + x) (sums.slots s) ∙ t.roles.once s lt;
       beyond = λ s far. sums.slots s ∙ t.roles.beyond s far;
       states = t.roles.states;
     };
-    few = each_regroup HasFewSlots HasFewSlots (λ u i. i) (λ i. few_a) few_b t.few;
+    few = each_regroup (HasFewSlots room) (HasFewSlots room) (λ u i. i) (λ i. few_a) few_b t.few;
     free = t.free;
     root = t.root;
     hands = each_regroup (AreHandsKnown m) (AreHandsKnown m) (λ u i. i) (λ i. hands_a) hands_b t.hands;
@@ -478,8 +478,8 @@ module _ (vs us : List View) (id : ℕ) (v a b : View) (r : Regroups vs us id v 
     pub owned_b : IsOwned h b
     pub counted_a : Works a → IsCounted h a
     pub counted_b : Works b → IsCounted h b
-    pub few_a : HasFewSlots a
-    pub few_b : HasFewSlots b
+    pub few_a : HasFewSlots k.room a
+    pub few_b : HasFewSlots k.room b
     pub hands_a : AreHandsKnown m a
     pub hands_b : AreHandsKnown m b
     pub retired_a : Each (retired_of a) (IsRetired m h)

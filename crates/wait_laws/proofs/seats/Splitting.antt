@@ -173,7 +173,7 @@ module _ (k : Shape) (m : Memory) (vs : List View) (h : List Mark) (i : HoldsNow
         turns = (let a = sum (λ (u : View). u.counts.turns + turns_to_come u.wait) in omega arith);
       }
 
-  few_first : HasFewSlots first
+  few_first : HasFewSlots k.room first
   few_first = let f = i.slots.few id v there in record {
     one = f.one;
     few = f.few;
@@ -183,7 +183,7 @@ module _ (k : Shape) (m : Memory) (vs : List View) (h : List Mark) (i : HoldsNow
     next_spare = λ works none. f.next_spare (let a = needs.few in omega arith) none;
   }
 
-  few_second : HasFewSlots second
+  few_second : HasFewSlots k.room second
   few_second = record {
     one = λ e. refl;
     few = omega arith;

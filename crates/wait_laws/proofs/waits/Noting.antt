@@ -125,7 +125,7 @@ module _ (vs : List View) (id : ℕ) (v : View) (there : get_elem? vs id ≡ som
       spares = i.spares;
     }
 
-    few_noted : HasFewSlots v → HasFewSlots w
+    few_noted : {most : ℕ} → HasFewSlots most v → HasFewSlots most w
     few_noted i = record {
       one = i.one;
       few = (let e = length-map v.hands.retired (waited_retired wait) in let f = i.few in omega arith);
