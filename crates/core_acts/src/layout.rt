@@ -4,8 +4,8 @@
 //! fetched two at a time. So the clock, the front and the free count stand 128 bytes or more from all other words. So do a place's key and
 //! stamp, a class's gate and counts, and a place's row of stamps (`words_stand_apart`): wherever the row begins they share no line, and no
 //! pair of lines, with other words. What a search loads of a slot stands in one line: its lock, life, key, value, links and tags. The
-//! states, at which only those look who take a slot, stand in a row of their own behind. Neighbouring slots are 64 bytes from each other, and
-//! states 8.
+//! states, at which only those look who take a slot, stand in a row of their own behind. Neighbouring slots are 64 bytes from each other,
+//! and states 8.
 //!
 //! A line begins at a multiple of 64 bytes. glibc puts a row that it maps by itself 16 bytes behind such a multiple, and any other row
 //! behind some multiple of 16. It maps rows of 128 KiB and more; once a mapped block was given back, only rows that are larger than that
