@@ -93,8 +93,8 @@ pub record HasEntered (v : View) (key : ℕ) (w : View) : Type 0 where
   pub informed : IsInformed w
 
 -- The steps by which each waiter enters a section with this key at a place. The first loads the clock, announces the key, and stores the
--- clock that it loaded as the place's stamp. The second loads the gate of the key's class, and adds 1 to the count of the side that the gate
--- names. The third loads the clock, and stores it as the place's stamp of the key's class.
+-- clock that it loaded as the place's stamp. The second loads the gate of the key's class, and adds 1 to the count of the side that the
+-- gate names. The third loads the clock, and stores it as the place's stamp of the key's class.
 abbrev pub AreOfEntry : Waiter → ℕ → ℕ → List StepMade → Type 0
 AreOfEntry Eer place key steps = (clock : ℕ) × (steps ≡ record { kind = K3; field = Clock; number = clock }
     ∷ (record { kind = K4; field = Announced place; number = key } ∷ (record { kind = K5; field = Stamp place; number = clock } ∷ [])))

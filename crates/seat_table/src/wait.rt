@@ -58,8 +58,8 @@ pub enum Poll {
 
 /// How readers show that they read, and how a wait looks for them.
 pub trait WaitPart: WaitWords {
-    /// Enters a section with this key, by just the steps of its waiter. The last of them shows that the seat reads. A seat that was quiet is
-    /// so again when the section is left.
+    /// Enters a section with this key, by just the steps of its waiter. The last of them shows that the seat reads. A seat that was quiet
+    /// is so again when the section is left.
     fn enter(table: &CitrusTable<Self>, seat: &mut Seat<Self>, key: u64)
         requires table { seat.old.table ≡ table.now }
         requires outside { seat.old.view.section ≡ None }
