@@ -20,7 +20,8 @@ use Rattle.list_laws.proofs.Lists.{in_first, all_change}
 use Rattle.seat_table.specs.Seats.{SeatAt}
 use Rattle.seat_table.specs.declared.wait.Grace.{Grace}
 use Rattle.seat_table.specs.Once.{FindsNone, FindsOnce}
-use Rattle.seat_table.specs.Waits.{HaveLeft, HasLooked, HasEnded, IsOver, HasStopped}
+use Rattle.seat_table.specs.Onward.{LooksAt, IsOnward, IsWithin}
+use Rattle.seat_table.specs.Waits.{Reached, reached, StopsAt, HaveLeft, HasLooked, HasEnded, IsOver, HasStopped}
 use Rattle.grace_cookie.specs.Cookies.{CookieAt, everybody, IsLatest, HasOutlasted, GoesOn, IsOf, IsKept, AreKept, HasKept}
 use Rattle.grace_cookie.specs.declared.answers.Ask.TheVariants.{NotYet}
 use Rattle.grace_cookie.specs.Asking.{IsFoundOver, Asked}
@@ -128,11 +129,23 @@ module _ (k : Shape) (c : CookieAt) (v w : View) (of : IsOf k c v) (was : c.over
         };
   }
 
+-- Everybody's keys have each class, so a poll looks at no spot before the one to which the cookie had come.
+pub onward_of : {W : Type 0} (k : Shape) (c : CookieAt) (v w : View) (grace : Grace W) → IsOf k c v → c.over ≡ false → IsLatest c v
+    → grace.keys ≡ everybody → c.reached ≡ reached grace → (IsWithin grace.keys grace.class → LooksAt (IsOnward (reached grace)) v w)
+    → LooksAt (IsOnward c.reached) v w
+onward_of k c v w grace of was latest keys same onward =
+    let small : c.reached.class < 64 = (of.going was latest).3.small in
+    let class : c.reached.class ≡ grace.class = ap (λ (z : Reached). z.class) same in
+    let less : grace.class < 64 = omega (arith, small, class) in
+    let within : IsWithin everybody grace.class =
+    (grace.class, omega arith, less, (grace.class, (omega arith, omega arith), omega (arith, less))) in
+    subst (λ z. LooksAt (IsOnward z) v w) (sym same) (onward (subst (λ z. IsWithin z grace.class) (sym keys) within))
+
 -- It goes on, by what the one look found that stopped it.
 pub found_going : {W : Type 0} (k : Shape) (c : CookieAt) (v w : View) (why : Why) (grace : Grace W) (d : CookieAt) → IsOf k c v
-    → c.over ≡ false → IsLatest c v → d.over ≡ false → HasStopped k v why grace w → FindsOnce everybody c.clock v why w
-    → Asked k c v (NotYet why) d w
-found_going k c v w why grace d of was latest going stopped once =
+    → c.over ≡ false → IsLatest c v → d.over ≡ false → d.reached ≡ reached grace → HasStopped k v why grace w
+    → FindsOnce everybody c.clock v why w → Asked k c v (NotYet why) d w
+found_going k c v w why grace d of was latest going come stopped once =
     let p = stopped.on in
     let on = of.going was latest in
     let e : Some p.wait ≡ Some on.0 = sym p.was ∙ on.1 in
@@ -148,6 +161,7 @@ found_going k c v w why grace d of was latest going stopped once =
         count_is = ap (λ (z : Waiting). z.count) same ∙ on.2;
         looked = p.looked;
         once = once;
+        there = subst (λ r. StopsAt r why) (sym come) stopped.there;
       },
       stopped.shows,
     )

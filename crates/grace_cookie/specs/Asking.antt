@@ -8,7 +8,7 @@ use Rattle.core_state.specs.declared.view.Waiting.{Waiting}
 use Rattle.prcu_marks.specs.declared.mark.Why.{Why}
 use Rattle.seat_table.specs.Seats.{SeatAt}
 use Rattle.seat_table.specs.Once.{FindsNone, FindsOnce}
-use Rattle.seat_table.specs.Waits.{HasLooked, Shows, IsOver}
+use Rattle.seat_table.specs.Waits.{HasLooked, Shows, StopsAt, IsOver}
 use Rattle.node_slots.specs.Reclaiming.{GivesBack, without_slots}
 use Rattle.grace_cookie.specs.declared.answers.Ask.{Ask}
 use Rattle.grace_cookie.specs.declared.answers.Ask.TheVariants.{Over, NotYet, GivenUp}
@@ -28,7 +28,8 @@ pub record IsFoundOver (k : Shape) (c : CookieAt) (v : View) (d : CookieAt) (w :
   pub outlasted : HasOutlasted v.allowance.place c.count w.seen
   pub how : EndedNowOrBefore k c v w
 
--- Its wait is the latest one, and goes on by what this one poll found: it stopped at the first reader in its way.
+-- Its wait is the latest one, and goes on by what this one poll found: it stopped at the first reader in its way. The cookie has come
+-- there, so that the next question looks there first.
 pub record IsFoundGoing (c : CookieAt) (v : View) (wait : Waiting) (steps : List StepMade) (new : Waiting) (why : Why) (d : CookieAt)
     (w : View) : Type 0 where
   pub was : c.over ≡ false
@@ -38,6 +39,7 @@ pub record IsFoundGoing (c : CookieAt) (v : View) (wait : Waiting) (steps : List
   pub count_is : wait.count ≡ c.count
   pub looked : HasLooked v wait steps new w
   pub once : FindsOnce everybody c.clock v why w
+  pub there : StopsAt d.reached why
 
 -- It wasn't found over before, and the place has begun a later wait, the latest of which has this number. Nothing changed.
 pub record IsGivenUp (c : CookieAt) (v : View) (latest : ℕ) (d : CookieAt) (w : View) : Type 0 where

@@ -2,6 +2,7 @@
 ghost use Rattle.std.specs.Prelude.{◌≡◌, ◌≤◌, ℕ, true, false, [], length, None, take};
 ghost use Rattle.list_laws.specs.Counts.{times};
 ghost use Rattle.seat_table.specs.Gains.{IsInformed};
+ghost use Rattle.seat_table.specs.Onward.{LooksAt, IsOnward};
 ghost use Rattle.seat_table.specs.Seats.{AreListed, IsQuietSeat, shape_of};
 ghost use Rattle.seat_table.specs.Sections.{HasBegun};
 ghost use Rattle.grace_cookie.specs.Cookies.{IsOf, HasKept, IsLatest, AreUnraised};
@@ -76,13 +77,15 @@ pub fn start<W: WaitPart>(table: &CitrusTable<W>, seat: &mut Seat<W>) -> Cookie<
 }
 
 /// Whether the cookie's wait is over. `Over` stays so for good. `NotYet` comes where one poll of the wait found what it names. `GivenUp`
-/// comes exactly where the cookie wasn't over and the place has begun a later wait. It waits for nobody.
+/// comes exactly where the cookie wasn't over and the place has begun a later wait. A question goes on from where the last one stopped: it
+/// looks at no place or class before. It waits for nobody.
 pub fn ask<W: WaitPart>(table: &CitrusTable<W>, seat: &mut Seat<W>, cookie: &mut Cookie<W>) -> Ask
     requires table { seat.old.table ≡ table.now }
     requires of { IsOf (shape_of W.WAY table.now) cookie.old seat.old.view }
     ensures seat { (seat.new.table ≡ seat.old.table) × (seat.new.listed ≡ seat.old.listed) }
     ensures cookie { IsSameCookie cookie.old cookie.new }
     ensures asked { Asked (shape_of W.WAY table.now) cookie.old seat.old.view result cookie.new seat.new.view }
+    ensures onward { LooksAt (IsOnward cookie.old.reached) seat.old.view seat.new.view }
     ensures of { IsOf (shape_of W.WAY table.now) cookie.new seat.new.view }
     ensures kept { HasKept cookie.old seat.old → HasKept cookie.new seat.new }
     ensures quiet { IsQuietSeat seat.old → IsQuietSeat seat.new }

@@ -125,8 +125,8 @@ abbrev pub GoRound : ℕ → ℕ → List StepMade → Type 0
 GoRound last looked [] = Unit {0}
 GoRound last looked (t ∷ ts) = (t ≡ look (next_slot last looked) t.number) × GoRound last (next_slot last looked) ts
 
--- The looks for a free slot, of which the last one found one: first at slots that the seat freed, no more than it notes, then at one after
--- another from where its scans have come to.
+-- The looks for a free slot, of which the last one found one: first at any slots, no more than a seat notes of those that it freed, then at
+-- one after another from where its scans have come to.
 pub record AreLooks (last looked slot : ℕ) (looks : List StepMade) : Type 0 where
   pub missed : List StepMade
   pub each : AllByRecursion IsMiss missed

@@ -9,7 +9,9 @@ use Rattle.prcu_marks.specs.Marks.{is_of, own_of}
 use Rattle.prcu_marks.proofs.MarkLists.{own_of-append}
 use Rattle.core_frames.proofs.views.SeatFacts.{works_there}
 use Rattle.core_state.specs.declared.shape.Shape.{Shape}
+use Rattle.core_state.specs.declared.shape.Waiter.TheVariants as waiters
 use Rattle.core_state.specs.declared.words.Field.{Field}
+use Rattle.core_state.specs.declared.words.Field.TheVariants as words
 use Rattle.core_state.specs.declared.words.Kind.{Kind}
 use Rattle.core_state.specs.declared.words.Kind.TheVariants as kinds
 use Rattle.core_state.specs.declared.view.Clocked.{Clocked}
@@ -26,7 +28,7 @@ use Rattle.core_acts.specs.Acts.{noted, clocked_at, section_of}
 use Rattle.core_acts.proofs.Acting.{section_is}
 use Rattle.seat_table.specs.Gains.{Sees, IsInformed, GivesAnswer, LeavesAnswer}
 use Rattle.seat_table.specs.Told.{Told}
-use Rattle.seat_table.specs.Sections.{Leaves, Makes, EndBy, is_entry, shows_reader, is_exit, HasEntered, HasLeft, HasBegun}
+use Rattle.seat_table.specs.Sections.{Leaves, Makes, EndBy, is_entry, shows_reader, is_exit, HasEntered, EntersBy, HasLeft, HasBegun}
 
 -- Steps that are made one after another.
 pub made_none : (which : Kind → Bool) (a : Trail) → Makes which a a
@@ -42,6 +44,14 @@ made_more which a w kind field number is m =
       trail = (λ i. record (m.trail i) { steps = (m.trail i).steps ++ t ∷ [] })
           ∙ (λ i. record a { steps = append_assoc a.steps m.steps (t ∷ []) i });
     }
+
+-- one step after others
+one_more : (a : Trail) (steps : List StepMade) (w : View) (kind : Kind) (field : Field) (number : ℕ)
+    → w.trail ≡ record a { steps = a.steps ++ steps } → (stepped w kind field number).trail
+    ≡ record a { steps = a.steps ++ (steps ++ record { kind = kind; field = field; number = number } ∷ []) }
+one_more a steps w kind field number made =
+    let t : StepMade = record { kind = kind; field = field; number = number } in
+    (λ i. record (made i) { steps = (made i).steps ++ t ∷ [] }) ∙ (λ i. record a { steps = append_assoc a.steps steps (t ∷ []) i })
 
 all_of : (f g : Kind → Bool) → ((kind : Kind) → f kind ≡ true → g kind ≡ true) → (ts : List StepMade)
     → AllByRecursion (λ (t : StepMade). f t.kind ≡ true) ts → AllByRecursion (λ (t : StepMade). g t.kind ≡ true) ts
@@ -138,6 +148,20 @@ module _ (k : Shape) (v : View) (key stamp : ℕ) (v1 v2 : View) (first : Told k
       ≡ record v { enter = z.enter; trail = (noted z (EnterByStamp key stamp) stamp).trail }) (sym second_is) refl)
       (record { works = s.works; begins = s.begins; own = s.own }) third.goes third.informed
 
+  pub enters : (w : View) → Told k v2 (EnterByStamp key stamp) stamp w → EntersBy waiters.Eer v key w
+  enters w third =
+      let loaded : View = after_clock_load (noted v LoadClock stamp) stamp first.marks in
+      let place = v.allowance.place in
+      let one : StepMade = record { kind = kinds.K3; field = words.Clock; number = stamp } in
+      let two : StepMade = record { kind = kinds.K4; field = words.Announced place; number = key } in
+      record {
+        steps = one ∷ (two ∷ (record { kind = kinds.K5; field = words.Stamp place; number = stamp } ∷ []));
+        makes = ap (λ (z : View). z.trail) third.goes ∙ ap (λ z. (noted z (EnterByStamp key stamp) stamp).trail) second_is
+            ∙ one_more v.trail (one ∷ (two ∷ [])) announced kinds.K5 (words.Stamp place) stamp
+            (one_more v.trail (one ∷ []) loaded kinds.K4 (words.Announced place) key refl);
+        are = (stamp, refl);
+      }
+
 -- the third waiter: the clock, then the stamp
 module _ (k : Shape) (v v1 : View) (key stamp : ℕ) (first : Told k v LoadClock stamp v1) where
   pub needs_row : v.section ≡ None → v.locks ≡ [] → key < 2 ^ 64 → (clocked : Clocked) × NeedsEnterByRow v1 key stamp clocked
@@ -158,6 +182,17 @@ module _ (k : Shape) (v v1 : View) (key stamp : ℕ) (first : Told k v LoadClock
       (subst (λ z. noted z (EnterByRow key stamp) stamp
       ≡ record v { enter = z.enter; trail = (noted z (EnterByRow key stamp) stamp).trail }) (sym first.goes) refl)
       (record { works = s.works; begins = s.begins; own = s.own }) second.goes second.informed
+
+  pub enters_row : (w : View) → Told k v1 (EnterByRow key stamp) stamp w → EntersBy waiters.Deer v key w
+  enters_row w second =
+      let row : Field = words.Row v.allowance.place (class_of key) in
+      let one : StepMade = record { kind = kinds.K3; field = words.Clock; number = stamp } in
+      record {
+        steps = one ∷ (record { kind = kinds.K33; field = row; number = stamp } ∷ []);
+        makes = ap (λ (z : View). z.trail) second.goes ∙ ap (λ z. (noted z (EnterByRow key stamp) stamp).trail) first.goes
+            ∙ one_more v.trail (one ∷ []) (after_clock_load (noted v LoadClock stamp) stamp first.marks) kinds.K33 row stamp refl;
+        are = (stamp, refl);
+      }
 
 -- the second waiter: the gate, then the count
 module _ (k : Shape) (v v1 : View) (key gate : ℕ) (outside : v.section ≡ None) (first : Told k v (LoadGate (class_of key)) gate v1) where
@@ -188,6 +223,22 @@ module _ (k : Shape) (v v1 : View) (key gate : ℕ) (outside : v.section ≡ Non
       (subst (λ z. noted z (EnterByCount key side) found
       ≡ record v { enter = z.enter; trail = (noted z (EnterByCount key side) found).trail }) (sym gate_is) refl)
       (record { works = s.works; begins = s.begins; own = s.own }) second.goes second.informed
+
+  pub enters_count : (w : View) (side found : ℕ) → side ≡ gate % 2 → Told k v1 (EnterByCount key side) found w
+      → EntersBy waiters.Domain v key w
+  enters_count w side found side_is second =
+      let count : Field = words.Count (class_of key) side in
+      let one : StepMade = record { kind = kinds.K28; field = words.Gate (class_of key); number = gate } in
+      record {
+        steps = one ∷ (record { kind = kinds.K29; field = count; number = found } ∷ []);
+        makes = ap (λ (z : View). z.trail) second.goes ∙ ap (λ z. (noted z (EnterByCount key side) found).trail) gate_is
+            ∙ one_more v.trail (one ∷ []) (gated read (class_of key) gate None) kinds.K29 count found refl;
+        are = (
+          gate,
+          found,
+          λ i. one ∷ (record { kind = kinds.K29; field = words.Count (class_of key) (side_is i); number = found } ∷ []),
+        );
+      }
 
 -- A section is left by one step.
 left_by : (v w : View) (kind : Kind) (field : Field) (number : ℕ) (section : Section) (h : List Mark) → is_exit kind ≡ true

@@ -1,11 +1,14 @@
 -- What is made of a view by entering a section, by leaving it, and by beginning a wait.
 -- Source: docs/TREE_CALLS.md, "The tree's sections".
-use Rattle.std.specs.Prelude.{◌≡◌, ℕ, ◌+◌, ◌-◌, ◌<◌, Bool, true, false, List, [], ◌∷◌, ◌++◌, length, Some, None}
+use Rattle.std.specs.Prelude.{◌≡◌, ℕ, ◌+◌, ◌-◌, ◌%◌, ◌<◌, Bool, true, false, List, [], ◌∷◌, ◌++◌, length, Some, None}
 use Rattle.std.specs.List.{AllByRecursion}
 use Rattle.prcu_marks.specs.declared.mark.Mark.{Mark}
 use Rattle.prcu_marks.specs.declared.mark.Mark.TheVariants.{Entered, Left, Began}
 use Rattle.prcu_marks.specs.Marks.{updates_of}
-use Rattle.core_state.specs.declared.words.Field.TheVariants.{Clock}
+use Rattle.key_interval.specs.Keys.{class_of}
+use Rattle.core_state.specs.declared.shape.Waiter.{Waiter}
+use Rattle.core_state.specs.declared.shape.Waiter.TheVariants.{Eer, Domain, Deer}
+use Rattle.core_state.specs.declared.words.Field.TheVariants.{Clock, Announced, Stamp, Gate, Count, Row}
 use Rattle.core_state.specs.declared.words.Kind.{Kind}
 use Rattle.core_state.specs.declared.words.Kind.TheVariants.{K3, K4, K5, K6, K7, K28, K29, K30, K33, K34}
 use Rattle.core_state.specs.declared.view.Move.{Move}
@@ -88,6 +91,23 @@ pub record HasEntered (v : View) (key : ℕ) (w : View) : Type 0 where
     seen = w.seen;
   }
   pub informed : IsInformed w
+
+-- The steps by which each waiter enters a section with this key at a place. The first loads the clock, announces the key, and stores the
+-- clock that it loaded as the place's stamp. The second loads the gate of the key's class, and adds 1 to the count of the side that the
+-- gate names. The third loads the clock, and stores it as the place's stamp of the key's class.
+abbrev pub AreOfEntry : Waiter → ℕ → ℕ → List StepMade → Type 0
+AreOfEntry Eer place key steps = (clock : ℕ) × (steps ≡ record { kind = K3; field = Clock; number = clock }
+    ∷ (record { kind = K4; field = Announced place; number = key } ∷ (record { kind = K5; field = Stamp place; number = clock } ∷ [])))
+AreOfEntry Domain place key steps = (gate count : ℕ) × (steps ≡ record { kind = K28; field = Gate (class_of key); number = gate }
+    ∷ (record { kind = K29; field = Count (class_of key) (gate % 2); number = count } ∷ []))
+AreOfEntry Deer place key steps = (clock : ℕ) × (steps ≡ record { kind = K3; field = Clock; number = clock }
+    ∷ (record { kind = K33; field = Row place (class_of key); number = clock } ∷ []))
+
+-- Just the steps were made by which the waiter enters a section with this key.
+pub record EntersBy (waiter : Waiter) (v : View) (key : ℕ) (w : View) : Type 0 where
+  pub steps : List StepMade
+  pub makes : w.trail ≡ record v.trail { steps = v.trail.steps ++ steps }
+  pub are : AreOfEntry waiter v.allowance.place key steps
 
 -- The open section was left. What its search found, the dictionary said at some front since it was entered.
 pub record HasLeft (v : View) (w : View) : Type 0 where

@@ -1,8 +1,8 @@
 //! Waits, whatever the waiter.
 ghost use Rattle.std.specs.Prelude.{◌≡◌, ◌≤◌, [], Some, None, IfOk};
 ghost use Rattle.core_state.specs.declared.view.Section.{Section};
-ghost use Rattle.seat_table.specs.Seats.{IsQuietSeat, shape_of};
-ghost use Rattle.seat_table.specs.Sections.{HasEntered, HasLeft, HasBegun, IsQuietReader};
+ghost use Rattle.seat_table.specs.Seats.{IsQuietSeat, shape_of, way_of};
+ghost use Rattle.seat_table.specs.Sections.{HasEntered, EntersBy, HasLeft, HasBegun, IsQuietReader};
 ghost use Rattle.seat_table.specs.Onward.{LooksAt, IsOnward, IsWithin};
 ghost use Rattle.seat_table.specs.Once.{LooksOnce};
 ghost use Rattle.seat_table.specs.Waits.{IsLatestOf, Polled, HasWaited, reached, start};
@@ -58,13 +58,15 @@ pub enum Poll {
 
 /// How readers show that they read, and how a wait looks for them.
 pub trait WaitPart: WaitWords {
-    /// Enters a section with this key. The last step shows that the seat reads. A seat that was quiet is so again when the section is left.
+    /// Enters a section with this key, by just the steps of its waiter. The last of them shows that the seat reads. A seat that was quiet
+    /// is so again when the section is left.
     fn enter(table: &CitrusTable<Self>, seat: &mut Seat<Self>, key: u64)
         requires table { seat.old.table ≡ table.now }
         requires outside { seat.old.view.section ≡ None }
         requires unlocked { seat.old.view.locks ≡ [] }
         ensures seat { (seat.new.table ≡ seat.old.table) × (seat.new.listed ≡ seat.old.listed) }
         ensures entered { HasEntered seat.old.view key seat.new.view }
+        ensures steps { EntersBy (way_of Self.WAY) seat.old.view key seat.new.view }
         ensures quiet { IsQuietSeat seat.old → IsQuietReader seat.new };
 
     /// Leaves the open section.

@@ -41,7 +41,7 @@ pub fn replace<R: Wait, W: WaitPart, V: Replaced>(
     seat: &mut Seat<W>,
     keys: Keys,
     value: &V,
-    new: u64,
+    new: V::New,
 ) -> u64
     requires table { seat.old.table ≡ table.now }
     requires outside { seat.old.view.section ≡ None }

@@ -13,8 +13,7 @@ pub struct Published {
     values: [AtomicU64; 2],
 }
 
-/// The place at which the value stood that was replaced.
-#[derive(Drop)]
+/// The place at which the value stood that was replaced. It isn't dropped: it is given up.
 pub struct OldPlace {
     place: u32,
 }
@@ -44,6 +43,8 @@ impl Replaced for Published {
 
     ghost gives_up = { λ view old number. Unit {0} };
 
+    type New = u64;
+
     type Old = OldPlace;
 
     // In two steps. Between them the value may be replaced, and the place that the first step found given up.
@@ -61,7 +62,7 @@ impl Replaced for Published {
     }
 
     fn give_up<W: WaitPart>(&self, seat: &Seat<W>, old: OldPlace) -> u64 {
-        let place = old.place % 2;
-        self.values[place as usize].swap(Published::GIVEN_UP, Ordering::SeqCst)
+        let OldPlace { place } = old;
+        self.values[(place % 2) as usize].swap(Published::GIVEN_UP, Ordering::SeqCst)
     }
 }

@@ -5,7 +5,7 @@ use Rattle.seat_table.specs.Once.{FindsNone, FindsOnce}
 use Rattle.seat_table.specs.Seats.{shape_of}
 use Rattle.grace_cookie.specs.Cookies.{CookieAt}
 use Rattle.grace_cookie.proofs.Counting.{is_latest}
-use Rattle.grace_cookie.proofs.Asking.{found_over, found_going, over_of, over_kept, going_kept}
+use Rattle.grace_cookie.proofs.Asking.{found_over, found_going, onward_of, over_of, over_kept, going_kept}
 use Rattle.grace_cookie.proofs.cookies.ask.Goals as goal
 
 pub returns-in-Over-clause-asked : goal.returns-in-Over-clause-asked
@@ -25,7 +25,7 @@ returns-in-NotYet-clause-asked g c =
     let latest = is_latest _ _ _ _ c.requires.of.begun c.waits-latest.ensures
     (ap (λ (z : CookieAt). z.count) c.cookie.view_is) c.if-latest-cookie.false in
     found_going k c.args.cookie.now c.args.seat.now.view c.poll.new.seat.view c.in-NotYet.why c.poll.new.grace _ c.requires.of was latest
-    c.if-cookie.false c.in-NotYet.ensures.polled
+    c.if-cookie.false refl c.in-NotYet.ensures.polled
     (subst (λ (z : Interval × ℕ). FindsOnce z.0 z.1 c.args.seat.now.view c.in-NotYet.why c.poll.new.seat.view)
     (λ i. (c.cookie.invariant i, (c.cookie.view_is i).clock)) c.in-NotYet.ensures.once)
 
@@ -53,3 +53,21 @@ returns-in-NotYet-clause-kept g c =
     going_kept c.args.cookie.now _ c.args.seat.now.view c.poll.new.seat.view p.wait p.steps p.new c.args.seat.now c.poll.new.seat p.looked
     p.was (ap (λ (z : CookieAt). z.over) is) (ap (λ (z : CookieAt). z.count) is)
     (ap (λ (z : CookieAt). z.slots) is) refl refl c.in-NotYet.ensures.seat.1
+
+pub returns-in-Over-clause-onward : goal.returns-in-Over-clause-onward
+returns-in-Over-clause-onward g c =
+    let k : Shape = shape_of g.W.WaitWords.WAY c.args.table.now in
+    let was = sym (ap (λ (z : CookieAt). z.over) c.cookie.view_is) ∙ c.if-cookie.false in
+    let latest = is_latest _ _ _ _ c.requires.of.begun c.waits-latest.ensures
+    (ap (λ (z : CookieAt). z.count) c.cookie.view_is) c.if-latest-cookie.false in
+    onward_of k c.args.cookie.now c.args.seat.now.view c.poll.new.seat.view c.cookie.inside.grace c.requires.of was latest c.cookie.invariant
+    (ap (λ (z : CookieAt). z.reached) (sym c.cookie.view_is)) c.in-Over.ensures.onward
+
+pub returns-in-NotYet-clause-onward : goal.returns-in-NotYet-clause-onward
+returns-in-NotYet-clause-onward g c =
+    let k : Shape = shape_of g.W.WaitWords.WAY c.args.table.now in
+    let was = sym (ap (λ (z : CookieAt). z.over) c.cookie.view_is) ∙ c.if-cookie.false in
+    let latest = is_latest _ _ _ _ c.requires.of.begun c.waits-latest.ensures
+    (ap (λ (z : CookieAt). z.count) c.cookie.view_is) c.if-latest-cookie.false in
+    onward_of k c.args.cookie.now c.args.seat.now.view c.poll.new.seat.view c.cookie.inside.grace c.requires.of was latest c.cookie.invariant
+    (ap (λ (z : CookieAt). z.reached) (sym c.cookie.view_is)) c.in-NotYet.ensures.onward
