@@ -1,4 +1,5 @@
 pub mod searches
+pub mod Rounds
 pub mod Committing
 pub mod Leavings
 pub mod Beginning

@@ -1,10 +1,11 @@
 //! The front, made odd for one store.
-ghost use Rattle.std.specs.Prelude.{◌≡◌, ℕ, ◌+◌, ◌/◌, ◌%◌, ◌≤◌, true, Some, None, IfOk};
+ghost use Rattle.std.specs.Prelude.{◌≡◌, ℕ, ◌+◌, ◌/◌, ◌%◌, ◌≤◌, true, Some, None, IfOk, IfErr};
 ghost use Rattle.prcu_marks.specs.Bounds.{most_front};
 ghost use Rattle.core_points.specs.declared.stage.Stage.TheVariants as at;
 ghost use Rattle.core_points.specs.declared.stage.Update.{Update};
 ghost use Rattle.core_points.specs.Programs.{past_even};
 ghost use Rattle.prcu_model.specs.declared.operation.Op.{Op};
+ghost use Rattle.seat_table.specs.Rounds.{HasMade};
 ghost use Rattle.seat_table.specs.Seats.{shape_of};
 ghost use Rattle.tree_points.specs.At.{IsAt};
 ghost use Rattle.citrus_tree.specs.Going.{Opened, Closed};
@@ -38,10 +39,11 @@ pub(crate) fn open_front<P: Patience, W: WaitPart>(
     ensures at { IfOk result (λ answer. (op : Op) (kept e : ℕ) (u : Update)
         → IsAt (shape_of W.WAY table.now) op kept (at.Commit u e) seat.old.view
         → IsAt (shape_of W.WAY table.now) op kept (at.Store u answer) seat.new.view) }
+    ensures tired { IfErr result (λ _. HasMade (P.least patience.now) seat.new.view) }
 {
     let mut pauses = patience.pauses();
     let mut expected = even_from(seat.front_seen());
-    for _ in 0..u64::MAX {
+    for round in 0..u64::MAX {
         let found = steps::open_commit(table, seat, expected);
         if found == expected {
             return Ok(found);

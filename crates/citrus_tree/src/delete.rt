@@ -1,6 +1,6 @@
 //! A pair is taken out.
 
-ghost use Rattle.std.specs.Prelude.{◌≡◌, ◌≢◌, ◌⊎◌, ◌+◌, ◌<◌, ◌≤◌, ℕ, [], length, None, IfSome, IfNone, IfOk, true, is_some, Some};
+ghost use Rattle.std.specs.Prelude.{◌≡◌, ◌≢◌, ◌⊎◌, ◌+◌, ◌<◌, ◌≤◌, ℕ, [], length, None, IfSome, IfNone, IfOk, true, is_some, Some, IfErr};
 ghost use Rattle.prcu_model.specs.declared.operation.Op.TheVariants.{Del};
 ghost use Rattle.prcu_model.specs.declared.operation.Reply.TheVariants.{Gone};
 ghost use Rattle.core_points.specs.declared.stage.Stage.TheVariants as at;
@@ -8,6 +8,7 @@ ghost use Rattle.core_points.specs.Programs.{deleting};
 ghost use Rattle.core_state.specs.declared.words.Field.TheVariants.{Value};
 ghost use Rattle.core_state.specs.views.Known.{known_in, known_under};
 ghost use Rattle.seat_table.specs.Gains.{IsInformed};
+ghost use Rattle.seat_table.specs.Rounds.{HasMade};
 ghost use Rattle.seat_table.specs.Seats.{AreListed, IsQuietSeat, shape_of};
 ghost use Rattle.tree_points.specs.At.{IsAt, IsDone};
 ghost use Rattle.tree_points.specs.Progress.{KeepsAllowance};
@@ -75,6 +76,7 @@ pub fn del<P: Patience, W: WaitPart, G: Gate>(
     ensures allowance { IfOk result (λ _. KeepsAllowance seat.old.view seat.new.view) }
     ensures quiet { IfOk result (λ _. IsQuietSeat seat.new) }
     ensures informed { IfOk result (λ _. IsInformed seat.new.view) }
+    ensures tired { IfErr result (λ _. HasMade (P.least patience.now) seat.new.view) }
 {
     Ok(delete_telling(patience, table, seat, gate, key, false)?.told)
 }
@@ -102,6 +104,7 @@ pub fn remove<P: Patience, W: WaitPart, G: Gate>(
     ensures allowance { IfOk result (λ _. KeepsAllowance seat.old.view seat.new.view) }
     ensures quiet { IfOk result (λ _. IsQuietSeat seat.new) }
     ensures informed { IfOk result (λ _. IsInformed seat.new.view) }
+    ensures tired { IfErr result (λ _. HasMade (P.least patience.now) seat.new.view) }
 {
     delete_telling(patience, table, seat, gate, key, true)
 }
@@ -129,6 +132,7 @@ fn delete_telling<P: Patience, W: WaitPart, G: Gate>(
     ensures allowance { IfOk result (λ _. KeepsAllowance seat.old.view seat.new.view) }
     ensures quiet { IfOk result (λ _. IsQuietSeat seat.new) }
     ensures informed { IfOk result (λ _. IsInformed seat.new.view) }
+    ensures tired { IfErr result (λ _. HasMade (P.least patience.now) seat.new.view) }
 {
     // Before the first search: inside a section of its own a wait for everybody would wait for itself.
     make_room(patience, table, seat)?;
@@ -155,6 +159,7 @@ fn make_room<P: Patience, W: WaitPart>(
     ensures slots { IfOk result (λ _. KeepsSlots seat.old seat.new) }
     ensures kept { IfOk result (λ _. (seat.new.listed ≡ seat.old.listed) ⊎ (seat.new.listed ≡ [])) }
     ensures listed { IfOk result (λ _. AreListed seat.new) }
+    ensures tired { IfErr result (λ _. HasMade (P.least patience.now) seat.new.view) }
 {
     // A move retires two slots, and a place holds 16 back at most. docs/TREE_INVARIANT.md#the-invariant-of-the-tree
     if seat.retired().len() >= 15 {
@@ -185,6 +190,7 @@ fn take_spare<P: Patience, W: WaitPart>(
     ensures slots { IfOk result (λ _. KeepsSlots seat.old seat.new) }
     ensures kept { IfOk result (λ _. (seat.new.listed ≡ seat.old.listed) ⊎ (seat.new.listed ≡ [])) }
     ensures listed { IfOk result (λ _. AreListed seat.new) }
+    ensures tired { IfErr result (λ _. HasMade (P.least patience.now) seat.new.view) }
 {
     match take(patience, table, seat)? {
         Taken::Slot { slot, .. } => {
@@ -221,9 +227,10 @@ fn delete<P: Patience, W: WaitPart, G: Gate>(
     ensures slots { IfOk result (λ _. KeepsSlots seat.old seat.new) }
     ensures listed { IfOk result (λ _. AreListed seat.new) }
     ensures informed { IfOk result (λ _. IsInformed seat.new.view) }
+    ensures tired { IfErr result (λ _. HasMade (P.least patience.now) seat.new.view) }
 {
     let mut pauses = patience.pauses();
-    for _ in 0..u64::MAX {
+    for round in 0..u64::MAX {
         let Some(target) = find_target(patience, table, seat, gate, key)? else {
             return Ok(Removed {
                 told: Told {
@@ -279,6 +286,7 @@ fn take_out<P: Patience, W: WaitPart, G: Gate>(
     ensures kept { IfOk result (λ answer. IfNone answer (seat.new.listed ≡ seat.old.listed)) }
     ensures slots { IfOk result (λ _. KeepsSlots seat.old seat.new) }
     ensures listed { IfOk result (λ _. AreListed seat.new) }
+    ensures tired { IfErr result (λ _. HasMade (P.least patience.now) seat.new.view) }
 {
     if !lock_target(table, seat, target) {
         return Ok(None);

@@ -1,9 +1,10 @@
 //! The way down from the root, in a section and without a lock.
-ghost use Rattle.std.specs.Prelude.{◌≡◌, ◌≤◌, [], None, IfOk};
+ghost use Rattle.std.specs.Prelude.{◌≡◌, ◌≤◌, [], None, IfOk, IfErr};
 ghost use Rattle.core_state.specs.declared.view.SearchState.TheVariants.{At};
 ghost use Rattle.core_state.specs.declared.view.View.{View};
 ghost use Rattle.core_state.specs.parts.ReaderParts.{state_slot};
 ghost use Rattle.seat_table.specs.Gains.{IsSlot};
+ghost use Rattle.seat_table.specs.Rounds.{HasMade};
 ghost use Rattle.seat_table.specs.Seats.{shape_of};
 ghost use Rattle.citrus_tree.specs.Hops.{Loads, state_after};
 ghost use Rattle.citrus_tree.specs.Lookups.{IsSearching, state_of};
@@ -81,12 +82,13 @@ pub(crate) fn descend<P: Patience, W: WaitPart, G: Gate>(
     ensures place { IfOk result (λ _. 1 ≤ table.now.places) }
     ensures slot { IfOk result (λ answer. IsSlot (shape_of W.WAY table.now) (state_slot (state_of answer))) }
     ensures searching { IfOk result (λ answer. IsSearching seat.old.view key (state_of answer) seat.new.view) }
+    ensures tired { IfErr result (λ _. HasMade (P.least patience.now) seat.new.view) }
 {
     W::enter(table, seat, key);
     gate.pass(Point::InSection, seat.place());
     let mut at = 0;
     let mut side = Side::Right;
-    for _ in 0..u64::MAX {
+    for round in 0..u64::MAX {
         match go_down(table, seat, key, at, side) {
             Step::Moved { slot, side: next } => {
                 at = slot;

@@ -1,10 +1,11 @@
 //! A pair is added.
-ghost use Rattle.std.specs.Prelude.{◌≡◌, ℕ, ◌+◌, ◌*◌, ◌≤◌, true, false, ◌∷◌, [], Some, None, IfOk};
+ghost use Rattle.std.specs.Prelude.{◌≡◌, ℕ, ◌+◌, ◌*◌, ◌≤◌, true, false, ◌∷◌, [], Some, None, IfOk, IfErr};
 ghost use Rattle.core_points.specs.declared.stage.Aim.TheVariants.{Leaf};
 ghost use Rattle.core_points.specs.declared.stage.Spot.{Spot};
 ghost use Rattle.core_points.specs.declared.stage.Stage.TheVariants as at;
 ghost use Rattle.prcu_model.specs.declared.operation.Op.TheVariants.{Put};
 ghost use Rattle.seat_table.specs.Gains.{IsInformed};
+ghost use Rattle.seat_table.specs.Rounds.{HasMade, HasStepped};
 ghost use Rattle.seat_table.specs.Seats.{AreListed, IsQuietSeat, IsSlotOf, shape_of};
 ghost use Rattle.tree_points.specs.At.{HasLocks, IsAt};
 ghost use Rattle.tree_points.specs.Progress.{KeepsAllowance};
@@ -52,10 +53,11 @@ pub fn put<P: Patience, W: WaitPart, G: Gate>(
     ensures tickets { IfOk result (λ _. seat.old.view.allowance.tickets ≤ seat.new.view.allowance.tickets + 4) }
     ensures allowance { IfOk result (λ _. KeepsAllowance seat.old.view seat.new.view) }
     ensures informed { IfOk result (λ _. IsInformed seat.new.view) }
+    ensures tired { IfErr result (λ _. HasMade (P.least patience.now) seat.new.view) }
 {
     // Without end, for all that a thread lives to see; the longer others are in the way, the longer the pauses.
     let mut pauses = patience.pauses();
-    for _ in 0..u64::MAX {
+    for round in 0..u64::MAX {
         let Some(spot) = find_spot(patience, table, seat, gate, key)? else {
             give_up_leaf(table, seat);
             return Ok(answered(gate, seat, Reply::Old, 0));
@@ -87,6 +89,8 @@ fn find_spot<P: Patience, W: WaitPart, G: Gate>(
     ensures seat { (seat.new.table ≡ seat.old.table) × (seat.new.listed ≡ seat.old.listed) }
     ensures place { IfOk result (λ _. 1 ≤ table.now.places) }
     ensures searched { IfOk result (λ answer. Searched (shape_of W.WAY table.now) seat.old.view key answer seat.new.view) }
+    ensures stepped { IfOk result (λ _. HasStepped seat.old.view seat.new.view) }
+    ensures tired { IfErr result (λ _. HasMade (P.least patience.now) seat.new.view) }
 {
     match descend(patience, table, seat, gate, key)? {
         Descent::Found { .. } => {
@@ -136,6 +140,7 @@ fn leaf_in_hand<P: Patience, W: WaitPart>(
         → IsAt (shape_of W.WAY table.now) (Put key value) kept (leaf_stage seat.old.view.hands.hand spot) seat.old.view
         → IsAt (shape_of W.WAY table.now) (Put key value) kept (filled_stage answer spot) seat.new.view) }
     ensures informed { IfOk result (λ answer. answer ≡ None → IsInformed seat.new.view) }
+    ensures tired { IfErr result (λ _. HasMade (P.least patience.now) seat.new.view) }
 {
     if let Some(slot) = seat.in_hand() {
         return Ok(Some(slot));
@@ -188,6 +193,7 @@ fn take_slot<P: Patience, W: WaitPart>(
     ensures at { IfOk result (λ answer. (spot : Spot) (expected : ℕ)
         → Comes (shape_of W.WAY table.now) (at.Reserve (Leaf spot) expected) seat.old.view (taken_stage answer spot) seat.new.view) }
     ensures informed { IfOk result (λ _. IsInformed seat.new.view) }
+    ensures tired { IfErr result (λ _. HasMade (P.least patience.now) seat.new.view) }
 {
     if let Taken::Slot { slot, .. } = take(patience, table, seat)? {
         return Ok(Some(slot));
@@ -224,6 +230,7 @@ fn link_leaf<P: Patience, W: WaitPart>(
     ensures at { IfOk result (λ answer. (kept : ℕ) → IsAt (shape_of W.WAY table.now) (Put key value) kept (at.LeafLock spot) seat.old.view
         → IsAt (shape_of W.WAY table.now) (Put key value) kept (linked_stage answer) seat.new.view) }
     ensures informed { IfOk result (λ _. IsInformed seat.new.view) }
+    ensures tired { IfErr result (λ _. HasMade (P.least patience.now) seat.new.view) }
 {
     if steps::lock(table, seat, spot.slot) != 0 {
         return Ok(None);

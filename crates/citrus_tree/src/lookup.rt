@@ -1,5 +1,6 @@
 //! Lookups, in a section and without a lock.
-ghost use Rattle.std.specs.Prelude.{◌≡◌, [], None, IfOk};
+ghost use Rattle.std.specs.Prelude.{◌≡◌, [], None, IfOk, IfErr};
+ghost use Rattle.seat_table.specs.Rounds.{HasMade};
 ghost use Rattle.seat_table.specs.Seats.{IsQuietSeat};
 ghost use Rattle.citrus_tree.specs.Lookups.{Looked, Gets, told_of};
 
@@ -23,6 +24,7 @@ fn look_up<P: Patience, W: WaitPart, G: Gate>(
     requires unlocked { seat.old.view.locks ≡ [] }
     ensures seat { (seat.new.table ≡ seat.old.table) × (seat.new.listed ≡ seat.old.listed) }
     ensures looked { IfOk result (λ answer. Looked seat.old.view key answer seat.new.view) }
+    ensures tired { IfErr result (λ _. HasMade (P.least patience.now) seat.new.view) }
 {
     match descend(patience, table, seat, gate, key)? {
         Descent::Found { slot, .. } => {
@@ -54,6 +56,7 @@ pub fn get<P: Patience, W: WaitPart, G: Gate>(
     ensures listed { IfOk result (λ _. seat.new.listed ≡ seat.old.listed) }
     ensures gets { IfOk result (λ answer. Gets seat.old.view key answer seat.new.view) }
     ensures quiet { IfOk result (λ _. IsQuietSeat seat.new) }
+    ensures tired { IfErr result (λ _. HasMade (P.least patience.now) seat.new.view) }
 {
     let found = look_up(patience, table, seat, gate, key)?;
     Ok(answered(gate, seat, reply_of(found), 0))

@@ -1,6 +1,7 @@
 //! The calls, for callers with a patience of their own: where it ends, so does the call, and the seat may hold locks or stand in a section.
-ghost use Rattle.std.specs.Prelude.{◌≡◌, ◌+◌, ◌≤◌, IfOk};
+ghost use Rattle.std.specs.Prelude.{◌≡◌, ◌+◌, ◌≤◌, IfOk, IfErr};
 ghost use Rattle.seat_table.specs.Gains.{IsInformed};
+ghost use Rattle.seat_table.specs.Rounds.{HasMade};
 ghost use Rattle.seat_table.specs.Seats.{IsQuietSeat, shape_of};
 ghost use Rattle.tree_points.specs.Progress.{KeepsAllowance};
 ghost use Rattle.citrus_tree.specs.Beginnings.{Begins};
@@ -36,6 +37,7 @@ pub fn call<P: Patience, W: WaitPart, G: Gate>(
     ensures allowance { IfOk result (λ _. KeepsAllowance seat.old.view seat.new.view) }
     ensures quiet { IfOk result (λ _. IsQuietSeat seat.new) }
     ensures informed { IfOk result (λ _. IsInformed seat.new.view) }
+    ensures tired { IfErr result (λ _. HasMade (P.least patience.now) seat.new.view) }
 {
     match op {
         Op::Put { key, value } => put(patience, table, seat, gate, key, value),

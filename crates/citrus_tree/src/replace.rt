@@ -1,8 +1,9 @@
 //! A value is replaced.
-ghost use Rattle.std.specs.Prelude.{◌≡◌, ℕ, ◌+◌, ◌≤◌, [], Some, None, IfOk};
+ghost use Rattle.std.specs.Prelude.{◌≡◌, ℕ, ◌+◌, ◌≤◌, [], Some, None, IfOk, IfErr};
 ghost use Rattle.core_points.specs.declared.stage.Stage.TheVariants as at;
 ghost use Rattle.prcu_model.specs.declared.operation.Op.TheVariants.{Set};
 ghost use Rattle.seat_table.specs.Gains.{IsInformed};
+ghost use Rattle.seat_table.specs.Rounds.{HasMade, HasStepped};
 ghost use Rattle.seat_table.specs.Seats.{IsQuietSeat, shape_of};
 ghost use Rattle.tree_points.specs.At.{IsAt};
 ghost use Rattle.tree_points.specs.Progress.{KeepsAllowance};
@@ -58,9 +59,10 @@ pub fn set<P: Patience, W: WaitPart, G: Gate>(
     ensures tickets { IfOk result (λ _. seat.old.view.allowance.tickets ≤ seat.new.view.allowance.tickets + 4) }
     ensures allowance { IfOk result (λ _. KeepsAllowance seat.old.view seat.new.view) }
     ensures informed { IfOk result (λ _. IsInformed seat.new.view) }
+    ensures tired { IfErr result (λ _. HasMade (P.least patience.now) seat.new.view) }
 {
     let mut pauses = patience.pauses();
-    for _ in 0..u64::MAX {
+    for round in 0..u64::MAX {
         let Some(holder) = find_holder(patience, table, seat, gate, key)? else {
             return Ok(answered(gate, seat, Reply::Absent, 0));
         };
@@ -87,6 +89,8 @@ fn find_holder<P: Patience, W: WaitPart, G: Gate>(
     ensures seat { (seat.new.table ≡ seat.old.table) × (seat.new.listed ≡ seat.old.listed) }
     ensures place { IfOk result (λ _. 1 ≤ table.now.places) }
     ensures sought { IfOk result (λ answer. Sought (shape_of W.WAY table.now) seat.old.view key answer seat.new.view) }
+    ensures stepped { IfOk result (λ _. HasStepped seat.old.view seat.new.view) }
+    ensures tired { IfErr result (λ _. HasMade (P.least patience.now) seat.new.view) }
 {
     match descend(patience, table, seat, gate, key)? {
         Descent::Found { slot, .. } => {
@@ -125,6 +129,7 @@ fn store_value<P: Patience, W: WaitPart>(
         → IsAt (shape_of W.WAY table.now) (Set key value) kept (at.SetLock holder.slot holder.generation) seat.old.view
         → IsAt (shape_of W.WAY table.now) (Set key value) kept (set_stage answer) seat.new.view) }
     ensures informed { IfOk result (λ _. IsInformed seat.new.view) }
+    ensures tired { IfErr result (λ _. HasMade (P.least patience.now) seat.new.view) }
 {
     if steps::lock(table, seat, holder.slot) != 0 {
         return Ok(None);

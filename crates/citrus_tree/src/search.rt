@@ -3,6 +3,7 @@ ghost use Rattle.std.specs.Prelude.{◌≡◌, ◌≢◌, ℕ, [], None};
 ghost use Rattle.core_state.specs.declared.view.SearchState.TheVariants.{Missed};
 ghost use Rattle.core_state.specs.declared.view.View.{View};
 ghost use Rattle.seat_table.specs.Gains.{IsSlot};
+ghost use Rattle.seat_table.specs.Rounds.{HasStepped};
 ghost use Rattle.seat_table.specs.Seats.{shape_of};
 ghost use Rattle.citrus_tree.specs.declared.search.Hop.TheVariants.{Moved};
 ghost use Rattle.citrus_tree.specs.Hops.{search_at, seat_left, IsSearch, HasHopped, Records, Finishes};
@@ -151,6 +152,7 @@ pub(crate) fn leave_with_spot<W: WaitPart>(
     ensures slot { result.slot ≡ slot }
     ensures looked { (v : View) (key : ℕ) → IsSearching v key (Missed slot side) seat.old.view
         → (looked : Looked v key None seat.new.view) × Records looked.reading result }
+    ensures stepped { HasStepped seat.old.view seat.new.view }
 {
     // Inside the section: until it is left no slot at which it stood is used again, and no move ends that takes the key away from this
     // side. docs/TREE.md#what-could-go-wrong

@@ -1,5 +1,5 @@
 -- A walk in order, load by load.
-use Rattle.std.proofs.Common.{◌≡◌, ◌≢◌, ℕ, ◌+◌, ◌<◌, ◌≤◌, cond, true, false, List, [], ◌∷◌, ◌++◌, Option, Some, None, refl, sym, ap, subst, ◌∙◌, ⊎_elim, inl, inr, arith, eq-eqb, ne_eqb}
+use Rattle.std.proofs.Common.{◌≡◌, ◌≢◌, ℕ, ◌+◌, ◌<◌, ◌≤◌, cond, true, false, List, [], ◌∷◌, ◌++◌, length, Option, Some, None, refl, sym, ap, subst, ◌∙◌, ⊎_elim, inl, inr, arith, eq-eqb, ne_eqb}
 use mathlib.Core.Logic.{dite}
 use native.Mathlib.Decide.{ℕ_discrete}
 use Rattle.prcu_marks.specs.declared.mark.Side.{Side}
@@ -23,6 +23,7 @@ use Rattle.core_acts.specs.declared.act.Act.TheVariants.{ListLoad}
 use Rattle.core_acts.specs.Acts.{in_slot, Asks}
 use Rattle.seat_table.specs.Gains.{IsSlot}
 use Rattle.seat_table.specs.Told.{Told}
+use Rattle.exact_list.specs.declared.way.TheConstants.{KEPT}
 use Rattle.exact_list.specs.declared.way.Passed.{Passed}
 use Rattle.exact_list.specs.declared.way.Way.{Way}
 use Rattle.exact_list.specs.Pairs.{fact_of}
@@ -261,9 +262,9 @@ module _ (k : Shape) (v : View) where
           goes Left from next at.first w n low (λ e. at.whole (sym x.1 ∙ e))
           (subst (λ ps. AreKept k l.after.visits at.first ps (Some key)) (sym x.0)
           (kept_passed k l.after.visits at.first at.bounds.high way.passed.items p at.kept is)) t)
-          (λ (x : (next.passed.items ≡ p ∷ []) × (next.cut ≡ true)).
-          goes Left from next at.bounds.high w n low (λ e. absurd (let q : true ≡ false = sym x.1 ∙ e in cc))
-          (subst (λ ps. AreKept k l.after.visits at.bounds.high ps (Some key)) (sym x.0) (is, refl)) t)
+          (λ (x : (length way.passed.items ≡ KEPT) × (next.passed.items ≡ p ∷ []) × (next.cut ≡ true)).
+          goes Left from next at.bounds.high w n low (λ e. absurd (let q : true ≡ false = sym x.2 ∙ e in cc))
+          (subst (λ ps. AreKept k l.after.visits at.bounds.high ps (Some key)) (sym x.1) (is, refl)) t)
           passed
         where
           p : Passed

@@ -1,6 +1,6 @@
 -- The way of a walk: where it has come to, and the slots to which it goes back.
 -- Source: docs/TREE_CALLS.md, "Lists of a key range".
-use Rattle.std.specs.Prelude.{◌≡◌, ◌≢◌, ℕ, ◌≤◌, ◌⊎◌, true, false, List, [], ◌∷◌, ◌++◌, Option, Some, None}
+use Rattle.std.specs.Prelude.{◌≡◌, ◌≢◌, ℕ, ◌<◌, ◌≤◌, ◌⊎◌, true, false, List, [], ◌∷◌, ◌++◌, length, Option, Some, None}
 use Rattle.core_state.specs.declared.shape.Shape.{Shape}
 use Rattle.core_state.specs.declared.view.Gap.{Gap}
 use Rattle.core_state.specs.declared.view.Listing.{Listing}
@@ -8,22 +8,28 @@ use Rattle.core_state.specs.declared.view.Visit.{Visit}
 use Rattle.core_state.specs.parts.ListingParts.{low_bound}
 use Rattle.list_laws.specs.Counts.{IsIn}
 use Rattle.seat_table.specs.Gains.{IsSlot}
+use Rattle.exact_list.specs.declared.way.TheConstants.{KEPT}
 use Rattle.exact_list.specs.declared.way.Next.{Next}
 use Rattle.exact_list.specs.declared.way.Next.TheVariants.{At, Done, Lost}
 use Rattle.exact_list.specs.declared.way.Passed.{Passed}
 use Rattle.exact_list.specs.declared.way.Way.{Way}
 
--- one slot more on the way; where there was no room, it is the only one
+-- One slot more on the way. Only where the way was full, it was cut, and the slot is the only one.
 abbrev pub HasPassed : Way → Passed → Way → Type 0
 HasPassed way p new =
     ((new.passed.items ≡ way.passed.items ++ p ∷ []) × (new.cut ≡ way.cut))
-    ⊎ ((new.passed.items ≡ p ∷ []) × (new.cut ≡ true))
+    ⊎ ((length way.passed.items ≡ KEPT) × (new.passed.items ≡ p ∷ []) × (new.cut ≡ true))
 
--- where a walk goes on: at the latest slot, whose key isn't less; it is through; or at the root, and nothing is kept
+-- The rest of a way that was cut was given up, or the latest slot has a lesser key.
+abbrev pub IsLostAt : Way → ℕ → Type 0
+IsLostAt way from = ((way.passed.items ≡ []) × (way.cut ≡ true))
+    ⊎ ((earlier : List Passed) × (p : Passed) × (way.passed.items ≡ earlier ++ p ∷ []) × (p.key < from))
+
+-- where a walk goes on: at the latest slot, whose key isn't less; it is through; or only where it is lost at the root, and nothing is kept
 abbrev pub NextIs : Way → ℕ → Next → Way → Type 0
 NextIs way from (At p) new = (way.passed.items ≡ new.passed.items ++ p ∷ []) × (new.cut ≡ way.cut) × (from ≤ p.key)
 NextIs way from Done new = (way.passed.items ≡ []) × (way.cut ≡ false)
-NextIs way from Lost new = (new.passed.items ≡ []) × (new.cut ≡ false)
+NextIs way from Lost new = (new.passed.items ≡ []) × (new.cut ≡ false) × IsLostAt way from
 
 -- a slot of the table that isn't the root
 abbrev pub IsNode : Shape → ℕ → Type 0

@@ -1,5 +1,6 @@
 //! Lists of a key range.
-ghost use Rattle.std.specs.Prelude.{◌≡◌, ◌≤◌, List, [], ◌∷◌, None, IfOk};
+ghost use Rattle.std.specs.Prelude.{◌≡◌, ◌≤◌, List, [], ◌∷◌, None, IfOk, IfErr};
+ghost use Rattle.seat_table.specs.Rounds.{HasMade};
 ghost use Rattle.seat_table.specs.Seats.{IsQuietSeat};
 ghost use Rattle.exact_list.specs.Answers.{Holds, IsRecent, EndAs};
 ghost use Rattle.exact_list.specs.Tries.{Try, HasTried};
@@ -40,6 +41,7 @@ fn attempt<P: Patience, W: WaitPart>(
         × EndAs answer 1 (t ∷ [])) }
     ensures holds { IfOk result (λ answer. Holds answer keys.now seat.new.view.seen page.new) }
     ensures recent { IfOk result (λ answer. IsRecent answer seat.old.view.seen seat.new.view.seen) }
+    ensures tired { IfErr result (λ _. HasMade (P.least patience.now) seat.new.view) }
 {
     page.clear();
     W::enter(table, seat, keys.low());
@@ -90,6 +92,7 @@ pub fn list<P: Patience, W: WaitPart>(
         × EndAs answer tries made) }
     ensures holds { IfOk result (λ answer. Holds answer keys seat.new.view.seen page.new) }
     ensures recent { IfOk result (λ answer. IsRecent answer seat.old.view.seen seat.new.view.seen) }
+    ensures tired { IfErr result (λ _. HasMade (P.least patience.now) seat.new.view) }
 {
     let mut listed = attempt(patience, table, seat, &keys, page)?;
     for tried in 1..tries {

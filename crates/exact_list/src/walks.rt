@@ -1,5 +1,6 @@
 //! The walk of a listing: in order, on the way by which it came.
-ghost use Rattle.std.specs.Prelude.{◌≡◌, ◌<◌, ◌≤◌, [], length, IfOk};
+ghost use Rattle.std.specs.Prelude.{◌≡◌, ◌<◌, ◌≤◌, [], length, IfOk, IfErr};
+ghost use Rattle.seat_table.specs.Rounds.{HasMade};
 ghost use Rattle.seat_table.specs.Seats.{shape_of};
 ghost use Rattle.exact_list.specs.Walked.{IsListing, HasLoaded, Gathers};
 ghost use Rattle.exact_list.specs.Ways.{HasCome};
@@ -32,8 +33,9 @@ fn descend<P: Patience, W: WaitWords>(
     ensures seat { (seat.new.table ≡ seat.old.table) × (seat.new.listed ≡ seat.old.listed) }
     ensures ended { IfOk result (λ _. (loaded : HasLoaded seat.old.view seat.new.view)
         × HasCome (shape_of W.WAY table.now) loaded.after from 0 way.new) }
+    ensures tired { IfErr result (λ _. HasMade (P.least patience.now) seat.new.view) }
 {
-    for _ in 0..u64::MAX {
+    for round in 0..u64::MAX {
         let Some(slot) = child_of(link) else {
             return Ok(());
         };
@@ -65,12 +67,13 @@ pub(crate) fn gather<P: Patience, W: WaitWords>(
     ensures page { IfOk result (λ _. (page.new.capacity ≡ page.old.capacity) × (length page.new.pairs ≤ page.new.capacity)) }
     ensures gathered { IfOk result (λ answer. (loaded : HasLoaded seat.old.view seat.new.view)
         × Gathers loaded.after keys.now page.new answer) }
+    ensures tired { IfErr result (λ _. HasMade (P.least patience.now) seat.new.view) }
 {
     let mut from = keys.low();
     let high = keys.high();
     let mut way = Way::new();
     let mut link = steps::list_load(table, seat, 0, RIGHT);
-    for _ in 0..u64::MAX {
+    for round in 0..u64::MAX {
         descend(patience, table, seat, from, link, &mut way)?;
         let passed = match way.next(from) {
             Next::Done => return Ok(None),

@@ -1,8 +1,9 @@
 //! The calls that give retired slots back, after a wait for everybody.
-ghost use Rattle.std.specs.Prelude.{◌≡◌, ℕ, ◌+◌, ◌≤◌, ◌<◌, false, List, [], ◌∷◌, length, Some, None, IfOk};
+ghost use Rattle.std.specs.Prelude.{◌≡◌, ℕ, ◌+◌, ◌≤◌, ◌<◌, false, List, [], ◌∷◌, length, Some, None, IfOk, IfErr};
 ghost use Rattle.list_laws.specs.Counts.{Each};
 ghost use Rattle.core_state.specs.declared.view.Held.{Held};
 ghost use Rattle.core_state.specs.declared.view.Retired.{Retired};
+ghost use Rattle.seat_table.specs.Rounds.{HasMade};
 ghost use Rattle.seat_table.specs.Seats.{AreListed, shape_of, unlisted};
 ghost use Rattle.seat_table.specs.Gains.{IsInformed};
 ghost use Rattle.node_slots.specs.Reclaiming.{IsReady, AreReady, BecomesSpare, BecomesFree, Returns, GivesBack, HasReclaimed, first_of, first_slots, without_slots};
@@ -116,6 +117,7 @@ pub fn reclaim<P: Patience, W: WaitPart>(
     ensures listed { IfOk result (λ _. seat.new.listed ≡ []) }
     ensures view { IfOk result (λ _. HasReclaimed (shape_of W.WAY table.now) seat.old.view seat.old.listed seat.new.view) }
     ensures informed { IfOk result (λ _. IsInformed seat.new.view) }
+    ensures tired { IfErr result (λ _. HasMade (P.least patience.now) seat.new.view) }
 {
     // For all keys: a reader may stand at a retired slot whatever its key. docs/TREE.md#the-tree
     wait_in_grace(patience, table, seat, &OpenGate, Keys::all())?;

@@ -1,5 +1,6 @@
 //! The call that takes a free slot.
-ghost use Rattle.std.specs.Prelude.{◌≡◌, ℕ, ◌+◌, ◌≤◌, true, false, None, IfSome, IfNone, IfOk};
+ghost use Rattle.std.specs.Prelude.{◌≡◌, ℕ, ◌+◌, ◌≤◌, true, false, None, IfSome, IfNone, IfOk, IfErr};
+ghost use Rattle.seat_table.specs.Rounds.{HasMade};
 ghost use Rattle.seat_table.specs.Seats.{shape_of};
 ghost use Rattle.seat_table.specs.Gains.{IsInformed, StaysIn};
 ghost use Rattle.node_slots.specs.declared.answers.Taken.TheVariants.{Slot};
@@ -36,10 +37,11 @@ fn reserve_some<P: Patience, W: WaitWords>(
         → TriesInVain (shape_of W.WAY table.now) seat.old.view seat.old.looked seat.new.view seat.new.looked) }
     ensures informed { IfOk result (λ _. IsInformed seat.new.view) }
     ensures stays { IfOk result (λ _. StaysIn (shape_of W.WAY table.now) seat.new.view) }
+    ensures tired { IfErr result (λ _. HasMade (P.least patience.now) seat.new.view) }
 {
     let backoff = Backoff::new();
     let mut expected = seat.free_seen().max(1);
-    for _ in 0..u64::MAX {
+    for round in 0..u64::MAX {
         match reserve(table, seat, expected) {
             Reserve::Held => return Ok(true),
             Reserve::Empty => return Ok(false),
@@ -92,9 +94,10 @@ fn scan<P: Patience, W: WaitWords>(
     ensures inside { IfOk result (λ answer. (1 ≤ answer.slot) × (answer.slot ≤ table.now.slots + table.now.places)) }
     ensures informed { IfOk result (λ _. IsInformed seat.new.view) }
     ensures stays { IfOk result (λ _. StaysIn (shape_of W.WAY table.now) seat.new.view) }
+    ensures tired { IfErr result (λ _. HasMade (P.least patience.now) seat.new.view) }
 {
     let last = table.slots() + table.places();
-    for _ in 0..u64::MAX {
+    for round in 0..u64::MAX {
         let slot = next_slot(seat.last_looked(), last);
         if let Seize::Got { generation } = seize(table, seat, slot) {
             return Ok(Seized { slot, generation });
@@ -122,6 +125,7 @@ pub fn take<P: Patience, W: WaitWords>(
         → (1 ≤ slot) × (slot ≤ table.now.slots + table.now.places)) }
     ensures informed { IfOk result (λ _. IsInformed seat.new.view) }
     ensures stays { IfOk result (λ _. StaysIn (shape_of W.WAY table.now) seat.new.view) }
+    ensures tired { IfErr result (λ _. HasMade (P.least patience.now) seat.new.view) }
 {
     if !reserve_some(patience, table, seat)? {
         return Ok(Taken::Empty);

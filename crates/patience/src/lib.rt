@@ -1,6 +1,7 @@
 //! How long a loop goes on that others may hold up, and what it does meanwhile. A call that may not return takes the runtime; a call of a
 //! static library, where there is none, has to come to an end: so it gives up after more rounds than a machine makes in a century.
 #![tactic(auto)]
+ghost use Rattle.std.specs.Prelude.{ℕ, ◌≤◌, IfErr};
 
 use crossbeam_utils::Backoff;
 use std::convert::Infallible;
@@ -14,14 +15,19 @@ pub trait Patience {
     /// What one loop counts its pauses with.
     type Pauses: Drop;
 
+    /// How many rounds a loop has made at least where its call gives up: all of 2^64 - 1, but for a patience whose pauses give up.
+    ghost least: { Self → ℕ };
+
     /// Before the first round.
     fn pauses(&self) -> Self::Pauses;
 
     /// After a round that came to nothing: lets others go on, or gives up.
-    fn pause(&self, pauses: &mut Self::Pauses) -> Result<(), Self::Tired>;
+    fn pause(&self, pauses: &mut Self::Pauses) -> Result<(), Self::Tired>
+        ensures { IfErr result (λ _. least self.now ≤ 1) };
 
     /// After 2^64 - 1 rounds.
-    fn tired(&self) -> Self::Tired;
+    fn tired(&self) -> Self::Tired
+        ensures { least self.now ≤ 18446744073709551615 };
 }
 
 /// Never gives up: spins for some rounds, and yields the processor from then on.
@@ -41,6 +47,8 @@ impl<'a, R: Wait> Patience for Steadfast<'a, R> {
     type Tired = Infallible;
 
     type Pauses = Backoff;
+
+    ghost least = { λ _. 18446744073709551615 };
 
     fn pauses(&self) -> Backoff {
         Backoff::new()

@@ -15,3 +15,4 @@ pub mod Quiet
 pub mod Onward
 pub mod Once
 pub mod Going
+pub mod Rounding

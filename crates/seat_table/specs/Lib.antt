@@ -9,3 +9,4 @@ pub mod Waits
 pub mod Looks
 pub mod Onward
 pub mod Once
+pub mod Rounds

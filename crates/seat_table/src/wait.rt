@@ -1,10 +1,11 @@
 //! Waits, whatever the waiter.
-ghost use Rattle.std.specs.Prelude.{◌≡◌, ◌≤◌, [], Some, None, IfOk};
+ghost use Rattle.std.specs.Prelude.{◌≡◌, ◌≤◌, [], Some, None, IfErr, IfOk};
 ghost use Rattle.core_state.specs.declared.view.Section.{Section};
 ghost use Rattle.seat_table.specs.Seats.{IsQuietSeat, shape_of, way_of};
 ghost use Rattle.seat_table.specs.Sections.{HasEntered, EntersBy, HasLeft, HasBegun, IsQuietReader};
 ghost use Rattle.seat_table.specs.Onward.{LooksAt, IsOnward, IsWithin};
 ghost use Rattle.seat_table.specs.Once.{LooksOnce};
+ghost use Rattle.seat_table.specs.Rounds.{HasMade};
 ghost use Rattle.seat_table.specs.Waits.{IsLatestOf, Polled, HasWaited, reached, start};
 
 use crate::seat::Seat;
@@ -115,12 +116,13 @@ pub fn wait_in_grace<P: Patience, W: WaitPart, G: Gate>(
     requires ticket { 1 ≤ seat.old.view.allowance.tickets }
     ensures seat { (seat.new.table ≡ seat.old.table) × (seat.new.listed ≡ seat.old.listed) }
     ensures waited { IfOk result (λ _. HasWaited (shape_of W.WAY table.now) seat.old.view keys.low keys.high seat.new.view) }
+    ensures tired { IfErr result (λ _. HasMade (P.least patience.now) seat.new.view) }
     ensures quiet { IsQuietSeat seat.old → IsQuietSeat seat.new }
 {
     let mut grace = W::begin(table, seat, keys);
     gate.pass(Point::InGrace, seat.place());
     let mut pauses = patience.pauses();
-    for _ in 0..u64::MAX {
+    for round in 0..u64::MAX {
         match W::poll(table, seat, &mut grace) {
             Poll::Over => return Ok(()),
             Poll::NotYet { why: _ } => patience.pause(&mut pauses)?,

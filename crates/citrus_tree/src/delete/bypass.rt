@@ -1,11 +1,12 @@
 //! A node with at most one child is taken out.
-ghost use Rattle.std.specs.Prelude.{◌≡◌, ◌+◌, ◌*◌, ◌^◌, ◌<◌, ◌==◌, if◌then◌else◌, ℕ, Bool, List, [], ◌∷◌, ◌++◌, length, None, IfOk};
+ghost use Rattle.std.specs.Prelude.{◌≡◌, ◌+◌, ◌*◌, ◌^◌, ◌<◌, ◌==◌, if◌then◌else◌, ℕ, Bool, List, [], ◌∷◌, ◌++◌, length, None, IfOk, IfErr};
 ghost use Rattle.prcu_model.specs.declared.operation.Op.TheVariants.{Del};
 ghost use Rattle.core_points.specs.declared.stage.Last.TheVariants as last;
 ghost use Rattle.core_points.specs.declared.stage.Stage.TheVariants as at;
 ghost use Rattle.core_points.specs.declared.stage.Update.TheVariants as update;
 ghost use Rattle.core_points.specs.Programs.{deleting, past_even};
 ghost use Rattle.seat_table.specs.Gains.{IsInformed};
+ghost use Rattle.seat_table.specs.Rounds.{HasMade};
 ghost use Rattle.seat_table.specs.Seats.{AreListed, shape_of};
 ghost use Rattle.tree_points.specs.At.{HasLocks, IsAt, IsDone};
 ghost use Rattle.citrus_tree.specs.Deletes.{StandsAt, Comes, KeepsAll, KeepsWaits, HasDone, AreLivesSmall, TakesValue, locked_slots, relinked_at, retired_slots};
@@ -41,6 +42,7 @@ pub(crate) fn bypass<P: Patience, W: WaitPart>(
     ensures slots { IfOk result (λ _. KeepsSlots seat.old seat.new) }
     ensures listed { IfOk result (λ _. AreListed seat.new) }
     ensures informed { IfOk result (λ _. IsInformed seat.new.view) }
+    ensures tired { IfErr result (λ _. HasMade (P.least patience.now) seat.new.view) }
 {
     let number = link_past(patience, table, seat, node, key)?;
     steps::unlock(table, seat, node.node);
@@ -78,6 +80,7 @@ fn link_past<P: Patience, W: WaitPart>(
     ensures retired { IfOk result (λ _. retired_slots seat.new.view ≡ retired_slots seat.old.view ++ node.node ∷ []) }
     ensures stay { IfOk result (λ _. (later : List (ℕ × ℕ × Bool)) × (retired_marks seat.new.view ≡ retired_marks seat.old.view ++ later)) }
     ensures waits { IfOk result (λ _. KeepsWaits seat.old.view seat.new.view) }
+    ensures tired { IfErr result (λ _. HasMade (P.least patience.now) seat.new.view) }
 {
     let child = slot_of(only_child(node));
     // Marked before it is unlinked: a caller with a record of the node, which gets the lock afterwards, finds it changed.

@@ -1,5 +1,5 @@
 //! A node with two children is taken out: its successor moves to its place.
-ghost use Rattle.std.specs.Prelude.{◌≡◌, ◌≢◌, ◌⊎◌, ◌+◌, ◌*◌, ◌^◌, ◌<◌, ◌≤◌, ◌==◌, ℕ, List, [], ◌∷◌, ◌++◌, length, Some, None, IfSome, IfNone, IfOk};
+ghost use Rattle.std.specs.Prelude.{◌≡◌, ◌≢◌, ◌⊎◌, ◌+◌, ◌*◌, ◌^◌, ◌<◌, ◌≤◌, ◌==◌, ℕ, List, [], ◌∷◌, ◌++◌, length, Some, None, IfSome, IfNone, IfOk, IfErr};
 ghost use Rattle.list_laws.specs.Counts.{times};
 ghost use Rattle.prcu_marks.specs.declared.mark.Mark.TheVariants.{Began, Ended};
 ghost use Rattle.prcu_model.specs.declared.operation.Op.TheVariants.{Del};
@@ -9,6 +9,7 @@ ghost use Rattle.core_points.specs.declared.stage.Waits.TheVariants as waits;
 ghost use Rattle.core_points.specs.DeleteFacts.{all_locks};
 ghost use Rattle.core_points.specs.DeletePlan.{move_locks};
 ghost use Rattle.seat_table.specs.Gains.{IsInformed};
+ghost use Rattle.seat_table.specs.Rounds.{HasMade};
 ghost use Rattle.seat_table.specs.Seats.{AreListed, IsSlotOf, shape_of};
 ghost use Rattle.seat_table.specs.Waits.{HasWaited};
 ghost use Rattle.tree_points.specs.At.{HasLocks, IsAt, IsDone};
@@ -55,6 +56,7 @@ pub(crate) fn shift<P: Patience, W: WaitPart, G: Gate>(
     ensures slots { IfOk result (λ _. KeepsSlots seat.old seat.new) }
     ensures listed { IfOk result (λ _. AreListed seat.new) }
     ensures informed { IfOk result (λ answer. IfSome answer (λ number. IsInformed seat.new.view)) }
+    ensures tired { IfErr result (λ _. HasMade (P.least patience.now) seat.new.view) }
 {
     let Some(copy) = seat.spare() else {
         unreachable!()
@@ -155,6 +157,7 @@ fn link_copy<P: Patience, W: WaitPart>(
     ensures locked { IfOk result (λ _. locked_slots seat.new.view ≡ locked_slots seat.old.view) }
     ensures retired { IfOk result (λ _. retired_slots seat.new.view ≡ retired_slots seat.old.view ++ node.node ∷ []) }
     ensures waits { IfOk result (λ _. KeepsWaits seat.old.view seat.new.view) }
+    ensures tired { IfErr result (λ _. HasMade (P.least patience.now) seat.new.view) }
 {
     steps::mark(table, seat, node.node, 2 * node.generation);
     let front = open_front(patience, table, seat)?;
@@ -201,6 +204,7 @@ fn finish<P: Patience, W: WaitPart, G: Gate>(
     ensures listing { IfOk result (λ _. seat.new.listed ≡ seat.old.listed ++ moving.node.node ∷ (moving.successor.slot ∷ [])) }
     ensures listed { IfOk result (λ _. AreListed seat.new) }
     ensures informed { IfOk result (λ _. IsInformed seat.new.view) }
+    ensures tired { IfErr result (λ _. HasMade (P.least patience.now) seat.new.view) }
 {
     // Between the copy's link and the unlinking: earlier readers may be on their way to the old successor. docs/TREE.md#the-tree
     wait_in_grace(

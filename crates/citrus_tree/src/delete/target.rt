@@ -1,10 +1,11 @@
 //! What is deleted, as a section finds it.
-ghost use Rattle.std.specs.Prelude.{◌≡◌, ◌<◌, ◌^◌, ℕ, IfSome, IfNone, Some, None, IfOk};
+ghost use Rattle.std.specs.Prelude.{◌≡◌, ◌<◌, ◌^◌, ℕ, IfSome, IfNone, Some, None, IfOk, IfErr};
 ghost use Rattle.prcu_model.specs.declared.operation.Op.TheVariants.{Del};
 ghost use Rattle.core_points.specs.declared.stage.Then.TheVariants as next;
 ghost use Rattle.core_points.specs.declared.stage.Stage.TheVariants as at;
 ghost use Rattle.core_points.specs.Programs.{past_left, past_right};
 ghost use Rattle.seat_table.specs.Gains.{IsInformed, StoodInside};
+ghost use Rattle.seat_table.specs.Rounds.{HasMade, HasStepped};
 ghost use Rattle.seat_table.specs.Seats.{shape_of};
 ghost use Rattle.tree_points.specs.At.{IsAt, IsDone};
 ghost use Rattle.citrus_tree.specs.Deletes.{StandsAt, Comes, OnlyLoads, HasSearched, walked_to};
@@ -38,6 +39,8 @@ pub(crate) fn find_target<P: Patience, W: WaitPart, G: Gate>(
     ensures absent { IfOk result (λ answer. IfNone answer (WasAnswered seat.old.view key None seat.new.view)) }
     ensures searched { IfOk result (λ _. HasSearched seat.old.view key seat.new.view) }
     ensures informed { IfOk result (λ _. IsInformed seat.new.view) }
+    ensures stepped { IfOk result (λ _. HasStepped seat.old.view seat.new.view) }
+    ensures tired { IfErr result (λ _. HasMade (P.least patience.now) seat.new.view) }
 {
     match descend(patience, table, seat, gate, key)? {
         Descent::Found { slot, parent, side } => {
@@ -68,6 +71,7 @@ fn load_target<P: Patience, W: WaitPart>(
         (at.Leave (next.Delete answer)) seat.new.view) }
     ensures inside { IfOk result (λ _. StoodInside (shape_of W.WAY table.now) seat.new.view) }
     ensures same { IfOk result (λ _. OnlyLoads seat.old.view seat.new.view) }
+    ensures tired { IfErr result (λ _. HasMade (P.least patience.now) seat.new.view) }
 {
     let node = load_node(table, seat, parent, side, slot);
     if node.left == 0 || node.right == 0 {
@@ -129,10 +133,11 @@ fn walk<P: Patience, W: WaitPart>(
         (at.SuccessorLeft node (walked_to node.node node.right)) seat.old.view
         (past_left node (walked_to answer.0 answer.1) 0) seat.new.view) }
     ensures same { IfOk result (λ _. OnlyLoads seat.old.view seat.new.view) }
+    ensures tired { IfErr result (λ _. HasMade (P.least patience.now) seat.new.view) }
 {
     let mut parent = node.node;
     let mut slot = node.right as u32;
-    for _ in 0..u64::MAX {
+    for round in 0..u64::MAX {
         let left = steps::search_load(table, seat, slot, Part::Link { side: Side::Left });
         if left == 0 {
             return Ok((parent, slot));

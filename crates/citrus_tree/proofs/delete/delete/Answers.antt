@@ -12,63 +12,65 @@ use Rattle.tree_points.specs.At.{IsAt, IsDone}
 use Rattle.citrus_tree.specs.Going.{MayBegin}
 use Rattle.seat_table.specs.Seats.{shape_of}
 use Rattle.std.specs.declared.option.Option.{Option}
-use Rattle.std.proofs.Common.{refl, ◌∙◌, subst, ℕ, ◌≡◌, true}
+use Rattle.std.proofs.Common.{refl, ◌∙◌, subst, ℕ, ◌≡◌, true, arith}
 use Rattle.citrus_tree.proofs.deletes.Tries.{absent_begins, absent_dels, absent_wait, gone_begins, gone_dels, gone_wait, listed_still, tried_retires, tries_again, tries_first, tells_gone}
 use Rattle.citrus_tree.proofs.KeepingSlots.{searched_slots, slots_on, slots_self}
+use Rattle.seat_table.proofs.Rounding.{prefix_steps}
 use Rattle.citrus_tree.proofs.delete.delete.Goals as goal
 
-pub loop-init : goal.loop-init
-loop-init g c = record {
+pub loop-round-init : goal.loop-round-init
+loop-round-init g c = record {
   table = refl;
   listed = c.requires.listed;
   same = refl;
   tries = tries_first _ c.args.key c.args.seat.now.view;
   slots = slots_self c.args.seat.now;
+  made = omega arith;
 }
 
 pub find_target-requires-clause-at : goal.find_target-requires-clause-at
-find_target-requires-clause-at g c = let a = c.requires.at in (a.0, c.loop.invariant.tries.ready a.0 a.1)
+find_target-requires-clause-at g c = let a = c.requires.at in (a.0, c.loop-round.invariant.tries.ready a.0 a.1)
 
 pub returns-in_default-clause-done : goal.returns-in_default-clause-done
 returns-in_default-clause-done g c kept a = subst (λ (r : Option Target). IfNone r ((kept : ℕ)
-    → MayBegin (shape_of g.W.WaitWords.WAY c.args.table.now) (Del c.args.key) kept c.loop.seat.view
+    → MayBegin (shape_of g.W.WaitWords.WAY c.args.table.now) (Del c.args.key) kept c.loop-round.seat.view
     → IsDone (shape_of g.W.WaitWords.WAY c.args.table.now) (Del c.args.key) kept c.find_target.new.seat.view)) c.in_default.is
-    c.in_ok-target.ensures.done kept (c.loop.invariant.tries.ready kept a)
+    c.in_ok-target.ensures.done kept (c.loop-round.invariant.tries.ready kept a)
 
 pub returns-in_default-clause-wait : goal.returns-in_default-clause-wait
-returns-in_default-clause-wait g c = absent_wait c.loop.invariant.tries c.in_ok-target.ensures.searched
+returns-in_default-clause-wait g c = absent_wait c.loop-round.invariant.tries c.in_ok-target.ensures.searched
 
 pub returns-in_default-clause-listed : goal.returns-in_default-clause-listed
-returns-in_default-clause-listed g c = listed_still c.loop.seat c.find_target.new.seat c.find_target.ensures.seat.1
-    c.in_ok-target.ensures.searched.retired c.loop.invariant.listed
+returns-in_default-clause-listed g c = listed_still c.loop-round.seat c.find_target.new.seat c.find_target.ensures.seat.1
+    c.in_ok-target.ensures.searched.retired c.loop-round.invariant.listed
 
 pub take_out-requires-clause-listed : goal.take_out-requires-clause-listed
-take_out-requires-clause-listed g c = listed_still c.loop.seat c.find_target.new.seat c.find_target.ensures.seat.1
-    c.in_ok-target.ensures.searched.retired c.loop.invariant.listed
+take_out-requires-clause-listed g c = listed_still c.loop-round.seat c.find_target.new.seat c.find_target.ensures.seat.1
+    c.in_ok-target.ensures.searched.retired c.loop-round.invariant.listed
 
 pub returns-in_default-clause-dels : goal.returns-in_default-clause-dels
-returns-in_default-clause-dels g c = absent_dels c.loop.invariant.tries c.in_ok-target.ensures.searched
+returns-in_default-clause-dels g c = absent_dels c.loop-round.invariant.tries c.in_ok-target.ensures.searched
     (subst (λ (r : Option Target). IfNone r
-    (WasAnswered c.loop.seat.view c.args.key None c.find_target.new.seat.view)) c.in_default.is c.in_ok-target.ensures.absent)
+    (WasAnswered c.loop-round.seat.view c.args.key None c.find_target.new.seat.view)) c.in_default.is c.in_ok-target.ensures.absent)
 
 pub take_out-requires-clause-at : goal.take_out-requires-clause-at
 take_out-requires-clause-at g c = let a = c.requires.at in (
   a.0,
   (subst (λ (r : Option Target). IfSome r
-      (λ target. (kept : ℕ) → MayBegin (shape_of g.W.WaitWords.WAY c.args.table.now) (Del c.args.key) kept c.loop.seat.view
+      (λ target. (kept : ℕ) → MayBegin (shape_of g.W.WaitWords.WAY c.args.table.now) (Del c.args.key) kept c.loop-round.seat.view
       → IsAt (shape_of g.W.WaitWords.WAY c.args.table.now) (Del c.args.key) kept
       (at.TargetLock target 0) c.find_target.new.seat.view)) c.in-Some.is c.in_ok-target.ensures.found) a.0
-      (c.loop.invariant.tries.ready a.0 a.1),
+      (c.loop-round.invariant.tries.ready a.0 a.1),
 )
 
 pub returns-in-Some-2-clause-done : goal.returns-in-Some-2-clause-done
 returns-in-Some-2-clause-done g c kept a =
     let target = c.in-Some.target in
     let locks = subst (λ (r : Option Target). IfSome r (λ target. (kept : ℕ)
-    → MayBegin (shape_of g.W.WaitWords.WAY c.args.table.now) (Del c.args.key) kept c.loop.seat.view
+    → MayBegin (shape_of g.W.WaitWords.WAY c.args.table.now) (Del c.args.key) kept c.loop-round.seat.view
     → IsAt (shape_of g.W.WaitWords.WAY c.args.table.now) (Del c.args.key) kept
     (at.TargetLock target 0) c.find_target.new.seat.view)) c.in-Some.is c.in_ok-target.ensures.found kept
-    (c.loop.invariant.tries.ready kept a) in
+    (c.loop-round.invariant.tries.ready kept a) in
     subst (λ (r : Option TakenOut). IfSome r (λ _. (kept : ℕ)
     → IsAt (shape_of g.W.WaitWords.WAY c.args.table.now) (Del c.args.key) kept
     (at.TargetLock target 0) c.find_target.new.seat.view
@@ -80,25 +82,25 @@ returns-in-Some-2-clause-informed g c = subst (λ (r : Option TakenOut). IfSome 
     (λ _. IsInformed c.take_out.new.seat.view)) c.in-Some-2.is c.in_ok-taken.ensures.informed
 
 pub returns-in-Some-2-clause-dels : goal.returns-in-Some-2-clause-dels
-returns-in-Some-2-clause-dels g c = gone_dels c.loop.invariant.tries c.in_ok-target.ensures.searched
+returns-in-Some-2-clause-dels g c = gone_dels c.loop-round.invariant.tries c.in_ok-target.ensures.searched
     (subst (λ (r : Option TakenOut). IfSome r
     (λ taken. HasDeleted c.find_target.new.seat.view c.args.key taken.number c.take_out.new.seat.view)) c.in-Some-2.is
     c.in_ok-taken.ensures.deleted) (subst (λ (r : Option TakenOut). IfSome r
     (λ _. IsInformed c.take_out.new.seat.view)) c.in-Some-2.is c.in_ok-taken.ensures.informed)
 
 pub returns-in-Some-2-clause-wait : goal.returns-in-Some-2-clause-wait
-returns-in-Some-2-clause-wait g c = gone_wait c.loop.invariant.tries c.in_ok-target.ensures.searched c.take_out.new.seat.view
+returns-in-Some-2-clause-wait g c = gone_wait c.loop-round.invariant.tries c.in_ok-target.ensures.searched c.take_out.new.seat.view
     (subst (λ (r : Option TakenOut). IfSome r
     (λ _. KeepsWait c.find_target.new.seat.view c.take_out.new.seat.view)) c.in-Some-2.is c.in_ok-taken.ensures.waits)
 
-pub loop-preserved : goal.loop-preserved
-loop-preserved g c = record {
-  table = c.take_out.ensures.table ∙ c.find_target.ensures.seat.0 ∙ c.loop.invariant.table;
+pub loop-round-preserved : goal.loop-round-preserved
+loop-round-preserved g c = record {
+  table = c.take_out.ensures.table ∙ c.find_target.ensures.seat.0 ∙ c.loop-round.invariant.table;
   listed = c.in_ok-taken.ensures.listed;
   same = (subst
       (λ (r : Option TakenOut). IfNone r (c.take_out.new.seat.listed ≡ c.find_target.new.seat.listed)) c.in_default-2.is
-      c.in_ok-taken.ensures.kept) ∙ c.find_target.ensures.seat.1 ∙ c.loop.invariant.same;
-  tries = tries_again c.loop.invariant.tries c.in_ok-target.ensures.searched
+      c.in_ok-taken.ensures.kept) ∙ c.find_target.ensures.seat.1 ∙ c.loop-round.invariant.same;
+  tries = tries_again c.loop-round.invariant.tries c.in_ok-target.ensures.searched
       (subst (λ (r : Option TakenOut). IfNone r
       (KeepsRest c.find_target.new.seat.view c.take_out.new.seat.view)) c.in_default-2.is c.in_ok-taken.ensures.same)
       (λ kept a. (subst (λ (r : Option TakenOut). IfNone r
@@ -107,49 +109,56 @@ loop-preserved g c = record {
       → IsAt (shape_of g.W.WaitWords.WAY c.args.table.now)
       (Del c.args.key) kept at.EnterClock c.take_out.new.seat.view)) c.in_default-2.is c.in_ok-taken.ensures.again) kept
       ((subst (λ (r : Option Target). IfSome r (λ target. (kept : ℕ)
-      → MayBegin (shape_of g.W.WaitWords.WAY c.args.table.now) (Del c.args.key) kept c.loop.seat.view
+      → MayBegin (shape_of g.W.WaitWords.WAY c.args.table.now) (Del c.args.key) kept c.loop-round.seat.view
       → IsAt (shape_of g.W.WaitWords.WAY c.args.table.now) (Del c.args.key) kept
       (at.TargetLock target 0) c.find_target.new.seat.view)) c.in-Some.is c.in_ok-target.ensures.found) kept a));
   slots = slots_on c.args.seat.now c.find_target.new.seat c.take_out.new.seat
-      (searched_slots c.args.seat.now c.loop.seat c.find_target.new.seat c.args.key c.loop.invariant.slots c.in_ok-target.ensures.searched
+      (searched_slots c.args.seat.now c.loop-round.seat c.find_target.new.seat c.args.key c.loop-round.invariant.slots c.in_ok-target.ensures.searched
       c.find_target.ensures.seat.1) c.in_ok-taken.ensures.slots;
+  made =
+      let made = c.loop-round.invariant.made in
+      let found = c.in_ok-target.ensures.stepped in
+      let rest = subst (λ (r : Option TakenOut). IfNone r
+          (KeepsRest c.find_target.new.seat.view c.take_out.new.seat.view)) c.in_default-2.is c.in_ok-taken.ensures.same in
+      let tried = prefix_steps c.find_target.new.seat.view c.take_out.new.seat.view rest.gone.steps in
+          omega (arith, made, found, tried);
 }
 
 pub returns-in_default-clause-slots : goal.returns-in_default-clause-slots
 returns-in_default-clause-slots g c =
-    searched_slots c.args.seat.now c.loop.seat c.find_target.new.seat c.args.key c.loop.invariant.slots c.in_ok-target.ensures.searched
+    searched_slots c.args.seat.now c.loop-round.seat c.find_target.new.seat c.args.key c.loop-round.invariant.slots c.in_ok-target.ensures.searched
     c.find_target.ensures.seat.1
 
 pub returns-in-Some-2-clause-slots : goal.returns-in-Some-2-clause-slots
 returns-in-Some-2-clause-slots g c =
     slots_on c.args.seat.now c.find_target.new.seat c.take_out.new.seat
-    (searched_slots c.args.seat.now c.loop.seat c.find_target.new.seat c.args.key c.loop.invariant.slots c.in_ok-target.ensures.searched
+    (searched_slots c.args.seat.now c.loop-round.seat c.find_target.new.seat c.args.key c.loop-round.invariant.slots c.in_ok-target.ensures.searched
     c.find_target.ensures.seat.1) c.in_ok-taken.ensures.slots
 
 pub returns-in_default-clause-retires : goal.returns-in_default-clause-retires
-returns-in_default-clause-retires g c = c.find_target.ensures.seat.1 ∙ c.loop.invariant.same
+returns-in_default-clause-retires g c = c.find_target.ensures.seat.1 ∙ c.loop-round.invariant.same
 
 pub returns-in-Some-2-clause-retires : goal.returns-in-Some-2-clause-retires
 returns-in-Some-2-clause-retires g c =
-    tried_retires c.args.seat.now c.loop.seat c.find_target.new.seat c.take_out.new.seat c.in-Some-2.taken.number c.loop.invariant.tries
-    c.in_ok-target.ensures.searched (c.find_target.ensures.seat.1 ∙ c.loop.invariant.same)
+    tried_retires c.args.seat.now c.loop-round.seat c.find_target.new.seat c.take_out.new.seat c.in-Some-2.taken.number c.loop-round.invariant.tries
+    c.in_ok-target.ensures.searched (c.find_target.ensures.seat.1 ∙ c.loop-round.invariant.same)
     (subst (λ (r : Option TakenOut). IfSome r
     (λ taken. RetiresInOrder c.find_target.new.seat c.args.key taken.number c.take_out.new.seat)) c.in-Some-2.is
     c.in_ok-taken.ensures.retires)
 
 pub returns-in-Some-2-clause-value : goal.returns-in-Some-2-clause-value
 returns-in-Some-2-clause-value g c e =
-    tells_gone c.loop.invariant.tries c.in_ok-target.ensures.searched c.take_out.new.seat.view c.in-Some-2.taken.number
+    tells_gone c.loop-round.invariant.tries c.in_ok-target.ensures.searched c.take_out.new.seat.view c.in-Some-2.taken.number
     c.in-Some-2.taken.value
     ((subst (λ (r : Option TakenOut). IfSome r (λ taken. c.args.tells_value ≡ true
     → TellsTaken c.find_target.new.seat.view c.args.key taken.number taken.value c.take_out.new.seat.view)) c.in-Some-2.is
     c.in_ok-taken.ensures.value) e)
 
 pub returns-in_default-clause-begins : goal.returns-in_default-clause-begins
-returns-in_default-clause-begins g c = absent_begins c.loop.invariant.tries c.in_ok-target.ensures.searched
+returns-in_default-clause-begins g c = absent_begins c.loop-round.invariant.tries c.in_ok-target.ensures.searched
 
 pub returns-in-Some-2-clause-begins : goal.returns-in-Some-2-clause-begins
-returns-in-Some-2-clause-begins g c = gone_begins c.loop.invariant.tries c.in_ok-target.ensures.searched
+returns-in-Some-2-clause-begins g c = gone_begins c.loop-round.invariant.tries c.in_ok-target.ensures.searched
     (subst (λ (r : Option TakenOut). IfSome r
     (λ taken. HasDeleted c.find_target.new.seat.view c.args.key taken.number c.take_out.new.seat.view)) c.in-Some-2.is
     c.in_ok-taken.ensures.deleted)

@@ -1,10 +1,12 @@
 use Rattle.core_state.specs.parts.ReaderParts.{state_slot}
 use Rattle.citrus_tree.specs.Lookups.{IsSearching, state_of}
 use Rattle.citrus_tree.specs.declared.descent.Descent.{Descent}
-use Rattle.std.proofs.Common.{sym, subst}
+use Rattle.std.proofs.Common.{sym, subst, arith}
 use Rattle.seat_table.specs.Gains.{IsSlot}
 use Rattle.seat_table.specs.Seats.{shape_of}
 use Rattle.citrus_tree.proofs.searches.Searching.{looked_there_as}
+use Rattle.seat_table.proofs.Rounding.{makes_steps}
+use Rattle.citrus_tree.proofs.Rounds.{search_steps}
 use Rattle.citrus_tree.proofs.insert.find_spot.Goals as goal
 
 pub returns-in-Found-clause-searched : goal.returns-in-Found-clause-searched
@@ -27,3 +29,15 @@ returns-in-Ended-clause-searched g c =
           (subst (λ (d : Descent). IsSlot (shape_of g.W.WaitWords.WAY c.args.table.now)
           (state_slot (state_of d))) c.in-Ended.is c.in_ok-descend.ensures.slot),
     )
+
+pub returns-in-Found-clause-stepped : goal.returns-in-Found-clause-stepped
+returns-in-Found-clause-stepped g c =
+    let found = search_steps c.in_ok-descend.ensures.searching in
+    let left = makes_steps c.descend.new.seat.view c.leave.new.seat.view c.leave.ensures.left.made in
+    omega (arith, found, left)
+
+pub returns-in-Ended-clause-stepped : goal.returns-in-Ended-clause-stepped
+returns-in-Ended-clause-stepped g c =
+    let found = search_steps c.in_ok-descend.ensures.searching in
+    let left = c.leave_with_spot.ensures.stepped in
+    omega (arith, found, left)

@@ -1,28 +1,31 @@
-use Rattle.std.proofs.Common.{[], refl, ◌∙◌}
+use Rattle.std.proofs.Common.{[], refl, ◌∙◌, arith}
 use Rattle.citrus_tree.proofs.puts.Inserting.{begins, outside, unlocked, may_give_up, old_found, old_looked, old_puts, old_allowance, old_begins, old_wait, old_quiet, old_tickets, may_take_leaf, spot_looked, full_puts, full_allowance, full_begins, full_wait, full_quiet, full_tickets, may_link, tries_again, new_goes, new_puts, new_retired, new_allowance, new_begins, new_wait, new_quiet, new_tickets}
 use Rattle.citrus_tree.proofs.sets.Replacing.{listed_on}
 use Rattle.citrus_tree.proofs.KeepingSlots.{goes_slots, slots_on, slots_self}
+use Rattle.seat_table.proofs.Rounding.{prefix_steps}
+use Rattle.citrus_tree.proofs.Rounds.{room_steps}
 use Rattle.citrus_tree.proofs.insert.put.Goals as goal
 
-pub loop-init : goal.loop-init
-loop-init g c = record {
+pub loop-round-init : goal.loop-round-init
+loop-round-init g c = record {
   table = refl;
   listed = c.requires.quiet.listed;
   tries = begins c.requires.quiet.view c.ranges.key.fits;
   slots = slots_self c.args.seat.now;
+  made = omega arith;
 }
 
 pub find_spot-requires-clause-table : goal.find_spot-requires-clause-table
-find_spot-requires-clause-table g c = c.loop.invariant.table ∙ c.requires.table
+find_spot-requires-clause-table g c = c.loop-round.invariant.table ∙ c.requires.table
 
 pub give_up_leaf-requires-clause-table : goal.give_up_leaf-requires-clause-table
-give_up_leaf-requires-clause-table g c = c.find_spot.ensures.seat.0 ∙ c.loop.invariant.table ∙ c.requires.table
+give_up_leaf-requires-clause-table g c = c.find_spot.ensures.seat.0 ∙ c.loop-round.invariant.table ∙ c.requires.table
 
 pub leaf_in_hand-requires-clause-table : goal.leaf_in_hand-requires-clause-table
-leaf_in_hand-requires-clause-table g c = c.find_spot.ensures.seat.0 ∙ c.loop.invariant.table ∙ c.requires.table
+leaf_in_hand-requires-clause-table g c = c.find_spot.ensures.seat.0 ∙ c.loop-round.invariant.table ∙ c.requires.table
 
 pub link_leaf-requires-clause-table : goal.link_leaf-requires-clause-table
-link_leaf-requires-clause-table g c = c.leaf_in_hand.ensures.table ∙ c.find_spot.ensures.seat.0 ∙ c.loop.invariant.table ∙ c.requires.table
+link_leaf-requires-clause-table g c = c.leaf_in_hand.ensures.table ∙ c.find_spot.ensures.seat.0 ∙ c.loop-round.invariant.table ∙ c.requires.table
 
 pub link_leaf-requires-clause-slot : goal.link_leaf-requires-clause-slot
 link_leaf-requires-clause-slot g c = c.in_ok-leaf.ensures.slot _ c.in-Some-2.is
@@ -37,165 +40,171 @@ pub returns-in-Some-3-clause-informed : goal.returns-in-Some-3-clause-informed
 returns-in-Some-3-clause-informed g c = c.in_ok-number.ensures.informed
 
 pub find_spot-requires-clause-outside : goal.find_spot-requires-clause-outside
-find_spot-requires-clause-outside g c = outside c.loop.invariant.tries c.requires.tickets
+find_spot-requires-clause-outside g c = outside c.loop-round.invariant.tries c.requires.tickets
 
 pub find_spot-requires-clause-unlocked : goal.find_spot-requires-clause-unlocked
-find_spot-requires-clause-unlocked g c = unlocked c.loop.invariant.tries c.requires.tickets
+find_spot-requires-clause-unlocked g c = unlocked c.loop-round.invariant.tries c.requires.tickets
 
 pub give_up_leaf-requires-clause-at : goal.give_up_leaf-requires-clause-at
-give_up_leaf-requires-clause-at g c = may_give_up c.loop.invariant.tries c.requires.tickets c.in_ok-spot.ensures.place _ c.in_default.is
+give_up_leaf-requires-clause-at g c = may_give_up c.loop-round.invariant.tries c.requires.tickets c.in_ok-spot.ensures.place _ c.in_default.is
     c.in_ok-spot.ensures.searched
 
 pub give_up_leaf-requires-clause-informed : goal.give_up_leaf-requires-clause-informed
-give_up_leaf-requires-clause-informed g c = (old_found c.loop.invariant.tries c.requires.tickets c.in_ok-spot.ensures.place _
+give_up_leaf-requires-clause-informed g c = (old_found c.loop-round.invariant.tries c.requires.tickets c.in_ok-spot.ensures.place _
     c.in_default.is
     c.in_ok-spot.ensures.searched).1.informed
 
 pub returns-in_default-clause-puts : goal.returns-in_default-clause-puts
-returns-in_default-clause-puts g c = old_puts c.loop.invariant.tries c.requires.tickets c.in_ok-spot.ensures.place _ c.in_default.is
+returns-in_default-clause-puts g c = old_puts c.loop-round.invariant.tries c.requires.tickets c.in_ok-spot.ensures.place _ c.in_default.is
     c.in_ok-spot.ensures.searched c.give_up_leaf.ensures.goes c.answered.ensures
 
 pub returns-in_default-clause-quiet : goal.returns-in_default-clause-quiet
 returns-in_default-clause-quiet g c = record {
-  view = old_quiet c.loop.invariant.tries c.requires.tickets c.in_ok-spot.ensures.place _ c.in_default.is c.in_ok-spot.ensures.searched
+  view = old_quiet c.loop-round.invariant.tries c.requires.tickets c.in_ok-spot.ensures.place _ c.in_default.is c.in_ok-spot.ensures.searched
       c.give_up_leaf.ensures.goes c.give_up_leaf.ensures.at;
-  listed = listed_on c.loop.seat c.give_up_leaf.new.seat (c.give_up_leaf.ensures.seat.1 ∙ c.find_spot.ensures.seat.1)
-      (c.give_up_leaf.ensures.goes.retired ∙ (old_looked c.loop.invariant.tries c.requires.tickets c.in_ok-spot.ensures.place _
-      c.in_default.is c.in_ok-spot.ensures.searched).retired) c.loop.invariant.listed;
+  listed = listed_on c.loop-round.seat c.give_up_leaf.new.seat (c.give_up_leaf.ensures.seat.1 ∙ c.find_spot.ensures.seat.1)
+      (c.give_up_leaf.ensures.goes.retired ∙ (old_looked c.loop-round.invariant.tries c.requires.tickets c.in_ok-spot.ensures.place _
+      c.in_default.is c.in_ok-spot.ensures.searched).retired) c.loop-round.invariant.listed;
 }
 
 pub returns-in_default-clause-wait : goal.returns-in_default-clause-wait
-returns-in_default-clause-wait g c = old_wait c.loop.invariant.tries c.requires.tickets c.in_ok-spot.ensures.place _ c.in_default.is
+returns-in_default-clause-wait g c = old_wait c.loop-round.invariant.tries c.requires.tickets c.in_ok-spot.ensures.place _ c.in_default.is
     c.in_ok-spot.ensures.searched c.give_up_leaf.ensures.goes
 
 pub returns-in_default-clause-tickets : goal.returns-in_default-clause-tickets
-returns-in_default-clause-tickets g c = old_tickets c.loop.invariant.tries c.requires.tickets c.in_ok-spot.ensures.place _ c.in_default.is
+returns-in_default-clause-tickets g c = old_tickets c.loop-round.invariant.tries c.requires.tickets c.in_ok-spot.ensures.place _ c.in_default.is
     c.in_ok-spot.ensures.searched c.give_up_leaf.ensures.goes c.give_up_leaf.ensures.at
 
 pub leaf_in_hand-requires-clause-listed : goal.leaf_in_hand-requires-clause-listed
-leaf_in_hand-requires-clause-listed g c = listed_on c.loop.seat c.find_spot.new.seat c.find_spot.ensures.seat.1
-    (spot_looked c.loop.invariant.tries c.requires.tickets c.in_ok-spot.ensures.place _ c.in-Some.is c.in_ok-spot.ensures.searched).retired
-    c.loop.invariant.listed
+leaf_in_hand-requires-clause-listed g c = listed_on c.loop-round.seat c.find_spot.new.seat c.find_spot.ensures.seat.1
+    (spot_looked c.loop-round.invariant.tries c.requires.tickets c.in_ok-spot.ensures.place _ c.in-Some.is c.in_ok-spot.ensures.searched).retired
+    c.loop-round.invariant.listed
 
 pub leaf_in_hand-requires-clause-at : goal.leaf_in_hand-requires-clause-at
-leaf_in_hand-requires-clause-at g c = may_take_leaf c.loop.invariant.tries c.requires.tickets c.in_ok-spot.ensures.place _ c.in-Some.is
+leaf_in_hand-requires-clause-at g c = may_take_leaf c.loop-round.invariant.tries c.requires.tickets c.in_ok-spot.ensures.place _ c.in-Some.is
     c.in_ok-spot.ensures.searched
 
 pub returns-in_default-2-clause-puts : goal.returns-in_default-2-clause-puts
-returns-in_default-2-clause-puts g c = full_puts c.loop.invariant.tries c.requires.tickets c.in_ok-spot.ensures.place _ c.in-Some.is
+returns-in_default-2-clause-puts g c = full_puts c.loop-round.invariant.tries c.requires.tickets c.in_ok-spot.ensures.place _ c.in-Some.is
     c.in_ok-spot.ensures.searched c.in_ok-leaf.ensures.room (c.in_ok-leaf.ensures.full c.in_default-2.is) c.answered-in_default-2.ensures
 
 pub returns-in_default-2-clause-quiet : goal.returns-in_default-2-clause-quiet
 returns-in_default-2-clause-quiet g c = record {
   view =
-      full_quiet c.loop.invariant.tries c.requires.tickets c.in_ok-spot.ensures.place _ c.in-Some.is c.in_ok-spot.ensures.searched
+      full_quiet c.loop-round.invariant.tries c.requires.tickets c.in_ok-spot.ensures.place _ c.in-Some.is c.in_ok-spot.ensures.searched
       c.in_ok-leaf.ensures.room c.in_default-2.is c.in_ok-leaf.ensures.at;
   listed = c.in_ok-leaf.ensures.listed;
 }
 
 pub returns-in_default-2-clause-wait : goal.returns-in_default-2-clause-wait
-returns-in_default-2-clause-wait g c = full_wait c.loop.invariant.tries c.requires.tickets c.in_ok-spot.ensures.place _ c.in-Some.is
+returns-in_default-2-clause-wait g c = full_wait c.loop-round.invariant.tries c.requires.tickets c.in_ok-spot.ensures.place _ c.in-Some.is
     c.in_ok-spot.ensures.searched c.in_ok-leaf.ensures.room
 
 pub returns-in_default-2-clause-tickets : goal.returns-in_default-2-clause-tickets
-returns-in_default-2-clause-tickets g c = full_tickets c.loop.invariant.tries c.requires.tickets c.in_ok-spot.ensures.place _ c.in-Some.is
+returns-in_default-2-clause-tickets g c = full_tickets c.loop-round.invariant.tries c.requires.tickets c.in_ok-spot.ensures.place _ c.in-Some.is
     c.in_ok-spot.ensures.searched c.in_ok-leaf.ensures.room c.in_default-2.is c.in_ok-leaf.ensures.at
 
 pub link_leaf-requires-clause-at : goal.link_leaf-requires-clause-at
-link_leaf-requires-clause-at g c = may_link c.loop.invariant.tries c.requires.tickets c.in_ok-spot.ensures.place _ c.in-Some.is
+link_leaf-requires-clause-at g c = may_link c.loop-round.invariant.tries c.requires.tickets c.in_ok-spot.ensures.place _ c.in-Some.is
     c.in_ok-spot.ensures.searched c.in_ok-leaf.ensures.room c.in-Some-2.is c.in_ok-leaf.ensures.at
 
 pub returns-in-Some-3-clause-puts : goal.returns-in-Some-3-clause-puts
-returns-in-Some-3-clause-puts g c = new_puts c.loop.invariant.tries c.requires.tickets c.in_ok-spot.ensures.place _ c.in-Some.is
+returns-in-Some-3-clause-puts g c = new_puts c.loop-round.invariant.tries c.requires.tickets c.in_ok-spot.ensures.place _ c.in-Some.is
     c.in_ok-spot.ensures.searched c.in_ok-leaf.ensures.room
     c.in-Some-2.is c.in_ok-leaf.ensures.at c.in-Some-3.is c.in_ok-number.ensures.linked c.answered-in-Some-3.ensures
 
 pub returns-in-Some-3-clause-quiet : goal.returns-in-Some-3-clause-quiet
 returns-in-Some-3-clause-quiet g c = record {
-  view = new_quiet c.loop.invariant.tries c.requires.tickets c.in_ok-spot.ensures.place _ c.in-Some.is c.in_ok-spot.ensures.searched
+  view = new_quiet c.loop-round.invariant.tries c.requires.tickets c.in_ok-spot.ensures.place _ c.in-Some.is c.in_ok-spot.ensures.searched
       c.in_ok-leaf.ensures.room c.in-Some-2.is c.in_ok-leaf.ensures.at c.in-Some-3.is c.in_ok-number.ensures.linked
       c.in_ok-number.ensures.at;
   listed = listed_on c.leaf_in_hand.new.seat c.link_leaf.new.seat c.link_leaf.ensures.seat.1
-      (new_retired c.loop.invariant.tries c.requires.tickets c.in_ok-spot.ensures.place _ c.in-Some.is c.in_ok-spot.ensures.searched
+      (new_retired c.loop-round.invariant.tries c.requires.tickets c.in_ok-spot.ensures.place _ c.in-Some.is c.in_ok-spot.ensures.searched
       c.in_ok-leaf.ensures.room
       c.in-Some-2.is c.in_ok-leaf.ensures.at c.in-Some-3.is c.in_ok-number.ensures.linked) c.in_ok-leaf.ensures.listed;
 }
 
 pub returns-in-Some-3-clause-wait : goal.returns-in-Some-3-clause-wait
-returns-in-Some-3-clause-wait g c = new_wait c.loop.invariant.tries c.requires.tickets c.in_ok-spot.ensures.place _ c.in-Some.is
+returns-in-Some-3-clause-wait g c = new_wait c.loop-round.invariant.tries c.requires.tickets c.in_ok-spot.ensures.place _ c.in-Some.is
     c.in_ok-spot.ensures.searched c.in_ok-leaf.ensures.room
     c.in-Some-2.is c.in_ok-leaf.ensures.at c.in-Some-3.is c.in_ok-number.ensures.linked
 
 pub returns-in-Some-3-clause-tickets : goal.returns-in-Some-3-clause-tickets
-returns-in-Some-3-clause-tickets g c = new_tickets c.loop.invariant.tries c.requires.tickets c.in_ok-spot.ensures.place _ c.in-Some.is
+returns-in-Some-3-clause-tickets g c = new_tickets c.loop-round.invariant.tries c.requires.tickets c.in_ok-spot.ensures.place _ c.in-Some.is
     c.in_ok-spot.ensures.searched c.in_ok-leaf.ensures.room
     c.in-Some-2.is c.in_ok-leaf.ensures.at c.in-Some-3.is c.in_ok-number.ensures.linked c.in_ok-number.ensures.at
 
-pub loop-preserved : goal.loop-preserved
-loop-preserved g c = record {
-  table = c.link_leaf.ensures.seat.0 ∙ c.leaf_in_hand.ensures.table ∙ c.find_spot.ensures.seat.0 ∙ c.loop.invariant.table;
+pub loop-round-preserved : goal.loop-round-preserved
+loop-round-preserved g c = record {
+  table = c.link_leaf.ensures.seat.0 ∙ c.leaf_in_hand.ensures.table ∙ c.find_spot.ensures.seat.0 ∙ c.loop-round.invariant.table;
   listed = listed_on c.leaf_in_hand.new.seat c.link_leaf.new.seat c.link_leaf.ensures.seat.1
       (c.in_ok-number.ensures.again c.in_default-3.is).retired c.in_ok-leaf.ensures.listed;
-  tries = tries_again c.loop.invariant.tries c.requires.tickets c.in_ok-spot.ensures.place _ c.in-Some.is c.in_ok-spot.ensures.searched
+  tries = tries_again c.loop-round.invariant.tries c.requires.tickets c.in_ok-spot.ensures.place _ c.in-Some.is c.in_ok-spot.ensures.searched
       c.in_ok-leaf.ensures.room c.in-Some-2.is c.in_ok-leaf.ensures.at (c.in_ok-number.ensures.again c.in_default-3.is)
       c.in_default-3.is c.in_ok-number.ensures.at;
   slots = goes_slots c.args.seat.now c.leaf_in_hand.new.seat c.link_leaf.new.seat []
       (slots_on c.args.seat.now c.find_spot.new.seat c.leaf_in_hand.new.seat
-      (goes_slots c.args.seat.now c.loop.seat c.find_spot.new.seat _ c.loop.invariant.slots
-      (spot_looked c.loop.invariant.tries c.requires.tickets c.in_ok-spot.ensures.place _ c.in-Some.is c.in_ok-spot.ensures.searched)
+      (goes_slots c.args.seat.now c.loop-round.seat c.find_spot.new.seat _ c.loop-round.invariant.slots
+      (spot_looked c.loop-round.invariant.tries c.requires.tickets c.in_ok-spot.ensures.place _ c.in-Some.is c.in_ok-spot.ensures.searched)
       c.find_spot.ensures.seat.1) c.in_ok-leaf.ensures.slots) (c.in_ok-number.ensures.again c.in_default-3.is) c.link_leaf.ensures.seat.1;
+  made =
+      let made = c.loop-round.invariant.made in
+      let found = c.in_ok-spot.ensures.stepped in
+      let taken = room_steps c.in_ok-leaf.ensures.room in
+      let tried = prefix_steps c.leaf_in_hand.new.seat.view c.link_leaf.new.seat.view (c.in_ok-number.ensures.again c.in_default-3.is).gone.steps in
+          omega (arith, made, found, taken, tried);
 }
 
 pub returns-in_default-clause-slots : goal.returns-in_default-clause-slots
 returns-in_default-clause-slots g c =
-    let found = goes_slots c.args.seat.now c.loop.seat c.find_spot.new.seat _ c.loop.invariant.slots
-    (old_looked c.loop.invariant.tries c.requires.tickets c.in_ok-spot.ensures.place _ c.in_default.is c.in_ok-spot.ensures.searched)
+    let found = goes_slots c.args.seat.now c.loop-round.seat c.find_spot.new.seat _ c.loop-round.invariant.slots
+    (old_looked c.loop-round.invariant.tries c.requires.tickets c.in_ok-spot.ensures.place _ c.in_default.is c.in_ok-spot.ensures.searched)
     c.find_spot.ensures.seat.1 in
     goes_slots c.args.seat.now c.find_spot.new.seat c.give_up_leaf.new.seat [] found c.give_up_leaf.ensures.goes
     c.give_up_leaf.ensures.seat.1
 
 pub returns-in_default-2-clause-slots : goal.returns-in_default-2-clause-slots
 returns-in_default-2-clause-slots g c = slots_on c.args.seat.now c.find_spot.new.seat c.leaf_in_hand.new.seat
-    (goes_slots c.args.seat.now c.loop.seat c.find_spot.new.seat _ c.loop.invariant.slots
-    (spot_looked c.loop.invariant.tries c.requires.tickets c.in_ok-spot.ensures.place _ c.in-Some.is c.in_ok-spot.ensures.searched)
+    (goes_slots c.args.seat.now c.loop-round.seat c.find_spot.new.seat _ c.loop-round.invariant.slots
+    (spot_looked c.loop-round.invariant.tries c.requires.tickets c.in_ok-spot.ensures.place _ c.in-Some.is c.in_ok-spot.ensures.searched)
     c.find_spot.ensures.seat.1) c.in_ok-leaf.ensures.slots
 
 pub returns-in-Some-3-clause-slots : goal.returns-in-Some-3-clause-slots
 returns-in-Some-3-clause-slots g c =
     let leaf = slots_on c.args.seat.now c.find_spot.new.seat c.leaf_in_hand.new.seat
-    (goes_slots c.args.seat.now c.loop.seat c.find_spot.new.seat _ c.loop.invariant.slots
-    (spot_looked c.loop.invariant.tries c.requires.tickets c.in_ok-spot.ensures.place _ c.in-Some.is c.in_ok-spot.ensures.searched)
+    (goes_slots c.args.seat.now c.loop-round.seat c.find_spot.new.seat _ c.loop-round.invariant.slots
+    (spot_looked c.loop-round.invariant.tries c.requires.tickets c.in_ok-spot.ensures.place _ c.in-Some.is c.in_ok-spot.ensures.searched)
     c.find_spot.ensures.seat.1) c.in_ok-leaf.ensures.slots in
     goes_slots c.args.seat.now c.leaf_in_hand.new.seat c.link_leaf.new.seat _ leaf
-    (new_goes c.loop.invariant.tries c.requires.tickets c.in_ok-spot.ensures.place _ c.in-Some.is c.in_ok-spot.ensures.searched
+    (new_goes c.loop-round.invariant.tries c.requires.tickets c.in_ok-spot.ensures.place _ c.in-Some.is c.in_ok-spot.ensures.searched
     c.in_ok-leaf.ensures.room
     c.in-Some-2.is c.in_ok-leaf.ensures.at c.in-Some-3.is c.in_ok-number.ensures.linked) c.link_leaf.ensures.seat.1
 
 pub returns-in_default-clause-allowance : goal.returns-in_default-clause-allowance
-returns-in_default-clause-allowance g c = old_allowance c.loop.invariant.tries c.requires.tickets c.in_ok-spot.ensures.place _
+returns-in_default-clause-allowance g c = old_allowance c.loop-round.invariant.tries c.requires.tickets c.in_ok-spot.ensures.place _
     c.in_default.is
     c.in_ok-spot.ensures.searched c.give_up_leaf.ensures.goes
 
 pub returns-in_default-2-clause-allowance : goal.returns-in_default-2-clause-allowance
 returns-in_default-2-clause-allowance g c =
-    full_allowance c.loop.invariant.tries c.requires.tickets c.in_ok-spot.ensures.place _ c.in-Some.is c.in_ok-spot.ensures.searched
+    full_allowance c.loop-round.invariant.tries c.requires.tickets c.in_ok-spot.ensures.place _ c.in-Some.is c.in_ok-spot.ensures.searched
     c.in_ok-leaf.ensures.room
 
 pub returns-in-Some-3-clause-allowance : goal.returns-in-Some-3-clause-allowance
-returns-in-Some-3-clause-allowance g c = new_allowance c.loop.invariant.tries c.requires.tickets c.in_ok-spot.ensures.place _ c.in-Some.is
+returns-in-Some-3-clause-allowance g c = new_allowance c.loop-round.invariant.tries c.requires.tickets c.in_ok-spot.ensures.place _ c.in-Some.is
     c.in_ok-spot.ensures.searched c.in_ok-leaf.ensures.room
     c.in-Some-2.is c.in_ok-leaf.ensures.at c.in-Some-3.is c.in_ok-number.ensures.linked
 
 pub returns-in_default-clause-begins : goal.returns-in_default-clause-begins
-returns-in_default-clause-begins g c = old_begins c.loop.invariant.tries c.requires.tickets c.in_ok-spot.ensures.place _ c.in_default.is
+returns-in_default-clause-begins g c = old_begins c.loop-round.invariant.tries c.requires.tickets c.in_ok-spot.ensures.place _ c.in_default.is
     c.in_ok-spot.ensures.searched c.give_up_leaf.ensures.goes
 
 pub returns-in_default-2-clause-begins : goal.returns-in_default-2-clause-begins
 returns-in_default-2-clause-begins g c =
-    full_begins c.loop.invariant.tries c.requires.tickets c.in_ok-spot.ensures.place _ c.in-Some.is c.in_ok-spot.ensures.searched
+    full_begins c.loop-round.invariant.tries c.requires.tickets c.in_ok-spot.ensures.place _ c.in-Some.is c.in_ok-spot.ensures.searched
     c.in_ok-leaf.ensures.room
 
 pub returns-in-Some-3-clause-begins : goal.returns-in-Some-3-clause-begins
-returns-in-Some-3-clause-begins g c = new_begins c.loop.invariant.tries c.requires.tickets c.in_ok-spot.ensures.place _ c.in-Some.is
+returns-in-Some-3-clause-begins g c = new_begins c.loop-round.invariant.tries c.requires.tickets c.in_ok-spot.ensures.place _ c.in-Some.is
     c.in_ok-spot.ensures.searched c.in_ok-leaf.ensures.room
     c.in-Some-2.is c.in_ok-leaf.ensures.at c.in-Some-3.is c.in_ok-number.ensures.linked

@@ -1,10 +1,12 @@
-use Rattle.std.proofs.Common.{subst, rules}
+use Rattle.std.proofs.Common.{subst, rules, arith}
 use Rattle.seat_table.specs.Gains.{IsSlot}
 use Rattle.core_state.specs.parts.ReaderParts.{state_slot}
 use Rattle.citrus_tree.specs.Lookups.{IsSearching, state_of}
 use Rattle.citrus_tree.specs.declared.descent.Descent.{Descent}
 use Rattle.seat_table.specs.Seats.{shape_of}
 use Rattle.citrus_tree.proofs.searches.Searching.{sought, looked_missed}
+use Rattle.seat_table.proofs.Rounding.{makes_steps, told_steps}
+use Rattle.citrus_tree.proofs.Rounds.{search_steps}
 use Rattle.citrus_tree.proofs.replace.find_holder.Goals as goal
 
 pub returns-in-Found-clause-sought : goal.returns-in-Found-clause-sought
@@ -30,3 +32,16 @@ search_load-life-requires-clause-asks g c =
     let slot = subst (λ (d : Descent). IsSlot (shape_of g.W.WaitWords.WAY c.args.table.now)
     (state_slot (state_of d))) c.in-Found.is c.in_ok-slot.ensures.slot in
     search rules
+
+pub returns-in-Found-clause-stepped : goal.returns-in-Found-clause-stepped
+returns-in-Found-clause-stepped g c =
+    let found = search_steps c.in_ok-slot.ensures.searching in
+    let loaded = told_steps c.search_load-life.ensures.told in
+    let left = makes_steps c.search_load-life.new.seat.view c.leave.new.seat.view c.leave.ensures.left.made in
+    omega (arith, found, loaded, left)
+
+pub returns-in-Ended-clause-stepped : goal.returns-in-Ended-clause-stepped
+returns-in-Ended-clause-stepped g c =
+    let found = search_steps c.in_ok-slot.ensures.searching in
+    let left = makes_steps c.descend.new.seat.view c.leave-in-Ended.new.seat.view c.leave-in-Ended.ensures.left.made in
+    omega (arith, found, left)

@@ -1,45 +1,57 @@
-use Rattle.std.proofs.Common.{rules, sym, ◌∙◌}
+use Rattle.std.proofs.Common.{rules, sym, ◌∙◌, arith}
 use Rattle.prcu_marks.specs.declared.mark.Side.TheVariants.{Left, Right}
 use Rattle.exact_list.proofs.Loading.{loaded_none}
 use Rattle.exact_list.proofs.Walking.{link_fits, comes_to, may_read_next, may_go_next, comes_right, comes_left, comes_none}
+use Rattle.seat_table.proofs.Rounding.{told_steps}
 use Rattle.exact_list.proofs.walks.descend.Goals as goal
 
-pub loop-init : goal.loop-init
-loop-init g c = record {
+pub loop-round-init : goal.loop-round-init
+loop-round-init g c = record {
   table = search rules;
   listed = search rules;
   come = (loaded_none c.args.seat.now.view c.requires.come.0, c.requires.come.1);
+  made = omega arith;
 }
 
 pub child_of-requires : goal.child_of-requires
-child_of-requires g c = link_fits c.loop.invariant.come
+child_of-requires g c = link_fits c.loop-round.invariant.come
 
 pub returns-in_default-clause-ended : goal.returns-in_default-clause-ended
-returns-in_default-clause-ended g c = comes_none c.loop.invariant.come (sym c.child_of.ensures ∙ c.in_default.is)
+returns-in_default-clause-ended g c = comes_none c.loop-round.invariant.come (sym c.child_of.ensures ∙ c.in_default.is)
 
 pub list_load-key-requires-clause-asks : goal.list_load-key-requires-clause-asks
-list_load-key-requires-clause-asks g c = λ told. may_read_next (comes_to c.loop.invariant.come (sym c.child_of.ensures ∙ c.in-Some.is))
+list_load-key-requires-clause-asks g c = λ told. may_read_next (comes_to c.loop-round.invariant.come (sym c.child_of.ensures ∙ c.in-Some.is))
 
 pub list_load-link-requires-clause-asks : goal.list_load-link-requires-clause-asks
 list_load-link-requires-clause-asks g c = λ told.
-    may_go_next (comes_to c.loop.invariant.come (sym c.child_of.ensures ∙ c.in-Some.is)) c.list_load-key.ensures.told Right
+    may_go_next (comes_to c.loop-round.invariant.come (sym c.child_of.ensures ∙ c.in-Some.is)) c.list_load-key.ensures.told Right
 
-pub loop-preserved-then-key-from : goal.loop-preserved-then-key-from
-loop-preserved-then-key-from g c = record {
+pub loop-round-preserved-then-key-from : goal.loop-round-preserved-then-key-from
+loop-round-preserved-then-key-from g c = record {
   table = search rules;
   listed = search rules;
-  come = comes_right (comes_to c.loop.invariant.come
+  come = comes_right (comes_to c.loop-round.invariant.come
       (sym c.child_of.ensures ∙ c.in-Some.is)) c.list_load-key.ensures.told c.if-key-from.true c.list_load-link.ensures.told;
+  made =
+      let made = c.loop-round.invariant.made in
+      let key = told_steps c.list_load-key.ensures.told in
+      let link = told_steps c.list_load-link.ensures.told in
+          omega (arith, made, key, link);
 }
 
-pub list_load-link-requires-in-loop-clause-asks : goal.list_load-link-requires-in-loop-clause-asks
-list_load-link-requires-in-loop-clause-asks g c = λ told.
-    may_go_next (comes_to c.loop.invariant.come (sym c.child_of.ensures ∙ c.in-Some.is)) c.list_load-key.ensures.told Left
+pub list_load-link-requires-in-loop-round-clause-asks : goal.list_load-link-requires-in-loop-round-clause-asks
+list_load-link-requires-in-loop-round-clause-asks g c = λ told.
+    may_go_next (comes_to c.loop-round.invariant.come (sym c.child_of.ensures ∙ c.in-Some.is)) c.list_load-key.ensures.told Left
 
-pub loop-preserved : goal.loop-preserved
-loop-preserved g c = record {
+pub loop-round-preserved : goal.loop-round-preserved
+loop-round-preserved g c = record {
   table = search rules;
   listed = search rules;
-  come = comes_left (comes_to c.loop.invariant.come
-      (sym c.child_of.ensures ∙ c.in-Some.is)) c.list_load-key.ensures.told c.pass.ensures c.list_load-link-in-loop.ensures.told;
+  come = comes_left (comes_to c.loop-round.invariant.come
+      (sym c.child_of.ensures ∙ c.in-Some.is)) c.list_load-key.ensures.told c.pass.ensures c.list_load-link-in-loop-round.ensures.told;
+  made =
+      let made = c.loop-round.invariant.made in
+      let key = told_steps c.list_load-key.ensures.told in
+      let link = told_steps c.list_load-link-in-loop-round.ensures.told in
+          omega (arith, made, key, link);
 }

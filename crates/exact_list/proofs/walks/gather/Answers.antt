@@ -3,14 +3,15 @@ use Rattle.seat_table.specs.Seats.{shape_of}
 use Rattle.exact_list.proofs.Loading.{still_listing}
 use Rattle.exact_list.proofs.Walking.{may_begin}
 use Rattle.exact_list.proofs.Gathering.{Gathered, starts, descends, may_restart, restarts, ends, meets, ends_below, may_value_met, has_value, gathers_pair, may_go_right, walks_on}
+use Rattle.seat_table.proofs.Rounding.{makes_steps, told_steps}
 use Rattle.exact_list.proofs.walks.gather.Goals as goal
 
 pub list_load-link-requires-clause-asks : goal.list_load-link-requires-clause-asks
 list_load-link-requires-clause-asks g c = λ told. may_begin
     (shape_of g.W.WaitWords.WAY c.args.table.now) c.args.seat.now.view c.args.seat.now.view c.requires.listing
 
-pub loop-init : goal.loop-init
-loop-init g c =
+pub loop-round-init : goal.loop-round-init
+loop-round-init g c =
     let low = c.low-from.ensures.low in
     let ordered = c.low-from.ensures.ordered in
     record {
@@ -21,25 +22,26 @@ loop-init g c =
       low = omega (arith, low);
       high = omega (arith, low, ordered);
       walks = starts (sym low) c.requires.listing c.requires.empty c.new-way.ensures.none c.list_load-link.ensures.told;
+      made = omega arith;
     }
 
 pub descend-requires-clause-come : goal.descend-requires-clause-come
-descend-requires-clause-come g c = let w = c.loop.invariant.walks in (still_listing c.args.seat.now.view c.loop.seat.view w.loaded, w.come)
+descend-requires-clause-come g c = let w = c.loop-round.invariant.walks in (still_listing c.args.seat.now.view c.loop-round.seat.view w.loaded, w.come)
 
 pub returns-in-Done-clause-gathered : goal.returns-in-Done-clause-gathered
 returns-in-Done-clause-gathered g c =
-    let i = c.loop.invariant in
+    let i = c.loop-round.invariant in
     let high = c.high-high.ensures.high in
     let fits = c.high-high.type_inv in
     ends c.next.new.self (c.args.keys.now.high + 1) (descends i.walks c.in_ok-descend.ensures.ended) c.next.ensures c.in-Done.is
     (let at = i.high in omega (arith, at)) (omega (arith, high, fits))
 
 pub list_load-link-requires-in-Lost-clause-asks : goal.list_load-link-requires-in-Lost-clause-asks
-list_load-link-requires-in-Lost-clause-asks g c = λ told. may_restart (descends c.loop.invariant.walks c.in_ok-descend.ensures.ended)
+list_load-link-requires-in-Lost-clause-asks g c = λ told. may_restart (descends c.loop-round.invariant.walks c.in_ok-descend.ensures.ended)
 
-pub loop-preserved-in-Lost : goal.loop-preserved-in-Lost
-loop-preserved-in-Lost g c =
-    let i = c.loop.invariant in
+pub loop-round-preserved-in-Lost : goal.loop-round-preserved-in-Lost
+loop-round-preserved-in-Lost g c =
+    let i = c.loop-round.invariant in
     record {
       table = c.list_load-link-in-Lost.ensures.seat.0 ∙ c.descend.ensures.seat.0 ∙ i.table;
       listed = c.list_load-link-in-Lost.ensures.seat.1 ∙ c.descend.ensures.seat.1 ∙ i.listed;
@@ -48,11 +50,16 @@ loop-preserved-in-Lost g c =
       low = i.low;
       high = i.high;
       walks = restarts (descends i.walks c.in_ok-descend.ensures.ended) c.next.ensures c.in-Lost.is c.list_load-link-in-Lost.ensures.told;
+      made =
+          let made = i.made in
+          let down = makes_steps c.loop-round.seat.view c.descend.new.seat.view c.in_ok-descend.ensures.ended.0.made in
+          let link = told_steps c.list_load-link-in-Lost.ensures.told in
+              omega (arith, made, down, link);
     }
 
 pub returns-then-key-high-clause-gathered : goal.returns-then-key-high-clause-gathered
 returns-then-key-high-clause-gathered g c =
-    let i = c.loop.invariant in
+    let i = c.loop-round.invariant in
     let high = c.high-high.ensures.high in
     let above = c.if-key-high.true in
     ends_below (meets (descends i.walks c.in_ok-descend.ensures.ended) c.next.ensures c.in-At.is) (c.args.keys.now.high + 1)
@@ -60,32 +67,32 @@ returns-then-key-high-clause-gathered g c =
 
 pub list_load-value-requires-clause-asks : goal.list_load-value-requires-clause-asks
 list_load-value-requires-clause-asks g c = λ told. may_value_met
-    (meets (descends c.loop.invariant.walks c.in_ok-descend.ensures.ended) c.next.ensures c.in-At.is)
+    (meets (descends c.loop-round.invariant.walks c.in_ok-descend.ensures.ended) c.next.ensures c.in-At.is)
 
 pub returns-then-is_full-clause-gathered : goal.returns-then-is_full-clause-gathered
 returns-then-is_full-clause-gathered g c =
     let high = c.high-high.ensures.high in
     let within = c.if-key-high.false in
     let n = has_value
-    (meets (descends c.loop.invariant.walks c.in_ok-descend.ensures.ended) c.next.ensures c.in-At.is) c.list_load-value.ensures.told in
+    (meets (descends c.loop-round.invariant.walks c.in_ok-descend.ensures.ended) c.next.ensures c.in-At.is) c.list_load-value.ensures.told in
     (n.0, (n.1, omega (arith, high, within), c.is_full.ensures.full.0 c.if-is_full.true, (c.list_load-value.result, n.3)))
 
 pub returns-then-key-high-2-clause-gathered : goal.returns-then-key-high-2-clause-gathered
 returns-then-key-high-2-clause-gathered g c =
-    let i = c.loop.invariant in
+    let i = c.loop-round.invariant in
     let at_high = c.if-key-high-2.true ∙ c.high-high.ensures.high in
     let z = meets (descends i.walks c.in_ok-descend.ensures.ended) c.next.ensures c.in-At.is in
     subst (λ x. Gathered c.args.seat.now.view c.list_load-value.new.seat.view c.args.keys.now.low (x + 1) c.add.new.self.pairs) at_high
     (gathers_pair z c.list_load-value.ensures.told c.add.new.self.pairs c.add.ensures.added i.low)
 
-pub list_load-link-requires-in-loop-clause-asks : goal.list_load-link-requires-in-loop-clause-asks
-list_load-link-requires-in-loop-clause-asks g c = λ told.
+pub list_load-link-requires-in-loop-round-clause-asks : goal.list_load-link-requires-in-loop-round-clause-asks
+list_load-link-requires-in-loop-round-clause-asks g c = λ told.
     may_go_right (meets
-    (descends c.loop.invariant.walks c.in_ok-descend.ensures.ended) c.next.ensures c.in-At.is) c.list_load-value.ensures.told
+    (descends c.loop-round.invariant.walks c.in_ok-descend.ensures.ended) c.next.ensures c.in-At.is) c.list_load-value.ensures.told
 
-pub loop-preserved : goal.loop-preserved
-loop-preserved g c =
-    let i = c.loop.invariant in
+pub loop-round-preserved : goal.loop-round-preserved
+loop-round-preserved g c =
+    let i = c.loop-round.invariant in
     let high = c.high-high.ensures.high in
     let within = c.if-key-high.false in
     let below = c.if-key-high-2.false in
@@ -93,12 +100,18 @@ loop-preserved g c =
     let more = z.least in
     let low = i.low in
     record {
-      table = c.list_load-link-in-loop.ensures.seat.0 ∙ c.list_load-value.ensures.seat.0 ∙ c.descend.ensures.seat.0 ∙ i.table;
-      listed = c.list_load-link-in-loop.ensures.seat.1 ∙ c.list_load-value.ensures.seat.1 ∙ c.descend.ensures.seat.1 ∙ i.listed;
+      table = c.list_load-link-in-loop-round.ensures.seat.0 ∙ c.list_load-value.ensures.seat.0 ∙ c.descend.ensures.seat.0 ∙ i.table;
+      listed = c.list_load-link-in-loop-round.ensures.seat.1 ∙ c.list_load-value.ensures.seat.1 ∙ c.descend.ensures.seat.1 ∙ i.listed;
       capacity = c.add.ensures.capacity ∙ i.capacity;
       room = c.add.ensures.fits;
       low = omega (arith, low, more);
       high = omega (arith, high, within, below);
       walks = walks_on z c.list_load-value.ensures.told c.add.new.self.pairs c.add.ensures.added i.low
-          c.list_load-link-in-loop.ensures.told;
+          c.list_load-link-in-loop-round.ensures.told;
+      made =
+          let made = i.made in
+          let down = makes_steps c.loop-round.seat.view c.descend.new.seat.view c.in_ok-descend.ensures.ended.0.made in
+          let value = told_steps c.list_load-value.ensures.told in
+          let link = told_steps c.list_load-link-in-loop-round.ensures.told in
+              omega (arith, made, down, value, link);
     }

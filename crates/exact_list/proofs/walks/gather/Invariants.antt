@@ -3,8 +3,8 @@ use Rattle.seat_table.specs.Seats.{shape_of}
 use Rattle.exact_list.proofs.Gathering.{Walks}
 use Rattle.exact_list.proofs.walks.gather.Given as goal
 
-abbrev pub invariant-loop : goal.invariant-loop
-invariant-loop g l = record {
+abbrev pub invariant-loop-round : goal.invariant-loop-round
+invariant-loop-round g l = record {
   table : l.seat.table ≡ l.fn.seat.table;
   listed : l.seat.listed ≡ l.fn.seat.listed;
   capacity : l.page.capacity ≡ l.fn.page.capacity;
@@ -12,4 +12,5 @@ invariant-loop g l = record {
   low : l.keys.low ≤ l.from;
   high : l.from ≤ l.keys.high;
   walks : Walks (shape_of g.W.WaitWords.WAY l.table) l.fn.seat.view l.seat.view l.keys.low l.from l.link l.page.pairs l.way;
+  made : l.round ≤ length l.seat.view.trail.steps;
 }

@@ -1,4 +1,4 @@
-use Rattle.std.proofs.Common.{subst}
+use Rattle.std.proofs.Common.{subst, arith}
 use Rattle.citrus_tree.specs.Lookups.{IsSearching, state_of}
 use Rattle.citrus_tree.specs.declared.descent.Descent.{Descent}
 use Rattle.prcu_model.specs.declared.operation.Op.TheVariants.{Del}
@@ -6,6 +6,8 @@ use Rattle.seat_table.specs.Seats.{shape_of}
 use Rattle.tree_points.proofs.Standing.{inside_leave}
 use Rattle.citrus_tree.proofs.deletes.Sections.{answered_now, at_end, at_parent, at_target, searched_found, searched_missed, seated_by}
 use Rattle.citrus_tree.proofs.searches.Searching.{looked_missed}
+use Rattle.seat_table.proofs.Rounding.{makes_steps}
+use Rattle.citrus_tree.proofs.Rounds.{search_steps}
 use Rattle.citrus_tree.proofs.delete.target.find_target.Goals as goal
 
 pub descend-requires-clause-outside : goal.descend-requires-clause-outside
@@ -79,3 +81,16 @@ returns-in-Ended-clause-searched g c =
     c.descend.new.seat.view c.leave-in-Ended.new.seat.view
     (subst (λ (d : Descent). IsSearching c.args.seat.now.view c.args.key
     (state_of d) c.descend.new.seat.view) c.in-Ended.is c.in_ok-slot.ensures.searching) c.leave-in-Ended.ensures.left)
+
+pub returns-in_ok-target-in-Found-clause-stepped : goal.returns-in_ok-target-in-Found-clause-stepped
+returns-in_ok-target-in-Found-clause-stepped g c =
+    let found = search_steps c.in_ok-slot.ensures.searching in
+    let loaded = makes_steps c.descend.new.seat.view c.load_target.new.seat.view c.in_ok-target-in-Found.ensures.same.made in
+    let left = makes_steps c.load_target.new.seat.view c.leave.new.seat.view c.leave.ensures.left.made in
+    omega (arith, found, loaded, left)
+
+pub returns-in-Ended-clause-stepped : goal.returns-in-Ended-clause-stepped
+returns-in-Ended-clause-stepped g c =
+    let found = search_steps c.in_ok-slot.ensures.searching in
+    let left = makes_steps c.descend.new.seat.view c.leave-in-Ended.new.seat.view c.leave-in-Ended.ensures.left.made in
+    omega (arith, found, left)
