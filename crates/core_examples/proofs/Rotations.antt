@@ -4,7 +4,6 @@ use Rattle.std.proofs.Common.{◌≡◌, ℕ, ◌+◌, ◌==◌, nat_le, nat_lt,
 use Rattle.prcu_marks.specs.declared.mark.Side.{Side}
 use Rattle.core_state.specs.declared.words.Field.TheVariants.{Key, Value, Link}
 use Rattle.core_state.specs.declared.view.Known.{Known}
-use Rattle.core_state.specs.declared.view.View.{View}
 use Rattle.core_state.specs.memory.Words.{across}
 use Rattle.core_state.specs.views.Known.{known_in, known_under}
 use Rattle.core_state.specs.steps.Rotations.{IsKnownAs, Rotation}
