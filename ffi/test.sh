@@ -57,10 +57,12 @@ compile_all() {
         compile_c memory -Wl,--wrap=malloc,--wrap=realloc,--wrap=free && compile_cpp answers && compile_cpp order
 }
 
-# The headers alone, in the oldest languages that they are for.
+# The headers alone, in the oldest languages that they are for, with a static handle that is closed from the start and is closed again.
 headers_stand_alone() {
-    echo '#include <citrus.h>' | gcc -std=c99 -pedantic -Wall -Wextra -Werror "-I$prefix/include" -fsyntax-only -xc - &&
-        echo '#include <citrus.hpp>' | g++ -std=c++17 -pedantic -Wall -Wextra -Werror "-I$prefix/include" -fsyntax-only -xc++ -
+    local words='static citrus_handle kept = CITRUS_CLOSED_HANDLE; void hand_on(void); void hand_on(void) { kept = citrus_closed_handle(); }'
+    printf '#include <citrus.h>\n%s\n' "$words" | gcc -std=c99 -pedantic -Wall -Wextra -Werror "-I$prefix/include" -c -o "$room/alone.o" -xc - &&
+        printf '#include <citrus.hpp>\n%s\n' "$words" |
+        g++ -std=c++17 -pedantic -Wall -Wextra -Werror "-I$prefix/include" -c -o "$room/alone.o" -xc++ -
 }
 
 # A page shows the program as it is compiled here: `shows PAGE PROGRAM`.

@@ -9,11 +9,12 @@
  *     citrus_close(&other);
  *     citrus_close(&mine);
  *
- * The library's side of each call is proved. It tests what can be tested, a closed handle too, and answers with a status.
+ * The library's side of each call is proved. It tests what can be tested, a closed handle too, and answers with a status. Not proved, but
+ * tested: that a close leaves to a reopen all that the handle had, that a reopen finds it and hands it on as it was, and that memory is freed.
  *
  * What a caller owes, which nothing can test:
  *   - a handle is CITRUS_CLOSED_HANDLE, or as the last call with it left it. It is moved and never copied: who hands it on sets the old one
- *     to CITRUS_CLOSED_HANDLE, and nobody touches its member;
+ *     to citrus_closed_handle(), and nobody touches its member;
  *   - one call at a time with one handle. It may go from thread to thread, by a lock, or by a thread's start or join;
  *   - the pointers of one call aren't null and don't overlap, and each leads to memory of its type that lives as long as the call;
  *   - no call from a signal handler, nor from the child of a fork of a program with threads;
@@ -34,7 +35,13 @@ extern "C" {
    memory each call waits for the others' lines. */
 typedef struct { void *at; } citrus_handle;
 
+/* A closed handle: the first to begin with, for a static variable too, and the second for an assignment. */
 #define CITRUS_CLOSED_HANDLE { 0 }
+
+static inline citrus_handle citrus_closed_handle(void) {
+    citrus_handle closed = CITRUS_CLOSED_HANDLE;
+    return closed;
+}
 
 #define CITRUS_MAX_SLOTS 2097152u
 #define CITRUS_MAX_HANDLES 64u
@@ -47,8 +54,8 @@ typedef struct { void *at; } citrus_handle;
  * each key modulo 64, and its lookups store once less. */
 enum { CITRUS_EER = 0, CITRUS_DOMAIN = 1, CITRUS_DEER = 2 };
 
-/* What a call answers. Those below 0 say that the call did nothing, but for CITRUS_LOST. Of several causes the first is told: CLOSED, LOST,
- * BAD_ARGUMENT, SPENT, NO_MEMORY. */
+/* What a call answers. Those below 0 say that the call did nothing, but for CITRUS_LOST, and for the tickets that an upsert's rounds used
+ * before it was CITRUS_SPENT. Of several causes the first is told: CLOSED, LOST, BAD_ARGUMENT, SPENT, NO_MEMORY. */
 enum {
     CITRUS_DONE = 0,
     CITRUS_UNCHANGED = 1,     /* insert: the key is there already; get, replace, remove: it is absent; first: there is no such pair;
@@ -105,8 +112,9 @@ int32_t citrus_reopen(citrus_handle *handle, citrus_handle *other);
 int32_t citrus_get(citrus_handle *handle, uint64_t key, uint64_t *value);
 
 /* The updates. Each searches as a get does, locks the few nodes that it changes, and begins again where another thread changed them first.
- * Where another thread holds one of these locks it spins, since the library can't yield the processor: take no more threads that update than
- * there are processors. It waits for readers only as said below. It needs 4 tickets and uses 4 at most. */
+ * Where another thread holds one of these locks it spins, since the library can't yield the processor: take no more threads that update
+ * than there are processors. It waits for readers only as said below. It needs 4 tickets and uses 4 at most, and so does each replace and
+ * insert of an upsert. */
 
 /* Adds the pair, where the key is absent. Where no slot is free it first waits for all readers inside a call, to give back slots of its
  * own.

@@ -242,6 +242,21 @@ static void the_index_lives_as_long_as_one_handle(uint32_t waiter) {
     citrus_close(&second);
 }
 
+/* Into a static variable, as into any other; the old one is closed, and its close closes nothing else. */
+static void a_handle_is_handed_on(uint32_t waiter) {
+    static citrus_handle kept = CITRUS_CLOSED_HANDLE;
+    citrus_handle first = open_index(10, 1, waiter);
+    uint64_t told = UNTOUCHED;
+    WANT(citrus_insert(&first, 1, 10), CITRUS_DONE);
+    kept = first;
+    first = citrus_closed_handle();
+    WANT(citrus_get(&first, 1, &told), CITRUS_CLOSED);
+    citrus_close(&first);
+    WANT(citrus_get(&kept, 1, &told), CITRUS_DONE);
+    WANT(told, 10);
+    citrus_close(&kept);
+}
+
 static void slots_are_used_again(uint32_t waiter) {
     citrus_handle index = open_index(8, 1, waiter);
     uint64_t told = UNTOUCHED;
@@ -317,6 +332,7 @@ static const struct waiter_case cases[] = {
     {"all handles but one are opened again", all_handles_but_one_are_opened_again},
     {"a handle that is made over is left", a_handle_that_is_made_over_is_left},
     {"the index lives as long as one handle", the_index_lives_as_long_as_one_handle},
+    {"a handle is handed on", a_handle_is_handed_on},
     {"slots are used again", slots_are_used_again},
     {"drawn calls as a model has them", drawn_calls_as_a_model_has_them},
 };

@@ -37,12 +37,10 @@ finds_whole c d low front page r room at l =
     let map = had_at (updates_of d.seat.view.seen) front in
     let is = single page.pairs r (subst (λ n. length page.pairs ≤ n) room l.holds.fit) at in record {
       front = front;
+      looks = l.looks;
       recent = l.recent;
       first = one_pair map low (18446744073709551615 + 1) r
           (subst (λ ps. ArePairs map low (18446744073709551615 + 1) ps) is l.holds.pairs);
-      index = l.index;
-      after = l.after;
-      tickets = l.tickets;
     }
 
 pub finds_part : (c d : CallerAt) (low front next : ℕ) (page : Paged) (r : Pair) → page.capacity ≡ 1 → IsAt page.pairs 0 r
@@ -52,11 +50,9 @@ finds_part c d low front next page r room at l =
     let full = l.holds.full in
     let is = single page.pairs r (omega (arith, room, full)) at in record {
       front = front;
+      looks = l.looks;
       recent = l.recent;
       first = one_pair map low next r (subst (λ ps. ArePairs map low next ps) is l.holds.pairs);
-      index = l.index;
-      after = l.after;
-      tickets = l.tickets;
     }
 
 pub finds_none : (c d : CallerAt) (low front : ℕ) (page : Paged) → length page.pairs ≡ 0
@@ -64,9 +60,7 @@ pub finds_none : (c d : CallerAt) (low front : ℕ) (page : Paged) → length pa
 finds_none c d low front page none l =
     let map = had_at (updates_of d.seat.view.seen) front in record {
       front = front;
+      looks = l.looks;
       recent = l.recent;
       none = subst (λ ps. ArePairs map low (18446744073709551615 + 1) ps) (empty page.pairs none) l.holds.pairs;
-      index = l.index;
-      after = l.after;
-      tickets = l.tickets;
     }

@@ -47,7 +47,8 @@ pub record IsShared (c : CallerAt) (handles tickets : ℕ) (d other : CallerAt) 
   pub first_may : MayGoOn d
   pub second_may : MayGoOn other
 
--- Another caller of the index has a seat that a closed caller left. Whose it was isn't told.
+-- Another caller of the index has a seat that a closed caller left. That it is of this table, and quiet, is all that the rule of the cells
+-- tells of the seats there: whose it was isn't told, nor what it has.
 pub record IsReopened (c other : CallerAt) : Type 0 where
   pub index : AreOfOneIndex c other
   pub may : MayGoOn other

@@ -1,6 +1,6 @@
 -- What gets and updates answer, of a caller before and after.
 -- Source: docs/TREE_CALLS.md, "The calls".
-use Rattle.std.specs.Prelude.{◌≡◌, ◌⊎◌, ℕ, zero, suc, ◌<◌, true, Option, Some, None}
+use Rattle.std.specs.Prelude.{◌≡◌, ◌⊎◌, ℕ, zero, suc, ◌<◌, ◌≤◌, true, Option, Some, None}
 use Rattle.prcu_model.specs.declared.operation.Op.{Op}
 use Rattle.prcu_model.specs.declared.operation.Op.TheVariants.{Put, Get, Del, Set}
 use Rattle.prcu_model.specs.declared.operation.Reply.{Reply}
@@ -12,10 +12,11 @@ use Rattle.tree_handles.specs.Callers.{CallerAt, client_of, AreOfOneIndex, MayGo
 use Rattle.tree_handles.specs.declared.status.Status.{Status}
 use Rattle.tree_handles.specs.declared.status.Status.TheVariants.{Done, Unchanged, Full, Moved, New, Spent, Lost}
 
--- The caller made the operation, and was told this by the tree's call.
+-- The caller, which had four tickets or more, made the operation, and was told this by the tree's call.
 pub record IsCalled (c : CallerAt) (op : Op) (told : Told) (d : CallerAt) : Type 0 where
   pub index : AreOfOneIndex c d
   pub before : MayGoOn c
+  pub enough : 4 ≤ c.seat.view.allowance.tickets
   pub after : MayGoOn d
   pub called : HasCalled (client_of c) op told (client_of d)
 

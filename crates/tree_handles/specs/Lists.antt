@@ -5,7 +5,7 @@ use Rattle.key_interval.specs.Keys.{Interval}
 use Rattle.prcu_marks.specs.Marks.{updates_of}
 use Rattle.exact_list.specs.declared.listing.Listed.{Listed}
 use Rattle.exact_list.specs.declared.listing.Listed.TheVariants as listed
-use Rattle.exact_list.specs.Answers.{Paged, Holds, IsRecent, IsBetweenFronts, EndAs}
+use Rattle.exact_list.specs.Answers.{Paged, Holds, IsRecent, IsBetweenFronts, HasStood, HasGivenUp, EndAs}
 use Rattle.exact_list.specs.Pairs.{ArePairs, had_at}
 use Rattle.exact_list.specs.Pairs as found
 use Rattle.exact_list.specs.Tries.{Try, HasTried}
@@ -15,14 +15,20 @@ use Rattle.tree_handles.specs.declared.lists.Pair.{Pair}
 use Rattle.tree_handles.specs.declared.status.Status.{Status}
 use Rattle.tree_handles.specs.declared.status.Status.TheVariants.{Done, Unchanged, More, Moved, BadArgument, NoMemory, Lost}
 
--- The caller listed these keys on the page, in at most a thousand tries. No ticket was taken.
-pub record Lists (c : CallerAt) (keys : Interval) (page : Paged) (answer : Listed) (d : CallerAt) : Type 0 where
+-- The caller looked for pairs from this key on: in tries that ended so, each a section with looks at the front. It may go on, and no ticket
+-- was taken.
+pub record Looks (c : CallerAt) (low : ℕ) (end : List Try → Type 0) (d : CallerAt) : Type 0 where
   pub index : AreOfOneIndex c d
   pub before : MayGoOn c
   pub after : MayGoOn d
   pub tickets : d.seat.view.allowance.tickets ≡ c.seat.view.allowance.tickets
   pub tries : List Try
-  pub tried : HasTried c.seat.view keys.low tries d.seat.view × EndAs answer 1000 tries
+  pub tried : HasTried c.seat.view low tries d.seat.view
+  pub ended : end tries
+
+-- The caller listed these keys on the page, in at most a thousand tries.
+pub record Lists (c : CallerAt) (keys : Interval) (page : Paged) (answer : Listed) (d : CallerAt) : Type 0 where
+  pub looks : Looks c keys.low (EndAs answer 1000) d
   pub holds : Holds answer keys d.seat.view.seen page
   pub recent : IsRecent answer c.seat.view.seen d.seat.view.seen
 
@@ -76,33 +82,26 @@ ListsOut c keys was BadArgument out d = IsBadList keys (length was.pairs) × IsL
 ListsOut c keys was NoMemory out d = IsGoodList keys (length was.pairs) × IsLeft c d × IsUnwritten was out
 ListsOut c keys was status out d = IsLostBy status c d × IsUnwritten was out
 
--- The dictionary had this pair after some number of updates, and none with a key from the low one on below its.
+-- The dictionary had this pair after some number of updates, and none with a key from the low one on below its. Both looks at the front of
+-- the last try found that number.
 pub record FindsFirst (c : CallerAt) (low key value : ℕ) (d : CallerAt) : Type 0 where
   pub front : ℕ
+  pub looks : Looks c low (HasStood front 1000) d
   pub recent : IsBetweenFronts front c.seat.view.seen d.seat.view.seen
   pub first : ArePairs (had_at (updates_of d.seat.view.seen) front) low (key + 1) ((key, value) ∷ [])
-  pub index : AreOfOneIndex c d
-  pub after : MayGoOn d
-  pub tickets : d.seat.view.allowance.tickets ≡ c.seat.view.allowance.tickets
 
 -- It had none with a key from the low one on.
 pub record FindsNone (c : CallerAt) (low : ℕ) (d : CallerAt) : Type 0 where
   pub front : ℕ
+  pub looks : Looks c low (HasStood front 1000) d
   pub recent : IsBetweenFronts front c.seat.view.seen d.seat.view.seen
   pub none : ArePairs (had_at (updates_of d.seat.view.seen) front) low 18446744073709551616 []
-  pub index : AreOfOneIndex c d
-  pub after : MayGoOn d
-  pub tickets : d.seat.view.allowance.tickets ≡ c.seat.view.allowance.tickets
 
 -- Updates were made in each of a thousand tries.
 pub record FindsNothing (c : CallerAt) (low : ℕ) (d : CallerAt) : Type 0 where
   pub first : ℕ
   pub last : ℕ
-  pub tries : List Try
-  pub tried : HasTried c.seat.view low tries d.seat.view × EndAs (listed.Moved first last) 1000 tries
-  pub index : AreOfOneIndex c d
-  pub after : MayGoOn d
-  pub tickets : d.seat.view.allowance.tickets ≡ c.seat.view.allowance.tickets
+  pub looks : Looks c low (HasGivenUp first last 1000) d
 
 abbrev pub Firsts : CallerAt → ℕ → found.Pair → Status → found.Pair → CallerAt → Type 0
 Firsts c low was Done out d = FindsFirst c low out.0 out.1 d
