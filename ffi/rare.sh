@@ -37,10 +37,12 @@ lower() {
     text=$(cat "$file") && printf '%s\n' "${text/"$2"/"$3"}" >"$file"
 }
 
-# A wait ends with the sixth pause, which makes the next one as long as a pause gets. The loops of the crates below keep their bound.
+# A wait ends with the sixth pause, which makes the next one as long as a pause gets. The loops of the crates below keep their bound. With a
+# patience whose pauses give up a call is proved to make one step at least.
 lower_rounds_of_waiting() {
     # shellcheck disable=SC2016
-    lower src/spinning.rt '        Ok(())' '        if *pauses < LONG { Ok(()) } else { Err(GaveUp) }'
+    lower src/spinning.rt '        Ok(())' '        if *pauses < LONG { Ok(()) } else { Err(GaveUp) }' &&
+        lower specs/Calls.antt 'patient_steps = 18446744073709551615' 'patient_steps = 1'
 }
 
 # The code, the clause, and the proof, since both speak of the number.

@@ -1,6 +1,7 @@
 //! How long a loop goes on that others may hold up, and what it does meanwhile. A call that may not return takes the runtime; a call of a
 //! static library, where there is none, has to come to an end: so it gives up after more rounds than a machine makes in a century.
 #![tactic(auto)]
+
 ghost use Rattle.std.specs.Prelude.{ℕ, ◌≤◌, IfErr};
 
 use crossbeam_utils::Backoff;

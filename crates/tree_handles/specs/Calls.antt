@@ -1,11 +1,12 @@
 -- What gets and updates answer, of a caller before and after.
 -- Source: docs/TREE_CALLS.md, "The calls".
-use Rattle.std.specs.Prelude.{◌≡◌, ◌⊎◌, ℕ, zero, suc, ◌<◌, ◌≤◌, true, Option, Some, None}
+use Rattle.std.specs.Prelude.{◌≡◌, ◌⊎◌, ℕ, zero, suc, ◌<◌, ◌≤◌, true, false, Option, Some, None}
 use Rattle.prcu_model.specs.declared.operation.Op.{Op}
 use Rattle.prcu_model.specs.declared.operation.Op.TheVariants.{Put, Get, Del, Set}
 use Rattle.prcu_model.specs.declared.operation.Reply.{Reply}
 use Rattle.prcu_model.specs.declared.operation.Reply.TheVariants as reply
 use Rattle.prcu_model.specs.declared.operation.Told.{Told}
+use Rattle.seat_table.specs.Rounds.{HasMade}
 use Rattle.citrus_tree.specs.Clients.{HasCalled}
 use Rattle.citrus_tree.specs.Replies.{TellsValue}
 use Rattle.tree_handles.specs.Callers.{CallerAt, client_of, AreOfOneIndex, MayGoOn}
@@ -30,10 +31,15 @@ pub record IsSpent (c d : CallerAt) : Type 0 where
   pub may : MayGoOn c
   pub few : c.seat.view.allowance.tickets < 4
 
--- The call gave up in its midst, or an earlier one had, and then nothing has changed.
+-- how many steps a seat has made at least with which a call gives up
+abbrev pub patient_steps : ℕ
+patient_steps = 18446744073709551615
+
+-- The call gave up in its midst, when its seat had made that many steps; or an earlier one had, and then nothing has changed.
 pub record IsLost (c d : CallerAt) : Type 0 where
   pub index : AreOfOneIndex c d
   pub lost : d.lost ≡ true
+  pub tired : c.lost ≡ false → HasMade patient_steps d.seat.view
   pub earlier : c.lost ≡ true → d ≡ c
 
 -- why a call wasn't made, or didn't come to its end

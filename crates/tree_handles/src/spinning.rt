@@ -3,6 +3,8 @@
 //! A static library may neither sleep nor yield the processor: the gate lets no crate here call the C library for that. So it spins, and
 //! the system's turns bring a thread on that is waited for.
 
+ghost use Rattle.tree_handles.specs.Calls.{patient_steps};
+
 use patience::Patience;
 use std::hint;
 
@@ -21,6 +23,8 @@ impl Patience for Spinning {
 
     /// How many turns the next pause has.
     type Pauses = u32;
+
+    ghost least = { λ _. patient_steps };
 
     fn pauses(&self) -> u32 {
         1

@@ -17,17 +17,20 @@ loop-round-init g c = record {
 
 pub open_commit-found-requires-clause-asks : goal.open_commit-found-requires-clause-asks
 open_commit-found-requires-clause-asks g c = may_open
-    (shape_of g.W.WaitWords.WAY c.args.table.now) c.args.seat.now.view c.loop-round.seat.view c.loop-round.invariant.tried c.loop-round.expected
+    (shape_of g.W.WaitWords.WAY c.args.table.now) c.args.seat.now.view c.loop-round.seat.view c.loop-round.invariant.tried
+    c.loop-round.expected
     c.loop-round.invariant.even c.requires.settled c.requires.paid
 
 pub returns-then-found-expected-clause-opened : goal.returns-then-found-expected-clause-opened
 returns-then-found-expected-clause-opened g c =
-    opens (shape_of g.W.WaitWords.WAY c.args.table.now) c.args.seat.now.view c.loop-round.seat.view c.loop-round.invariant.tried c.loop-round.expected
+    opens (shape_of g.W.WaitWords.WAY c.args.table.now) c.args.seat.now.view c.loop-round.seat.view c.loop-round.invariant.tried
+    c.loop-round.expected
     c.open_commit-found.result c.open_commit-found.new.seat.view c.open_commit-found.ensures.told c.if-found-expected.true
 
 pub returns-then-found-expected-clause-at : goal.returns-then-found-expected-clause-at
 returns-then-found-expected-clause-at g c = opens_at
-    (shape_of g.W.WaitWords.WAY c.args.table.now) c.args.seat.now.view c.loop-round.seat.view c.loop-round.invariant.tried c.loop-round.expected
+    (shape_of g.W.WaitWords.WAY c.args.table.now) c.args.seat.now.view c.loop-round.seat.view c.loop-round.invariant.tried
+    c.loop-round.expected
     c.open_commit-found.result c.open_commit-found.new.seat.view c.open_commit-found.ensures.told c.if-found-expected.true
     c.loop-round.invariant.at
 
@@ -37,10 +40,12 @@ loop-round-preserved g c = record {
   listed = search rules;
   even = c.even_from-expected-in-loop-round.ensures.even;
   tried = tries
-      (shape_of g.W.WaitWords.WAY c.args.table.now) c.args.seat.now.view c.loop-round.seat.view c.loop-round.invariant.tried c.loop-round.expected
+      (shape_of g.W.WaitWords.WAY c.args.table.now) c.args.seat.now.view c.loop-round.seat.view c.loop-round.invariant.tried
+      c.loop-round.expected
       c.open_commit-found.result c.open_commit-found.new.seat.view c.open_commit-found.ensures.told c.if-found-expected.false;
   at = tries_at
-      (shape_of g.W.WaitWords.WAY c.args.table.now) c.args.seat.now.view c.loop-round.seat.view c.loop-round.invariant.tried c.loop-round.expected
+      (shape_of g.W.WaitWords.WAY c.args.table.now) c.args.seat.now.view c.loop-round.seat.view c.loop-round.invariant.tried
+      c.loop-round.expected
       c.open_commit-found.result c.open_commit-found.new.seat.view c.open_commit-found.ensures.told c.if-found-expected.false
       c.even_from-expected-in-loop-round.result c.even_from-expected-in-loop-round.ensures.even c.loop-round.invariant.at;
   made =

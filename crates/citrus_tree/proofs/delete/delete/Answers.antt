@@ -113,7 +113,8 @@ loop-round-preserved g c = record {
       → IsAt (shape_of g.W.WaitWords.WAY c.args.table.now) (Del c.args.key) kept
       (at.TargetLock target 0) c.find_target.new.seat.view)) c.in-Some.is c.in_ok-target.ensures.found) kept a));
   slots = slots_on c.args.seat.now c.find_target.new.seat c.take_out.new.seat
-      (searched_slots c.args.seat.now c.loop-round.seat c.find_target.new.seat c.args.key c.loop-round.invariant.slots c.in_ok-target.ensures.searched
+      (searched_slots c.args.seat.now c.loop-round.seat c.find_target.new.seat c.args.key c.loop-round.invariant.slots
+      c.in_ok-target.ensures.searched
       c.find_target.ensures.seat.1) c.in_ok-taken.ensures.slots;
   made =
       let made = c.loop-round.invariant.made in
@@ -126,13 +127,15 @@ loop-round-preserved g c = record {
 
 pub returns-in_default-clause-slots : goal.returns-in_default-clause-slots
 returns-in_default-clause-slots g c =
-    searched_slots c.args.seat.now c.loop-round.seat c.find_target.new.seat c.args.key c.loop-round.invariant.slots c.in_ok-target.ensures.searched
+    searched_slots c.args.seat.now c.loop-round.seat c.find_target.new.seat c.args.key c.loop-round.invariant.slots
+    c.in_ok-target.ensures.searched
     c.find_target.ensures.seat.1
 
 pub returns-in-Some-2-clause-slots : goal.returns-in-Some-2-clause-slots
 returns-in-Some-2-clause-slots g c =
     slots_on c.args.seat.now c.find_target.new.seat c.take_out.new.seat
-    (searched_slots c.args.seat.now c.loop-round.seat c.find_target.new.seat c.args.key c.loop-round.invariant.slots c.in_ok-target.ensures.searched
+    (searched_slots c.args.seat.now c.loop-round.seat c.find_target.new.seat c.args.key c.loop-round.invariant.slots
+    c.in_ok-target.ensures.searched
     c.find_target.ensures.seat.1) c.in_ok-taken.ensures.slots
 
 pub returns-in_default-clause-retires : goal.returns-in_default-clause-retires
@@ -140,7 +143,8 @@ returns-in_default-clause-retires g c = c.find_target.ensures.seat.1 ∙ c.loop-
 
 pub returns-in-Some-2-clause-retires : goal.returns-in-Some-2-clause-retires
 returns-in-Some-2-clause-retires g c =
-    tried_retires c.args.seat.now c.loop-round.seat c.find_target.new.seat c.take_out.new.seat c.in-Some-2.taken.number c.loop-round.invariant.tries
+    tried_retires c.args.seat.now c.loop-round.seat c.find_target.new.seat c.take_out.new.seat c.in-Some-2.taken.number
+    c.loop-round.invariant.tries
     c.in_ok-target.ensures.searched (c.find_target.ensures.seat.1 ∙ c.loop-round.invariant.same)
     (subst (λ (r : Option TakenOut). IfSome r
     (λ taken. RetiresInOrder c.find_target.new.seat c.args.key taken.number c.take_out.new.seat)) c.in-Some-2.is

@@ -25,7 +25,8 @@ pub leaf_in_hand-requires-clause-table : goal.leaf_in_hand-requires-clause-table
 leaf_in_hand-requires-clause-table g c = c.find_spot.ensures.seat.0 ∙ c.loop-round.invariant.table ∙ c.requires.table
 
 pub link_leaf-requires-clause-table : goal.link_leaf-requires-clause-table
-link_leaf-requires-clause-table g c = c.leaf_in_hand.ensures.table ∙ c.find_spot.ensures.seat.0 ∙ c.loop-round.invariant.table ∙ c.requires.table
+link_leaf-requires-clause-table g c =
+    c.leaf_in_hand.ensures.table ∙ c.find_spot.ensures.seat.0 ∙ c.loop-round.invariant.table ∙ c.requires.table
 
 pub link_leaf-requires-clause-slot : goal.link_leaf-requires-clause-slot
 link_leaf-requires-clause-slot g c = c.in_ok-leaf.ensures.slot _ c.in-Some-2.is
@@ -46,7 +47,8 @@ pub find_spot-requires-clause-unlocked : goal.find_spot-requires-clause-unlocked
 find_spot-requires-clause-unlocked g c = unlocked c.loop-round.invariant.tries c.requires.tickets
 
 pub give_up_leaf-requires-clause-at : goal.give_up_leaf-requires-clause-at
-give_up_leaf-requires-clause-at g c = may_give_up c.loop-round.invariant.tries c.requires.tickets c.in_ok-spot.ensures.place _ c.in_default.is
+give_up_leaf-requires-clause-at g c =
+    may_give_up c.loop-round.invariant.tries c.requires.tickets c.in_ok-spot.ensures.place _ c.in_default.is
     c.in_ok-spot.ensures.searched
 
 pub give_up_leaf-requires-clause-informed : goal.give_up_leaf-requires-clause-informed
@@ -60,7 +62,8 @@ returns-in_default-clause-puts g c = old_puts c.loop-round.invariant.tries c.req
 
 pub returns-in_default-clause-quiet : goal.returns-in_default-clause-quiet
 returns-in_default-clause-quiet g c = record {
-  view = old_quiet c.loop-round.invariant.tries c.requires.tickets c.in_ok-spot.ensures.place _ c.in_default.is c.in_ok-spot.ensures.searched
+  view = old_quiet c.loop-round.invariant.tries c.requires.tickets c.in_ok-spot.ensures.place _ c.in_default.is
+      c.in_ok-spot.ensures.searched
       c.give_up_leaf.ensures.goes c.give_up_leaf.ensures.at;
   listed = listed_on c.loop-round.seat c.give_up_leaf.new.seat (c.give_up_leaf.ensures.seat.1 ∙ c.find_spot.ensures.seat.1)
       (c.give_up_leaf.ensures.goes.retired ∙ (old_looked c.loop-round.invariant.tries c.requires.tickets c.in_ok-spot.ensures.place _
@@ -72,16 +75,19 @@ returns-in_default-clause-wait g c = old_wait c.loop-round.invariant.tries c.req
     c.in_ok-spot.ensures.searched c.give_up_leaf.ensures.goes
 
 pub returns-in_default-clause-tickets : goal.returns-in_default-clause-tickets
-returns-in_default-clause-tickets g c = old_tickets c.loop-round.invariant.tries c.requires.tickets c.in_ok-spot.ensures.place _ c.in_default.is
+returns-in_default-clause-tickets g c =
+    old_tickets c.loop-round.invariant.tries c.requires.tickets c.in_ok-spot.ensures.place _ c.in_default.is
     c.in_ok-spot.ensures.searched c.give_up_leaf.ensures.goes c.give_up_leaf.ensures.at
 
 pub leaf_in_hand-requires-clause-listed : goal.leaf_in_hand-requires-clause-listed
 leaf_in_hand-requires-clause-listed g c = listed_on c.loop-round.seat c.find_spot.new.seat c.find_spot.ensures.seat.1
-    (spot_looked c.loop-round.invariant.tries c.requires.tickets c.in_ok-spot.ensures.place _ c.in-Some.is c.in_ok-spot.ensures.searched).retired
+    (spot_looked c.loop-round.invariant.tries c.requires.tickets c.in_ok-spot.ensures.place _ c.in-Some.is
+    c.in_ok-spot.ensures.searched).retired
     c.loop-round.invariant.listed
 
 pub leaf_in_hand-requires-clause-at : goal.leaf_in_hand-requires-clause-at
-leaf_in_hand-requires-clause-at g c = may_take_leaf c.loop-round.invariant.tries c.requires.tickets c.in_ok-spot.ensures.place _ c.in-Some.is
+leaf_in_hand-requires-clause-at g c =
+    may_take_leaf c.loop-round.invariant.tries c.requires.tickets c.in_ok-spot.ensures.place _ c.in-Some.is
     c.in_ok-spot.ensures.searched
 
 pub returns-in_default-2-clause-puts : goal.returns-in_default-2-clause-puts
@@ -101,7 +107,8 @@ returns-in_default-2-clause-wait g c = full_wait c.loop-round.invariant.tries c.
     c.in_ok-spot.ensures.searched c.in_ok-leaf.ensures.room
 
 pub returns-in_default-2-clause-tickets : goal.returns-in_default-2-clause-tickets
-returns-in_default-2-clause-tickets g c = full_tickets c.loop-round.invariant.tries c.requires.tickets c.in_ok-spot.ensures.place _ c.in-Some.is
+returns-in_default-2-clause-tickets g c =
+    full_tickets c.loop-round.invariant.tries c.requires.tickets c.in_ok-spot.ensures.place _ c.in-Some.is
     c.in_ok-spot.ensures.searched c.in_ok-leaf.ensures.room c.in_default-2.is c.in_ok-leaf.ensures.at
 
 pub link_leaf-requires-clause-at : goal.link_leaf-requires-clause-at
@@ -139,7 +146,8 @@ loop-round-preserved g c = record {
   table = c.link_leaf.ensures.seat.0 ∙ c.leaf_in_hand.ensures.table ∙ c.find_spot.ensures.seat.0 ∙ c.loop-round.invariant.table;
   listed = listed_on c.leaf_in_hand.new.seat c.link_leaf.new.seat c.link_leaf.ensures.seat.1
       (c.in_ok-number.ensures.again c.in_default-3.is).retired c.in_ok-leaf.ensures.listed;
-  tries = tries_again c.loop-round.invariant.tries c.requires.tickets c.in_ok-spot.ensures.place _ c.in-Some.is c.in_ok-spot.ensures.searched
+  tries = tries_again c.loop-round.invariant.tries c.requires.tickets c.in_ok-spot.ensures.place _ c.in-Some.is
+      c.in_ok-spot.ensures.searched
       c.in_ok-leaf.ensures.room c.in-Some-2.is c.in_ok-leaf.ensures.at (c.in_ok-number.ensures.again c.in_default-3.is)
       c.in_default-3.is c.in_ok-number.ensures.at;
   slots = goes_slots c.args.seat.now c.leaf_in_hand.new.seat c.link_leaf.new.seat []
@@ -151,7 +159,8 @@ loop-round-preserved g c = record {
       let made = c.loop-round.invariant.made in
       let found = c.in_ok-spot.ensures.stepped in
       let taken = room_steps c.in_ok-leaf.ensures.room in
-      let tried = prefix_steps c.leaf_in_hand.new.seat.view c.link_leaf.new.seat.view (c.in_ok-number.ensures.again c.in_default-3.is).gone.steps in
+      let tried = prefix_steps c.leaf_in_hand.new.seat.view c.link_leaf.new.seat.view (c.in_ok-number.ensures.again
+      c.in_default-3.is).gone.steps in
           omega (arith, made, found, taken, tried);
 }
 
@@ -191,12 +200,14 @@ returns-in_default-2-clause-allowance g c =
     c.in_ok-leaf.ensures.room
 
 pub returns-in-Some-3-clause-allowance : goal.returns-in-Some-3-clause-allowance
-returns-in-Some-3-clause-allowance g c = new_allowance c.loop-round.invariant.tries c.requires.tickets c.in_ok-spot.ensures.place _ c.in-Some.is
+returns-in-Some-3-clause-allowance g c =
+    new_allowance c.loop-round.invariant.tries c.requires.tickets c.in_ok-spot.ensures.place _ c.in-Some.is
     c.in_ok-spot.ensures.searched c.in_ok-leaf.ensures.room
     c.in-Some-2.is c.in_ok-leaf.ensures.at c.in-Some-3.is c.in_ok-number.ensures.linked
 
 pub returns-in_default-clause-begins : goal.returns-in_default-clause-begins
-returns-in_default-clause-begins g c = old_begins c.loop-round.invariant.tries c.requires.tickets c.in_ok-spot.ensures.place _ c.in_default.is
+returns-in_default-clause-begins g c =
+    old_begins c.loop-round.invariant.tries c.requires.tickets c.in_ok-spot.ensures.place _ c.in_default.is
     c.in_ok-spot.ensures.searched c.give_up_leaf.ensures.goes
 
 pub returns-in_default-2-clause-begins : goal.returns-in_default-2-clause-begins

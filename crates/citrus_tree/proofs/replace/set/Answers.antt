@@ -67,11 +67,13 @@ returns-in-Some-2-clause-sets g c = stored_sets c.loop-round.invariant.tries c.r
 
 pub returns-in-Some-2-clause-quiet : goal.returns-in-Some-2-clause-quiet
 returns-in-Some-2-clause-quiet g c = record {
-  view = stored_quiet c.loop-round.invariant.tries c.requires.tickets c.in_ok-holder.ensures.place _ c.in-Some.is c.in_ok-holder.ensures.sought
+  view = stored_quiet c.loop-round.invariant.tries c.requires.tickets c.in_ok-holder.ensures.place _ c.in-Some.is
+      c.in_ok-holder.ensures.sought
       c.in-Some-2.is c.in_ok-done.ensures.stored c.in_ok-done.ensures.at;
   listed = listed_on c.args.seat.now c.store_value.new.seat
       (c.store_value.ensures.seat.1 ∙ c.find_holder.ensures.seat.1 ∙ c.loop-round.invariant.listed)
-      (stored_retired c.loop-round.invariant.tries c.requires.tickets c.in_ok-holder.ensures.place _ c.in-Some.is c.in_ok-holder.ensures.sought
+      (stored_retired c.loop-round.invariant.tries c.requires.tickets c.in_ok-holder.ensures.place _ c.in-Some.is
+      c.in_ok-holder.ensures.sought
       c.in-Some-2.is c.in_ok-done.ensures.stored c.in_ok-done.ensures.at) c.requires.quiet.listed;
 }
 
@@ -80,19 +82,22 @@ returns-in-Some-2-clause-wait g c = stored_wait c.loop-round.invariant.tries c.r
     c.in_ok-holder.ensures.sought c.in-Some-2.is c.in_ok-done.ensures.stored c.in_ok-done.ensures.at
 
 pub returns-in-Some-2-clause-tickets : goal.returns-in-Some-2-clause-tickets
-returns-in-Some-2-clause-tickets g c = stored_tickets c.loop-round.invariant.tries c.requires.tickets c.in_ok-holder.ensures.place _ c.in-Some.is
+returns-in-Some-2-clause-tickets g c =
+    stored_tickets c.loop-round.invariant.tries c.requires.tickets c.in_ok-holder.ensures.place _ c.in-Some.is
     c.in_ok-holder.ensures.sought c.in-Some-2.is c.in_ok-done.ensures.stored c.in_ok-done.ensures.at
 
 pub loop-round-preserved : goal.loop-round-preserved
 loop-round-preserved g c = record {
   table = c.store_value.ensures.seat.0 ∙ c.find_holder.ensures.seat.0 ∙ c.loop-round.invariant.table;
   listed = c.store_value.ensures.seat.1 ∙ c.find_holder.ensures.seat.1 ∙ c.loop-round.invariant.listed;
-  tries = tries_again c.loop-round.invariant.tries c.requires.tickets c.in_ok-holder.ensures.place _ c.in-Some.is c.in_ok-holder.ensures.sought
+  tries = tries_again c.loop-round.invariant.tries c.requires.tickets c.in_ok-holder.ensures.place _ c.in-Some.is
+      c.in_ok-holder.ensures.sought
       (c.in_ok-done.ensures.again c.in_default-2.is) c.in_default-2.is c.in_ok-done.ensures.at;
   made =
       let made = c.loop-round.invariant.made in
       let found = c.in_ok-holder.ensures.stepped in
-      let tried = prefix_steps c.find_holder.new.seat.view c.store_value.new.seat.view (c.in_ok-done.ensures.again c.in_default-2.is).gone.steps in
+      let tried = prefix_steps c.find_holder.new.seat.view c.store_value.new.seat.view (c.in_ok-done.ensures.again
+      c.in_default-2.is).gone.steps in
           omega (arith, made, found, tried);
 }
 
@@ -103,7 +108,8 @@ returns-in_default-clause-slots g c =
 
 pub returns-in-Some-2-clause-slots : goal.returns-in-Some-2-clause-slots
 returns-in-Some-2-clause-slots g c =
-    slots_goes c.args.seat.now c.store_value.new.seat _ (goes_all c.loop-round.invariant.tries c.requires.tickets c.in_ok-holder.ensures.place _
+    slots_goes c.args.seat.now c.store_value.new.seat _ (goes_all c.loop-round.invariant.tries c.requires.tickets
+    c.in_ok-holder.ensures.place _
     c.in-Some.is c.in_ok-holder.ensures.sought c.in-Some-2.is c.in_ok-done.ensures.stored c.in_ok-done.ensures.at)
     (c.store_value.ensures.seat.1 ∙ c.find_holder.ensures.seat.1 ∙ c.loop-round.invariant.listed)
 
@@ -112,7 +118,8 @@ returns-in_default-clause-allowance g c = (absent_goes c.loop-round.invariant.tr
     (absent _ _ _ _ c.in_default.is c.in_ok-holder.ensures.sought)).gone.allowance
 
 pub returns-in-Some-2-clause-allowance : goal.returns-in-Some-2-clause-allowance
-returns-in-Some-2-clause-allowance g c = (goes_all c.loop-round.invariant.tries c.requires.tickets c.in_ok-holder.ensures.place _ c.in-Some.is
+returns-in-Some-2-clause-allowance g c =
+    (goes_all c.loop-round.invariant.tries c.requires.tickets c.in_ok-holder.ensures.place _ c.in-Some.is
     c.in_ok-holder.ensures.sought c.in-Some-2.is c.in_ok-done.ensures.stored c.in_ok-done.ensures.at).gone.allowance
 
 pub returns-in_default-clause-begins : goal.returns-in_default-clause-begins
@@ -120,5 +127,6 @@ returns-in_default-clause-begins g c = absent_begins c.loop-round.invariant.trie
     (absent _ _ _ _ c.in_default.is c.in_ok-holder.ensures.sought)
 
 pub returns-in-Some-2-clause-begins : goal.returns-in-Some-2-clause-begins
-returns-in-Some-2-clause-begins g c = stored_begins c.loop-round.invariant.tries c.requires.tickets c.in_ok-holder.ensures.place _ c.in-Some.is
+returns-in-Some-2-clause-begins g c =
+    stored_begins c.loop-round.invariant.tries c.requires.tickets c.in_ok-holder.ensures.place _ c.in-Some.is
     c.in_ok-holder.ensures.sought c.in-Some-2.is c.in_ok-done.ensures.stored c.in_ok-done.ensures.at

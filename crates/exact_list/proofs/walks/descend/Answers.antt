@@ -20,7 +20,8 @@ pub returns-in_default-clause-ended : goal.returns-in_default-clause-ended
 returns-in_default-clause-ended g c = comes_none c.loop-round.invariant.come (sym c.child_of.ensures ∙ c.in_default.is)
 
 pub list_load-key-requires-clause-asks : goal.list_load-key-requires-clause-asks
-list_load-key-requires-clause-asks g c = λ told. may_read_next (comes_to c.loop-round.invariant.come (sym c.child_of.ensures ∙ c.in-Some.is))
+list_load-key-requires-clause-asks g c =
+    λ told. may_read_next (comes_to c.loop-round.invariant.come (sym c.child_of.ensures ∙ c.in-Some.is))
 
 pub list_load-link-requires-clause-asks : goal.list_load-link-requires-clause-asks
 list_load-link-requires-clause-asks g c = λ told.

@@ -26,7 +26,8 @@ loop-round-init g c =
     }
 
 pub descend-requires-clause-come : goal.descend-requires-clause-come
-descend-requires-clause-come g c = let w = c.loop-round.invariant.walks in (still_listing c.args.seat.now.view c.loop-round.seat.view w.loaded, w.come)
+descend-requires-clause-come g c =
+    let w = c.loop-round.invariant.walks in (still_listing c.args.seat.now.view c.loop-round.seat.view w.loaded, w.come)
 
 pub returns-in-Done-clause-gathered : goal.returns-in-Done-clause-gathered
 returns-in-Done-clause-gathered g c =
@@ -74,7 +75,8 @@ returns-then-is_full-clause-gathered g c =
     let high = c.high-high.ensures.high in
     let within = c.if-key-high.false in
     let n = has_value
-    (meets (descends c.loop-round.invariant.walks c.in_ok-descend.ensures.ended) c.next.ensures c.in-At.is) c.list_load-value.ensures.told in
+    (meets (descends c.loop-round.invariant.walks c.in_ok-descend.ensures.ended) c.next.ensures c.in-At.is) c.list_load-value.ensures.told
+    in
     (n.0, (n.1, omega (arith, high, within), c.is_full.ensures.full.0 c.if-is_full.true, (c.list_load-value.result, n.3)))
 
 pub returns-then-key-high-2-clause-gathered : goal.returns-then-key-high-2-clause-gathered

@@ -23,7 +23,8 @@ returns-in-Empty-clause-none g c _ = then_none _ _ _ c.loop-round.invariant.trie
 
 pub returns-in-Empty-clause-in_vain : goal.returns-in-Empty-clause-in_vain
 returns-in-Empty-clause-in_vain g c _ =
-    tries_in_vain _ _ _ _ _ c.loop-round.invariant.loses _ _ (c.reserve.ensures.seat.2 ∙ c.loop-round.invariant.looked) c.in-Empty.ensures.view
+    tries_in_vain _ _ _ _ _ c.loop-round.invariant.loses _ _ (c.reserve.ensures.seat.2 ∙ c.loop-round.invariant.looked)
+    c.in-Empty.ensures.view
 
 pub loop-round-preserved : goal.loop-round-preserved
 loop-round-preserved g c = record {
@@ -35,6 +36,7 @@ loop-round-preserved g c = record {
   some = search rules;
   made =
       let made = c.loop-round.invariant.made in
-      let tried = step_more c.loop-round.seat.view c.reserve.new.seat.view _ (ap (λ (z : View). z.trail.steps) c.in-Lost.ensures.view.rest) in
+      let tried = step_more c.loop-round.seat.view c.reserve.new.seat.view _ (ap (λ (z : View). z.trail.steps) c.in-Lost.ensures.view.rest)
+      in
           omega (arith, made, tried);
 }

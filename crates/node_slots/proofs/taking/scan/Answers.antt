@@ -6,7 +6,8 @@ use Rattle.seat_table.proofs.Rounding.{step_more}
 use Rattle.node_slots.proofs.taking.scan.Goals as goal
 
 pub loop-round-init : goal.loop-round-init
-loop-round-init g c = record { table = search rules; listed = search rules; scanned = search rules; misses = round_none _ _ _; made = omega arith }
+loop-round-init g c =
+    record { table = search rules; listed = search rules; scanned = search rules; misses = round_none _ _ _; made = omega arith }
 
 pub returns-in-Got-clause-finds : goal.returns-in-Got-clause-finds
 returns-in-Got-clause-finds g c =

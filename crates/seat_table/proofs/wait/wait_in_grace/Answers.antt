@@ -16,13 +16,15 @@ loop-round-init g c = record {
 
 pub poll-requires-clause-latest : goal.poll-requires-clause-latest
 poll-requires-clause-latest g c = let i = c.loop-round.invariant in
-    latest_on (shape_of g.W.WaitWords.WAY c.args.table.now) i.began c.loop-round.seat.view c.loop-round.seat.view c.loop-round.grace c.loop-round.grace i.going
+    latest_on (shape_of g.W.WaitWords.WAY c.args.table.now) i.began c.loop-round.seat.view c.loop-round.seat.view c.loop-round.grace
+    c.loop-round.grace i.going
 
 pub returns-in-Over-clause-waited : goal.returns-in-Over-clause-waited
 returns-in-Over-clause-waited g c = let i = c.loop-round.invariant in (
   i.began,
   i.begun,
-  polls_end (shape_of g.W.WaitWords.WAY c.args.table.now) i.began c.loop-round.seat.view c.poll.new.seat.view c.loop-round.grace c.poll.new.grace
+  polls_end (shape_of g.W.WaitWords.WAY c.args.table.now) i.began c.loop-round.seat.view c.poll.new.seat.view c.loop-round.grace
+  c.poll.new.grace
       i.going c.in-Over.ensures.polled,
 )
 
@@ -35,7 +37,8 @@ loop-round-preserved g c =
       began = i.began;
       begun = i.begun;
       going = polls_on
-          (shape_of g.W.WaitWords.WAY c.args.table.now) i.began c.loop-round.seat.view c.poll.new.seat.view c.loop-round.grace c.poll.new.grace i.going
+          (shape_of g.W.WaitWords.WAY c.args.table.now) i.began c.loop-round.seat.view c.poll.new.seat.view c.loop-round.grace
+          c.poll.new.grace i.going
           c.in-NotYet.why c.in-NotYet.ensures.polled;
       made = (let made = i.made in let polled = poll_steps c.in-NotYet.ensures.polled in omega (arith, made, polled));
     }

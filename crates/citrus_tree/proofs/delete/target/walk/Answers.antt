@@ -19,7 +19,8 @@ loop-round-init g c = record {
 
 pub search_load-left-requires-clause-asks : goal.search_load-left-requires-clause-asks
 search_load-left-requires-clause-asks g c =
-    needs_walk (shape_of g.W.WaitWords.WAY c.args.table.now) c.args.node c.loop-round.parent c.loop-round.slot c.args.seat.now.view c.loop-round.seat.view
+    needs_walk (shape_of g.W.WaitWords.WAY c.args.table.now) c.args.node c.loop-round.parent c.loop-round.slot c.args.seat.now.view
+    c.loop-round.seat.view
     c.requires.at c.loop-round.invariant.walks
 
 pub returns-then-left-eq0-clause-at : goal.returns-then-left-eq0-clause-at
@@ -37,7 +38,8 @@ returns-then-left-eq0-clause-same g c =
 pub overflow_cast-slot-in-loop-round : goal.overflow_cast-slot-in-loop-round
 overflow_cast-slot-in-loop-round g c =
     let small = walk_fits
-    (shape_of g.W.WaitWords.WAY c.args.table.now) c.args.node c.loop-round.parent c.loop-round.slot c.search_load-left.result c.args.seat.now.view
+    (shape_of g.W.WaitWords.WAY c.args.table.now) c.args.node c.loop-round.parent c.loop-round.slot c.search_load-left.result
+    c.args.seat.now.view
     c.loop-round.seat.view c.search_load-left.new.seat.view c.requires.at c.if-left-eq0.false c.loop-round.invariant.walks
     c.search_load-left.ensures.told in search rules
 
@@ -46,7 +48,9 @@ loop-round-preserved g c = record {
   table = (c.search_load-left.ensures.seat).0 ∙ c.loop-round.invariant.table;
   listed = (c.search_load-left.ensures.seat).1 ∙ c.loop-round.invariant.listed;
   walks = walks_on
-      (shape_of g.W.WaitWords.WAY c.args.table.now) c.args.node c.loop-round.parent c.loop-round.slot c.search_load-left.result c.args.seat.now.view
-      c.loop-round.seat.view c.search_load-left.new.seat.view c.if-left-eq0.false c.loop-round.invariant.walks c.search_load-left.ensures.told;
+      (shape_of g.W.WaitWords.WAY c.args.table.now) c.args.node c.loop-round.parent c.loop-round.slot c.search_load-left.result
+      c.args.seat.now.view
+      c.loop-round.seat.view c.search_load-left.new.seat.view c.if-left-eq0.false c.loop-round.invariant.walks
+      c.search_load-left.ensures.told;
   made = (let made = c.loop-round.invariant.made in let loaded = told_steps c.search_load-left.ensures.told in omega (arith, made, loaded));
 }
