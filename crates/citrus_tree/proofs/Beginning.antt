@@ -4,6 +4,7 @@ use Rattle.prcu_model.specs.declared.operation.Op.{Op}
 use Rattle.prcu_model.specs.declared.operation.Op.TheVariants.{Get}
 use Rattle.prcu_model.specs.declared.operation.Told.{Told}
 use Rattle.prcu_marks.specs.declared.mark.Mark.{Mark}
+use Rattle.core_state.specs.declared.shape.Shape.{Shape}
 use Rattle.core_state.specs.declared.view.View.{View}
 use Rattle.tree_points.specs.Progress.{HasGone}
 use Rattle.tree_points.proofs.Gone.{gone_on, gone_same}
@@ -63,5 +64,5 @@ begins_searched {v} {w} {x} {key} begun s = ⊎_elim
     begun
 
 -- a get begins by its lookup, and so does the call of that operation
-pub got_first : {v w : View} {key : ℕ} {told : Told} (op : Op) → op ≡ Get key → Gets v key told w → Begins v op w
-got_first {v} {w} op is gets = subst (λ o. Begins v o w) (sym is) (looked_first gets.2)
+pub got_first : (k : Shape) {v w : View} {key : ℕ} {told : Told} (op : Op) → op ≡ Get key → Gets v key told w → Begins k v op w
+got_first k {v} {w} op is gets = subst (λ o. Begins k v o w) (sym is) (looked_first gets.2)

@@ -1,9 +1,12 @@
 -- A call of a client answers as its marks say.
-use Rattle.std.proofs.Common.{◌≡◌, ℕ, ◌+◌, ◌-◌, ◌≤◌, ◌==◌, true, false, cond, MatchBool, List, [], ◌∷◌, ◌++◌, length, Option, Some, None, is_some, refl, sym, ap, subst, ◌∙◌, arith, inl, inr, eq-eqb, append_assoc, append-nil}
+use Rattle.std.proofs.Common.{◌≡◌, ℕ, ◌+◌, ◌-◌, ◌*◌, ◌≤◌, ◌==◌, true, false, cond, MatchBool, List, [], ◌∷◌, ◌++◌, length, Option, Some, None, is_some, refl, sym, ap, subst, ◌∙◌, arith, inl, inr, eq-eqb, append_assoc, append-nil}
 use Rattle.std.specs.List.{AllByRecursion, slice_get}
 use Rattle.std.specs.FinMap as finite
 use Rattle.std.proofs.lemmas.List.{take_all, take_at}
+use Rattle.std.proofs.Math.Nat.{mul-le-mul_right}
 use mathlib.Core.List.{IsPrefix}
+use mathlib.Core.Logic.{dite}
+use native.Mathlib.Decide.{dec_le}
 use Rattle.prcu_model.specs.declared.operation.Op.{Op}
 use Rattle.prcu_model.specs.declared.operation.Op.TheVariants.{Put, Get, Del, Set}
 use Rattle.prcu_model.specs.declared.operation.Reply.{Reply}
@@ -221,6 +224,24 @@ looked_tried v w key answer l =
       was_answered l gone_same,
     )
 
+-- What each other place may hold back beyond 16 retired slots is told as slots that the table hasn't.
+kept_apart : (slots pairs room others : ℕ) → slots ≤ pairs + (room + 4) * others → slots - (room - 16) * others ≤ pairs + 20 * others
+kept_apart slots pairs room others fills = dite (dec_le 16 room)
+    (λ many.
+    (let same : (more : ℕ) → (more + 16 + 4) * others ≡ more * others + 20 * others = λ more. omega arith in
+    let all : (room + 4) * others ≡ (room - 16) * others + 20 * others =
+    ap (λ r. (r + 4) * others) (let e : room ≡ (room - 16) + 16 = omega arith in e) ∙ same (room - 16) in
+    omega arith))
+    (λ few. (let fewer = mul-le-mul_right others (let e : room + 4 ≤ 20 = omega arith in e) in omega arith))
+
+-- With room for 16 the account's table has all slots.
+pub sixteen_room : (k : Shape) → k.room ≡ 16 → room_of k ≡ record { scripts = k.places; slots = k.slots }
+sixteen_room k is = (λ i. record { scripts = k.places; slots = k.slots - (is i - 16) * (k.places - 1) })
+    ∙ (λ i. record { scripts = k.places; slots = all i })
+  where
+    all : k.slots - (16 - 16) * (k.places - 1) ≡ k.slots
+    all = omega arith
+
 -- each call answers as its marks say
 module _ (k : Shape) (v w : View) where
   got : (key : ℕ) (told : Told) → Gets v key told w → HasAnswered (Explains (room_of k)) (of_view v) (Get key) told (of_view w)
@@ -245,7 +266,8 @@ module _ (k : Shape) (v w : View) where
       ap map_of (take_all (length (updates_of w.seen)) (updates_of w.seen) (omega arith)) in
       unchanged (Explains (room_of k)) v w (Put key value) (record { reply = Full; number = number }) tries p.1 refl
       (length (updates_of w.seen)) (updates_below v.seen w.seen p.1.own.begins) (omega arith)
-      (subst (λ d. Explains (room_of k) d (Put key value) Full) (sym now) p.3.fills)
+      (subst (λ d. Explains (room_of k) d (Put key value) Full) (sym now)
+      (kept_apart k.slots (finite.len (map_of (updates_of w.seen))) k.room (k.places - 1) p.3.fills))
   was_put key value tries (Val x) number p = absurd p
   was_put key value tries Absent number p = absurd p
   was_put key value tries Gone number p = absurd p

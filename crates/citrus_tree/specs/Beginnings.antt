@@ -1,10 +1,11 @@
 -- With what an update begins.
 -- Source: docs/TREE_CALLS.md, "The calls".
-use Rattle.std.specs.Prelude.{◌≡◌, ◌≢◌, ℕ, ◌<◌, List, [], ◌∷◌, length, None}
+use Rattle.std.specs.Prelude.{◌≡◌, ◌≢◌, ℕ, ◌<◌, List, [], ◌∷◌, length, None, ◌+◌}
 use Rattle.prcu_marks.specs.declared.mark.Mark.{Mark}
 use Rattle.prcu_marks.specs.declared.mark.Mark.TheVariants.{Entered, Left}
 use Rattle.prcu_model.specs.declared.operation.Op.{Op}
 use Rattle.prcu_model.specs.declared.operation.Op.TheVariants.{Put, Get, Del, Set}
+use Rattle.core_state.specs.declared.shape.Shape.{Shape}
 use Rattle.core_state.specs.declared.view.View.{View}
 use Rattle.seat_table.specs.Sections.{Makes}
 use Rattle.tree_points.specs.Progress.{HasGone}
@@ -23,15 +24,15 @@ pub record BeginsByLookup (v : View) (key : ℕ) (w : View) : Type 0 where
   pub later : HasGone looked w marks
 
 -- A del first sees to it that the place has a spare, and room for two more retired slots. Where it has both it begins by its lookup.
-pub record BeginsOnceReady (v : View) (key : ℕ) (w : View) : Type 0 where
+pub record BeginsOnceReady (k : Shape) (v : View) (key : ℕ) (w : View) : Type 0 where
   pub ready : View
-  pub room : HasMadeRoom v ready
-  pub at_once : length v.hands.retired < 15 → v.hands.spare ≢ None → ready ≡ v
+  pub room : HasMadeRoom k v ready
+  pub at_once : length v.hands.retired + 1 < k.room → v.hands.spare ≢ None → ready ≡ v
   pub lookup : BeginsByLookup ready key w
 
 -- with what the call of an operation begins; a get is a lookup and nothing else
-abbrev pub Begins : View → Op → View → Type 0
-Begins v (Put key value) w = BeginsByLookup v key w
-Begins v (Set key value) w = BeginsByLookup v key w
-Begins v (Del key) w = BeginsOnceReady v key w
-Begins v (Get key) w = BeginsByLookup v key w
+abbrev pub Begins : Shape → View → Op → View → Type 0
+Begins k v (Put key value) w = BeginsByLookup v key w
+Begins k v (Set key value) w = BeginsByLookup v key w
+Begins k v (Del key) w = BeginsOnceReady k v key w
+Begins k v (Get key) w = BeginsByLookup v key w

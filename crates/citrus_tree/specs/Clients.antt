@@ -1,6 +1,6 @@
 -- Clients of the tree.
 -- Source: docs/ACCOUNTS.md, "Clients".
-use Rattle.std.specs.Prelude.{◌≡◌, ◌+◌, ◌≤◌, List, []}
+use Rattle.std.specs.Prelude.{◌≡◌, ◌+◌, ◌-◌, ◌*◌, ◌≤◌, List, []}
 use Rattle.prcu_marks.specs.Callers.{Caller, MeetsFronts}
 use Rattle.prcu_marks.specs.Chains.{IsChain}
 use Rattle.prcu_marks.specs.Marks.{own_of, updates_of}
@@ -36,7 +36,7 @@ caller_of client = record {
 abbrev pub IsTold : Shape → View → Op → Told → View → Type 0
 IsTold k v (Put key value) told w = Puts k v key value told w
 IsTold k v (Get key) told w = Gets v key told w
-IsTold k v (Del key) told w = Dels v key told w
+IsTold k v (Del key) told w = Dels k v key told w
 IsTold k v (Set key value) told w = Sets v key value told w
 
 -- A call of a client: what its operation was told, and what holds after each call.
@@ -50,9 +50,10 @@ pub record HasCalled (before : ClientAt) (op : Op) (told : Told) (after : Client
   pub quiet : IsQuietSeat after.seat
   pub informed : IsInformed after.seat.view
 
--- how many places and slots count where a put is told that nothing is free
+-- How many places and slots count where a put is told that nothing is free. An account has 20 slots for each other place, where it may hold
+-- back 16 retired ones; what it may hold back beyond them are slots that the account's table hasn't.
 abbrev pub room_of : Shape → Room
-room_of k = record { scripts = k.places; slots = k.slots }
+room_of k = record { scripts = k.places; slots = k.slots - (k.room - 16) * (k.places - 1) }
 
 -- Of a client whose place had made no update, the calls so far tell of lines that fit the updates that it has seen.
 abbrev pub ChainsMeetFronts : Type 0

@@ -61,14 +61,14 @@ pub record HasBegunFirst (v w : View) : Type 0 where
 abbrev pub KeepsWait : View → View → Type 0
 KeepsWait v w = HasBegunNone v w ⊎ HasBegunFirst v w
 
--- A put begins a wait only where slots were retired at the call, and where with these, and twenty for each other place, the dictionary
--- filled the slots at some front in the call: after these marks.
+-- A put begins a wait only where slots were retired at the call, and where with these, and as many as each other place may keep from it,
+-- the dictionary filled the slots at some front in the call: after these marks.
 pub record NeededRoom (k : Shape) (v w : View) : Type 0 where
   pub retired : 1 ≤ length v.hands.retired
   pub until : List Mark
   pub since : IsPrefix v.seen until
   pub made : IsPrefix until w.seen
-  pub fills : k.slots ≤ finite.len (map_of (updates_of until)) + length v.hands.retired + 20 * (k.places - 1)
+  pub fills : k.slots ≤ finite.len (map_of (updates_of until)) + length v.hands.retired + (k.room + 4) * (k.places - 1)
 
 -- a retired slot with what a later wait needs of it: where its unlinking stands among the marks, and whether it was waited for
 abbrev pub retired_marks : View → List (ℕ × ℕ × Bool)

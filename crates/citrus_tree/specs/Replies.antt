@@ -55,12 +55,12 @@ pub record HasTried (v : View) (key : ℕ) (tries : List Mark) (w : View) : Type
   pub tried : AreTries v.allowance.place key tries
   pub own : HasGone v w tries
 
--- The last step found the free count 0, with nothing retired at the place. So the dictionary, with twenty slots for each other place,
--- fills the slots.
+-- The last step found the free count 0, with nothing retired at the place. So the dictionary, with as many slots as each other place may
+-- keep from it, its room for retired ones and four, fills the slots.
 pub record IsFullNow (k : Shape) (w : View) : Type 0 where
   pub none : w.hands.retired ≡ []
   pub last : EndWith w.trail.steps (record { kind = K10; field = Free; number = 0 } ∷ [])
-  pub fills : k.slots ≤ finite.len (map_of (updates_of w.seen)) + 20 * (k.places - 1)
+  pub fills : k.slots ≤ finite.len (map_of (updates_of w.seen)) + (k.room + 4) * (k.places - 1)
 
 -- A put is told New where it made its update, Old where its last search found the key, and Full where its last search found the key absent
 -- and the last step nothing free.
@@ -117,17 +117,17 @@ pub record RetiresInOrder (s : SeatAt) (key number : ℕ) (t : SeatAt) : Type 0 
   pub kept_is : (kept ≡ s.listed) ⊎ (kept ≡ [])
   pub listed : t.listed ≡ kept ++ deleted ∷ old
 
--- After its update a del has begun no other wait, or just the one for its move. Before it one for everybody at most, where at the call 15
--- slots were retired or the place had no spare.
+-- After its update a del has begun no other wait, or just the one for its move. Before it one for everybody at most, where at the call the
+-- place had room for one more retired slot at most, or no spare.
 abbrev pub DelsBy : View → ℕ → List Mark → Reply → ℕ → View → Type 0
 DelsBy v key tries Gone number w = (before after : List Mark) × HasUpdated v (Del key) tries before after number w
     × ((after ≡ []) ⊎ IsMoveWait v before key after)
 DelsBy v key tries Absent number w = (number ≡ 0) × HasTried v key tries w × WasAnswered v key None w
 DelsBy v key tries _ number w = ⊥
 
-abbrev pub Dels : View → ℕ → Told → View → Type 0
-Dels v key told w = (tries : List Mark) × DelsBy v key tries told.reply told.number w
-    × (1 ≤ waits_in tries → (15 ≤ length v.hands.retired) ⊎ (v.hands.spare ≡ None))
+abbrev pub Dels : Shape → View → ℕ → Told → View → Type 0
+Dels k v key told w = (tries : List Mark) × DelsBy v key tries told.reply told.number w
+    × (1 ≤ waits_in tries → (k.room ≤ length v.hands.retired + 1) ⊎ (v.hands.spare ≡ None))
 
 -- The update of this number took this pair out: the dictionary of the updates before it had the pair.
 pub record TookOut (history : List Update) (caller key value number : ℕ) : Type 0 where

@@ -31,7 +31,7 @@ pub fn call<R: Wait, W: WaitPart, G: Gate>(
     requires tickets { 4 ≤ seat.old.view.allowance.tickets }
     ensures table { seat.new.table ≡ seat.old.table }
     ensures told { IsTold (shape_of W.WAY table.now) seat.old.view op result seat.new.view }
-    ensures begins { Begins seat.old.view op seat.new.view }
+    ensures begins { Begins (shape_of W.WAY table.now) seat.old.view op seat.new.view }
     ensures wait { KeepsWait seat.old.view seat.new.view }
     ensures slots { KeepsSlots seat.old seat.new }
     ensures tickets { seat.old.view.allowance.tickets ≤ seat.new.view.allowance.tickets + 4 }

@@ -67,8 +67,8 @@ pub fn del<P: Patience, W: WaitPart, G: Gate>(
     requires quiet { IsQuietSeat seat.old }
     requires tickets { 4 ≤ seat.old.view.allowance.tickets }
     ensures table { seat.new.table ≡ seat.old.table }
-    ensures dels { IfOk result (λ answer. Dels seat.old.view key answer seat.new.view) }
-    ensures begins { IfOk result (λ _. BeginsOnceReady seat.old.view key seat.new.view) }
+    ensures dels { IfOk result (λ answer. Dels (shape_of W.WAY table.now) seat.old.view key answer seat.new.view) }
+    ensures begins { IfOk result (λ _. BeginsOnceReady (shape_of W.WAY table.now) seat.old.view key seat.new.view) }
     ensures wait { IfOk result (λ _. KeepsWait seat.old.view seat.new.view) }
     ensures slots { IfOk result (λ _. KeepsSlots seat.old seat.new) }
     ensures retires { IfOk result (λ answer. answer.reply ≡ Gone → RetiresInOrder seat.old key answer.number seat.new) }
@@ -94,9 +94,9 @@ pub fn remove<P: Patience, W: WaitPart, G: Gate>(
     requires quiet { IsQuietSeat seat.old }
     requires tickets { 4 ≤ seat.old.view.allowance.tickets }
     ensures table { seat.new.table ≡ seat.old.table }
-    ensures dels { IfOk result (λ answer. Dels seat.old.view key answer.told seat.new.view) }
+    ensures dels { IfOk result (λ answer. Dels (shape_of W.WAY table.now) seat.old.view key answer.told seat.new.view) }
     ensures value { IfOk result (λ answer. TellsValue seat.old.view key answer.told answer.value seat.new.view) }
-    ensures begins { IfOk result (λ _. BeginsOnceReady seat.old.view key seat.new.view) }
+    ensures begins { IfOk result (λ _. BeginsOnceReady (shape_of W.WAY table.now) seat.old.view key seat.new.view) }
     ensures wait { IfOk result (λ _. KeepsWait seat.old.view seat.new.view) }
     ensures slots { IfOk result (λ _. KeepsSlots seat.old seat.new) }
     ensures retires { IfOk result (λ answer. answer.told.reply ≡ Gone → RetiresInOrder seat.old key answer.told.number seat.new) }
@@ -122,9 +122,9 @@ fn delete_telling<P: Patience, W: WaitPart, G: Gate>(
     requires quiet { IsQuietSeat seat.old }
     requires tickets { 4 ≤ seat.old.view.allowance.tickets }
     ensures table { seat.new.table ≡ seat.old.table }
-    ensures dels { IfOk result (λ answer. Dels seat.old.view key answer.told seat.new.view) }
+    ensures dels { IfOk result (λ answer. Dels (shape_of W.WAY table.now) seat.old.view key answer.told seat.new.view) }
     ensures value { IfOk result (λ answer. tells_value ≡ true → TellsValue seat.old.view key answer.told answer.value seat.new.view) }
-    ensures begins { IfOk result (λ _. BeginsOnceReady seat.old.view key seat.new.view) }
+    ensures begins { IfOk result (λ _. BeginsOnceReady (shape_of W.WAY table.now) seat.old.view key seat.new.view) }
     ensures wait { IfOk result (λ _. KeepsWait seat.old.view seat.new.view) }
     ensures slots { IfOk result (λ _. KeepsSlots seat.old seat.new) }
     ensures retires { IfOk result (λ answer. answer.told.reply ≡ Gone → RetiresInOrder seat.old key answer.told.number seat.new) }
@@ -153,16 +153,16 @@ fn make_room<P: Patience, W: WaitPart>(
     requires tickets { 4 ≤ seat.old.view.allowance.tickets }
     ensures table { seat.new.table ≡ seat.old.table }
     ensures at { IfOk result (λ _. IsReadyToDelete (shape_of W.WAY table.now) seat.old.view seat.new.view) }
-    ensures room { IfOk result (λ _. HasMadeRoom seat.old.view seat.new.view) }
-    ensures at_once { IfOk result (λ _. length seat.old.view.hands.retired < 15 → seat.old.view.hands.spare ≢ None
+    ensures room { IfOk result (λ _. HasMadeRoom (shape_of W.WAY table.now) seat.old.view seat.new.view) }
+    ensures at_once { IfOk result (λ _. length seat.old.view.hands.retired + 1 < table.now.room → seat.old.view.hands.spare ≢ None
         → seat.new.view ≡ seat.old.view) }
     ensures slots { IfOk result (λ _. KeepsSlots seat.old seat.new) }
     ensures kept { IfOk result (λ _. (seat.new.listed ≡ seat.old.listed) ⊎ (seat.new.listed ≡ [])) }
     ensures listed { IfOk result (λ _. AreListed seat.new) }
     ensures tired { IfErr result (λ _. HasMade (P.least patience.now) seat.new.view) }
 {
-    // A move retires two slots, and a place holds 16 back at most. docs/TREE_INVARIANT.md#the-invariant-of-the-tree
-    if seat.retired().len() >= 15 {
+    // A move retires two slots, and a place holds back no more than its room. docs/TREE_INVARIANT.md#the-invariant-of-the-tree
+    if seat.retired().len() + 1 >= seat.room() {
         reclaim(patience, table, seat)?;
         return Ok(());
     }
@@ -173,7 +173,7 @@ fn make_room<P: Patience, W: WaitPart>(
     Ok(())
 }
 
-// The same, where the place has no spare and has retired fewer slots than 15.
+// The same, where the place has no spare, and room for two more retired slots.
 fn take_spare<P: Patience, W: WaitPart>(
     patience: &P,
     table: &CitrusTable<W>,
@@ -182,11 +182,11 @@ fn take_spare<P: Patience, W: WaitPart>(
     requires table { seat.old.table ≡ table.now }
     requires quiet { IsQuietSeat seat.old }
     requires tickets { 4 ≤ seat.old.view.allowance.tickets }
-    requires few { length seat.old.view.hands.retired < 15 }
+    requires few { length seat.old.view.hands.retired + 1 < table.now.room }
     requires none { seat.old.view.hands.spare ≡ None }
     ensures table { seat.new.table ≡ seat.old.table }
     ensures at { IfOk result (λ _. IsReadyToDelete (shape_of W.WAY table.now) seat.old.view seat.new.view) }
-    ensures room { IfOk result (λ _. HasMadeRoom seat.old.view seat.new.view) }
+    ensures room { IfOk result (λ _. HasMadeRoom (shape_of W.WAY table.now) seat.old.view seat.new.view) }
     ensures slots { IfOk result (λ _. KeepsSlots seat.old seat.new) }
     ensures kept { IfOk result (λ _. (seat.new.listed ≡ seat.old.listed) ⊎ (seat.new.listed ≡ [])) }
     ensures listed { IfOk result (λ _. AreListed seat.new) }

@@ -30,7 +30,7 @@ pub fn call<P: Patience, W: WaitPart, G: Gate>(
     requires tickets { 4 ≤ seat.old.view.allowance.tickets }
     ensures table { seat.new.table ≡ seat.old.table }
     ensures told { IfOk result (λ answer. IsTold (shape_of W.WAY table.now) seat.old.view op answer seat.new.view) }
-    ensures begins { IfOk result (λ _. Begins seat.old.view op seat.new.view) }
+    ensures begins { IfOk result (λ _. Begins (shape_of W.WAY table.now) seat.old.view op seat.new.view) }
     ensures wait { IfOk result (λ _. KeepsWait seat.old.view seat.new.view) }
     ensures slots { IfOk result (λ _. KeepsSlots seat.old seat.new) }
     ensures tickets { IfOk result (λ _. seat.old.view.allowance.tickets ≤ seat.new.view.allowance.tickets + 4) }

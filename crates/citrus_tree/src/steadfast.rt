@@ -114,8 +114,8 @@ pub fn del<R: Wait, W: WaitPart, G: Gate>(
     requires quiet { IsQuietSeat seat.old }
     requires tickets { 4 ≤ seat.old.view.allowance.tickets }
     ensures table { seat.new.table ≡ seat.old.table }
-    ensures dels { Dels seat.old.view key result seat.new.view }
-    ensures begins { BeginsOnceReady seat.old.view key seat.new.view }
+    ensures dels { Dels (shape_of W.WAY table.now) seat.old.view key result seat.new.view }
+    ensures begins { BeginsOnceReady (shape_of W.WAY table.now) seat.old.view key seat.new.view }
     ensures wait { KeepsWait seat.old.view seat.new.view }
     ensures slots { KeepsSlots seat.old seat.new }
     ensures retires { result.reply ≡ Gone → RetiresInOrder seat.old key result.number seat.new }
@@ -143,9 +143,9 @@ pub fn remove<R: Wait, W: WaitPart, G: Gate>(
     requires quiet { IsQuietSeat seat.old }
     requires tickets { 4 ≤ seat.old.view.allowance.tickets }
     ensures table { seat.new.table ≡ seat.old.table }
-    ensures dels { Dels seat.old.view key result.told seat.new.view }
+    ensures dels { Dels (shape_of W.WAY table.now) seat.old.view key result.told seat.new.view }
     ensures value { TellsValue seat.old.view key result.told result.value seat.new.view }
-    ensures begins { BeginsOnceReady seat.old.view key seat.new.view }
+    ensures begins { BeginsOnceReady (shape_of W.WAY table.now) seat.old.view key seat.new.view }
     ensures wait { KeepsWait seat.old.view seat.new.view }
     ensures slots { KeepsSlots seat.old seat.new }
     ensures retires { result.told.reply ≡ Gone → RetiresInOrder seat.old key result.told.number seat.new }

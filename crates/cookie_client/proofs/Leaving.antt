@@ -1,5 +1,5 @@
 -- What asking about a cookie and starting one leaves.
-use Rattle.std.proofs.Common.{◌≡◌, ℕ, ◌+◌, ◌<◌, ◌≤◌, ◌⊎◌, is_some, true, false, List, [], ◌∷◌, length, take, Option, Some, None, inl, inr, refl, sym, ap, subst, ◌∙◌, ⊎_elim, arith, append-nil}
+use Rattle.std.proofs.Common.{◌≡◌, ℕ, ◌+◌, ◌/◌, ◌<◌, ◌≤◌, ◌⊎◌, is_some, true, false, List, [], ◌∷◌, length, take, Option, Some, None, inl, inr, refl, sym, ap, subst, ◌∙◌, ⊎_elim, arith, append-nil}
 use mathlib.Core.List.{IsPrefix}
 use Rattle.prcu_model.specs.declared.operation.Op.{Op}
 use Rattle.prcu_marks.specs.declared.mark.Mark.{Mark}
@@ -268,7 +268,7 @@ module _ (k : Shape) (cookie : Option CookieAt) (s : SeatAt) (held : Option Cook
   pub settles_pay : s.view.allowance.tickets ≤ t.view.allowance.tickets + 1
   settles_pay = let a = ap (λ (z : Allowance). z.tickets) asking.allowance in let b = starting.tickets in omega arith
 
--- fewer than 8 slots are retired then, or a cookie is held
+-- less than half of the room for retired slots is taken then, or a cookie is held
 pub starts_few : (left : Option CookieAt) (s : SeatAt) (held : Option CookieAt) (t : SeatAt) → Starts left s held t → IsFewOrHeld t held
 starts_few (Some c) s held t starts = inr (c, starts.0)
 starts_few None s None t starts = subst (λ (z : SeatAt). IsFewOrHeld z None) (sym starts.1) (inl starts.0)
@@ -284,7 +284,7 @@ found_informed k c v d w going found = elim found.how [
   | inr over ↦ (over.2).ended.informed
 ]
 
-pub none_started_few : (held : Option CookieAt) (s : SeatAt) → is_some held ≡ false → length s.view.hands.retired < 8 → Starts held s None s
+pub none_started_few : (held : Option CookieAt) (s : SeatAt) → is_some held ≡ false → length s.view.hands.retired < s.table.room / 2 → Starts held s None s
 none_started_few None s none few = (few, refl)
 none_started_few (Some c) s none few = absurd (cc)
 

@@ -1,6 +1,6 @@
 -- What a client does about its cookie before a call.
 -- Source: docs/TREE_CALLS.md, "Cookies".
-use Rattle.std.specs.Prelude.{◌≡◌, ℕ, ◌≤◌, ◌⊎◌, List, [], ◌∷◌, length, Option, Some, None}
+use Rattle.std.specs.Prelude.{◌≡◌, ℕ, ◌+◌, ◌≤◌, ◌⊎◌, List, [], ◌∷◌, length, Option, Some, None}
 use Rattle.prcu_model.specs.declared.operation.Op.{Op}
 use Rattle.prcu_model.specs.declared.operation.Op.TheVariants.{Del}
 use Rattle.prcu_marks.specs.declared.mark.Mark.{Mark}
@@ -28,9 +28,9 @@ pub record AsksUntilNone (k : Shape) (cookie : Option CookieAt) (s t : SeatAt) :
   pub held : List Holding
   pub asks : AsksOn k cookie s held None t
 
--- a del that finds 15 or more slots retired
+-- a del whose place has room for one more retired slot at most
 abbrev pub LacksRoom : Op → SeatAt → Type 0
-LacksRoom op s = ((key : ℕ) × (op ≡ Del key)) × (15 ≤ length s.view.hands.retired)
+LacksRoom op s = ((key : ℕ) × (op ≡ Del key)) × (s.table.room ≤ length s.view.hands.retired + 1)
 
 -- Where the operation lacks room one asks until no cookie is held; else nothing is done.
 abbrev pub MakesRoom : Shape → Op → Option CookieAt → SeatAt → Option CookieAt → SeatAt → Type 0

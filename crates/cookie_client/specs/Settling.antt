@@ -1,6 +1,6 @@
 -- What a client does about its cookie after an answer.
 -- Source: docs/TREE_CALLS.md, "Cookies".
-use Rattle.std.specs.Prelude.{◌≡◌, ℕ, ◌<◌, ◌≤◌, ◌⊎◌, false, List, [], ◌∷◌, ◌++◌, length, Option, Some, None}
+use Rattle.std.specs.Prelude.{◌≡◌, ℕ, ◌/◌, ◌<◌, ◌≤◌, ◌⊎◌, false, List, [], ◌∷◌, ◌++◌, length, Option, Some, None}
 use Rattle.prcu_marks.specs.declared.mark.Mark.{Mark}
 use Rattle.prcu_marks.specs.declared.mark.Mark.TheVariants.{Began, Ended}
 use Rattle.prcu_marks.specs.Bounds.{greatest_key}
@@ -43,9 +43,9 @@ abbrev pub Asks : Shape → Option CookieAt → SeatAt → Option CookieAt → S
 Asks k None s left t = (left ≡ None) × (t ≡ s)
 Asks k (Some c) s left t = WasAsked k c s left t
 
--- A cookie was started, where none was held and 8 or more slots are retired.
+-- A cookie was started, where none was held and half of the room for retired slots is taken.
 pub record WasStarted (s : SeatAt) (c : CookieAt) (t : SeatAt) : Type 0 where
-  pub many : 8 ≤ length s.view.hands.retired
+  pub many : s.table.room / 2 ≤ length s.view.hands.retired
   pub begun : HasBegun s.view 0 greatest_key t.view
   pub listed : t.listed ≡ s.listed
   pub count : c.count ≡ s.view.counts.waits
@@ -53,7 +53,7 @@ pub record WasStarted (s : SeatAt) (c : CookieAt) (t : SeatAt) : Type 0 where
 
 abbrev pub Starts : Option CookieAt → SeatAt → Option CookieAt → SeatAt → Type 0
 Starts (Some c) s held t = (held ≡ Some c) × (t ≡ s)
-Starts None s None t = (length s.view.hands.retired < 8) × (t ≡ s)
+Starts None s None t = (length s.view.hands.retired < s.table.room / 2) × (t ≡ s)
 Starts None s (Some c) t = WasStarted s c t
 
 -- First one asks, and then one may be started.
@@ -75,7 +75,7 @@ pub record LeavesWaits (cookie : Option CookieAt) (v w : View) : Type 0 where
 
 -- Few slots are retired, or a cookie is held.
 abbrev pub IsFewOrHeld : SeatAt → Option CookieAt → Type 0
-IsFewOrHeld s held = (length s.view.hands.retired < 8) ⊎ ((c : CookieAt) × (held ≡ Some c))
+IsFewOrHeld s held = (length s.view.hands.retired < s.table.room / 2) ⊎ ((c : CookieAt) × (held ≡ Some c))
 
 -- Among these marks the updates are a history, waits outlast the readers they are for, and no slot is used again that an open reader may
 -- meet.

@@ -16,8 +16,9 @@ pub(crate) const TICKETS: u64 = 5;
 
 /// A seat that makes operations on a tree, one after another, passes a gate, and holds at most one cookie. After the answer of each call it
 /// asks once about the cookie that it holds. When the cookie is over, its slots go back; where the call began a later wait, it is
-/// dropped. Then the client starts one, where it holds none and 8 or more slots are retired. Only before a del that finds 15 or more slots
-/// retired does it ask until the cookie is over, and so wait. It may be sent to another thread where its gate may be shared with one.
+/// dropped. Then the client starts one, where it holds none and half of the room for retired slots is taken, of 16 slots 8. Only before a
+/// del that finds room for one more at most does it ask until the cookie is over, and so wait. It may be sent to another thread where its
+/// gate may be shared with one.
 #[derive(Drop)]
 pub struct CookieClient<'a, W: WaitPart, G: Gate> {
     table: &'a CitrusTable<W>,

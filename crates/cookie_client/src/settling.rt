@@ -10,14 +10,8 @@ use prcu_model::Op;
 use seat_table::{CitrusTable, Seat, WaitPart};
 use std::sync::Wait;
 
-// How many retired slots are many.
-const MANY: usize = 8;
-
-// With so many retired slots a del of the tree first waits for everybody, to give them back.
-const TOO_MANY: usize = 15;
-
-/// Before a del that finds 15 or more slots retired, asks about the cookie until none is held; else it does nothing. It answers the cookie
-/// that is held. The del would begin a wait of its own, which gives up one that may be nearly over.
+/// Before a del whose place has room for one more retired slot at most, asks about the cookie until none is held; else it does nothing. It
+/// answers the cookie that is held. The del would begin a wait of its own, which gives up one that may be nearly over.
 pub(crate) fn make_room<R: Wait, W: WaitPart>(
     rt: &R,
     table: &CitrusTable<W>,
@@ -37,7 +31,7 @@ pub(crate) fn make_room<R: Wait, W: WaitPart>(
     let Op::Del { .. } = op else {
         return cookie;
     };
-    if seat.retired().len() < TOO_MANY {
+    if seat.retired().len() + 1 < seat.room() {
         return cookie;
     }
     ask_until_none(rt, table, seat, cookie);
@@ -70,8 +64,8 @@ fn ask_until_none<R: Wait, W: WaitPart>(
     unreachable!()
 }
 
-/// Asks once about the cookie, where one is held, and starts one where none is held then and many slots are retired. It answers the one
-/// that is held.
+/// Asks once about the cookie, where one is held, and starts one where none is held then and half of the room for retired slots is taken.
+/// It answers the one that is held.
 pub(crate) fn settle<W: WaitPart>(
     table: &CitrusTable<W>,
     seat: &mut Seat<W>,
@@ -117,7 +111,7 @@ fn ask_once<W: WaitPart>(
     }
 }
 
-// Starts a cookie, where none is held and many slots are retired.
+// Starts a cookie, where none is held and half of the room for retired slots is taken.
 fn start_if_many<W: WaitPart>(
     table: &CitrusTable<W>,
     seat: &mut Seat<W>,
@@ -136,7 +130,7 @@ fn start_if_many<W: WaitPart>(
     if held.is_some() {
         return held;
     }
-    if seat.retired().len() < MANY {
+    if seat.retired().len() < seat.room() / 2 {
         return None;
     }
     Some(start(table, seat))

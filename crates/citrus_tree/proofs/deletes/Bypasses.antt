@@ -40,7 +40,7 @@ only d = if d.left == 0 then d.right else d.left
 
 -- the child is a slot, or there is none: its number fits 32 bits
 child_fits : {k : Shape} {op : Op} {kept : ℕ} {v : View} {h : List Mark} {word : Field → ℕ} (d : Node) → IsAt k op kept (deleting d None) v
-    → IsToldOf k.slots k.places v h word → only d < 4294967296
+    → IsToldOf k.slots k.places k.room v h word → only d < 4294967296
 child_fits {k} {op} {kept} {v} d a told = by (d.left == 0)
   where
     life : known_in (known_under v d.node) (Life d.node) ≡ Some (2 * d.generation)

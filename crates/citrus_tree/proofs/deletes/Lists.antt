@@ -1,5 +1,5 @@
 -- The retired slots that a seat lists, and those that its view has.
-use Rattle.std.proofs.Common.{◌≡◌, ◌≢◌, ℕ, suc, ◌+◌, ◌<◌, ◌≤◌, None, List, [], ◌∷◌, ◌++◌, length, map, refl, ap, ◌∙◌, ⊎_elim, arith}
+use Rattle.std.proofs.Common.{◌≡◌, ◌≢◌, ℕ, suc, ◌+◌, ◌<◌, ◌≤◌, None, List, [], ◌∷◌, ◌++◌, length, map, refl, ap, ◌∙◌, ⊎_elim, arith, ◌-◌}
 use Rattle.std.proofs.lemmas.Bool.{cases_eq}
 use Rattle.core_state.specs.declared.view.Retired.{Retired}
 use Rattle.list_laws.specs.Counts.{times, IsIn}
@@ -47,10 +47,11 @@ module _ (v w : View) (slot : ℕ) (more : retired_slots w ≡ retired_slots v +
   listed_more listed each t = times_append t listed (slot ∷ []) ∙ (let a = more_times t in let e = each t in omega arith)
 
 -- A delete has room.
-pub few_listed : {k : Shape} {op : Op} {kept : ℕ} (s : SeatAt) (d : Node) → IsAt k op kept (deleting d None) s.view → AreListed s
-    → length s.listed < 15
-few_listed s d a listed =
-    let room : length a.own.retired < 15 = ((a.fits.point).deleting).1.room ((a.fits.point).deleting).0 in
+pub few_listed : {k : Shape} {op : Op} {kept : ℕ} (s : SeatAt) (d : Node) → IsAt k op kept (deleting d None) s.view → 16 ≤ k.room
+    → AreListed s → length s.listed < k.room
+few_listed s d a roomy listed =
+    let few : length a.own.retired ≤ a.own.room - 2 = ((a.fits.point).deleting).1.room ((a.fits.point).deleting).0 in
+    let room = a.room_is in
     let same : length (map (λ (r : Retired). r.slot) s.view.hands.retired) ≡ length a.own.retired = ap length a.fits.owns.retired_are in
     let long = listed_length s listed in
     let slots = slots_length s.view.hands.retired in

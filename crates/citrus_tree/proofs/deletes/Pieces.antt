@@ -1,5 +1,5 @@
 -- A move whole: its copy, its wait and its end.
-use Rattle.std.proofs.Common.{◌≡◌, ℕ, ◌+◌, ◌<◌, true, Option, Some, None, inl, inr, ⊎_elim, List, [], ◌∷◌, ◌++◌, length, map, refl, ap, subst, ◌∙◌, arith}
+use Rattle.std.proofs.Common.{◌≡◌, ℕ, ◌+◌, ◌<◌, true, Option, Some, None, inl, inr, ⊎_elim, List, [], ◌∷◌, ◌++◌, length, map, refl, ap, subst, ◌∙◌, arith, ◌-◌, ◌≤◌}
 use mathlib.Core.List.{IsPrefix}
 use Rattle.list_laws.specs.Counts.{times}
 use Rattle.list_laws.proofs.Lists.{times_append}
@@ -36,10 +36,11 @@ has_spare {v = v} d u a is = no_spare v.hands.spare is
     (let del = ((a.fits.point).copying).deleting in ap is_some a.fits.owns.spare_is ∙ del.1.has_spare del.0)
 
 pub few_moved : {k : Shape} {op : Op} {kept : ℕ} (s : SeatAt) (d : Node) (u : Successor) → IsAt k op kept (at.SuccessorKey d u) s.view
-    → AreListed s → length s.listed < 15
-few_moved s d u a listed =
+    → 16 ≤ k.room → AreListed s → length s.listed + 1 < k.room
+few_moved s d u a roomy listed =
     let del = ((a.fits.point).copying).deleting in
-    let room : length a.own.retired < 15 = del.1.room del.0 in
+    let few : length a.own.retired ≤ a.own.room - 2 = del.1.room del.0 in
+    let room = a.room_is in
     let same : length (map (λ (r : Retired). r.slot) s.view.hands.retired) ≡ length a.own.retired = ap length a.fits.owns.retired_are in
     let long = listed_length s listed in
     let slots = slots_length s.view.hands.retired in

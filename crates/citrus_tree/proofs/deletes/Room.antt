@@ -13,7 +13,7 @@ use Rattle.core_state.specs.views.Views.{IsQuiet}
 use Rattle.core_points.specs.declared.stage.Aim.TheVariants.{Spare}
 use Rattle.core_points.specs.declared.stage.Stage.TheVariants as at
 use Rattle.core_acts.specs.declared.act.Act.TheVariants as acts
-use Rattle.seat_table.specs.Seats.{AreListed, IsSlotOf, SeatAt}
+use Rattle.seat_table.specs.Seats.{TableAt, AreListed, IsSlotOf, SeatAt}
 use Rattle.seat_table.specs.Told.{IsAsked, Told}
 use Rattle.node_slots.specs.Reclaiming.{HasReclaimed}
 use Rattle.node_slots.specs.Taking.{FoundNone, HasTaken}
@@ -39,6 +39,9 @@ empty_listed s none gone = record {
       ∙ ap (λ (rs : List Retired). times t (map (λ (r : Retired). r.slot) rs)) (sym gone);
 }
 
+pub same_room : {t u : TableAt} → t ≡ u → t.room ≡ u.room
+same_room same = ap (λ (x : TableAt). x.room) same
+
 -- the place has a spare
 pub given_spare : (o : Option ℕ) (held : Option Held) → IsSlotOf o held → is_some o ≡ true → held ≢ None
 given_spare None held is some none = absurd (let e : false ≡ true = some in cc)
@@ -51,12 +54,12 @@ no_spare None (Some held) is none = absurd is
 no_spare (Some slot) held is none = absurd (let e : true ≡ false = none in cc)
 
 -- Nothing had to be done.
-pub room_same : (v : View) → HasMadeRoom v v
+pub room_same : {k : Shape} (v : View) → HasMadeRoom k v v
 room_same v = record { marks = []; gone = gone_same; waited = inl refl; waits = omega arith; latest = inl (none_yet v) }
 
 -- All retired slots were given back.
 pub room_reclaimed : {k : Shape} {v w : View} {listed : List ℕ} → HasReclaimed k v listed w
-    → (15 ≤ length v.hands.retired) ⊎ (v.hands.spare ≡ None) → HasMadeRoom v w
+    → (k.room ≤ length v.hands.retired + 1) ⊎ (v.hands.spare ≡ None) → HasMadeRoom k v w
 room_reclaimed {k} {v} {w} {listed} back why = record {
   marks = Began v.allowance.place v.counts.waits 0 18446744073709551615 ∷ (Ended v.allowance.place v.counts.waits ∷ []);
   gone = reclaim_gone back;
@@ -66,16 +69,16 @@ room_reclaimed {k} {v} {w} {listed} back why = record {
 }
 
 -- Nothing of the place's own was left before.
-pub room_later : {v w x : View} → HasGone v w [] → KeepsWaits v w → w.hands.retired ≡ v.hands.retired → w.hands.spare ≡ v.hands.spare
-    → HasMadeRoom w x → HasMadeRoom v x
-room_later {v} {w} {x} g same retired spare r = record {
+pub room_later : {k : Shape} {v w x : View} → HasGone v w [] → KeepsWaits v w → w.hands.retired ≡ v.hands.retired → w.hands.spare ≡ v.hands.spare
+    → HasMadeRoom k w x → HasMadeRoom k v x
+room_later {k} {v} {w} {x} g same retired spare r = record {
   marks = r.marks;
   gone = gone_on g r.gone;
   waited = ⊎_elim (λ (none : r.marks ≡ []). inl none)
-      (λ (f : HasWaitedForRoom w r.marks). inr (record {
+      (λ (f : HasWaitedForRoom k w r.marks). inr (record {
         count = f.count;
         marks_are = f.marks_are ∙ ap (λ p. Began p f.count 0 18446744073709551615 ∷ (Ended p f.count ∷ [])) g.same;
-        why = ⊎_elim (λ (many : 15 ≤ length w.hands.retired). inl (subst (λ (rs : List Retired). 15 ≤ length rs) retired many))
+        why = ⊎_elim (λ (many : k.room ≤ length w.hands.retired + 1). inl (subst (λ (rs : List Retired). k.room ≤ length rs + 1) retired many))
             (λ (none : w.hands.spare ≡ None). inr (sym spare ∙ none)) f.why;
       })) r.waited;
   waits = subst (λ n. n ≤ x.counts.waits) same.count r.waits;
@@ -83,7 +86,7 @@ room_later {v} {w} {x} g same retired spare r = record {
 }
 
 module _ {k : Shape} {v : View} (quiet : IsQuiet v) where
-  pub ready_at_once : length v.hands.retired < 15 → v.hands.spare ≢ None → IsReadyToDelete k v v
+  pub ready_at_once : length v.hands.retired + 1 < k.room → v.hands.spare ≢ None → IsReadyToDelete k v v
   ready_at_once few given = λ key kept fits paid.
       record {
         outside = quiet.section;
@@ -91,20 +94,20 @@ module _ {k : Shape} {v : View} (quiet : IsQuiet v) where
         at = λ seated. begins_delete quiet seated.works seated.some_place fits paid few given;
       }
 
-  pub ready_reclaimed : {w : View} {listed : List ℕ} → 15 ≤ length v.hands.retired
+  pub ready_reclaimed : {w : View} {listed : List ℕ} → 2 ≤ k.room → k.room ≤ length v.hands.retired + 1
       → ((t : ℕ) → times t listed ≡ times t (map (λ (r : Retired). r.slot) v.hands.retired)) → HasReclaimed k v listed w
       → IsReadyToDelete k v w
-  ready_reclaimed many same back = λ key kept fits paid. record {
+  ready_reclaimed roomy many same back = λ key kept fits paid. record {
     outside = ap (λ (z : View). z.section) back.rest ∙ quiet.section;
     unlocked = ap (λ (z : View). z.locks) back.rest ∙ quiet.locks;
     at = λ seated.
         (let works = subst (λ n. 1 ≤ n) (ap (λ (z : View). z.allowance.places) back.rest) seated.works in
-        let some : v.hands.retired ≢ [] = λ none. (let long = ap length none in absurd (omega (arith, many, long))) in
+        let some : v.hands.retired ≢ [] = λ none. (let long = ap length none in absurd (omega (arith, roomy, many, long))) in
         reclaims_room (begins_room quiet works seated.some_place fits paid many) (gives_all (λ _. some) same back));
   }
 
   -- A spare is taken.
-  module _ (few : length v.hands.retired < 15) (none : v.hands.spare ≡ None) where
+  module _ (few : length v.hands.retired + 1 < k.room) (none : v.hands.spare ≡ None) where
     reserving : IsSeated k v → (key kept : ℕ) → key < 2 ^ 64 → kept + 4 ≤ v.allowance.tickets → IsAt k (Del key) kept (at.Reserve Spare 1) v
     reserving seated key kept fits paid = begins_spare quiet seated.works seated.some_place fits paid few none 1 (omega arith)
 
@@ -120,7 +123,7 @@ module _ {k : Shape} {v : View} (quiet : IsQuiet v) where
         pub ready_kept : IsReadyToDelete k v x
         ready_kept = λ key kept fits paid. may_begin (passes_keep (keeping t.before.tells.some_place key kept fits paid) t)
 
-        pub room_kept : IsPrefix v.trail.steps w.trail.steps → HasMadeRoom v x
+        pub room_kept : IsPrefix v.trail.steps w.trail.steps → HasMadeRoom k v x
         room_kept steps = record {
           marks = [];
           gone = gone_stays (taken_gone taken steps) (stays (acts.KeepAsSpare slot) refl t);
@@ -159,7 +162,7 @@ module _ {k : Shape} {v : View} (quiet : IsQuiet v) where
               (gives_all empty.spare_comes same back);
         }
 
-        pub room_spare : IsPrefix v.trail.steps w.trail.steps → HasMadeRoom v x
+        pub room_spare : IsPrefix v.trail.steps w.trail.steps → HasMadeRoom k v x
         room_spare steps = room_later (none_gone empty steps) (record
             { wait = ap (λ (z : View). z.wait) empty.rest; count = ap (λ (z : View). z.counts.waits) empty.rest })
             (ap (λ (z : View). z.hands.retired) empty.rest) (ap (λ (z : View). z.hands.spare) empty.rest)

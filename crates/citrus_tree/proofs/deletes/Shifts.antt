@@ -36,7 +36,7 @@ copy_odd d u a = ((a.fits.point).0).turn_is
 
 -- the right of the old successor is a slot, or there is none: its number fits 32 bits
 right_fits : {k : Shape} {op : Op} {kept child : ℕ} {v : View} {h : List Mark} {word : Field → ℕ} (m : Moving)
-    → IsAt k op kept (at.Unlink m child) v → IsToldOf k.slots k.places v h word → child < 4294967296
+    → IsAt k op kept (at.Unlink m child) v → IsToldOf k.slots k.places k.room v h word → child < 4294967296
 right_fits {child = child} {v = v} m a told =
     let p = a.fits.point in
     let i = (p.0).move in
@@ -45,7 +45,7 @@ right_fits {child = child} {v = v} m a told =
 
 -- so the number that is taken for it is it
 pub unlinking : {k : Shape} {op : Op} {kept right child : ℕ} {v : View} {h : List Mark} {word : Field → ℕ} (m : Moving)
-    → (right < 4294967296 → child ≡ right) → IsToldOf k.slots k.places v h word → IsAt k op kept (at.Unlink m right) v
+    → (right < 4294967296 → child ≡ right) → IsToldOf k.slots k.places k.room v h word → IsAt k op kept (at.Unlink m right) v
     → IsAt k op kept (at.Unlink m child) v
 unlinking {k} {op} {kept} {right} {child} {v} m is told a = subst (λ x. IsAt k op kept (at.Unlink m x) v) (sym (is (right_fits m a told))) a
 

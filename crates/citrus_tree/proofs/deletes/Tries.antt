@@ -176,18 +176,18 @@ pub tried_retires : {k : Shape} {key : ℕ} (r l q y : SeatAt) (number : ℕ) �
 tried_retires {key = key} r l q y number t s same x = retires_before r q y key number (gone_on t.gone s.gone) (inl same) x
 
 -- The call whole: what came before its first search, and the rest.
-module _ {v u : View} (room : HasMadeRoom v u) (key : ℕ) where
+module _ {k : Shape} {v u : View} (room : HasMadeRoom k v u) (key : ℕ) where
   place_first : u.allowance.place ≡ v.allowance.place
   place_first = room.gone.same
 
   first_each : AllByRecursion (IsOfTry v.allowance.place key) room.marks
   first_each = ⊎_elim (λ (bare : room.marks ≡ []). subst (AllByRecursion (IsOfTry v.allowance.place key)) (sym bare) tt)
-      (λ (f : HasWaitedForRoom v room.marks). subst (AllByRecursion (IsOfTry v.allowance.place key)) (sym f.marks_are)
+      (λ (f : HasWaitedForRoom k v room.marks). subst (AllByRecursion (IsOfTry v.allowance.place key)) (sym f.marks_are)
       ((refl, refl, refl), (refl, tt))) room.waited
 
   first_once : waits_in room.marks ≤ 1
   first_once = ⊎_elim (λ (bare : room.marks ≡ []). subst (λ ms. waits_in ms ≤ 1) (sym bare) (omega arith))
-      (λ (f : HasWaitedForRoom v room.marks). subst (λ ms. waits_in ms ≤ 1) (sym f.marks_are) (omega arith)) room.waited
+      (λ (f : HasWaitedForRoom k v room.marks). subst (λ ms. waits_in ms ≤ 1) (sym f.marks_are) (omega arith)) room.waited
 
   all_tries : (ms : List Mark) → waits_in ms ≡ 0 → AreTries u.allowance.place key ms → AreTries v.allowance.place key (room.marks ++ ms)
   all_tries ms bare are = record {
@@ -232,13 +232,13 @@ module _ {v u : View} (room : HasMadeRoom v u) (key : ℕ) where
   dels_by ms bare w (Val value) number d = absurd d
   dels_by ms bare w (Was value) number d = absurd d
 
-  pub dels : (w : View) (told : Told) → DelsAtOnce u key told w → Dels v key told w
+  pub dels : (w : View) (told : Told) → DelsAtOnce u key told w → Dels k v key told w
   dels w told (ms, by, bare) = (
     room.marks ++ ms,
     dels_by ms bare w told.reply told.number by,
     λ some. ⊎_elim (λ (e : room.marks ≡ []). absurd
         (let f : waits_in room.marks ≡ 0 = ap waits_in e in let split = waits_in-append room.marks ms in omega arith))
-        (λ (f : HasWaitedForRoom v room.marks). f.why) room.waited,
+        (λ (f : HasWaitedForRoom k v room.marks). f.why) room.waited,
   )
 
   pub keeps_wait : (w : View) → KeepsWait u w → KeepsWait v w
@@ -254,8 +254,8 @@ dels_keep v w key number ms Full d = absurd d
 dels_keep v w key number ms (Val value) d = absurd d
 dels_keep v w key number ms (Was value) d = absurd d
 
-pub dels_allowance : (v w : View) (key : ℕ) (told : Told) → Dels v key told w → KeepsAllowance v w
-dels_allowance v w key told d = dels_keep v w key told.number d.0 told.reply d.1
+pub dels_allowance : (k : Shape) (v w : View) (key : ℕ) (told : Told) → Dels k v key told w → KeepsAllowance v w
+dels_allowance k v w key told d = dels_keep v w key told.number d.0 told.reply d.1
 
 -- What a call that is ready and comes to its end leaves: the seat is quiet, and it used four tickets at most.
 module _ {k : Shape} (v : View) {u w : View} {key : ℕ} (ready : IsReadyToDelete k v u) (fits : key < 2 ^ 64)

@@ -254,7 +254,7 @@ told_taken None gone some known takes = absurd (let q : false ≡ true = some in
 told_taken {x = x} {key = key} {number = number} (Some value) gone some known takes =
     subst (λ p. TookOut (updates_of x.seen) p key value number) gone.same (takes.took value known)
 
-pub told_since : {v u : View} (w : View) (key : ℕ) (told : Reply) (o : Option ℕ) → HasMadeRoom v u → TellsValue u key told o w
+pub told_since : {k : Shape} {v u : View} (w : View) (key : ℕ) (told : Reply) (o : Option ℕ) → HasMadeRoom k v u → TellsValue u key told o w
     → TellsValue v key told o w
 told_since w key told (Some value) room tells =
     (tells.0, subst (λ p. TookOut (updates_of w.seen) p key value told.number) room.gone.same tells.1)

@@ -210,7 +210,7 @@ module _ {k : Shape} {v x y : View} {listed : List ℕ} (none : FoundNone k v x)
           since = g.gone.begins;
           made = (reclaim_gone back).begins;
           fills = subst (λ (rs : List Retired). k.slots
-              ≤ finite.len (map_of (updates_of x.seen)) + length rs + 20 * (k.places - 1)) g.retired (none_is_full none a);
+              ≤ finite.len (map_of (updates_of x.seen)) + length rs + (k.room + 4) * (k.places - 1)) g.retired (none_is_full none a);
         };
         none = reclaim_retired back;
         wait = first_later (none_begun g.gone g.waits g.wait) (reclaimed_first back);

@@ -171,7 +171,7 @@ module _ {k : Shape} {v w : View} {key : ℕ} {marks : List Mark} (s : Since k v
                 since = prefix_trans v.seen w.seen r.needed.until s.gone.begins r.needed.since;
                 made = r.needed.made;
                 fills = subst (λ (rs : List Retired). k.slots
-                    ≤ finite.len (map_of (updates_of r.needed.until)) + length rs + 20 * (k.places - 1)) u.retired r.needed.fills;
+                    ≤ finite.len (map_of (updates_of r.needed.until)) + length rs + (k.room + 4) * (k.places - 1)) u.retired r.needed.fills;
               };
               wait = first_later (none_begun s.gone u.waits u.wait) r.wait;
             }))

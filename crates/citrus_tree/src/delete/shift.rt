@@ -190,7 +190,7 @@ fn finish<P: Patience, W: WaitPart, G: Gate>(
     requires small { 2 * moving.successor.generation < 2 ^ 64 }
     requires listed { (slot : ℕ) → times slot seat.old.listed + times slot (moving.node.node ∷ [])
         ≡ times slot (retired_slots seat.old.view) }
-    requires few { length seat.old.listed < 15 }
+    requires few { length seat.old.listed + 1 < table.now.room }
     requires above { key < moving.next_key }
     ensures table { seat.new.table ≡ seat.old.table }
     ensures done { IfOk result (λ _. (kept : ℕ) → IsAt (shape_of W.WAY table.now) (Del key) kept

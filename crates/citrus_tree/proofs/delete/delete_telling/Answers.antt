@@ -1,3 +1,4 @@
+use Rattle.seat_table.specs.Seats.{shape_of}
 use Rattle.citrus_tree.proofs.deletes.Tries.{dels, dels_allowance, ends_quiet, ends_tickets, keeps_wait}
 use Rattle.citrus_tree.proofs.KeepingSlots.{slots_on}
 use Rattle.citrus_tree.proofs.deletes.Retiring.{retires_before, when_gone}
@@ -31,7 +32,9 @@ pub delete-requires-clause-at : goal.delete-requires-clause-at
 delete-requires-clause-at g c = (0, c.in_ok-make_room.ensures.at c.args.key 0 c.ranges.key.fits c.requires.tickets)
 
 pub returns-clause-allowance : goal.returns-clause-allowance
-returns-clause-allowance g c = dels_allowance c.args.seat.now.view c.delete.new.seat.view c.args.key c.in_ok-removed.removed.told
+returns-clause-allowance g c =
+    dels_allowance (shape_of g.W.WaitWords.WAY c.args.table.now) c.args.seat.now.view c.delete.new.seat.view c.args.key
+    c.in_ok-removed.removed.told
     (returns-clause-dels g c)
 
 pub returns-clause-retires : goal.returns-clause-retires

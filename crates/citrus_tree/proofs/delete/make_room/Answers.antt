@@ -1,8 +1,8 @@
-use Rattle.std.proofs.Common.{◌<◌, ◌≤◌, length, sym, ap, ◌∙◌, inl, inr, refl, arith}
+use Rattle.std.proofs.Common.{◌+◌, ◌<◌, ◌≤◌, length, sym, ap, ◌∙◌, inl, inr, refl, arith}
 use Rattle.node_slots.proofs.Listed.{listed_length}
 use Rattle.node_slots.proofs.Points.{reclaim_retired}
 use Rattle.tree_points.proofs.Ends.{none_raised}
-use Rattle.citrus_tree.proofs.deletes.Room.{empty_listed, given_spare, no_spare, ready_at_once, ready_reclaimed, room_reclaimed, room_same}
+use Rattle.citrus_tree.proofs.deletes.Room.{empty_listed, given_spare, no_spare, ready_at_once, ready_reclaimed, room_reclaimed, room_same, same_room}
 use Rattle.citrus_tree.proofs.KeepingSlots.{slots_reclaimed, slots_self}
 use Rattle.citrus_tree.proofs.delete.make_room.Goals as goal
 
@@ -21,8 +21,8 @@ reclaim-requires-clause-paid g c = c.requires.quiet.view.owes
 pub reclaim-requires-clause-listed : goal.reclaim-requires-clause-listed
 reclaim-requires-clause-listed g c = c.requires.quiet.listed
 
-pub returns-then-retired-ge15-clause-listed : goal.returns-then-retired-ge15-clause-listed
-returns-then-retired-ge15-clause-listed g c =
+pub returns-then-retired-room-clause-listed : goal.returns-then-retired-room-clause-listed
+returns-then-retired-room-clause-listed g c =
     empty_listed c.reclaim.new.seat c.in_ok-reclaim.ensures.listed (reclaim_retired c.in_ok-reclaim.ensures.view)
 
 pub take_spare-requires-clause-none : goal.take_spare-requires-clause-none
@@ -35,43 +35,47 @@ returns-then-is_some-clause-listed g c = c.requires.quiet.listed
 pub reclaim-requires-clause-unraised : goal.reclaim-requires-clause-unraised
 reclaim-requires-clause-unraised g c = none_raised c.args.seat.now.view.hands.retired c.requires.quiet.view.raised
 
-pub returns-then-retired-ge15-clause-at : goal.returns-then-retired-ge15-clause-at
-returns-then-retired-ge15-clause-at g c =
-    let many : 15 ≤ length c.args.seat.now.view.hands.retired =
-    (let a = c.if-retired-ge15.true in let b = ap length c.retired.ensures in
-    let e = listed_length c.args.seat.now c.requires.quiet.listed in omega arith) in
-    ready_reclaimed c.requires.quiet.view many c.requires.quiet.listed.each c.in_ok-reclaim.ensures.view
+pub returns-then-retired-room-clause-at : goal.returns-then-retired-room-clause-at
+returns-then-retired-room-clause-at g c =
+    let many : c.args.table.now.room ≤ length c.args.seat.now.view.hands.retired + 1 =
+    (let a = c.if-retired-room.true in let b = ap length c.retired.ensures in let d = c.room.ensures.room in
+    let e = listed_length c.args.seat.now c.requires.quiet.listed in let f = same_room c.requires.table in omega arith) in
+    let roomy : 2 ≤ c.args.table.now.room = (let least = c.room.ensures.few.0 in let d = c.room.ensures.room in
+    let f = same_room c.requires.table in omega arith) in
+    ready_reclaimed c.requires.quiet.view roomy many c.requires.quiet.listed.each c.in_ok-reclaim.ensures.view
 
-pub returns-then-retired-ge15-clause-room : goal.returns-then-retired-ge15-clause-room
-returns-then-retired-ge15-clause-room g c =
-    let many : 15 ≤ length c.args.seat.now.view.hands.retired =
-    (let a = c.if-retired-ge15.true in let b = ap length c.retired.ensures in
-    let e = listed_length c.args.seat.now c.requires.quiet.listed in omega arith) in
+pub returns-then-retired-room-clause-room : goal.returns-then-retired-room-clause-room
+returns-then-retired-room-clause-room g c =
+    let many : c.args.table.now.room ≤ length c.args.seat.now.view.hands.retired + 1 =
+    (let a = c.if-retired-room.true in let b = ap length c.retired.ensures in let d = c.room.ensures.room in
+    let e = listed_length c.args.seat.now c.requires.quiet.listed in let f = same_room c.requires.table in omega arith) in
     room_reclaimed c.in_ok-reclaim.ensures.view (inl many)
 
 pub returns-then-is_some-clause-at : goal.returns-then-is_some-clause-at
 returns-then-is_some-clause-at g c =
-    let few : length c.args.seat.now.view.hands.retired < 15 =
-    (let a = c.if-retired-ge15.false in let b = ap length c.retired.ensures in
-    let e = listed_length c.args.seat.now c.requires.quiet.listed in omega arith) in
+    let few : length c.args.seat.now.view.hands.retired + 1 < c.args.table.now.room =
+    (let a = c.if-retired-room.false in let b = ap length c.retired.ensures in let d = c.room.ensures.room in
+    let e = listed_length c.args.seat.now c.requires.quiet.listed in let f = same_room c.requires.table in omega arith) in
     ready_at_once c.requires.quiet.view few (given_spare c.spare.result c.args.seat.now.view.hands.spare c.spare.ensures
     (sym c.is_some.ensures ∙ c.if-is_some.true))
 
 pub take_spare-requires-clause-few : goal.take_spare-requires-clause-few
 take_spare-requires-clause-few g c =
-    let many = c.if-retired-ge15.false in
+    let many = c.if-retired-room.false in
     let same = ap length c.retired.ensures in
     let long = listed_length c.args.seat.now c.requires.quiet.listed in
+    let room = c.room.ensures.room in
+    let table = same_room c.requires.table in
     omega arith
 
-pub returns-then-retired-ge15-clause-slots : goal.returns-then-retired-ge15-clause-slots
-returns-then-retired-ge15-clause-slots g c = slots_reclaimed c.args.seat.now c.reclaim.new.seat c.in_ok-reclaim.ensures.view
+pub returns-then-retired-room-clause-slots : goal.returns-then-retired-room-clause-slots
+returns-then-retired-room-clause-slots g c = slots_reclaimed c.args.seat.now c.reclaim.new.seat c.in_ok-reclaim.ensures.view
 
 pub returns-then-is_some-clause-slots : goal.returns-then-is_some-clause-slots
 returns-then-is_some-clause-slots g c = slots_self c.args.seat.now
 
-pub returns-then-retired-ge15-clause-kept : goal.returns-then-retired-ge15-clause-kept
-returns-then-retired-ge15-clause-kept g c = inr c.in_ok-reclaim.ensures.listed
+pub returns-then-retired-room-clause-kept : goal.returns-then-retired-room-clause-kept
+returns-then-retired-room-clause-kept g c = inr c.in_ok-reclaim.ensures.listed
 
 pub returns-then-is_some-clause-kept : goal.returns-then-is_some-clause-kept
 returns-then-is_some-clause-kept g c = inl refl
@@ -79,11 +83,13 @@ returns-then-is_some-clause-kept g c = inl refl
 pub returns-then-is_some-clause-room : goal.returns-then-is_some-clause-room
 returns-then-is_some-clause-room g c = room_same c.args.seat.now.view
 
-pub returns-then-retired-ge15-clause-at_once : goal.returns-then-retired-ge15-clause-at_once
-returns-then-retired-ge15-clause-at_once g c few some =
-    let many = c.if-retired-ge15.true in
+pub returns-then-retired-room-clause-at_once : goal.returns-then-retired-room-clause-at_once
+returns-then-retired-room-clause-at_once g c few some =
+    let many = c.if-retired-room.true in
     let same = ap length c.retired.ensures in
     let long = listed_length c.args.seat.now c.requires.quiet.listed in
+    let room = c.room.ensures.room in
+    let table = same_room c.requires.table in
     absurd (omega arith)
 
 pub returns-then-is_some-clause-at_once : goal.returns-then-is_some-clause-at_once

@@ -4,17 +4,19 @@ use Rattle.seat_table.specs.Seats.{shape_of}
 use Rattle.cookie_client.proofs.Leaving.{room_allows}
 use Rattle.cookie_client.proofs.settling.make_room.Goals as goal
 
-pub returns-then-retired-lt-TOO_MANY-clause-room : goal.returns-then-retired-lt-TOO_MANY-clause-room
-returns-then-retired-lt-TOO_MANY-clause-room g c =
-    let few = c.if-retired-lt-TOO_MANY.true in
+pub returns-then-retired-room-clause-room : goal.returns-then-retired-room-clause-room
+returns-then-retired-room-clause-room g c =
+    let few = c.if-retired-room.true in
     let same = ap length c.retired.ensures in
+    let room = c.room.ensures.room in
     let long = listed_length c.args.seat.now c.requires.quiet.listed in
     inl (λ lacks. (let many = lacks.1 in absurd (omega arith)), refl, refl)
 
 pub returns-clause-room : goal.returns-clause-room
 returns-clause-room g c =
-    let many = c.if-retired-lt-TOO_MANY.false in
+    let many = c.if-retired-room.false in
     let same = ap length c.retired.ensures in
+    let room = c.room.ensures.room in
     let long = listed_length c.args.seat.now c.requires.quiet.listed in
     inr (((c.in-Del.key, c.in-Del.is), omega arith), refl, c.ask_until_none.ensures.asks)
 

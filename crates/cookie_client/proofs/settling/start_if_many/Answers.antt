@@ -3,17 +3,19 @@ use Rattle.node_slots.proofs.Listed.{listed_length}
 use Rattle.cookie_client.proofs.Leaving.{none_started_few, one_started}
 use Rattle.cookie_client.proofs.settling.start_if_many.Goals as goal
 
-pub returns-then-retired-lt-MANY-clause-starts : goal.returns-then-retired-lt-MANY-clause-starts
-returns-then-retired-lt-MANY-clause-starts g c =
-    let few = c.if-retired-lt-MANY.true in
+pub returns-then-retired-room-clause-starts : goal.returns-then-retired-room-clause-starts
+returns-then-retired-room-clause-starts g c =
+    let few = c.if-retired-room.true in
     let same = ap length c.retired.ensures in
+    let room = c.room.ensures.room in
     let long = listed_length c.args.seat.now c.requires.quiet.listed in
     none_started_few c.args.held c.args.seat.now (sym c.is_some.ensures ∙ c.if-is_some.false) (omega arith)
 
 pub returns-clause-starts : goal.returns-clause-starts
 returns-clause-starts g c =
-    let many = c.if-retired-lt-MANY.false in
+    let many = c.if-retired-room.false in
     let same = ap length c.retired.ensures in
+    let room = c.room.ensures.room in
     let long = listed_length c.args.seat.now c.requires.quiet.listed in
     one_started c.args.held c.args.seat.now c.start.result c.start.new.seat (sym c.is_some.ensures ∙ c.if-is_some.false) (record {
       many = omega arith;

@@ -12,6 +12,7 @@ use Rattle.citrus_tree.proofs.deletes.Updates.{done_still}
 use Rattle.citrus_tree.proofs.deletes.Values.{takes_more}
 use Rattle.citrus_tree.proofs.KeepingSlots.{slots_more}
 use Rattle.citrus_tree.specs.Gone.{retired_marks}
+use Rattle.citrus_tree.proofs.deletes.Room.{same_room}
 use Rattle.citrus_tree.proofs.delete.bypass.bypass.Goals as goal
 
 pub unlock-requires-clause-asks : goal.unlock-requires-clause-asks
@@ -52,9 +53,11 @@ list_retired-requires-clause-unlisted g c = λ told.
 
 pub list_retired-requires-clause-few : goal.list_retired-requires-clause-few
 list_retired-requires-clause-few g c =
-    let few = few_listed c.args.seat.now c.args.node (c.requires.at).1 c.requires.listed in
+    let few = few_listed c.args.seat.now c.args.node (c.requires.at).1 c.unlock.ensures.told.before.tells.some_room
+    c.requires.listed in
     let listed = ap length ((c.unlock-2.ensures.seat).1 ∙ (c.unlock.ensures.seat).1 ∙ (c.link_past.ensures.seat).1) in
-    omega (arith, few, listed)
+    let room = same_room ((c.unlock-2.ensures.seat).0 ∙ (c.unlock.ensures.seat).0 ∙ (c.link_past.ensures.seat).0 ∙ c.requires.table) in
+    omega (arith, few, listed, room)
 
 pub returns-clause-done : goal.returns-clause-done
 returns-clause-done g c = λ kept a.

@@ -18,6 +18,7 @@ use Rattle.citrus_tree.proofs.KeepingSlots.{waited_later}
 use Rattle.citrus_tree.proofs.KeepingWaits.{first_stays, waited_first}
 use Rattle.citrus_tree.specs.Replies.{IsUnlinkedSince}
 use Rattle.citrus_tree.proofs.deletes.Retiring.{unlinked_on}
+use Rattle.citrus_tree.proofs.deletes.Room.{same_room}
 use Rattle.citrus_tree.proofs.delete.shift.finish.Goals as goal
 
 pub between-requires : goal.between-requires
@@ -63,7 +64,9 @@ list_retired-requires-clause-unlisted g c = λ told there.
 pub list_retired-requires-clause-few : goal.list_retired-requires-clause-few
 list_retired-requires-clause-few g c = let few = c.requires.few in
     let same = ap length ((c.unlock_all.ensures.seat).1 ∙ (c.unlink_old.ensures.seat).1 ∙ (c.wait_in_grace.ensures.seat).1) in
-    omega (arith, few, same)
+    let room = same_room ((c.unlock_all.ensures.seat).0
+    ∙ (c.unlink_old.ensures.seat).0 ∙ (c.wait_in_grace.ensures.seat).0 ∙ c.requires.table) in
+    omega (arith, few, same, room)
 
 pub list_retired-requires-2-clause-retired : goal.list_retired-requires-2-clause-retired
 list_retired-requires-2-clause-retired g c =
@@ -101,7 +104,9 @@ list_retired-requires-2-clause-few g c =
     ∙ ap (λ xs. xs ++ c.args.moving.node.node ∷ [])
     ((c.unlock_all.ensures.seat).1 ∙ (c.unlink_old.ensures.seat).1 ∙ (c.wait_in_grace.ensures.seat).1))
     ∙ length_more c.args.seat.now.listed c.args.moving.node.node in
-    omega (arith, few, same)
+    let room = same_room ((c.list_retired.ensures.seat).0 ∙ (c.unlock_all.ensures.seat).0
+    ∙ (c.unlink_old.ensures.seat).0 ∙ (c.wait_in_grace.ensures.seat).0 ∙ c.requires.table) in
+    omega (arith, few, same, room)
 
 pub returns-clause-done : goal.returns-clause-done
 returns-clause-done g c = λ kept a.

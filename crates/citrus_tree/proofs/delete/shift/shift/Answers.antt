@@ -100,7 +100,8 @@ finish-requires-clause-listed g c = λ t.
 
 pub finish-requires-clause-few : goal.finish-requires-clause-few
 finish-requires-clause-few g c =
-    let few = few_moved c.args.seat.now c.args.node c.args.successor (c.requires.at).1 c.requires.listed in
+    let few = few_moved c.args.seat.now c.args.node c.args.successor (c.requires.at).1
+    c.lock.ensures.told.before.tells.some_room c.requires.listed in
     let same = ap length ((c.link_copy.ensures.seat).1 ∙ (c.lock.ensures.seat).1 ∙ (c.fill_copy-next_key.ensures.seat).1) in
     omega (arith, few, same)
 
