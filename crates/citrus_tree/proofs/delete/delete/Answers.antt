@@ -120,9 +120,9 @@ loop-round-preserved g c = record {
       let made = c.loop-round.invariant.made in
       let found = c.in_ok-target.ensures.stepped in
       let rest = subst (λ (r : Option TakenOut). IfNone r
-          (KeepsRest c.find_target.new.seat.view c.take_out.new.seat.view)) c.in_default-2.is c.in_ok-taken.ensures.same in
+      (KeepsRest c.find_target.new.seat.view c.take_out.new.seat.view)) c.in_default-2.is c.in_ok-taken.ensures.same in
       let tried = prefix_steps c.find_target.new.seat.view c.take_out.new.seat.view rest.gone.steps in
-          omega (arith, made, found, tried);
+      omega (arith, made, found, tried);
 }
 
 pub returns-in_default-clause-slots : goal.returns-in_default-clause-slots

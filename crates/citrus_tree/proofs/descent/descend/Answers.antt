@@ -28,7 +28,7 @@ loop-round-preserved g c = record {
       let loads = c.in-Moved.ensures.loads.1 in
       let link = told_steps loads.2 in
       let key = told_steps loads.3 in
-          omega (arith, made, link, key);
+      omega (arith, made, link, key);
 }
 
 pub returns-in-Found-clause-searching : goal.returns-in-Found-clause-searching

@@ -161,7 +161,7 @@ loop-round-preserved g c = record {
       let taken = room_steps c.in_ok-leaf.ensures.room in
       let tried = prefix_steps c.leaf_in_hand.new.seat.view c.link_leaf.new.seat.view (c.in_ok-number.ensures.again
       c.in_default-3.is).gone.steps in
-          omega (arith, made, found, taken, tried);
+      omega (arith, made, found, taken, tried);
 }
 
 pub returns-in_default-clause-slots : goal.returns-in_default-clause-slots

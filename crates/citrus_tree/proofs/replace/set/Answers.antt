@@ -98,7 +98,7 @@ loop-round-preserved g c = record {
       let found = c.in_ok-holder.ensures.stepped in
       let tried = prefix_steps c.find_holder.new.seat.view c.store_value.new.seat.view (c.in_ok-done.ensures.again
       c.in_default-2.is).gone.steps in
-          omega (arith, made, found, tried);
+      omega (arith, made, found, tried);
 }
 
 pub returns-in_default-clause-slots : goal.returns-in_default-clause-slots

@@ -37,7 +37,7 @@ loop-round-preserved-then-key-from g c = record {
       let made = c.loop-round.invariant.made in
       let key = told_steps c.list_load-key.ensures.told in
       let link = told_steps c.list_load-link.ensures.told in
-          omega (arith, made, key, link);
+      omega (arith, made, key, link);
 }
 
 pub list_load-link-requires-in-loop-round-clause-asks : goal.list_load-link-requires-in-loop-round-clause-asks
@@ -54,5 +54,5 @@ loop-round-preserved g c = record {
       let made = c.loop-round.invariant.made in
       let key = told_steps c.list_load-key.ensures.told in
       let link = told_steps c.list_load-link-in-loop-round.ensures.told in
-          omega (arith, made, key, link);
+      omega (arith, made, key, link);
 }

@@ -55,7 +55,7 @@ loop-round-preserved-in-Lost g c =
           let made = i.made in
           let down = makes_steps c.loop-round.seat.view c.descend.new.seat.view c.in_ok-descend.ensures.ended.0.made in
           let link = told_steps c.list_load-link-in-Lost.ensures.told in
-              omega (arith, made, down, link);
+          omega (arith, made, down, link);
     }
 
 pub returns-then-key-high-clause-gathered : goal.returns-then-key-high-clause-gathered
@@ -115,5 +115,5 @@ loop-round-preserved g c =
           let down = makes_steps c.loop-round.seat.view c.descend.new.seat.view c.in_ok-descend.ensures.ended.0.made in
           let value = told_steps c.list_load-value.ensures.told in
           let link = told_steps c.list_load-link-in-loop-round.ensures.told in
-              omega (arith, made, down, value, link);
+          omega (arith, made, down, value, link);
     }

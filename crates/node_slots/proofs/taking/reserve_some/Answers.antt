@@ -38,5 +38,5 @@ loop-round-preserved g c = record {
       let made = c.loop-round.invariant.made in
       let tried = step_more c.loop-round.seat.view c.reserve.new.seat.view _ (ap (λ (z : View). z.trail.steps) c.in-Lost.ensures.view.rest)
       in
-          omega (arith, made, tried);
+      omega (arith, made, tried);
 }

@@ -24,7 +24,7 @@ returns-in-Over-clause-waited g c = let i = c.loop-round.invariant in (
   i.began,
   i.begun,
   polls_end (shape_of g.W.WaitWords.WAY c.args.table.now) i.began c.loop-round.seat.view c.poll.new.seat.view c.loop-round.grace
-  c.poll.new.grace
+      c.poll.new.grace
       i.going c.in-Over.ensures.polled,
 )
 
