@@ -17,7 +17,7 @@ use Rattle.client_run.proofs.Crews.{crew_ready, crew_keeps, crew_has_told, entri
 use Rattle.seat_table.specs.Seats.{TableAt, SeatAt, KeepsOwn}
 use Rattle.seat_table.specs.Gains.{IsInformed, StaysIn}
 use Rattle.citrus_tree.specs.Clients.{ClientAt, room_of}
-use Rattle.citrus_tree.proofs.Clients.{made_answers, chain_told}
+use Rattle.citrus_tree.proofs.Clients.{sixteen_room, made_answers, chain_told}
 use Rattle.cookie_client.proofs.Callers.{called_answers}
 use Rattle.tree_run.specs.Callers.{ScriptClientAt, left_of, tickets_last, CalledBy, HasCalled}
 use Rattle.tree_run.specs.declared.running.RunWith.{RunWith}
@@ -136,13 +136,14 @@ module _ {how : RunWith} {table : TableAt} {scripts : List (List Op)} {told : Li
     no_others : (p : ℕ) → length scripts ≤ p → updates_of (own_of p seat.view.seen) ≡ []
     no_others p past = ap updates_of (stays.others p (omega arith))
 
-    pub alone_explained : {slots : ℕ} {ts : List (Roomy Told)} → table.slots ≡ slots → ts ≡ told
+    pub alone_explained : {slots : ℕ} {ts : List (Roomy Told)} → table.slots ≡ slots → table.room ≡ 16 → ts ≡ told
         → AreExplainable scripts (entries_of ts) (updates_of seat.view.seen) slots
-    alone_explained {slots} {ts} many same = subst (λ xs. AreExplainable scripts (entries_of xs) (updates_of seat.view.seen) slots)
+    alone_explained {slots} {ts} many sixteen same = subst (λ xs. AreExplainable scripts (entries_of xs) (updates_of seat.view.seen) slots)
         (sym same) (record {
           lengths = run_told no_others;
           explained = subst (λ (room : Room). AreExplained room (updates_of seat.view.seen) (all_told_lines scripts (entries_of told)))
-              (λ j. record { scripts = places j; slots = many j }) (run_explained no_others);
+              (sixteen_room (shape_with how.waiter table) sixteen ∙ (λ j. record { scripts = places j; slots = many j }))
+              (run_explained no_others);
         })
 
     pub alone_marks : FitsScripts scripts seat.view.seen

@@ -38,7 +38,7 @@ run_with way cookies = record { waiter = way_of way; cookies = cookies }
 
 -- the shape of a table with this waiter
 abbrev pub shape_with : Waiter → TableAt → Shape
-shape_with waiter table = record { waiter = waiter; slots = table.slots; places = table.places; tickets = table.tickets }
+shape_with waiter table = record { waiter = waiter; slots = table.slots; places = table.places; room = table.room; tickets = table.tickets }
 
 -- the client for a script of this number and length
 abbrev pub client_for : RunWith → TableAt → ℕ → ℕ → ScriptClientAt

@@ -74,6 +74,7 @@ pub fn run_scripts<R: Threads + Wait + Sync, W: WaitPart + Send + Sync, G: Gate 
     ensures marks { IfOk result (λ run. FitsScripts scripts.now run.seat.view.seen) }
     ensures table { IfOk result (λ run. (run.table.slots ≡ slots) × (run.table.places ≡ length scripts.now)
         × (run.table.tickets ≡ tickets_for cookies (op_count scripts.now))) }
+    ensures room { IfOk result (λ run. run.table.room ≡ 16) }
     ensures seat { IfOk result (λ run. run.seat.table ≡ run.table) }
     ensures quiet { IfOk result (λ run. IsQuietSeat run.seat) }
     ensures informed { IfOk result (λ run. IsInformed run.seat.view) }

@@ -15,14 +15,14 @@ pub merge-requires-clause-lengths : goal.merge-requires-clause-lengths
 merge-requires-clause-lengths g c =
     let made = c.in_ok-table.ensures.table in
     let ran = c.in_ok-ran.ensures in
-    let all = alone_explained ran.run ran.stays (made.1 ∙ c.count.ensures.count) made.0 c.deref.ensures.value in
+    let all = alone_explained ran.run ran.stays (made.1 ∙ c.count.ensures.count) made.0 c.in_ok-table.ensures.room c.deref.ensures.value in
     all.lengths
 
 pub merge-requires-clause-numbers : goal.merge-requires-clause-numbers
 merge-requires-clause-numbers g c =
     let made = c.in_ok-table.ensures.table in
     let ran = c.in_ok-ran.ensures in
-    let all = alone_explained ran.run ran.stays (made.1 ∙ c.count.ensures.count) made.0 c.deref.ensures.value in
+    let all = alone_explained ran.run ran.stays (made.1 ∙ c.count.ensures.count) made.0 c.in_ok-table.ensures.room c.deref.ensures.value in
     AreOneToCount-own (updates_of c.in_ok-ran.ran.seat.view.seen)
     (all_told_lines c.args.scripts.now (entries_of c.deref.result.now)) all.explained.updates
 
@@ -30,16 +30,16 @@ pub returns-clause-explained : goal.returns-clause-explained
 returns-clause-explained g c =
     let made = c.in_ok-table.ensures.table in
     let ran = c.in_ok-ran.ensures in
-    let all = alone_explained ran.run ran.stays (made.1 ∙ c.count.ensures.count) made.0 c.deref.ensures.value in
+    let all = alone_explained ran.run ran.stays (made.1 ∙ c.count.ensures.count) made.0 c.in_ok-table.ensures.room c.deref.ensures.value in
     let history = c.in_ok-history.ensures.only (updates_of c.in_ok-ran.ran.seat.view.seen) all.explained.updates in
     subst (λ h. AreExplainable c.args.scripts.now (entries_of c.in_ok-ran.ran.told.items) h c.args.slots) (sym history)
-    (alone_explained ran.run ran.stays (made.1 ∙ c.count.ensures.count) made.0 refl)
+    (alone_explained ran.run ran.stays (made.1 ∙ c.count.ensures.count) made.0 c.in_ok-table.ensures.room refl)
 
 pub returns-clause-history : goal.returns-clause-history
 returns-clause-history g c =
     let made = c.in_ok-table.ensures.table in
     let ran = c.in_ok-ran.ensures in
-    let all = alone_explained ran.run ran.stays (made.1 ∙ c.count.ensures.count) made.0 c.deref.ensures.value in
+    let all = alone_explained ran.run ran.stays (made.1 ∙ c.count.ensures.count) made.0 c.in_ok-table.ensures.room c.deref.ensures.value in
     let history = c.in_ok-history.ensures.only (updates_of c.in_ok-ran.ran.seat.view.seen) all.explained.updates in
     history
 
@@ -47,7 +47,7 @@ pub returns-clause-legal : goal.returns-clause-legal
 returns-clause-legal g c =
     let made = c.in_ok-table.ensures.table in
     let ran = c.in_ok-ran.ensures in
-    let all = alone_explained ran.run ran.stays (made.1 ∙ c.count.ensures.count) made.0 c.deref.ensures.value in
+    let all = alone_explained ran.run ran.stays (made.1 ∙ c.count.ensures.count) made.0 c.in_ok-table.ensures.room c.deref.ensures.value in
     let history = c.in_ok-history.ensures.only (updates_of c.in_ok-ran.ran.seat.view.seen) all.explained.updates in
     subst IsLegal (sym history) ran.run.informed.legal
 
@@ -55,7 +55,7 @@ pub returns-clause-within : goal.returns-clause-within
 returns-clause-within g c =
     let made = c.in_ok-table.ensures.table in
     let ran = c.in_ok-ran.ensures in
-    let all = alone_explained ran.run ran.stays (made.1 ∙ c.count.ensures.count) made.0 c.deref.ensures.value in
+    let all = alone_explained ran.run ran.stays (made.1 ∙ c.count.ensures.count) made.0 c.in_ok-table.ensures.room c.deref.ensures.value in
     let history = c.in_ok-history.ensures.only (updates_of c.in_ok-ran.ran.seat.view.seen) all.explained.updates in
     subst (λ h. StaysWithin h c.args.slots) (sym history)
     (subst (StaysWithin (updates_of c.in_ok-ran.ran.seat.view.seen)) made.0 ran.stays.within)
