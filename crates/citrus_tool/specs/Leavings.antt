@@ -47,15 +47,16 @@ abbrev pub LeavesSome : List (List Op) → Ran → Type 0 → Type 0
 LeavesSome [] ran left = ran ≡ Nothing
 LeavesSome (script ∷ scripts) ran left = left
 
--- The tree on which the scripts ran, which has so many slots and places, and the tickets for their operations; and the one seat into which
--- those of all its places were joined. Each script's calls were made there by a client of its own, which holds cookies or doesn't, and
--- were told this. The seat is quiet, answers for every place, and is informed, so it may go on.
+-- The tree on which the scripts ran, which has so many slots and places, room for 16 retired slots at each, and the tickets for their
+-- operations; and the one seat into which those of all its places were joined. Each script's calls were made there by a client of its own,
+-- which holds cookies or doesn't, and were told this. The seat is quiet, answers for every place, and is informed, so it may go on.
 pub record IsTreeLeftOf (how : RunWith) (scripts : List (List Op)) (slots places : ℕ) (told : List (Roomy Told)) (history : List Update)
     (table : tree.TableAt) (seat : tree.SeatAt) : Type 0 where
   pub run : HasRun how table scripts told seat
   pub of_table : seat.table ≡ table
   pub slots_are : table.slots ≡ slots
   pub places_are : table.places ≡ places
+  pub room_is : table.room ≡ 16
   pub tickets : table.tickets ≡ tickets_for how.cookies (op_count scripts)
   pub quiet : tree.IsQuietSeat seat
   pub answers : (place : ℕ) → place < places → 1 ≤ times place (places_of seat.view)

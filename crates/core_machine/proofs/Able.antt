@@ -73,13 +73,13 @@ first_kept rs r xs rest e same = let a = ap length same in let b = length-map rs
 -- ---- the next point
 
 module _ (k : Shape) (shape : IsShape k) (o : Own) (v w : View) (h h' : List Mark) (m m' : Memory) (slots : k.slots ≡ o.slots)
-    (places : k.places ≡ o.places) (few : HasFewSlots v) (told : IsTold o v h m) where
+    (places : k.places ≡ o.places) (room : k.room ≡ o.room) (sixteen : k.room ≡ 16) (few : HasFewSlots k.room v) (told : IsTold o v h m) where
   -- a slot of the next caller's table is a number of 32 bits
   small : (n : ℕ) (stage : Stage) (s : ℕ) → s < table_of (after o n stage) → s < 2 ^ 32
   small n stage s below =
       let same = same_table o n stage in
-      let a : (after o n stage).slots ≡ o.slots = ap (λ (t : ℕ × ℕ × ℕ). t.1) same in
-      let b : (after o n stage).places ≡ o.places = ap (λ (t : ℕ × ℕ × ℕ). t.2) same in
+      let a : (after o n stage).slots ≡ o.slots = ap (λ (t : ℕ × ℕ × ℕ × ℕ). t.1) same in
+      let b : (after o n stage).places ≡ o.places = ap (λ (t : ℕ × ℕ × ℕ × ℕ). t.2) same in
       let few_slots = shape.few_slots in
       let few_places = shape.few_places in
       omega arith
@@ -155,9 +155,9 @@ module _ (k : Shape) (shape : IsShape k) (o : Own) (v w : View) (h h' : List Mar
   able (at.OldCount aim) n f word left next = omega arith
   able (at.Commit u expected) n f word left next = omega arith
   able (at.Store (update.Bypass d child) front) n f word left next =
-      (let del = (f.point).deleting in let room = del.1.room del.0 in omega arith)
+      (let del = (f.point).deleting in let most = del.1.room del.0 in omega arith)
   able (at.Store (update.Copy d u next_key copy) front) n f word left next =
-      (let del = ((f.point).copying).deleting in let room = del.1.room del.0 in omega arith)
+      (let del = ((f.point).copying).deleting in let most = del.1.room del.0 in omega arith)
   able (at.Even u front) n f word left next = omega arith
   able (at.Unlock last.Again) n f word left next = some_left o.locks ((f.point).0).some
   able (at.Unlock (last.New number)) n f word left next = some_left o.locks ((f.point).0).some
@@ -178,7 +178,7 @@ module _ (k : Shape) (shape : IsShape k) (o : Own) (v w : View) (h h' : List Mar
       let long : length o.locks ≡ target_locks t = ap length (((f.point).0).locks_are) ∙ first_long t (target_locks t) in
       let most = few_locks t in omega arith
   able (at.Unlink move child) n f word left next =
-      (let is = ((f.point).0).move in let room = few.room is.move is.is in let long = kept_long f.owns.retired_are in omega arith)
+      (let is = ((f.point).0).move in let most = few.room is.move is.is in let long = kept_long f.owns.retired_are in omega arith)
   able _ n f word left next = tt
 
 -- whichever of two acts it is

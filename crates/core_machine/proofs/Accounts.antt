@@ -101,7 +101,7 @@ module _ (scripts : List (List Op)) (slots : ℕ) (c : Core) (i : ℕ) (o : Own)
       let k : Shape = shape_of slots scripts in
       let caller = run.callers i o v own view in
       turn k c.memory c.views c.marks i o v script run.holds.now view
-      (caller.fits.owns.same ∙ caller.place) run.eer caller.places caller.fits.owns.works
+      (caller.fits.owns.same ∙ caller.place) run.eer caller.places caller.room run.room caller.fits.owns.works
       (is_told k c i o v run own view) o.stage going caller.fits (all.tells i script o v es own view)
 
   pub moves_tell : AllTell scripts slots (moved c i o v)

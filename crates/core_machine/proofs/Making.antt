@@ -89,12 +89,12 @@ makes_all scripts slots places kept place all h = h.owns ∙ ap (made_owns (shap
     whole_of (x ∷ xs) zero past = absurd (omega (arith, past))
     whole_of (x ∷ xs) (suc n) past = ap (λ l. x ∷ l) (whole_of xs n (omega (arith, past)))
 
-owns_same : (k z : Shape) (p : ℕ) (scripts : List (List Op)) → k.slots ≡ z.slots → k.places ≡ z.places
+owns_same : (k z : Shape) (p : ℕ) (scripts : List (List Op)) → k.slots ≡ z.slots → k.places ≡ z.places → k.room ≡ z.room
     → made_owns k p scripts ≡ made_owns z p scripts
-owns_same k z p [] slots places = refl
-owns_same k z p (s ∷ ss) slots places = (λ j. begun_with
-    (new_own (record { waiter = k.waiter; slots = slots j; places = places j; tickets = k.tickets }) p) s
-    ∷ owns_same k z (p + 1) ss slots places j)
+owns_same k z p [] slots places room = refl
+owns_same k z p (s ∷ ss) slots places room = (λ j. begun_with
+    (new_own (record { waiter = k.waiter; slots = slots j; places = places j; room = room j; tickets = k.tickets }) p) s
+    ∷ owns_same k z (p + 1) ss slots places room j)
 
 none_stand : (kept : List Caller) (p : ℕ) (scripts : List (List Op)) → length kept ≡ length scripts
     → ((i : ℕ) (c : Caller) → slice_get kept i ≡ Some c → c.stands ≡ None)
@@ -125,7 +125,7 @@ module _ (scripts : List (List Op)) (slots : ℕ) (some_slot : 1 ≤ slots) (few
   pub made_stored : HasStored scripts slots (core scripts slots []) (at_of words kept updates)
   made_stored = record {
     words = record { long = first_long (shape_of slots scripts) words words_are; same = ap (memory_of (shape_of slots scripts)) words_are };
-    owns = owns_are ∙ owns_same (shape_for slots (length scripts)) (shape_of slots scripts) 0 scripts refl refl;
+    owns = owns_are ∙ owns_same (shape_for slots (length scripts)) (shape_of slots scripts) 0 scripts refl refl refl;
     updates = updates_are;
     standing = none_stand kept 0 scripts (sym (length-map kept own_of) ∙ ap length owns_are
         ∙ owns_count (shape_for slots (length scripts)) 0 scripts) nowhere;

@@ -289,7 +289,7 @@ pub first_phase : (o' : Own) (op : Op) → (is_finished (first_point o' op) ≡ 
 first_phase o' (Put key value) = (refl, refl)
 first_phase o' (Get key) = (refl, refl)
 first_phase o' (Set key value) = (refl, refl)
-first_phase o' (Del key) = either (nat_le 15 (length o'.retired)) _ _ (refl, refl) (either (is_some o'.spare) _ _ (refl, refl) (refl, refl))
+first_phase o' (Del key) = either (nat_le o'.room (length o'.retired + 1)) _ _ (refl, refl) (either (is_some o'.spare) _ _ (refl, refl) (refl, refl))
   where
     either : (b : Bool) (x y : Stage) → (is_finished x ≡ false) × (phase x ≡ searching) → (is_finished y ≡ false) × (phase y ≡ searching)
         → (is_finished (cond b x y) ≡ false) × (phase (cond b x y) ≡ searching)

@@ -40,11 +40,13 @@ pub record IsCaller (k : Shape) (i : ℕ) (o : Own) (v : View) : Type 0 where
   pub place : o.place ≡ i
   pub slots : k.slots ≡ o.slots
   pub places : k.places ≡ o.places
+  pub room : k.room ≡ o.room
   pub fits : Fits o o.stage v
 
 -- the invariant, and what each caller knows
 pub record IsRun (k : Shape) (c : Core) : Type 0 where
   pub eer : k.waiter ≡ Eer
+  pub room : k.room ≡ 16
   pub holds : Invariant k c.memory c.views c.marks
   pub callers : (i : ℕ) (o : Own) (v : View) → get_elem? c.owns i ≡ some o → get_elem? c.views i ≡ some v → IsCaller k i o v
 
@@ -59,7 +61,7 @@ module _ (k : Shape) (c : Core) (i : ℕ) (o : Own) (v : View) (run : IsRun k c)
       Invariant k (moved c i o v).memory (moved c i o v).views (moved c i o v).marks × KeepsPast c.memory c.marks (moved c i o v).memory
       × Fits o' o'.stage w
   kept = subst keeps caller.fits.owns.same
-      (points_keep k c.memory c.views c.marks i o v run.holds view run.eer caller.slots caller.places going caller.fits)
+      (points_keep k c.memory c.views c.marks i o v run.holds view run.eer caller.slots caller.places caller.room going caller.fits)
     where
       -- the step at a place, which is the view's and the caller's
       keeps : ℕ → Type 0
@@ -75,9 +77,10 @@ module _ (k : Shape) (c : Core) (i : ℕ) (o : Own) (v : View) (run : IsRun k c)
   caller_after =
       let n : ℕ = told_in c o in
       let same = same_table o n o.stage in record {
-        place = ap (λ (t : ℕ × ℕ × ℕ). t.0) same ∙ caller.place;
-        slots = caller.slots ∙ sym (ap (λ (t : ℕ × ℕ × ℕ). t.1) same);
-        places = caller.places ∙ sym (ap (λ (t : ℕ × ℕ × ℕ). t.2) same);
+        place = ap (λ (t : ℕ × ℕ × ℕ × ℕ). t.0) same ∙ caller.place;
+        slots = caller.slots ∙ sym (ap (λ (t : ℕ × ℕ × ℕ × ℕ). t.1) same);
+        places = caller.places ∙ sym (ap (λ (t : ℕ × ℕ × ℕ × ℕ). t.2) same);
+        room = caller.room ∙ sym (ap (λ (t : ℕ × ℕ × ℕ × ℕ). t.3) same);
         fits = kept.2;
       }
 
@@ -91,6 +94,7 @@ module _ (k : Shape) (c : Core) (i : ℕ) (o : Own) (v : View) (run : IsRun k c)
       let w : View = view_after (noted v (act_at o o.stage) n) c.marks n (act_at o o.stage) in
       record {
         eer = run.eer;
+        room = run.room;
         holds = kept.0;
         callers = λ j u x eu ex. ⊎_elim
             (λ (mine : (j ≡ i) × (o' ≡ u)). ⊎_elim

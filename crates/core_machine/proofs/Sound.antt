@@ -38,7 +38,7 @@ module _ (k : Shape) (c : Core) (i : ℕ) (o : Own) (v : View) (run : IsRun k c)
   is_told =
       let caller = run.callers i o v own view in
       let works : Works v = caller.fits.owns.works in
-      rule_tells k c.memory c.views c.marks i o v run.holds.now view works caller.slots caller.places
+      rule_tells k c.memory c.views c.marks i o v run.holds.now view works caller.slots caller.places caller.room
 
   pub step_is : is_finished o.stage ≡ false → step c i ≡ moved c i o v
   step_is going = ap (λ (z : Option Own × Option View). moved_by c i z.0 z.1) (λ j. (own j, view j))
@@ -48,13 +48,13 @@ module _ (k : Shape) (c : Core) (i : ℕ) (o : Own) (v : View) (run : IsRun k c)
   pub has_its_word : IsWord k (field_of o.place (act_at o o.stage))
   has_its_word =
       let caller = run.callers i o v own view in
-      acts_are_within k c.marks o v c.memory o.stage (λ _. run.eer) caller.slots caller.places is_told caller.fits
+      acts_are_within k c.marks o v c.memory o.stage (λ _. run.eer) caller.slots caller.places caller.room is_told caller.fits
 
   pub needs_met : Needs k v (c.memory (field_of o.place (act_at o o.stage))) (act_at o o.stage)
   needs_met =
       let caller = run.callers i o v own view in
       needs_are_given k c.marks o v c.memory (c.memory (field_of o.place (act_at o o.stage))) o.stage
-      (λ _. run.eer) caller.places is_told caller.fits
+      (λ _. run.eer) caller.places caller.room is_told caller.fits
 
   -- what its act asks for is given, and so the word stays one
   pub asks_met : Asks k v (act_at o o.stage)

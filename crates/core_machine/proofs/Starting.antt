@@ -56,10 +56,11 @@ caller_begins k p [] some_slot below fit = record {
   place = refl;
   slots = refl;
   places = refl;
+  room = refl;
   fits = first_fits k p [] some_slot below fit;
 }
 caller_begins k p (op ∷ ops) some_slot below fit =
-    record { place = refl; slots = refl; places = refl; fits = first_fits k p (op ∷ ops) some_slot below fit }
+    record { place = refl; slots = refl; places = refl; room = refl; fits = first_fits k p (op ∷ ops) some_slot below fit }
 
 callers_begin : (k : Shape) (p : ℕ) (scripts : List (List Op)) → 1 ≤ k.slots → p + length scripts ≤ k.places → AllFit scripts
     → (i : ℕ) (o : Own) (v : View) → get_elem? (made_owns k p scripts) i ≡ some o
@@ -89,6 +90,8 @@ made_shape scripts slots m = record {
   few_slots = m.few_slots;
   some_place = m.some_script;
   few_places = m.few_scripts;
+  some_room = omega arith;
+  few_room = omega arith;
   few_tickets = (let few = m.few_ops in let same = tickets_total scripts in let most : most_tickets ≡ 144115188075855872 = refl in
       omega (arith, few, same, most));
 }
@@ -97,6 +100,7 @@ made_shape scripts slots m = record {
 pub made_runs : (scripts : List (List Op)) (slots : ℕ) → IsMachine scripts slots → IsRun (shape_of slots scripts) (core scripts slots [])
 made_runs scripts slots m = record {
   eer = refl;
+  room = refl;
   holds = places_begin (shape_of slots scripts) (memory_of (shape_of slots scripts) (first_words (shape_of slots scripts)))
       (tickets_of scripts) (made_shape scripts slots m) (fresh (shape_of slots scripts)) (tickets_count scripts) refl;
   callers = λ i o v eo ev. subst (λ z. IsCaller (shape_of slots scripts) z o v) (omega arith)

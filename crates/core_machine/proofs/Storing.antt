@@ -93,10 +93,10 @@ same_word k l waiter slots places (fields.Tag s b) = λ i. waiter_base + waiter_
 
 -- the shape of a caller's table, but for the tickets
 untold_tickets : Shape → Shape
-untold_tickets k = record { waiter = k.waiter; slots = k.slots; places = k.places; tickets = 0 }
+untold_tickets k = record { waiter = k.waiter; slots = k.slots; places = k.places; room = k.room; tickets = 0 }
 
 same_is_field : (k : Shape) (field : Field) → is_field k field
-    ≡ is_field (record { waiter = k.waiter; slots = k.slots; places = k.places; tickets = 0 }) field
+    ≡ is_field (record { waiter = k.waiter; slots = k.slots; places = k.places; room = k.room; tickets = 0 }) field
 same_is_field k fields.Clock = refl
 same_is_field k fields.Front = refl
 same_is_field k fields.Free = refl
@@ -191,7 +191,7 @@ module _ (scripts : List (List Op)) (slots : ℕ) (callers : List ℕ) (machine 
       let next = next_run.callers i next_own next_view own_next view_next in
       subst (λ m. IsAble o m o.stage) (sym told)
       (able k' run.holds.now.table o v next_view (core scripts slots callers).marks (moved (core scripts slots callers) i o v).marks
-      (core scripts slots callers).memory (moved (core scripts slots callers) i o v).memory here.slots here.places
+      (core scripts slots callers).memory (moved (core scripts slots callers) i o v).memory here.slots here.places here.room run.room
       (run.holds.now.slots.few i v view)
       (is_told k' (core scripts slots callers) i o v run own view) o.stage x here.fits word_found word_left
       (next.fits, is_told k' (moved (core scripts slots callers) i o v) i next_own next_view next_run own_next view_next))
@@ -208,7 +208,7 @@ module _ (scripts : List (List Op)) (slots : ℕ) (callers : List ℕ) (machine 
       let long = is.long in
       let spot = at_index in record {
         size = record { slots = omega arith; places = omega arith; scan = here.fits.owns.scans_table };
-        field = subst (λ (z : ℕ × ℕ). is_field (record { waiter = Eer; slots = z.0; places = z.1; tickets = 0 })
+        field = subst (λ (z : ℕ × ℕ). is_field (record { waiter = Eer; slots = z.0; places = z.1; room = 16; tickets = 0 })
             (field_of o.place (act_at o o.stage)) ≡ true) (λ j. (here.slots j, here.places j))
             (sym (same_is_field k' (field_of o.place (act_at o o.stage))) ∙ has);
         within = omega arith;

@@ -1,4 +1,4 @@
--- No point changes a caller's place, or how many slots and places there are.
+-- No point changes a caller's place, or how many slots and places there are, and how much room a place has.
 use Rattle.std.proofs.Common.{◌≡◌, ℕ, ◌+◌, ◌==◌, ◌||◌, nat_lt, cond, Bool, true, false, List, [], ◌∷◌, refl}
 use Rattle.prcu_model.specs.declared.operation.Op.{Op}
 use Rattle.prcu_model.specs.declared.operation.Reply.{Reply}
@@ -17,8 +17,8 @@ use Rattle.core_points.specs.declared.stage.Stage.TheVariants as at
 use Rattle.core_points.specs.Callers.{Own, is_none_left, is_some, but_first}
 use Rattle.core_points.specs.Programs.{after, answer, begun_with, excused, is_reader, left_section, none_free, past_lock, unlocked, wait_over}
 
-abbrev pub table : Own → ℕ × ℕ × ℕ
-table o = (o.place, o.slots, o.places)
+abbrev pub table : Own → ℕ × ℕ × ℕ × ℕ
+table o = (o.place, o.slots, o.places, o.room)
 
 -- a caller of the same table
 abbrev pub Same : Own → Own → Type 0

@@ -357,7 +357,7 @@ module _ (k : Shape) (m : Memory) (vs : List View) (h : List Mark) (i : ℕ) (o 
       (no_marks i (key_now o) (updates_of (h ++ [])) [] refl) o' after Full 0 same t.known.1
       (λ mine none. explained_later (record { scripts = k.places; slots = k.slots }) c o.op h [] t.marks mine none told base)
 
-  module _ (eer : k.waiter ≡ Eer) (places : k.places ≡ o.places) (works : Works v) (told : IsTold o v h m) where
+  module _ (eer : k.waiter ≡ Eer) (places : k.places ≡ o.places) (room_is : k.room ≡ o.room) (sixteen : k.room ≡ 16) (works : Works v) (told : IsTold o v h m) where
     -- a step that leaves no mark, outside sections
     quiet : (stage : Stage) (t : Before stage) → is_finished stage ≡ false → (phase stage ≡ inside → ⊥)
         → (o' : Own) (section : Option Section) → Next (go o stage) (phase stage) o'
@@ -383,7 +383,8 @@ module _ (k : Shape) (m : Memory) (vs : List View) (h : List Mark) (i : ℕ) (o 
         none (Leaf spot) t f zero_free =
             either_tells (record { scripts = k.places; slots = k.slots }) i script section (h ++ []) (is_none_left o.retired) _ _
             (λ e. full_answers spot expected t (f.point).takes.1
-            (answers_are_said k m vs h i o v (at.Reserve (Leaf spot) expected) inv there f e zero_free)
+            (subst (λ n. k.slots ≤ finite.len (map_of (updates_of h)) + (n + 4) * (k.places - 1)) sixteen
+            (answers_are_said k m vs h i o v (at.Reserve (Leaf spot) expected) inv there f e zero_free))
             (record o { free = 0 }) refl section)
             (λ e. quiet (at.Reserve (Leaf spot) expected) t refl (λ z. absurd (cc))
             (go (record o { free = 0 }) (at.Begin (Reuse (Leaf spot)))) section (refl, refl, inl refl))
@@ -492,7 +493,7 @@ module _ (k : Shape) (m : Memory) (vs : List View) (h : List Mark) (i : ℕ) (o 
         let n : ℕ = said_by (access_of o.place a) (m (field_of o.place a)) in
         let section : Option Section = (view_after (noted v a n) h n a).section in
         let (commit, r, held, left, right, value, links, same) =
-        needs_are_given k h o v m n (at.Store (update.Copy d u next_key copy) front) (λ _. eer) places told f in
+        needs_are_given k h o v m n (at.Store (update.Copy d u next_key copy) front) (λ _. eer) places room_is told f in
         let next : IsNextKey (map_of (updates_of h)) (key_now o) next_key =
         subst (λ key. IsNextKey (map_of (updates_of h)) key next_key) same
         (copy_next k m vs h i v inv there works commit r held d.parent d.side d.node copy u.slot u.parent left right next_key value

@@ -77,7 +77,7 @@ abbrev pub tickets_of : List (List Op) → List ℕ
 tickets_of scripts = map (λ script. 4 * length script) scripts
 
 abbrev pub shape_of : ℕ → List (List Op) → Shape
-shape_of slots scripts = record { waiter = Eer; slots = slots; places = length scripts; tickets = total (λ t. t) (tickets_of scripts) }
+shape_of slots scripts = record { waiter = Eer; slots = slots; places = length scripts; room = 16; tickets = total (λ t. t) (tickets_of scripts) }
 
 -- a caller with the spare of its place, whose first scan for a free slot begins at a part of the slots of its own
 abbrev pub new_own : Shape → ℕ → Own
@@ -85,6 +85,7 @@ new_own k p = record {
   place = p;
   places = k.places;
   slots = k.slots;
+  room = k.room;
   op = Get 0;
   rest = [];
   stage = at.Finished;

@@ -20,7 +20,7 @@ abbrev pub field_now : Own → Field
 field_now o = field_of o.place (act_at o o.stage)
 
 abbrev pub shape_for : ℕ → ℕ → Shape
-shape_for slots places = record { waiter = Eer; slots = slots; places = places; tickets = 0 }
+shape_for slots places = record { waiter = Eer; slots = slots; places = places; room = 16; tickets = 0 }
 
 abbrev pub index_now : Own → ℕ
 index_now o = word_of (shape_for o.slots o.places) (field_now o)

@@ -16,12 +16,13 @@ use Rattle.core_points.specs.Programs.{act_at}
 use Rattle.core_points.specs.Laws.{is_finished}
 use Rattle.core_machine.specs.declared.caller.Caller.{Caller}
 
--- what a caller keeps
+-- what a caller keeps; a place of the machine's table has room for 16 retired slots
 abbrev pub own_of : Caller → Own
 own_of c = record {
   place = c.place;
   places = c.places;
   slots = c.slots;
+  room = 16;
   op = c.op;
   rest = drop c.taken c.script.items;
   stage = c.stage;

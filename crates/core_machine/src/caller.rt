@@ -11,6 +11,7 @@ ghost use Rattle.core_points.specs.Callers.{key_now, low_key as low_of, high_key
 
 use arrayvec::ArrayVec;
 use core_points::stage::{Aim, Moving, Stage, Update, Waits};
+use core_state::shape::ROOM;
 use prcu_model::{NoMemory, Op, Reply, Told, ToldList};
 use std::alloc::Global;
 
@@ -196,7 +197,7 @@ impl Caller {
     {
         match self.op {
             Op::Del { .. } => {
-                if self.retired.len() >= 15 {
+                if self.retired.len() + 1 >= ROOM as usize {
                     let waits = Waits::Reuse { aim: Aim::Room };
                     Stage::Begin { waits }
                 } else {

@@ -20,7 +20,7 @@ use crate::stepping::step_caller;
 use arrayvec::ArrayVec;
 use core_points::stage::Stage;
 use core_state::Shape;
-use core_state::shape::Waiter;
+use core_state::shape::{ROOM, Waiter};
 use prcu_marks::Why;
 use prcu_model::{NoMemory, Scripts, Told, Update};
 use seat_table::words_of;
@@ -147,6 +147,7 @@ impl Machine {
             waiter: Waiter::Eer,
             slots,
             places: scripts.count(),
+            room: ROOM,
             tickets: 0,
         };
         let words = words_of(alloc, &shape)?;

@@ -29,11 +29,12 @@ pub record MayGoOn (c : CallerAt) : Type 0 where
   pub seat : c.seat.table ≡ c.table
   pub quiet : IsQuietSeat c.seat
 
--- The first caller of a new index with this waiter, so many slots and handles, and all tickets.
+-- The first caller of a new index with this waiter, so many slots and handles, and all tickets. A place may hold back 16 retired slots.
 pub record IsFresh (way slots handles : ℕ) (c : CallerAt) : Type 0 where
   pub way_is : c.way ≡ way
   pub slots_are : c.table.slots ≡ slots
   pub handles_are : c.table.places ≡ handles
+  pub room_is : c.table.room ≡ 16
   pub tickets_are : c.table.tickets ≡ most_tickets
   pub seat_is : c.seat ≡ fresh_seat way c.table
   pub may : MayGoOn c

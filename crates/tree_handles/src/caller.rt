@@ -11,6 +11,7 @@ use crate::shared::Shared;
 use crate::spinning::{GaveUp, Spinning};
 use crate::status::Status;
 use citrus_tree::patient::{call, remove};
+use core_state::shape::ROOM;
 use core::mem::replace_with;
 use exact_list::patient::list;
 use exact_list::{Listed, Page};
@@ -91,7 +92,7 @@ impl<W: WaitPart> Caller<W> {
         requires handles { (1 ≤ handles) × (handles ≤ 64) }
         ensures { IfOk result (λ caller. IsFresh W.WAY slots handles caller) }
     {
-        let (table, seat) = CitrusTable::<W>::new(alloc, slots, handles, ALL_TICKETS)?;
+        let (table, seat) = CitrusTable::<W>::with_room(alloc, slots, handles, ROOM, ALL_TICKETS)?;
         match Arc::new(alloc, Shared::new(alloc, table, handles)?) {
             Ok(shared) => Ok(Caller {
                 shared,

@@ -6,7 +6,8 @@ use Rattle.prcu_model.specs.declared.operation.Op.{Op}
 use Rattle.prcu_model.specs.declared.operation.Told.{Told}
 use Rattle.prcu_model.specs.declared.operation.Update.{Update}
 use Rattle.prcu_model.specs.Lists.{Roomy, entries_of}
-use Rattle.prcu_model.specs.Fronts.{all_told_lines, AreExplainable}
+use Rattle.prcu_model.specs.Fronts.{all_told_lines, AreExplainable, AreExplained}
+use Rattle.prcu_model.specs.Replies.{Room}
 use Rattle.prcu_model.specs.History.{IsLegal}
 use Rattle.prcu_model.specs.Slots.{StaysWithin}
 use Rattle.prcu_marks.specs.Marks.{updates_of, own_of}
@@ -18,10 +19,10 @@ use Rattle.core_state.specs.views.Views.{places_of}
 use Rattle.core_frames.proofs.views.SeatFacts.{works_there}
 use Rattle.seat_table.specs.Seats.{TableAt, SeatAt, KeepsOwn}
 use Rattle.seat_table.specs.Gains.{StaysIn}
-use Rattle.citrus_tree.specs.Clients.{room_of}
 use Rattle.tree_run.specs.Callers.{ScriptClientAt}
 use Rattle.tree_run.specs.declared.running.RunWith.{RunWith}
 use Rattle.tree_run.specs.Runs.{shape_with, seat_for, HasRun}
+use Rattle.citrus_tree.proofs.Clients.{sixteen_room}
 use Rattle.tree_run.proofs.Finished.{run_told, run_explained, run_marks}
 use Rattle.tree_watch.specs.Snapshots.{OnlyLists}
 use Rattle.tree_watch.proofs.Rooms.{explained_too}
@@ -47,13 +48,14 @@ others how table scripts seat {count} stays idle few all p past = elim (cases_lt
 module _ {how : RunWith} {table : TableAt} {scripts : List (List Op)} {told : List (Roomy Told)} {seat : SeatAt} {slots count tickets : ℕ}
     (run : HasRun how table scripts told seat) (stays : StaysIn (shape_with how.waiter table) seat.view)
     (idle : updates_of (own_of (length scripts) seat.view.seen) ≡ []) (some : 1 ≤ length scripts)
-    (made : (table.slots ≡ slots + 20) × (table.places ≡ count + 1) × (table.tickets ≡ tickets)) (all : count ≡ length scripts) where
+    (made : (table.slots ≡ slots + 20) × (table.places ≡ count + 1) × (table.tickets ≡ tickets)) (sixteen : table.room ≡ 16) (all : count ≡ length scripts) where
   watched : AreExplainable scripts (entries_of told) (updates_of seat.view.seen) slots
   watched = record {
     lengths = run_told run (others how table scripts seat stays idle made.1 all);
-    explained = explained_too (room_of (shape_with how.waiter table)) (record { scripts = length scripts; slots = slots })
-        (λ n full. (let many = made.0 in let few = made.1 in omega (arith, many, few, all, full)))
-        (updates_of seat.view.seen) _ (run_explained run (others how table scripts seat stays idle made.1 all));
+    explained = explained_too (record { scripts = table.places; slots = table.slots }) (record { scripts = length scripts; slots = slots })
+        (λ n full. (let many = made.0 in let few = made.1 in omega (arith, many, few, all, full))) (updates_of seat.view.seen) _
+        (subst (λ (room : Room). AreExplained room (updates_of seat.view.seen) (all_told_lines scripts (entries_of told)))
+        (sixteen_room (shape_with how.waiter table) sixteen) (run_explained run (others how table scripts seat stays idle made.1 all)));
   }
 
   -- with what was told as it is where it is read

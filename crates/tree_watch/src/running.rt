@@ -76,6 +76,7 @@ pub fn run_watched<R: Threads + Wait + Sync, W: WaitPart + Send + Sync, G: Gate 
     ensures marks { IfOk result (λ run. FitsScripts scripts.now run.seat.view.seen) }
     ensures table { IfOk result (λ run. (run.table.slots ≡ slots + 20) × (run.table.places ≡ length scripts.now + 1)
         × (run.table.tickets ≡ 4 * op_count scripts.now)) }
+    ensures room { IfOk result (λ run. run.table.room ≡ 16) }
     ensures seat { IfOk result (λ run. run.seat.table ≡ run.table) }
     ensures quiet { IfOk result (λ run. IsQuietSeat run.seat) }
     ensures informed { IfOk result (λ run. IsInformed run.seat.view) }

@@ -217,9 +217,16 @@ fn the_third_waiters_scripts_are_told_what_they_did(rt: HostRuntime) -> Result<(
     run_each::<HostRuntime, Deer>(&rt, rt.alloc(), &scripts)
 }
 
-// What the seat has left, after a key was put and deleted so many times.
-fn put_and_delete<R: Abort + Wait>(rt: &R, alloc: Global, times: u32) -> Result<Left, Fail> {
-    let (table, mut seat) = CitrusTable::<Eer>::new(alloc, 37, 1, 256)?;
+// What the seat of a table with so much room at a place has left, after a key was put and deleted so many times.
+fn put_and_delete<R: Abort + Wait>(
+    rt: &R,
+    alloc: Global,
+    room: u32,
+    times: u32,
+) -> Result<Left, Fail>
+    requires room { (16 ≤ room) × (room ≤ 256) }
+{
+    let (table, mut seat) = CitrusTable::<Eer>::with_room(alloc, 37, 1, room, 256)?;
     for time in 0..times {
         let put = 2 * u64::from(time) + 1;
         let del = put + 1;
@@ -236,7 +243,25 @@ fn many_retired_slots_are_given_back(rt: HostRuntime) -> Result<(), Fail> {
         (16, (Some(1), 1, 1)),
         (17, (Some(1), 2, 1)),
     ] {
-        assert_same(&rt, put_and_delete(&rt, rt.alloc(), times)?, left, times);
+        assert_same(
+            &rt,
+            put_and_delete(&rt, rt.alloc(), 16, times)?,
+            left,
+            times,
+        );
+    }
+    Ok(())
+}
+
+#[test]
+fn a_place_with_more_room_keeps_more_retired_slots(rt: HostRuntime) -> Result<(), Fail> {
+    for (times, left) in [(23, (Some(1), 23, 0)), (24, (Some(1), 1, 1))] {
+        assert_same(
+            &rt,
+            put_and_delete(&rt, rt.alloc(), 24, times)?,
+            left,
+            times,
+        );
     }
     Ok(())
 }

@@ -31,6 +31,7 @@ returns g c =
         of_table = e.seat;
         slots_are = e.table.0;
         places_are = e.table.1;
+        room_is = e.room;
         tickets = e.table.2;
         quiet = e.quiet;
         answers = e.answers;
