@@ -101,8 +101,8 @@ pub fn set<R: Wait, W: WaitPart, G: Gate>(
 /// Takes the key's pair out, where the key is present: `Gone` with the update's position. The slot that it took out is listed as retired,
 /// and behind it the old successor, where the node had two children. `Absent` as at `get`. It waits for the holders of the locks of the
 /// nodes that it touches, and for other updates. Where the node has two children it waits too, after its update, for the open sections
-/// whose keys lie above the key and up to the next one. Before its first search it may wait for all open sections, but only where 15 or
-/// more slots are retired at the call or the place has no spare then.
+/// whose keys lie above the key and up to the next one. Before its first search it may wait for all open sections, but only where its place
+/// has room for one more retired slot at most at the call, or has no spare then.
 pub fn del<R: Wait, W: WaitPart, G: Gate>(
     rt: &R,
     table: &CitrusTable<W>,
