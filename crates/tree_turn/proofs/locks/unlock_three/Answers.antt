@@ -1,0 +1,18 @@
+use Rattle.tree_turn.proofs.Gotten.{asks_unlock_child, asks_unlock_node, asks_unlock_parent, all_given_up}
+use Rattle.tree_turn.proofs.locks.unlock_three.Goals as goal
+
+pub unlock-requires-clause-asks : goal.unlock-requires-clause-asks
+unlock-requires-clause-asks g c = asks_unlock_child c.requires.three c.requires.locked c.requires.settled
+
+pub unlock-requires-2-clause-asks : goal.unlock-requires-2-clause-asks
+unlock-requires-2-clause-asks g c =
+    asks_unlock_node c.requires.three c.requires.locked c.requires.settled c.unlock.ensures.told
+
+pub unlock-requires-3-clause-asks : goal.unlock-requires-3-clause-asks
+unlock-requires-3-clause-asks g c =
+    asks_unlock_parent c.requires.three c.requires.locked c.requires.settled c.unlock.ensures.told c.unlock-2.ensures.told
+
+pub returns-clause-view : goal.returns-clause-view
+returns-clause-view g c =
+    all_given_up c.requires.three c.requires.locked c.requires.settled c.unlock.ensures.told c.unlock-2.ensures.told
+    c.unlock-3.ensures.told
