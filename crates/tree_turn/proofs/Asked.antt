@@ -1,5 +1,5 @@
 -- What the steps of a turn ask, of a view that stands somewhere.
-use Rattle.std.proofs.Common.{◌≡◌, ◌≢◌, ℕ, ◌+◌, ◌*◌, ◌<◌, ◌%◌, ◌⊎◌, true, false, List, [], ◌∷◌, ◌++◌, length, Option, Some, None, refl, sym, ap, subst, ◌∙◌, ⊎_elim, inl, inr, arith}
+use Rattle.std.proofs.Common.{◌≡◌, ℕ, ◌<◌, false, List, length, Option, Some, None, sym, ap, subst, ◌∙◌, ⊎_elim}
 use Rattle.core_state.specs.declared.shape.Shape.{Shape}
 use Rattle.core_state.specs.declared.view.Held.{Held}
 use Rattle.core_state.specs.declared.view.HeldLock.{HeldLock}
@@ -36,6 +36,10 @@ asks_fill {k} {u} s p n holds content = λ told. (
   (holds.0, record { holder = holds.1; content = content }),
 )
 
+pub lock_there : {v : View} {locks : List HeldLock} {hand spare : Option Held} {steps : List StepMade} {u : View}
+    → Stands v locks hand spare steps u → (s : ℕ) (lock : HeldLock) → lock_of locks s ≡ Some lock → lock_of u.locks s ≡ Some lock
+lock_there st s lock held = ap (λ (z : View). lock_of z.locks s) st.is ∙ held
+
 module _ {k : Shape} {v : View} {locks : List HeldLock} {hand spare : Option Held} {steps : List StepMade} {u : View}
     (st : Stands v locks hand spare steps u) where
   pub asks_lock : (s : ℕ) → v.section ≡ None → length locks < 5 → s < slot_count k → IsAsked k u (Lock s)
@@ -47,17 +51,14 @@ module _ {k : Shape} {v : View} {locks : List HeldLock} {hand spare : Option Hel
     },
   )
 
-  pub lock_there : (s : ℕ) (lock : HeldLock) → lock_of locks s ≡ Some lock → lock_of u.locks s ≡ Some lock
-  lock_there s lock held = ap (λ (z : View). lock_of z.locks s) st.is ∙ held
-
   pub asks_unlock : v.moving ≡ None → (s : ℕ) (lock : HeldLock) → lock_of locks s ≡ Some lock → lock.left_emptied ≡ false
       → lock.right_emptied ≡ false → lock.marked ≡ false → IsAsked k u (Unlock s)
   asks_unlock settled s lock held left right unmarked = λ told. (
-    told.tells.locks_within s (lock, lock_there s lock held),
+    told.tells.locks_within s (lock, lock_there st s lock held),
     (
       lock,
       record {
-        held = lock_there s lock held;
+        held = lock_there st s lock held;
         no_end = subst (IsNoEnd s) (sym (ap (λ (z : View). z.moving) st.is ∙ settled)) tt;
         left = left;
         right = right;

@@ -31,7 +31,7 @@ use Rattle.node_slots.proofs.Listed.{listed_length, not_in}
 use Rattle.tree_turn.specs.declared.turn.Turn.{Turn}
 use Rattle.tree_turn.specs.declared.turn.TurnWords.{TurnWords}
 use Rattle.tree_turn.specs.Turns.{HasRecorded, IsReadyToTurn, IsQuietButHand, IsAsRecorded, IsUnlinkedAt, AreAside, HasTurned, HasTurnedNone, FoundOwn, FoundLocked, FoundOther, Finds, lock_steps, load_steps, unlock_steps, replace_steps, turn_steps, is_rotation}
-use Rattle.tree_turn.specs.Locked.{three_locks, loaded_locks, adding, ThreeAside, HasLocked, HasGivenUp, HasLoadedAll, HasUnlocked, MayReplace, HasReplaced}
+use Rattle.tree_turn.specs.Locked.{three_locks, parent_known, node_known, loaded_locks, adding, ThreeAside, HasLocked, HasGivenUp, HasLoadedAll, HasUnlocked, MayReplace, HasReplaced}
 use Rattle.tree_turn.proofs.Standing.{steps_both}
 
 -- the slot that a seat answers for
@@ -96,7 +96,7 @@ module _ {k : Shape} {v : View} {t : Turn} (recorded : HasRecorded k v t) (ready
       };
     }
 
-    module _ {words : TurnWords} {v2 : View} (loads : HasLoadedAll v1 t words v2) where
+    module _ (words : TurnWords) {v2 : View} (loads : HasLoadedAll v1 t words v2) where
       abbrev loaded_view : View
       loaded_view = record v { locks = loaded_locks t words; trail = adding v.trail (lock_steps t ++ load_steps t words) }
 
@@ -105,14 +105,19 @@ module _ {k : Shape} {v : View} {t : Turn} (recorded : HasRecorded k v t) (ready
           ∙ (λ i. record v { locks = loaded_locks t words; trail = steps_both v.trail (lock_steps t) (load_steps t words) i })
 
       pub three_loaded : (parent node child : List Known) × (v2.locks ≡ three_locks t parent node child)
-      three_loaded = (_, _, _, ap (λ (z : View). z.locks) loaded_is)
+      three_loaded = (
+        parent_known t words,
+        node_known t.node t.turn words.node,
+        node_known t.child t.turn words.child,
+        ap (λ (z : View). z.locks) loaded_is,
+      )
 
       pub settled_loaded : v2.moving ≡ None
       settled_loaded = ap (λ (z : View). z.moving) loaded_is ∙ ready.settled
 
       -- something isn't as recorded
-      pub other_found : (IsAsRecorded t words → ⊥) → {w : View} → HasUnlocked v2 t w → HasTurnedNone v t w
-      other_found other {w} unlocked =
+      pub other_found : {w : View} → (IsAsRecorded t words → ⊥) → HasUnlocked v2 t w → HasTurnedNone v t w
+      other_found {w} other unlocked =
           let steps : List StepMade = lock_steps t ++ load_steps t words in
           let is = unlocked ∙ ap (λ (z : View). record z { locks = []; trail = adding z.trail (unlock_steps t) }) loaded_is in
           let made = ap (λ (z : View). z.trail) is ∙ steps_both v.trail steps (unlock_steps t) in
@@ -209,7 +214,8 @@ steps_append f (x ∷ a) b = let rest = steps_append f a b in omega arith
 more_made : (f : Kind → Bool) (v w : View) (steps : List StepMade) → MakesSteps v steps w
     → steps_made f w ≡ steps_made f v + steps_of f steps
 more_made f v w steps made =
-    let a = ap (λ (z : Trail). steps_of f z.steps + steps_of f z.joined) made in
+    let a : steps_of f w.trail.steps + steps_of f w.trail.joined ≡ steps_of f (v.trail.steps ++ steps) + steps_of f v.trail.joined
+    = ap (λ (z : Trail). steps_of f z.steps + steps_of f z.joined) made in
     let b = steps_append f v.trail.steps steps in
     omega arith
 
@@ -255,11 +261,19 @@ abbrev slots_retired : View → List ℕ
 slots_retired v = map (λ (r : Retired). r.slot) v.hands.retired
 
 -- The seat is quiet afterwards.
-pub turned_quiet : (s : SeatAt) (w : View) (t : Turn) (listed : List ℕ) → HasTurned s.view t w → IsQuietButHand s
-    → AreListed (record s { view = w; listed = listed }) → IsQuietSeat (record s { view = w; listed = listed })
-turned_quiet s w t listed has quiet are_listed =
+pub turned_quiet : (s u : SeatAt) (t : Turn) → HasTurned s.view t u.view → IsQuietButHand s → AreListed u → IsQuietSeat u
+turned_quiet s u t has quiet are_listed =
     let q = quiet.quiet.view in
     let e = has.rest in
+    let v : View = s.view in
+    let gone : List Retired = has.node_gone ∷ (has.child_gone ∷ []) in
+    let many : unraised_among (v.hands.retired ++ gone)
+    ≡ unraised_among v.hands.retired + (cond has.node_gone.raised 0 1 + (cond has.child_gone.raised 0 1 + 0)) =
+    unraised_append v.hands.retired gone in
+    let long : length (v.hands.retired ++ gone) ≡ length v.hands.retired + 2 = length-append v.hands.retired gone in
+    let first : cond has.node_gone.raised 0 1 ≡ 1 = ap (λ b. cond b 0 1) has.node_is.unraised in
+    let second : cond has.child_gone.raised 0 1 ≡ 1 = ap (λ b. cond b 0 1) has.child_is.unraised in
+    let was : unraised_among v.hands.retired ≡ length v.hands.retired = q.raised in
     record {
       view = record {
         section = ap (λ (z : View). z.section) e ∙ q.section;
@@ -269,25 +283,21 @@ turned_quiet s w t listed has quiet are_listed =
         moving = ap (λ (z : View). z.moving) e ∙ q.moving;
         owes = ap (λ (z : View). z.hands.owes) e ∙ q.owes;
         commit = ap (λ (z : View). z.commit) e ∙ q.commit;
-        raised = raised_more has q.raised;
+        raised = subst (λ (z : View). unraised_among z.hands.retired ≡ length z.hands.retired) (sym e) (omega arith);
       };
       listed = are_listed;
     }
-  where
-    raised_more : {v : View} → HasTurned v t w → unraised_among v.hands.retired ≡ length v.hands.retired
-        → unraised_among w.hands.retired ≡ length w.hands.retired
-    raised_more {v} has quiet =
-        let gone : List Retired = has.node_gone ∷ (has.child_gone ∷ []) in
-        let many = unraised_append v.hands.retired gone in
-        let long = length-append v.hands.retired gone in
-        let first = ap (λ b. cond b 0 1) has.node_is.unraised in
-        let second = ap (λ b. cond b 0 1) has.child_is.unraised in
-        subst (λ (z : View). unraised_among z.hands.retired ≡ length z.hands.retired) (sym has.rest) (omega arith)
+
+pub refused_listed : (s u : SeatAt) (t : Turn) → HasTurnedNone s.view t u.view → u.listed ≡ s.listed → AreListed s → AreListed u
+refused_listed s u t has same listed = record {
+  each = λ slot. ap (times slot) same ∙ listed.each slot ∙ ap (λ (z : View). times slot (slots_retired z)) (sym has.rest);
+}
 
 pub refused_quiet : (s u : SeatAt) (t : Turn) → HasTurnedNone s.view t u.view → u.listed ≡ s.listed → IsQuietButHand s → IsQuietButHand u
 refused_quiet s u t has listed quiet =
     let q = quiet.quiet.view in
     let e = has.rest in
+    let still = refused_listed s u t has listed (record { each = quiet.quiet.listed.each }) in
     record {
       quiet = record {
         view = record {
@@ -300,9 +310,7 @@ refused_quiet s u t has listed quiet =
           commit = ap (λ (z : View). z.commit) e ∙ q.commit;
           raised = subst (λ (z : View). unraised_among z.hands.retired ≡ length z.hands.retired) (sym e) q.raised;
         };
-        listed = record {
-          each = λ slot. ap (times slot) listed ∙ quiet.quiet.listed.each slot ∙ ap (λ (z : View). times slot (slots_retired z)) (sym e);
-        };
+        listed = record { each = still.each };
       };
     }
 
@@ -322,7 +330,7 @@ retired_more {v} {w} {t} has =
     ap slots_retired has.rest ∙ map_append v.hands.retired (has.node_gone ∷ (has.child_gone ∷ []))
     ∙ (λ i. slots_retired v ++ has.node_is.slot_is i ∷ (has.child_is.slot_is i ∷ []))
 
-module _ {v w : View} {t : Turn} {listed : List ℕ} (has : HasTurned v t w) (apart : t.child ≢ t.node)
+module _ {v w : View} {t : Turn} (listed : List ℕ) (has : HasTurned v t w) (apart : t.child ≢ t.node)
     (each : (s : ℕ) → times s listed ≡ times s (slots_retired v)) where
   times_more : (s : ℕ) → times s (slots_retired w) ≡ times s (slots_retired v) + times s (t.node ∷ (t.child ∷ []))
   times_more s = ap (times s) (retired_more has) ∙ times_append s (slots_retired v) (t.node ∷ (t.child ∷ []))

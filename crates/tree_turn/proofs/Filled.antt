@@ -1,8 +1,7 @@
 -- Loads of one slot under its lock, one after another; and stores in a slot that is in hand or the spare.
-use Rattle.std.proofs.Common.{◌≡◌, ◌≢◌, ℕ, ◌⊎◌, List, [], ◌∷◌, ◌++◌, Option, Some, None, refl, sym, ap, subst, ◌∙◌, ⊎_elim, inl, inr}
+use Rattle.std.proofs.Common.{◌≡◌, ℕ, List, [], ◌∷◌, ◌++◌, Option, Some, None, refl, ap, subst, ◌∙◌, ⊎_elim, inl, inr}
 use Rattle.core_state.specs.declared.shape.Shape.{Shape}
 use Rattle.core_state.specs.declared.view.Held.{Held}
-use Rattle.core_state.specs.declared.view.HeldLock.{HeldLock}
 use Rattle.core_state.specs.declared.view.Known.{Known}
 use Rattle.core_state.specs.declared.view.StepMade.{StepMade}
 use Rattle.core_state.specs.declared.view.View.{View}

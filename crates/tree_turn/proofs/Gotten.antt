@@ -1,5 +1,5 @@
 -- The three locks are got or not, and given up; the words are loaded under them.
-use Rattle.std.proofs.Common.{◌≡◌, ◌≢◌, ℕ, ◌<◌, true, false, List, [], ◌∷◌, ◌++◌, length, Option, Some, None, refl, sym, ap, subst, ◌∙◌, inl, inr, arith, append-nil}
+use Rattle.std.proofs.Common.{◌≡◌, ◌≢◌, ℕ, false, List, [], ◌∷◌, ◌++◌, None, refl, sym, ap, ◌∙◌, inl, inr, arith}
 use Rattle.core_state.specs.declared.shape.Shape.{Shape}
 use Rattle.core_state.specs.declared.view.HeldLock.{HeldLock}
 use Rattle.core_state.specs.declared.view.Known.{Known}
@@ -13,9 +13,9 @@ use Rattle.node_slots.specs.Taking.{MakesSteps}
 use Rattle.tree_turn.specs.declared.turn.Turn.{Turn}
 use Rattle.tree_turn.specs.declared.turn.NodeWords.{NodeWords}
 use Rattle.core_state.specs.declared.words.Field.TheVariants.{Life, Link}
-use Rattle.tree_turn.specs.Turns.{AreThree, locking, unlocking, lock_steps, unlock_steps, loading, node_loads}
+use Rattle.tree_turn.specs.Turns.{AreThree, locking, unlocking, loading, node_loads}
 use Rattle.tree_turn.specs.Locked.{loaded, held_lock, three_locks, node_known, knowing, adding, IsAside, ThreeAside, HasLocked, HasGivenUp, HasUnlocked, HasLoaded, HasLoadedAll}
-use Rattle.tree_turn.proofs.Gripped.{lock_first, lock_next, lock_child, lock_node, lock_parent, change_child, change_node, change_parent, without_first, without_next, without_child, without_node, without_parent}
+use Rattle.tree_turn.proofs.Gripped.{lock_first, lock_child, lock_node, lock_parent, change_child, change_node, change_parent, without_first, without_next, without_child, without_node, without_parent}
 use Rattle.tree_turn.proofs.Standing.{Stands, stands_first, steps_both, locks_on, misses_on, unlocks_on}
 use Rattle.tree_turn.proofs.Asked.{asks_lock, asks_unlock, lock_there}
 use Rattle.tree_turn.proofs.Filled.{Reads}
@@ -96,43 +96,34 @@ module _ {k : Shape} {v : View} {t : Turn} (three : AreThree k t) (outside : v.s
               record { found = taken; taken = some; made = inr (inr (made_by st)); rest = gives_up free st }
 
 -- They are given up.
-module _ {k : Shape} {v : View} {t : Turn} (three : AreThree k t)
-    (locked : (parent node child : List Known) × (v.locks ≡ three_locks t parent node child)) (settled : v.moving ≡ None) where
-  abbrev child_lock : HeldLock
-  child_lock = held_lock t.child locked.2 false
-
-  abbrev node_lock : HeldLock
-  node_lock = held_lock t.node locked.1 false
-
-  abbrev parent_lock : HeldLock
-  parent_lock = held_lock t.parent locked.0 false
-
-  begins : Stands v (child_lock ∷ (node_lock ∷ (parent_lock ∷ []))) v.hands.hand v.hands.spare [] v
-  begins = stands_first v _ locked.3
+module _ {k : Shape} (v : View) (t : Turn) (three : AreThree k t) (parent node child : List Known)
+    (locked : v.locks ≡ three_locks t parent node child) (settled : v.moving ≡ None) where
+  begins : Stands v ((held_lock t.child child false) ∷ ((held_lock t.node node false) ∷ ((held_lock t.parent parent false) ∷ []))) v.hands.hand v.hands.spare [] v
+  begins = stands_first v _ locked
 
   pub asks_unlock_child : IsAsked k v (Unlock t.child)
-  asks_unlock_child = asks_unlock begins settled t.child child_lock
-      (lock_child t three child_lock node_lock parent_lock refl refl refl) refl refl refl
+  asks_unlock_child = asks_unlock begins settled t.child (held_lock t.child child false)
+      (lock_child t three (held_lock t.child child false) (held_lock t.node node false) (held_lock t.parent parent false) refl refl refl) refl refl refl
 
   module _ {v1 : View} (first : Told k v (Unlock t.child) 0 v1) where
-    ends_1 : Stands v (node_lock ∷ (parent_lock ∷ [])) v.hands.hand v.hands.spare (unlocking t.child ∷ []) v1
-    ends_1 = unlocks_on begins t.child (node_lock ∷ (parent_lock ∷ []))
-        (without_child t three child_lock node_lock parent_lock refl refl refl) first
+    ends_1 : Stands v ((held_lock t.node node false) ∷ ((held_lock t.parent parent false) ∷ [])) v.hands.hand v.hands.spare (unlocking t.child ∷ []) v1
+    ends_1 = unlocks_on begins t.child ((held_lock t.node node false) ∷ ((held_lock t.parent parent false) ∷ []))
+        (without_child t three (held_lock t.child child false) (held_lock t.node node false) (held_lock t.parent parent false) refl refl refl) first
 
     pub asks_unlock_node : IsAsked k v1 (Unlock t.node)
-    asks_unlock_node = asks_unlock ends_1 settled t.node node_lock (lock_first t.node node_lock (parent_lock ∷ []) refl) refl refl refl
+    asks_unlock_node = asks_unlock ends_1 settled t.node (held_lock t.node node false) (lock_first t.node (held_lock t.node node false) ((held_lock t.parent parent false) ∷ []) refl) refl refl refl
 
     module _ {v2 : View} (second : Told k v1 (Unlock t.node) 0 v2) where
-      ends_2 : Stands v (parent_lock ∷ []) v.hands.hand v.hands.spare (unlocking t.child ∷ (unlocking t.node ∷ [])) v2
-      ends_2 = unlocks_on ends_1 t.node (parent_lock ∷ [])
-          (without_node t three child_lock node_lock parent_lock refl refl refl) second
+      ends_2 : Stands v ((held_lock t.parent parent false) ∷ []) v.hands.hand v.hands.spare (unlocking t.child ∷ (unlocking t.node ∷ [])) v2
+      ends_2 = unlocks_on ends_1 t.node ((held_lock t.parent parent false) ∷ [])
+          (without_node t three (held_lock t.child child false) (held_lock t.node node false) (held_lock t.parent parent false) refl refl refl) second
 
       pub asks_unlock_parent : IsAsked k v2 (Unlock t.parent)
-      asks_unlock_parent = asks_unlock ends_2 settled t.parent parent_lock (lock_first t.parent parent_lock [] refl) refl refl refl
+      asks_unlock_parent = asks_unlock ends_2 settled t.parent (held_lock t.parent parent false) (lock_first t.parent (held_lock t.parent parent false) [] refl) refl refl refl
 
       pub all_given_up : {w : View} → Told k v2 (Unlock t.parent) 0 w → HasUnlocked v t w
       all_given_up third = (unlocks_on ends_2 t.parent []
-          (without_parent t three child_lock node_lock parent_lock refl refl refl) third).is
+          (without_parent t three (held_lock t.child child false) (held_lock t.node node false) (held_lock t.parent parent false) refl refl refl) third).is
 
 -- The words of the three are loaded under their locks.
 still_aside : {v : View} {locks : List HeldLock} {steps : List StepMade} {u : View} {s : ℕ}
@@ -187,7 +178,7 @@ module _ {k : Shape} {v : View} {t : Turn} (three : AreThree k t) (locked : v.lo
     node_settled = ap (λ (z : View). z.moving) stands_parent.is ∙ settled
 
     -- and those of the node
-    module _ {u2 : View} {n : NodeWords}
+    module _ {u2 : View} (n : NodeWords)
         (second : HasLoaded u t.node (node_known t.node t.turn n) (node_loads t.node t.turn n) u2) where
       abbrev node_read : HeldLock
       node_read = held_lock t.node (node_known t.node t.turn n) false
@@ -220,10 +211,10 @@ module _ {k : Shape} {v : View} {t : Turn} (three : AreThree k t) (locked : v.lo
       child_settled = ap (λ (z : View). z.moving) stands_node.is ∙ settled
 
       -- and those of the child
-      pub all_loaded : {w : View} {m : NodeWords}
+      pub all_loaded : {w : View} (m : NodeWords)
           → HasLoaded u2 t.child (node_known t.child t.turn m) (node_loads t.child t.turn m) w
           → HasLoadedAll v t (record { parent_life = life; link = link; node = n; child = m }) w
-      all_loaded {w} {m} third =
+      all_loaded {w} m third =
           let more : HeldLock → HeldLock = knowing (node_known t.child t.turn m) in
           let locks = change_child t three child_free node_read parent_read refl refl refl more in
           third ∙ ap (λ (z : View). record z {

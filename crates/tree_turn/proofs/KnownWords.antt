@@ -1,9 +1,9 @@
 -- What is known of the words of a node: each word that was loaded or stored is found among them.
-use Rattle.std.proofs.Common.{◌≡◌, ℕ, ◌+◌, ◌==◌, ◌&&◌, Bool, true, false, cond, List, [], ◌∷◌, Some, None, refl, ap, ◌∙◌, eq-eqb}
+use Rattle.std.proofs.Common.{◌≡◌, ℕ, ◌&&◌, Bool, false, cond, List, ◌∷◌, Some, refl, ap, ◌∙◌, eq-eqb}
 use Rattle.prcu_marks.specs.declared.mark.Side.{Side}
 use Rattle.prcu_marks.specs.declared.mark.Side.TheVariants.{Left, Right}
 use Rattle.core_state.specs.declared.words.Field.{Field}
-use Rattle.core_state.specs.declared.words.Field.TheVariants.{Life, Key, Value, Link}
+use Rattle.core_state.specs.declared.words.Field.TheVariants.{Key, Value, Link}
 use Rattle.core_state.specs.declared.view.Known.{Known}
 use Rattle.core_state.specs.memory.Memory.{same_field, same_side}
 use Rattle.core_state.specs.memory.Words.{across}

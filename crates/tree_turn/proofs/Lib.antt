@@ -5,4 +5,5 @@ pub mod Filled
 pub mod KnownWords
 pub mod Replaced
 pub mod Gotten
+pub mod Tested
 pub mod Ended

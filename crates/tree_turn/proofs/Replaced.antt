@@ -1,5 +1,5 @@
 -- A node and its child are replaced: what each step asks, and what all of them leave.
-use Rattle.std.proofs.Common.{◌≡◌, ◌≢◌, ℕ, ◌+◌, ◌-◌, ◌*◌, ◌%◌, ◌<◌, ◌≤◌, true, false, List, [], ◌∷◌, ◌++◌, length, Option, Some, None, refl, sym, ap, subst, ◌∙◌, inl, inr, arith}
+use Rattle.std.proofs.Common.{◌≡◌, ◌≢◌, ℕ, ◌+◌, ◌-◌, ◌*◌, ◌<◌, ◌≤◌, true, false, List, [], ◌∷◌, ◌++◌, length, Some, None, refl, sym, ap, subst, ◌∙◌, inl, inr, arith}
 use Rattle.prcu_marks.specs.declared.mark.Mark.{Mark}
 use Rattle.core_state.specs.declared.shape.Shape.{Shape}
 use Rattle.core_state.specs.declared.words.Field.{Field}
@@ -7,11 +7,10 @@ use Rattle.core_state.specs.declared.words.Field.TheVariants.{Life, Link}
 use Rattle.core_state.specs.declared.view.Held.{Held}
 use Rattle.core_state.specs.declared.view.HeldLock.{HeldLock}
 use Rattle.core_state.specs.declared.view.Known.{Known}
-use Rattle.core_state.specs.declared.view.Reading.{Reading}
 use Rattle.core_state.specs.declared.view.Retired.{Retired}
 use Rattle.core_state.specs.declared.view.StepMade.{StepMade}
 use Rattle.core_state.specs.declared.view.View.{View}
-use Rattle.core_state.specs.steps.Links.{IsMarkedNode, IsRecordedNode, NeedsMark, newly_retired, with_mark}
+use Rattle.core_state.specs.steps.Links.{IsMarkedNode, NeedsMark, newly_retired, with_mark}
 use Rattle.core_state.specs.steps.Rotations.{NeedsRotate, rotate_marks}
 use Rattle.core_state.specs.views.Known.{known_in, known_of, known_under, loaded_in, lock_of, change_lock, note_lock, LoadedGeneration}
 use Rattle.core_acts.specs.declared.act.Act.TheVariants.{Mark as MarkNode, Rotate}
@@ -24,7 +23,7 @@ use Rattle.tree_turn.specs.declared.turn.Content.{Content}
 use Rattle.tree_turn.specs.declared.turn.Turn.{Turn}
 use Rattle.tree_turn.specs.declared.turn.TurnWords.{TurnWords}
 use Rattle.tree_turn.specs.Turns.{HasRecorded, lower_content, upper_content, fill_steps, marking, rotating}
-use Rattle.tree_turn.specs.Locked.{filled, held_lock, three_locks, parent_known, node_known, content_known, loaded_locks, learning, adding, IsHeldSlot, HasFilled, HasReplaced, MayReplace}
+use Rattle.tree_turn.specs.Locked.{filled, held_lock, parent_known, node_known, content_known, loaded_locks, learning, adding, IsHeldSlot, HasFilled, HasReplaced, MayReplace}
 use Rattle.tree_turn.proofs.Gripped.{lock_child, lock_node, lock_parent, lock_other, change_child, change_node, change_parent}
 use Rattle.tree_turn.proofs.Standing.{Stands, standing, steps_both, settles, IsOff, learning_here, learning_off, marks_on}
 use Rattle.tree_turn.proofs.Asked.{lock_there}

@@ -1,5 +1,5 @@
 -- A view with other locks, slots and further steps: what one step more makes of it.
-use Rattle.std.proofs.Common.{◌≡◌, ◌≢◌, ℕ, ◌+◌, ◌==◌, true, cond, List, [], ◌∷◌, ◌++◌, Option, Some, None, refl, sym, ap, ◌∙◌, ⊎_elim, eq-eqb, ne_eqb, append_assoc, append-nil}
+use Rattle.std.proofs.Common.{◌≡◌, ◌≢◌, ℕ, ◌+◌, true, cond, List, [], ◌∷◌, ◌++◌, Option, Some, None, refl, sym, ap, ◌∙◌, ⊎_elim, eq-eqb, ne_eqb, append_assoc, append-nil}
 use Rattle.std.proofs.lemmas.Bool.{cases_eq}
 use Rattle.core_state.specs.declared.shape.Shape.{Shape}
 use Rattle.core_state.specs.declared.words.Field.TheVariants.{Life}
@@ -76,7 +76,7 @@ learning_here slot known held e = ap (λ b. Some (cond b (record held { known = 
 pub learning_off : (slot : ℕ) (known : List Known) (held : Held) → held.slot ≢ slot → learning slot known (Some held) ≡ Some held
 learning_off slot known held ne = ap (λ b. Some (cond b (record held { known = known ++ held.known }) held)) (ne_eqb held.slot slot ne)
 
-settles : (v : View) → v.moving ≡ None → (s : ℕ) (known : Known) → note_moving s known v.moving ≡ v.moving
+pub settles : (v : View) → v.moving ≡ None → (s : ℕ) (known : Known) → note_moving s known v.moving ≡ v.moving
 settles v settled s known = ap (λ (m : Option Move). note_moving s known m) settled ∙ sym settled
 
 module _ {k : Shape} {v : View} {locks : List HeldLock} {hand spare : Option Held} {steps : List StepMade} {u w : View}

@@ -1,6 +1,6 @@
 -- What stands in the seat's view while a turn holds its three locks.
 -- Source: docs/TREE_CALLS.md, "Turns".
-use Rattle.std.specs.Prelude.{◌≡◌, ◌≢◌, ◌⊎◌, ℕ, ◌+◌, ◌-◌, ◌<◌, ◌≤◌, ◌==◌, if◌then◌else◌, Bool, true, false, List, [], ◌∷◌, ◌++◌, length, Option, Some, None}
+use Rattle.std.specs.Prelude.{◌≡◌, ◌≢◌, ◌⊎◌, ℕ, ◌+◌, ◌-◌, ◌<◌, ◌≤◌, ◌==◌, if◌then◌else◌, Bool, true, false, List, [], ◌∷◌, ◌++◌, length, Option, Some, None, ◌*◌, ◌&&◌, not}
 use Rattle.prcu_marks.specs.declared.mark.Mark.{Mark}
 use Rattle.prcu_marks.specs.declared.mark.Side.{Side}
 use Rattle.core_state.specs.declared.words.Field.{Field}
@@ -15,13 +15,13 @@ use Rattle.core_state.specs.declared.view.View.{View}
 use Rattle.core_state.specs.memory.Words.{across}
 use Rattle.core_state.specs.steps.Rotations.{rotate_marks}
 use Rattle.core_state.specs.steps.Slots.{IsInHand, IsSpare}
-use Rattle.core_state.specs.views.Known.{change_lock, lock_of}
+use Rattle.core_state.specs.views.Known.{change_lock}
 use Rattle.seat_table.specs.Gains.{Sees}
 use Rattle.tree_turn.specs.declared.turn.Turn.{Turn}
 use Rattle.tree_turn.specs.declared.turn.Content.{Content}
 use Rattle.tree_turn.specs.declared.turn.NodeWords.{NodeWords}
 use Rattle.tree_turn.specs.declared.turn.TurnWords.{TurnWords}
-use Rattle.tree_turn.specs.Turns.{AreAside, IsUnlinkedAt, IsAsRecorded, Finds, lock_steps, unlock_steps, load_steps, node_loads, fill_steps, replace_steps}
+use Rattle.tree_turn.specs.Turns.{AreAside, IsUnlinkedAt, IsAsRecorded, Finds, lock_steps, unlock_steps, load_steps, fill_steps, replace_steps}
 
 -- a word that was loaded, and one that was stored
 abbrev pub loaded : Field → ℕ → Known
@@ -99,6 +99,15 @@ pub record HasGivenUp (v : View) (t : Turn) (w : View) : Type 0 where
 -- Words of a slot were loaded under its lock.
 abbrev pub HasLoaded : View → ℕ → List Known → List StepMade → View → Type 0
 HasLoaded v slot known steps w = w ≡ record v { locks = change_lock slot (knowing known) v.locks; trail = adding v.trail steps }
+
+-- whether what was loaded is as recorded, and whether the slots in hand and spare are none of the three, and two
+abbrev pub agrees : Turn → TurnWords → Bool
+agrees t words = (words.parent_life == 2 * t.parent_generation) && ((words.node.life == 2 * t.node_generation)
+    && ((words.child.life == 2 * t.child_generation) && ((words.link == t.node) && (words.node.content.turn_link == t.child))))
+
+abbrev pub stands_aside : Turn → ℕ → ℕ → Bool
+stands_aside t bottom top = not (bottom == top) && (not (bottom == t.parent) && (not (bottom == t.node) && (not (bottom == t.child)
+    && (not (top == t.parent) && (not (top == t.node) && not (top == t.child))))))
 
 -- All that a turn loads was loaded.
 abbrev pub HasLoadedAll : View → Turn → TurnWords → View → Type 0

@@ -1,10 +1,10 @@
 //! What a turn loads under its locks, and whether it is as recorded.
-ghost use Rattle.std.specs.Prelude.{◌≡◌, ◌×◌, [], true, false, None};
+ghost use Rattle.std.specs.Prelude.{◌≡◌, ◌*◌, ◌==◌, [], None};
 ghost use Rattle.core_state.specs.memory.Words.{across};
 ghost use Rattle.core_state.specs.views.Known.{HasLock};
 ghost use Rattle.seat_table.specs.Seats.{shape_of};
-ghost use Rattle.tree_turn.specs.Turns.{AreThree, IsAsRecorded, node_loads};
-ghost use Rattle.tree_turn.specs.Locked.{HasLoaded, HasLoadedAll, IsAside, ThreeAside, node_known, three_locks};
+ghost use Rattle.tree_turn.specs.Turns.{AreThree, node_loads};
+ghost use Rattle.tree_turn.specs.Locked.{agrees, HasLoaded, HasLoadedAll, IsAside, ThreeAside, node_known, three_locks};
 
 use crate::turn::{Content, NodeWords, Turn, TurnWords};
 use core_state::{generation_of, marked};
@@ -86,8 +86,7 @@ fn is_life(life: u64, generation: u64) -> bool
 
 /// Whether the three have the recorded generations and are unmarked, and the links still lead from one to the next.
 pub(crate) fn is_as_recorded(turn: Turn, words: TurnWords) -> bool
-    ensures holds { result ≡ true → IsAsRecorded turn words }
-    ensures fails { result ≡ false → IsAsRecorded turn words → ⊥ }
+    ensures { result ≡ agrees turn words }
 {
     is_life(words.parent_life, turn.parent_generation)
         && is_life(words.node.life, turn.node_generation)

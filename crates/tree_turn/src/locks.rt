@@ -1,5 +1,5 @@
 //! The three locks of a turn.
-ghost use Rattle.std.specs.Prelude.{◌≡◌, ◌×◌, List, [], true, false, None};
+ghost use Rattle.std.specs.Prelude.{◌≡◌, List, [], true, false, None};
 ghost use Rattle.core_state.specs.declared.view.Known.{Known};
 ghost use Rattle.seat_table.specs.Gains.{IsInformed};
 ghost use Rattle.seat_table.specs.Seats.{shape_of};

@@ -1,10 +1,11 @@
 //! The call that makes a turn.
-ghost use Rattle.std.specs.Prelude.{◌≡◌, ◌×◌, ◌+◌, true, false, [], ◌∷◌, ◌++◌};
+ghost use Rattle.std.specs.Prelude.{◌≡◌, ◌+◌, Some, true, false, [], ◌∷◌, ◌++◌};
 ghost use Rattle.core_state.specs.views.Views.{steps_made};
 ghost use Rattle.seat_table.specs.Gains.{IsInformed};
-ghost use Rattle.seat_table.specs.Seats.{AreListed, IsQuietSeat, shape_of};
+ghost use Rattle.seat_table.specs.Seats.{AreListed, IsQuietSeat, IsSlotOf, shape_of};
 ghost use Rattle.tree_points.specs.Progress.{HasGone};
-ghost use Rattle.tree_turn.specs.Turns.{HasRecorded, IsReadyToTurn, IsQuietButHand, HasTurned, HasTurnedNone, AreAside, is_rotation};
+ghost use Rattle.tree_turn.specs.Turns.{HasRecorded, IsReadyToTurn, IsQuietButHand, HasTurned, HasTurnedNone, is_rotation};
+ghost use Rattle.tree_turn.specs.Locked.{stands_aside};
 
 use crate::loads::{is_as_recorded, load_words};
 use crate::locks::{lock_three, unlock_three};
@@ -41,6 +42,32 @@ pub fn make_turn<W: WaitWords>(table: &CitrusTable<W>, seat: &mut Seat<W>, turn:
     let Some(top) = seat.spare() else {
         unreachable!();
     };
+    if !attempt(table, seat, turn, bottom, top) {
+        return false;
+    }
+    seat.list_retired(turn.node);
+    seat.list_retired(turn.child);
+    true
+}
+
+// All of a turn but the list of retired slots.
+fn attempt<W: WaitWords>(
+    table: &CitrusTable<W>,
+    seat: &mut Seat<W>,
+    turn: Turn,
+    bottom: u32,
+    top: u32,
+) -> bool
+    requires table { seat.old.table ≡ table.now }
+    requires recorded { HasRecorded (shape_of W.WAY table.now) seat.old.view turn }
+    requires ready { IsReadyToTurn seat.old.view }
+    requires hand { IsSlotOf (Some bottom) seat.old.view.hands.hand }
+    requires spare { IsSlotOf (Some top) seat.old.view.hands.spare }
+    ensures seat { (seat.new.table ≡ seat.old.table) × (seat.new.listed ≡ seat.old.listed) }
+    ensures turned { result ≡ true → HasTurned seat.old.view turn seat.new.view }
+    ensures refused { result ≡ false → HasTurnedNone seat.old.view turn seat.new.view }
+    ensures informed { result ≡ true → IsInformed seat.new.view }
+{
     // A stale record may name a slot that was given back and is this place's own by now.
     if !are_aside(turn, bottom, top) {
         return false;
@@ -55,15 +82,12 @@ pub fn make_turn<W: WaitWords>(table: &CitrusTable<W>, seat: &mut Seat<W>, turn:
     }
     replace(table, seat, turn, words, bottom, top);
     unlock_three(table, seat, turn);
-    seat.list_retired(turn.node);
-    seat.list_retired(turn.child);
     true
 }
 
 // Whether the slots in hand and spare are none of the three, and two.
 fn are_aside(turn: Turn, bottom: u32, top: u32) -> bool
-    ensures holds { result ≡ true → AreAside turn bottom top }
-    ensures fails { result ≡ false → AreAside turn bottom top → ⊥ }
+    ensures { result ≡ stands_aside turn bottom top }
 {
     bottom != top
         && bottom != turn.parent

@@ -42,25 +42,26 @@ load_node-child-requires-clause-held g c =
     let r = c.requires in
     let one = reads_first r.settled r.aside.parent_aside part.Life _ c.locked_load-parent_life.ensures.told in
     let two = reads_more r.settled r.aside.parent_aside one (part.Link c.args.turn.side) _ c.locked_load-link.ensures.told in
-    child_locked r.three r.locked r.aside r.settled two c.load_node-node.ensures.view
+    child_locked r.three r.locked r.aside r.settled two c.load_node-node.result c.load_node-node.ensures.view
 
 pub load_node-child-requires-clause-aside : goal.load_node-child-requires-clause-aside
 load_node-child-requires-clause-aside g c =
     let r = c.requires in
     let one = reads_first r.settled r.aside.parent_aside part.Life _ c.locked_load-parent_life.ensures.told in
     let two = reads_more r.settled r.aside.parent_aside one (part.Link c.args.turn.side) _ c.locked_load-link.ensures.told in
-    child_stays r.three r.locked r.aside r.settled two c.load_node-node.ensures.view
+    child_stays r.three r.locked r.aside r.settled two c.load_node-node.result c.load_node-node.ensures.view
 
 pub load_node-child-requires-clause-settled : goal.load_node-child-requires-clause-settled
 load_node-child-requires-clause-settled g c =
     let r = c.requires in
     let one = reads_first r.settled r.aside.parent_aside part.Life _ c.locked_load-parent_life.ensures.told in
     let two = reads_more r.settled r.aside.parent_aside one (part.Link c.args.turn.side) _ c.locked_load-link.ensures.told in
-    child_settled r.three r.locked r.aside r.settled two c.load_node-node.ensures.view
+    child_settled r.three r.locked r.aside r.settled two c.load_node-node.result c.load_node-node.ensures.view
 
 pub returns-clause-view : goal.returns-clause-view
 returns-clause-view g c =
     let r = c.requires in
     let one = reads_first r.settled r.aside.parent_aside part.Life _ c.locked_load-parent_life.ensures.told in
     let two = reads_more r.settled r.aside.parent_aside one (part.Link c.args.turn.side) _ c.locked_load-link.ensures.told in
-    all_loaded r.three r.locked r.aside r.settled two c.load_node-node.ensures.view c.load_node-child.ensures.view
+    all_loaded r.three r.locked r.aside r.settled two c.load_node-node.result c.load_node-node.ensures.view c.load_node-child.result
+    c.load_node-child.ensures.view

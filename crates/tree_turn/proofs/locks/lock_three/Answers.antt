@@ -27,18 +27,18 @@ pub lock-requires-3-clause-asks : goal.lock-requires-3-clause-asks
 lock-requires-3-clause-asks g c =
     asks_third c.requires.three c.requires.outside c.requires.unlocked c.requires.settled c.if-lock-ne0.false c.lock.ensures.told c.if-lock-ne0-2.false c.lock-2.ensures.told
 
-pub unlock-requires-2-clause-asks : goal.unlock-requires-2-clause-asks
-unlock-requires-2-clause-asks g c =
+pub unlock-requires-then-lock-ne0-3-clause-asks : goal.unlock-requires-then-lock-ne0-3-clause-asks
+unlock-requires-then-lock-ne0-3-clause-asks g c =
     asks_node_back c.requires.three c.requires.outside c.requires.unlocked c.requires.settled c.if-lock-ne0.false c.lock.ensures.told c.if-lock-ne0-2.false c.lock-2.ensures.told _ c.if-lock-ne0-3.true c.lock-3.ensures.told
 
-pub unlock-requires-3-clause-asks : goal.unlock-requires-3-clause-asks
-unlock-requires-3-clause-asks g c =
-    asks_parent_back c.requires.three c.requires.outside c.requires.unlocked c.requires.settled c.if-lock-ne0.false c.lock.ensures.told c.if-lock-ne0-2.false c.lock-2.ensures.told _ c.if-lock-ne0-3.true c.lock-3.ensures.told c.unlock-2.ensures.told
+pub unlock-requires-then-lock-ne0-3-2-clause-asks : goal.unlock-requires-then-lock-ne0-3-2-clause-asks
+unlock-requires-then-lock-ne0-3-2-clause-asks g c =
+    asks_parent_back c.requires.three c.requires.outside c.requires.unlocked c.requires.settled c.if-lock-ne0.false c.lock.ensures.told c.if-lock-ne0-2.false c.lock-2.ensures.told _ c.if-lock-ne0-3.true c.lock-3.ensures.told c.unlock-then-lock-ne0-3.ensures.told
 
 pub returns-then-lock-ne0-3-clause-busy : goal.returns-then-lock-ne0-3-clause-busy
 returns-then-lock-ne0-3-clause-busy g c =
-    λ _. child_busy c.requires.three c.requires.outside c.requires.unlocked c.requires.settled c.if-lock-ne0.false c.lock.ensures.told c.if-lock-ne0-2.false c.lock-2.ensures.told _ c.if-lock-ne0-3.true c.lock-3.ensures.told c.unlock-2.ensures.told
-    c.unlock-3.ensures.told
+    λ _. child_busy c.requires.three c.requires.outside c.requires.unlocked c.requires.settled c.if-lock-ne0.false c.lock.ensures.told c.if-lock-ne0-2.false c.lock-2.ensures.told _ c.if-lock-ne0-3.true c.lock-3.ensures.told c.unlock-then-lock-ne0-3.ensures.told
+    c.unlock-then-lock-ne0-3-2.ensures.told
 
 pub returns-clause-got : goal.returns-clause-got
 returns-clause-got g c =
