@@ -1,14 +1,12 @@
 -- What a turn leaves, whether it is made or not: all its calls one after another.
-use Rattle.std.proofs.Common.{◌≡◌, ◌≢◌, ◌⊎◌, ℕ, suc, ◌+◌, ◌-◌, ◌<◌, ◌≤◌, Bool, true, false, cond, List, [], ◌∷◌, ◌++◌, length, map, Option, Some, None, refl, sym, ap, subst, ◌∙◌, ⊎_elim, inl, inr, arith, append-nil}
+use Rattle.std.proofs.Common.{◌≡◌, ◌≢◌, ℕ, suc, ◌+◌, ◌-◌, ◌<◌, ◌≤◌, Bool, false, cond, List, [], ◌∷◌, ◌++◌, length, map, Option, Some, None, refl, sym, ap, subst, ◌∙◌, ⊎_elim, inl, inr, arith, append-nil}
 use Rattle.std.proofs.lemmas.Bool.{cases_eq}
 use Rattle.std.proofs.lemmas.List.{length-append}
 use mathlib.Core.Option.{some}
 use lib.ListN.{get_elem?}
-use Rattle.prcu_marks.specs.declared.mark.Mark.{Mark}
 use Rattle.core_state.specs.declared.shape.Shape.{Shape}
 use Rattle.core_state.specs.declared.words.Kind.{Kind}
 use Rattle.core_state.specs.declared.view.Held.{Held}
-use Rattle.core_state.specs.declared.view.HeldLock.{HeldLock}
 use Rattle.core_state.specs.declared.view.Known.{Known}
 use Rattle.core_state.specs.declared.view.Retired.{Retired}
 use Rattle.core_state.specs.declared.view.StepMade.{StepMade}
@@ -17,7 +15,7 @@ use Rattle.core_state.specs.declared.view.View.{View}
 use Rattle.core_state.specs.steps.Rotations.{rotate_marks}
 use Rattle.core_state.specs.steps.Slots.{IsRetiredAt}
 use Rattle.core_state.specs.views.Known.{HasLock, lock_of}
-use Rattle.core_state.specs.views.Views.{IsQuiet, steps_of, steps_made, unraised_among}
+use Rattle.core_state.specs.views.Views.{steps_of, steps_made, unraised_among}
 use Rattle.core_frames.proofs.views.RetiredLists.{unraised_append}
 use Rattle.core_frames.proofs.views.Roles.{map_append}
 use Rattle.list_laws.specs.Counts.{times, IsIn}
@@ -30,7 +28,7 @@ use Rattle.node_slots.specs.Taking.{MakesSteps}
 use Rattle.node_slots.proofs.Listed.{listed_length, not_in}
 use Rattle.tree_turn.specs.declared.turn.Turn.{Turn}
 use Rattle.tree_turn.specs.declared.turn.TurnWords.{TurnWords}
-use Rattle.tree_turn.specs.Turns.{HasRecorded, IsReadyToTurn, IsQuietButHand, IsAsRecorded, IsUnlinkedAt, AreAside, HasTurned, HasTurnedNone, FoundOwn, FoundLocked, FoundOther, Finds, lock_steps, load_steps, unlock_steps, replace_steps, turn_steps, is_rotation}
+use Rattle.tree_turn.specs.Turns.{HasRecorded, IsReadyToTurn, IsQuietButHand, IsAsRecorded, AreAside, HasTurned, HasTurnedNone, FoundOwn, FoundLocked, FoundOther, Finds, lock_steps, load_steps, unlock_steps, replace_steps, turn_steps, is_rotation}
 use Rattle.tree_turn.specs.Locked.{three_locks, parent_known, node_known, loaded_locks, adding, ThreeAside, HasLocked, HasGivenUp, HasLoadedAll, HasUnlocked, MayReplace, HasReplaced}
 use Rattle.tree_turn.proofs.Standing.{steps_both}
 
@@ -208,7 +206,7 @@ module _ {k : Shape} {v : View} {t : Turn} (recorded : HasRecorded k v t) (ready
 
 -- How many rotations were made.
 steps_append : (f : Kind → Bool) (a b : List StepMade) → steps_of f (a ++ b) ≡ steps_of f a + steps_of f b
-steps_append f [] b = refl
+steps_append f [] b = omega arith
 steps_append f (x ∷ a) b = let rest = steps_append f a b in omega arith
 
 more_made : (f : Kind → Bool) (v w : View) (steps : List StepMade) → MakesSteps v steps w
@@ -261,19 +259,21 @@ abbrev slots_retired : View → List ℕ
 slots_retired v = map (λ (r : Retired). r.slot) v.hands.retired
 
 -- The seat is quiet afterwards.
+two_unraised : (a b : Retired) → a.raised ≡ false → b.raised ≡ false → unraised_among (a ∷ (b ∷ [])) ≡ 2
+two_unraised a b first second = λ i. cond (first i) 0 1 + (cond (second i) 0 1 + 0)
+
 pub turned_quiet : (s u : SeatAt) (t : Turn) → HasTurned s.view t u.view → IsQuietButHand s → AreListed u → IsQuietSeat u
 turned_quiet s u t has quiet are_listed =
     let q = quiet.quiet.view in
     let e = has.rest in
     let v : View = s.view in
     let gone : List Retired = has.node_gone ∷ (has.child_gone ∷ []) in
-    let many : unraised_among (v.hands.retired ++ gone)
-    ≡ unraised_among v.hands.retired + (cond has.node_gone.raised 0 1 + (cond has.child_gone.raised 0 1 + 0)) =
-    unraised_append v.hands.retired gone in
+    let many : unraised_among (v.hands.retired ++ gone) ≡ unraised_among v.hands.retired + 2 =
+    unraised_append v.hands.retired gone
+    ∙ ap (λ n. unraised_among v.hands.retired + n) (two_unraised has.node_gone has.child_gone has.node_is.unraised has.child_is.unraised) in
     let long : length (v.hands.retired ++ gone) ≡ length v.hands.retired + 2 = length-append v.hands.retired gone in
-    let first : cond has.node_gone.raised 0 1 ≡ 1 = ap (λ b. cond b 0 1) has.node_is.unraised in
-    let second : cond has.child_gone.raised 0 1 ≡ 1 = ap (λ b. cond b 0 1) has.child_is.unraised in
     let was : unraised_among v.hands.retired ≡ length v.hands.retired = q.raised in
+    let all : unraised_among (v.hands.retired ++ gone) ≡ length (v.hands.retired ++ gone) = many ∙ ap (λ n. n + 2) was ∙ sym long in
     record {
       view = record {
         section = ap (λ (z : View). z.section) e ∙ q.section;
@@ -283,7 +283,7 @@ turned_quiet s u t has quiet are_listed =
         moving = ap (λ (z : View). z.moving) e ∙ q.moving;
         owes = ap (λ (z : View). z.hands.owes) e ∙ q.owes;
         commit = ap (λ (z : View). z.commit) e ∙ q.commit;
-        raised = subst (λ (z : View). unraised_among z.hands.retired ≡ length z.hands.retired) (sym e) (omega arith);
+        raised = subst (λ (z : View). unraised_among z.hands.retired ≡ length z.hands.retired) (sym e) all;
       };
       listed = are_listed;
     }
@@ -360,6 +360,9 @@ module _ {v w : View} {t : Turn} (listed : List ℕ) (has : HasTurned v t w) (ap
 -- so there is room on the list
 pub few_listed : (s : SeatAt) → AreListed s → length s.view.hands.retired < 15 → length s.listed < 15
 few_listed s listed room = let long = listed_length s listed in omega arith
+
+pub turned_free : {v w : View} {t : Turn} → HasTurned v t w → v.locks ≡ [] → w.locks ≡ []
+turned_free has free = ap (λ (z : View). z.locks) has.rest ∙ free
 
 pub no_lock : (w : View) (s : ℕ) → w.locks ≡ [] → HasLock w s → ⊥
 no_lock w s free (lock, held) = let e : None ≡ Some lock = ap (λ ls. lock_of ls s) (sym free) ∙ held in cc

@@ -1,5 +1,5 @@
 -- What the two tests of a turn tell.
-use Rattle.std.proofs.Common.{◌≡◌, ◌≢◌, ℕ, ◌*◌, ◌==◌, ◌&&◌, not, Bool, true, false, refl, sym, ap, ◌∙◌, eq-eqb, ne_eqb}
+use Rattle.std.proofs.Common.{◌≡◌, ◌≢◌, ℕ, ◌*◌, ◌==◌, not, true, false, sym, ap, ◌∙◌, eq-eqb, ne_eqb}
 use Rattle.std.proofs.lemmas.Bool.{eqb-true, and_parts, and_from, false≢true}
 use Rattle.tree_turn.specs.declared.turn.Turn.{Turn}
 use Rattle.tree_turn.specs.declared.turn.TurnWords.{TurnWords}

@@ -7,7 +7,7 @@ use Rattle.core_state.specs.steps.Slots.{IsRetiredAt}
 use Rattle.list_laws.specs.Counts.{times, IsIn}
 use Rattle.seat_table.specs.Gains.{TellsApart, IsInformed}
 use Rattle.tree_turn.specs.Turns.{HasTurned}
-use Rattle.tree_turn.proofs.Ended.{some_held, turned_once, turned_none, turned_gone, refused_gone, turned_quiet, refused_quiet, refused_listed, node_retired, child_retired, node_unlisted, child_unlisted, both_listed, few_listed, no_lock}
+use Rattle.tree_turn.proofs.Ended.{turned_once, turned_none, turned_gone, refused_gone, turned_quiet, refused_quiet, refused_listed, node_retired, child_retired, node_unlisted, child_unlisted, both_listed, few_listed, turned_free, no_lock}
 use Rattle.tree_turn.proofs.turning.make_turn.Goals as goal
 
 pub list_retired-requires-clause-retired : goal.list_retired-requires-clause-retired
@@ -18,7 +18,7 @@ list_retired-requires-clause-retired g c =
 pub list_retired-requires-clause-unlocked : goal.list_retired-requires-clause-unlocked
 list_retired-requires-clause-unlocked g c =
     let t = c.attempt.ensures.turned c.if-not-attempt.false in
-    no_lock _ _ (ap (λ (z : View). z.locks) t.rest ∙ c.requires.ready.unlocked)
+    no_lock c.attempt.new.seat.view c.args.turn.node (turned_free t c.requires.ready.unlocked)
 
 pub list_retired-requires-clause-unlisted : goal.list_retired-requires-clause-unlisted
 list_retired-requires-clause-unlisted g c =
@@ -41,7 +41,8 @@ list_retired-requires-2-clause-retired g c =
 pub list_retired-requires-2-clause-unlocked : goal.list_retired-requires-2-clause-unlocked
 list_retired-requires-2-clause-unlocked g c =
     let t = c.attempt.ensures.turned c.if-not-attempt.false in
-    no_lock _ _ (ap (λ (z : View). z.locks) (c.list_retired.ensures.seat.1 ∙ t.rest) ∙ c.requires.ready.unlocked)
+    no_lock c.list_retired.new.self.view c.args.turn.child
+    (ap (λ (z : View). z.locks) c.list_retired.ensures.seat.1 ∙ turned_free t c.requires.ready.unlocked)
 
 pub list_retired-requires-2-clause-unlisted : goal.list_retired-requires-2-clause-unlisted
 list_retired-requires-2-clause-unlisted g c =
@@ -58,7 +59,7 @@ list_retired-requires-2-clause-few g c =
     omega (arith, few, same, long)
 
 pub returns-then-not-attempt-clause-refused : goal.returns-then-not-attempt-clause-refused
-returns-then-not-attempt-clause-refused g c = c.attempt.ensures.refused
+returns-then-not-attempt-clause-refused g c = λ _. c.attempt.ensures.refused c.if-not-attempt.true
 
 pub returns-then-not-attempt-clause-none : goal.returns-then-not-attempt-clause-none
 returns-then-not-attempt-clause-none g c =
