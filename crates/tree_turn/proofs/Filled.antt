@@ -95,10 +95,16 @@ pub still_held : {v : View} {s : ℕ} {known : List Known} {steps : List StepMad
 still_held {v} {s} {known} (held, holder) fills = (
   record held { known = known ++ held.known },
   ⊎_elim
-      (λ (h : IsInHand v held s). inl (ap (λ (z : View). z.hands.hand) fills.stands.is ∙ ap (learning s known) h.0
-      ∙ learning_here s known held h.1, h.1))
-      (λ (h : IsSpare v held s). inr (ap (λ (z : View). z.hands.spare) fills.stands.is ∙ ap (learning s known) h.0
-      ∙ learning_here s known held h.1, h.1))
+      (λ (h : IsInHand v held s). inl (
+        ap (λ (z : View). z.hands.hand) fills.stands.is ∙ ap (learning s known) h.0
+            ∙ learning_here s known held h.1,
+        h.1,
+      ))
+      (λ (h : IsSpare v held s). inr (
+        ap (λ (z : View). z.hands.spare) fills.stands.is ∙ ap (learning s known) h.0
+            ∙ learning_here s known held h.1,
+        h.1,
+      ))
       holder,
 )
 

@@ -168,8 +168,11 @@ module _ {k : Shape} {v : View} {t : Turn} (three : AreThree k t) (locked : v.lo
     }
 
     pub node_locked : HasLock u t.node
-    node_locked = (node_free, lock_there stands_parent t.node node_free
-        (lock_node t three child_free node_free parent_read refl refl refl))
+    node_locked = (
+      node_free,
+      lock_there stands_parent t.node node_free
+          (lock_node t three child_free node_free parent_read refl refl refl),
+    )
 
     pub node_stays : IsAside u t.node
     node_stays = still_aside stands_parent aside.node_aside
@@ -201,8 +204,11 @@ module _ {k : Shape} {v : View} {t : Turn} (three : AreThree k t) (locked : v.lo
       }
 
       pub child_locked : HasLock u2 t.child
-      child_locked = (child_free, lock_there stands_node t.child child_free
-          (lock_child t three child_free node_read parent_read refl refl refl))
+      child_locked = (
+        child_free,
+        lock_there stands_node t.child child_free
+            (lock_child t three child_free node_read parent_read refl refl refl),
+      )
 
       pub child_stays : IsAside u2 t.child
       child_stays = still_aside stands_node aside.child_aside

@@ -127,9 +127,11 @@ pub returns-clause-listed : goal.returns-clause-listed
 returns-clause-listed g c =
     let t = c.attempt.ensures.turned c.if-not-attempt.false in
     let u = subst (HasTurned c.args.seat.now.view c.args.turn) (sym (c.list_retired-2.ensures.seat.1 ∙ c.list_retired.ensures.seat.1)) t in
-    record { each = λ slot. ap (times slot) (c.list_retired-2.ensures.listed ∙ ap (λ xs. xs ++ c.args.turn.child ∷ [])
-    (c.list_retired.ensures.listed ∙ ap (λ xs. xs ++ c.args.turn.node ∷ []) c.attempt.ensures.seat.1)
-    ∙ append_assoc c.args.seat.now.listed (c.args.turn.node ∷ []) (c.args.turn.child ∷ [])) ∙ both_listed c.args.seat.now.listed u c.requires.recorded.three.child_apart c.requires.listed.each slot }
+    record {
+      each = λ slot. ap (times slot) (c.list_retired-2.ensures.listed ∙ ap (λ xs. xs ++ c.args.turn.child ∷ [])
+          (c.list_retired.ensures.listed ∙ ap (λ xs. xs ++ c.args.turn.node ∷ []) c.attempt.ensures.seat.1)
+          ∙ append_assoc c.args.seat.now.listed (c.args.turn.node ∷ []) (c.args.turn.child ∷ [])) ∙ both_listed c.args.seat.now.listed u c.requires.recorded.three.child_apart c.requires.listed.each slot;
+    }
 
 pub returns-clause-quiet : goal.returns-clause-quiet
 returns-clause-quiet g c =
