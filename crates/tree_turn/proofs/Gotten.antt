@@ -98,32 +98,37 @@ module _ {k : Shape} {v : View} {t : Turn} (three : AreThree k t) (outside : v.s
 -- They are given up.
 module _ {k : Shape} (v : View) (t : Turn) (three : AreThree k t) (parent node child : List Known)
     (locked : v.locks ≡ three_locks t parent node child) (settled : v.moving ≡ None) where
-  begins : Stands v ((held_lock t.child child false) ∷ ((held_lock t.node node false) ∷ ((held_lock t.parent parent false) ∷ []))) v.hands.hand v.hands.spare [] v
+  abbrev y : HeldLock
+  y = held_lock t.child child false
+
+  abbrev x : HeldLock
+  x = held_lock t.node node false
+
+  abbrev p : HeldLock
+  p = held_lock t.parent parent false
+
+  begins : Stands v (y ∷ (x ∷ (p ∷ []))) v.hands.hand v.hands.spare [] v
   begins = stands_first v _ locked
 
   pub asks_unlock_child : IsAsked k v (Unlock t.child)
-  asks_unlock_child = asks_unlock begins settled t.child (held_lock t.child child false)
-      (lock_child t three (held_lock t.child child false) (held_lock t.node node false) (held_lock t.parent parent false) refl refl refl) refl refl refl
+  asks_unlock_child = asks_unlock begins settled t.child y (lock_child t three y x p refl refl refl) refl refl refl
 
   module _ {v1 : View} (first : Told k v (Unlock t.child) 0 v1) where
-    ends_1 : Stands v ((held_lock t.node node false) ∷ ((held_lock t.parent parent false) ∷ [])) v.hands.hand v.hands.spare (unlocking t.child ∷ []) v1
-    ends_1 = unlocks_on begins t.child ((held_lock t.node node false) ∷ ((held_lock t.parent parent false) ∷ []))
-        (without_child t three (held_lock t.child child false) (held_lock t.node node false) (held_lock t.parent parent false) refl refl refl) first
+    ends_1 : Stands v (x ∷ (p ∷ [])) v.hands.hand v.hands.spare (unlocking t.child ∷ []) v1
+    ends_1 = unlocks_on begins t.child (x ∷ (p ∷ [])) (without_child t three y x p refl refl refl) first
 
     pub asks_unlock_node : IsAsked k v1 (Unlock t.node)
-    asks_unlock_node = asks_unlock ends_1 settled t.node (held_lock t.node node false) (lock_first t.node (held_lock t.node node false) ((held_lock t.parent parent false) ∷ []) refl) refl refl refl
+    asks_unlock_node = asks_unlock ends_1 settled t.node x (lock_first t.node x (p ∷ []) refl) refl refl refl
 
     module _ {v2 : View} (second : Told k v1 (Unlock t.node) 0 v2) where
-      ends_2 : Stands v ((held_lock t.parent parent false) ∷ []) v.hands.hand v.hands.spare (unlocking t.child ∷ (unlocking t.node ∷ [])) v2
-      ends_2 = unlocks_on ends_1 t.node ((held_lock t.parent parent false) ∷ [])
-          (without_node t three (held_lock t.child child false) (held_lock t.node node false) (held_lock t.parent parent false) refl refl refl) second
+      ends_2 : Stands v (p ∷ []) v.hands.hand v.hands.spare (unlocking t.child ∷ (unlocking t.node ∷ [])) v2
+      ends_2 = unlocks_on ends_1 t.node (p ∷ []) (without_node t three y x p refl refl refl) second
 
       pub asks_unlock_parent : IsAsked k v2 (Unlock t.parent)
-      asks_unlock_parent = asks_unlock ends_2 settled t.parent (held_lock t.parent parent false) (lock_first t.parent (held_lock t.parent parent false) [] refl) refl refl refl
+      asks_unlock_parent = asks_unlock ends_2 settled t.parent p (lock_first t.parent p [] refl) refl refl refl
 
       pub all_given_up : {w : View} → Told k v2 (Unlock t.parent) 0 w → HasUnlocked v t w
-      all_given_up third = (unlocks_on ends_2 t.parent []
-          (without_parent t three (held_lock t.child child false) (held_lock t.node node false) (held_lock t.parent parent false) refl refl refl) third).is
+      all_given_up third = (unlocks_on ends_2 t.parent [] (without_parent t three y x p refl refl refl) third).is
 
 -- The words of the three are loaded under their locks.
 still_aside : {v : View} {locks : List HeldLock} {steps : List StepMade} {u : View} {s : ℕ}

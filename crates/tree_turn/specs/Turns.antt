@@ -63,8 +63,8 @@ pub record IsReadyToTurn (v : View) : Type 0 where
 pub record IsQuietButHand (s : SeatAt) : Type 0 where
   pub quiet : IsQuietSeat (record s { view = record s.view { hands = record s.view.hands { hand = None } } })
 
--- the steps of a turn: a lock is tried, and given up; a word is loaded under a lock; a word of a slot that isn't linked is stored; a node is
--- marked; the two nodes are replaced
+-- the steps of a turn: a lock is tried, and given up; a word is loaded under a lock; a word of a slot that isn't linked is stored; a node
+-- is marked; the two nodes are replaced
 abbrev pub locking : ℕ → ℕ → StepMade
 locking slot found = record { kind = K13; field = Lock slot; number = found }
 
@@ -185,8 +185,8 @@ pub record AreAside (t : Turn) (bottom top : ℕ) : Type 0 where
   pub top_node : top ≢ t.node
   pub top_child : top ≢ t.child
 
--- What was recorded is stale, since one of the three is by now in hand or the spare; or these are one slot, which the rule excludes. No step
--- was made.
+-- What was recorded is stale, since one of the three is by now in hand or the spare; or these are one slot, which the rule excludes. No
+-- step was made.
 pub record FoundOwn (v : View) (t : Turn) (w : View) : Type 0 where
   pub bottom : Held
   pub hand_was : v.hands.hand ≡ Some bottom

@@ -10,8 +10,8 @@ use crate::turn::{Content, Turn, TurnWords};
 use prcu_marks::Side;
 use seat_table::{CitrusTable, Part, Seat, WaitWords, steps};
 
-/// Fills the two new nodes, marks the two old ones, and replaces them by one store: the spare takes the node's place, and the slot in hand is
-/// below it.
+/// Fills the two new nodes, marks the two old ones, and replaces them by one store: the spare takes the node's place, and the slot in hand
+/// is below it.
 pub(crate) fn replace<W: WaitWords>(
     table: &CitrusTable<W>,
     seat: &mut Seat<W>,

@@ -16,8 +16,8 @@ use seat_table::{CitrusTable, Seat, WaitWords};
 /// Lets a node and its child change places, where both are as they were recorded: two new nodes with their pairs, the spare and the slot in
 /// hand, take their place by one store. The two old ones are listed as retired, the node first. It spends one ticket.
 ///
-/// It tries each of the three locks once and waits for nobody. `false` comes where a lock is taken, where something isn't as it was recorded
-/// any more, or where one of the three slots is by now in hand or the spare; then nothing is changed.
+/// It tries each of the three locks once and waits for nobody. `false` comes where a lock is taken, where something isn't as it was
+/// recorded any more, or where one of the three slots is by now in hand or the spare; then nothing is changed.
 pub fn make_turn<W: WaitWords>(table: &CitrusTable<W>, seat: &mut Seat<W>, turn: Turn) -> bool
     requires table { seat.old.table ≡ table.now }
     requires recorded { HasRecorded (shape_of W.WAY table.now) seat.old.view turn }

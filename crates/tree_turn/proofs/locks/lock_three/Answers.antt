@@ -3,41 +3,56 @@ use Rattle.tree_turn.proofs.locks.lock_three.Goals as goal
 
 pub lock-requires-clause-asks : goal.lock-requires-clause-asks
 lock-requires-clause-asks g c =
-    asks_first c.requires.three c.requires.outside c.requires.unlocked c.requires.settled
+    let r = c.requires in
+    asks_first r.three r.outside r.unlocked r.settled
 
 pub returns-then-lock-ne0-clause-busy : goal.returns-then-lock-ne0-clause-busy
 returns-then-lock-ne0-clause-busy g c =
-    λ _. parent_busy c.requires.three c.requires.outside c.requires.unlocked c.requires.settled _ c.if-lock-ne0.true c.lock.ensures.told
+    let r = c.requires in
+    λ _. parent_busy r.three r.outside r.unlocked r.settled _ c.if-lock-ne0.true c.lock.ensures.told
 
 pub lock-requires-2-clause-asks : goal.lock-requires-2-clause-asks
 lock-requires-2-clause-asks g c =
-    asks_second c.requires.three c.requires.outside c.requires.unlocked c.requires.settled c.if-lock-ne0.false c.lock.ensures.told
+    let r = c.requires in
+    asks_second r.three r.outside r.unlocked r.settled c.if-lock-ne0.false c.lock.ensures.told
 
 pub unlock-requires-clause-asks : goal.unlock-requires-clause-asks
 unlock-requires-clause-asks g c =
-    asks_back c.requires.three c.requires.outside c.requires.unlocked c.requires.settled c.if-lock-ne0.false c.lock.ensures.told _ c.if-lock-ne0-2.true c.lock-2.ensures.told
+    let r = c.requires in
+    asks_back r.three r.outside r.unlocked r.settled c.if-lock-ne0.false c.lock.ensures.told _ c.if-lock-ne0-2.true c.lock-2.ensures.told
 
 pub returns-then-lock-ne0-2-clause-busy : goal.returns-then-lock-ne0-2-clause-busy
 returns-then-lock-ne0-2-clause-busy g c =
-    λ _. node_busy c.requires.three c.requires.outside c.requires.unlocked c.requires.settled c.if-lock-ne0.false c.lock.ensures.told _ c.if-lock-ne0-2.true c.lock-2.ensures.told c.unlock.ensures.told
+    let r = c.requires in
+    λ _. node_busy r.three r.outside r.unlocked r.settled c.if-lock-ne0.false c.lock.ensures.told _ c.if-lock-ne0-2.true
+    c.lock-2.ensures.told c.unlock.ensures.told
 
 pub lock-requires-3-clause-asks : goal.lock-requires-3-clause-asks
 lock-requires-3-clause-asks g c =
-    asks_third c.requires.three c.requires.outside c.requires.unlocked c.requires.settled c.if-lock-ne0.false c.lock.ensures.told c.if-lock-ne0-2.false c.lock-2.ensures.told
+    let r = c.requires in
+    asks_third r.three r.outside r.unlocked r.settled c.if-lock-ne0.false c.lock.ensures.told c.if-lock-ne0-2.false c.lock-2.ensures.told
 
 pub unlock-requires-then-lock-ne0-3-clause-asks : goal.unlock-requires-then-lock-ne0-3-clause-asks
 unlock-requires-then-lock-ne0-3-clause-asks g c =
-    asks_node_back c.requires.three c.requires.outside c.requires.unlocked c.requires.settled c.if-lock-ne0.false c.lock.ensures.told c.if-lock-ne0-2.false c.lock-2.ensures.told _ c.if-lock-ne0-3.true c.lock-3.ensures.told
+    let r = c.requires in
+    asks_node_back r.three r.outside r.unlocked r.settled c.if-lock-ne0.false c.lock.ensures.told c.if-lock-ne0-2.false
+    c.lock-2.ensures.told _ c.if-lock-ne0-3.true c.lock-3.ensures.told
 
 pub unlock-requires-then-lock-ne0-3-2-clause-asks : goal.unlock-requires-then-lock-ne0-3-2-clause-asks
 unlock-requires-then-lock-ne0-3-2-clause-asks g c =
-    asks_parent_back c.requires.three c.requires.outside c.requires.unlocked c.requires.settled c.if-lock-ne0.false c.lock.ensures.told c.if-lock-ne0-2.false c.lock-2.ensures.told _ c.if-lock-ne0-3.true c.lock-3.ensures.told c.unlock-then-lock-ne0-3.ensures.told
+    let r = c.requires in
+    asks_parent_back r.three r.outside r.unlocked r.settled c.if-lock-ne0.false c.lock.ensures.told c.if-lock-ne0-2.false
+    c.lock-2.ensures.told _ c.if-lock-ne0-3.true c.lock-3.ensures.told c.unlock-then-lock-ne0-3.ensures.told
 
 pub returns-then-lock-ne0-3-clause-busy : goal.returns-then-lock-ne0-3-clause-busy
 returns-then-lock-ne0-3-clause-busy g c =
-    λ _. child_busy c.requires.three c.requires.outside c.requires.unlocked c.requires.settled c.if-lock-ne0.false c.lock.ensures.told c.if-lock-ne0-2.false c.lock-2.ensures.told _ c.if-lock-ne0-3.true c.lock-3.ensures.told c.unlock-then-lock-ne0-3.ensures.told
+    let r = c.requires in
+    λ _. child_busy r.three r.outside r.unlocked r.settled c.if-lock-ne0.false c.lock.ensures.told c.if-lock-ne0-2.false
+    c.lock-2.ensures.told _ c.if-lock-ne0-3.true c.lock-3.ensures.told c.unlock-then-lock-ne0-3.ensures.told
     c.unlock-then-lock-ne0-3-2.ensures.told
 
 pub returns-clause-got : goal.returns-clause-got
 returns-clause-got g c =
-    λ _. all_got c.requires.three c.requires.outside c.requires.unlocked c.requires.settled c.if-lock-ne0.false c.lock.ensures.told c.if-lock-ne0-2.false c.lock-2.ensures.told c.if-lock-ne0-3.false c.lock-3.ensures.told
+    let r = c.requires in
+    λ _. all_got r.three r.outside r.unlocked r.settled c.if-lock-ne0.false c.lock.ensures.told c.if-lock-ne0-2.false
+    c.lock-2.ensures.told c.if-lock-ne0-3.false c.lock-3.ensures.told

@@ -159,7 +159,8 @@ returns-clause-turned g c =
     let a = aside_by (sym c.are_aside.ensures ∙ c.if-not-are_aside.false) in
     let l = c.lock_three.ensures.got c.if-not-lock_three.false in
     let q = recorded_by (sym c.is_as_recorded.ensures ∙ c.if-not-is_as_recorded.false) in
-    λ _. turned c.requires.recorded r h s a l c.load_words-words.result c.load_words-words.ensures.view q c.replace.ensures.view c.unlock_three-2.ensures.view
+    λ _. turned c.requires.recorded r h s a l c.load_words-words.result c.load_words-words.ensures.view q
+    c.replace.ensures.view c.unlock_three-2.ensures.view
 
 pub returns-clause-refused : goal.returns-clause-refused
 returns-clause-refused g c = λ e. absurd (false≢true (sym e))

@@ -130,7 +130,8 @@ returns-clause-listed g c =
     record {
       each = λ slot. ap (times slot) (c.list_retired-2.ensures.listed ∙ ap (λ xs. xs ++ c.args.turn.child ∷ [])
           (c.list_retired.ensures.listed ∙ ap (λ xs. xs ++ c.args.turn.node ∷ []) c.attempt.ensures.seat.1)
-          ∙ append_assoc c.args.seat.now.listed (c.args.turn.node ∷ []) (c.args.turn.child ∷ [])) ∙ both_listed c.args.seat.now.listed u c.requires.recorded.three.child_apart c.requires.listed.each slot;
+          ∙ append_assoc c.args.seat.now.listed (c.args.turn.node ∷ []) (c.args.turn.child ∷ []))
+          ∙ both_listed c.args.seat.now.listed u c.requires.recorded.three.child_apart c.requires.listed.each slot;
     }
 
 pub returns-clause-quiet : goal.returns-clause-quiet
@@ -141,7 +142,8 @@ returns-clause-quiet g c =
 
 pub returns-clause-informed : goal.returns-clause-informed
 returns-clause-informed g c =
-    λ _. subst IsInformed (sym (c.list_retired-2.ensures.seat.1 ∙ c.list_retired.ensures.seat.1)) (c.attempt.ensures.informed c.if-not-attempt.false)
+    λ _. subst IsInformed (sym (c.list_retired-2.ensures.seat.1 ∙ c.list_retired.ensures.seat.1))
+    (c.attempt.ensures.informed c.if-not-attempt.false)
 
 pub returns-clause-refused : goal.returns-clause-refused
 returns-clause-refused g c = λ e. absurd (false≢true (sym e))
