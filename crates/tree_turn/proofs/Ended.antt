@@ -41,7 +41,7 @@ pub some_held : (o : Option Held) (held : Held) → o ≡ Some held → IsSlotOf
 some_held None held e is = absurd (cc)
 some_held (Some other) held e is = is
 
-module _ {k : Shape} {v : View} {t : Turn} (recorded : HasRecorded k v t) (ready : IsReadyToTurn v) {bottom top : ℕ}
+module _ {k : Shape} {v : View} {t : Turn} (recorded : HasRecorded k v t) (ready : IsReadyToTurn k.room v) {bottom top : ℕ}
     (hand : bottom ≡ ready.hand.slot) (spare : top ≡ ready.spare.slot) where
   -- a stale record
   pub own_found : (AreAside t bottom top → ⊥) → HasTurnedNone v t v
@@ -135,13 +135,13 @@ module _ {k : Shape} {v : View} {t : Turn} (recorded : HasRecorded k v t) (ready
       }
 
       module _ (as_recorded : IsAsRecorded t words) where
-        pub may_replace : MayReplace v2 t words bottom top
+        pub may_replace : MayReplace k.room v2 t words bottom top
         may_replace = record {
           as_recorded = as_recorded;
           locks_are = ap (λ (z : View). z.locks) loaded_is;
           settled = settled_loaded;
           ticket = subst (λ (z : View). 1 ≤ z.allowance.tickets) (sym loaded_is) ready.ticket;
-          room = subst (λ (z : View). length z.hands.retired < 15) (sym loaded_is) ready.room;
+          room = subst (λ (z : View). length z.hands.retired + 1 < k.room) (sym loaded_is) ready.room;
           lower = ready.hand;
           hand_is = (ap (λ (z : View). z.hands.hand) loaded_is ∙ ready.hand_is, sym hand);
           unraised = ready.unraised;
@@ -358,8 +358,8 @@ module _ {v w : View} {t : Turn} (listed : List ℕ) (has : HasTurned v t w) (ap
   both_listed s = let a = times_more s in let b = each s in times_append s listed (t.node ∷ (t.child ∷ [])) ∙ omega arith
 
 -- so there is room on the list
-pub few_listed : (s : SeatAt) → AreListed s → length s.view.hands.retired < 15 → length s.listed < 15
-few_listed s listed room = let long = listed_length s listed in omega arith
+pub few_listed : (s : SeatAt) (most : ℕ) → AreListed s → length s.view.hands.retired + 1 < most → length s.listed + 1 < most
+few_listed s most listed room = let long = listed_length s listed in omega arith
 
 pub turned_free : {v w : View} {t : Turn} → HasTurned v t w → v.locks ≡ [] → w.locks ≡ []
 turned_free has free = ap (λ (z : View). z.locks) has.rest ∙ free

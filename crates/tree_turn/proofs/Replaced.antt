@@ -11,7 +11,7 @@ use Rattle.core_state.specs.declared.view.Retired.{Retired}
 use Rattle.core_state.specs.declared.view.StepMade.{StepMade}
 use Rattle.core_state.specs.declared.view.View.{View}
 use Rattle.core_state.specs.steps.Links.{IsMarkedNode, NeedsMark, newly_retired, with_mark}
-use Rattle.core_state.specs.steps.Rotations.{NeedsRotate, rotate_marks}
+use Rattle.core_state.specs.steps.Rotations.{NeedsRotate, Rotation, rotate_marks}
 use Rattle.core_state.specs.views.Known.{known_in, known_of, known_under, loaded_in, lock_of, change_lock, note_lock, LoadedGeneration}
 use Rattle.core_acts.specs.declared.act.Act.TheVariants.{Mark as MarkNode, Rotate}
 use Rattle.core_acts.specs.Acts.{noted}
@@ -30,7 +30,7 @@ use Rattle.tree_turn.proofs.Asked.{lock_there}
 use Rattle.tree_turn.proofs.KnownWords.{known_first, loaded_first, other_known, turn_known, value_known, key_known}
 
 module _ {k : Shape} {v : View} {t : Turn} {words : TurnWords} {bottom top : ℕ} (recorded : HasRecorded k v t)
-    (may : MayReplace v t words bottom top) where
+    (may : MayReplace k.room v t words bottom top) where
   abbrev low : Content
   low = lower_content words
 
@@ -254,12 +254,24 @@ module _ {k : Shape} {v : View} {t : Turn} {words : TurnWords} {bottom top : ℕ
             life = known_first (Life s) (life + 1) true known ∙ ap (λ n. Some (n + 1)) even;
           }
 
-          needs : NeedsRotate v4 recorded.reading upper lower t.parent t.side t.node t.turn t.child top bottom down.turn_link
-              down.other_link up.other_link up.key up.value down.key down.value
+          abbrev turning : Rotation
+          turning = record {
+            turn = t.turn;
+            node_key = up.key;
+            node_value = up.value;
+            child_key = down.key;
+            child_value = down.value;
+            outer = down.turn_link;
+            inner = down.other_link;
+            far = up.other_link;
+            bottom = bottom;
+          }
+
+          needs : NeedsRotate k.room v4 recorded.reading upper lower t.parent t.side t.node t.child top turning
           needs = record {
             settled = ap (λ (z : View). z.moving) stands_4.is ∙ may.settled;
             ticket = subst (λ (z : View). 1 ≤ z.allowance.tickets) (sym stands_4.is) may.ticket;
-            room = subst (λ (z : View). length z.hands.retired < 15) (sym stands_4.is) may.room;
+            room = subst (λ (z : View). length z.hands.retired + 1 < k.room) (sym stands_4.is) may.room;
             kept = subst (λ (z : View). IsIn z.records recorded.reading) (sym stands_4.is) recorded.kept;
             parent_now = (
               t.parent_generation,
@@ -277,53 +289,47 @@ module _ {k : Shape} {v : View} {t : Turn} {words : TurnWords} {bottom top : ℕ
                 node_there may.as_recorded.node_life;
             child_marked = is_marked t.child t.child_generation words.child.life (node_known t.child t.turn words.child) recorded.child_age
                 child_there may.as_recorded.child_life;
-            turn_now = under t.node node_marked (Link t.node t.turn) node_there
-                ∙ turn_known t.node t.turn up.key up.value up.turn_link up.other_link false node_rest ∙ ap Some may.as_recorded.turn_link;
-            far_now = under t.node node_marked _ node_there
-                ∙ other_known t.node t.turn up.key up.value up.turn_link up.other_link false node_rest;
-            outer_now = under t.child child_marked _ child_there
-                ∙ turn_known t.child t.turn down.key down.value down.turn_link down.other_link false child_rest;
-            inner_now = under t.child child_marked _ child_there
-                ∙ other_known t.child t.turn down.key down.value down.turn_link down.other_link false child_rest;
-            node_key_now = under t.node node_marked _ node_there
-                ∙ key_known t.node t.turn up.key up.value up.turn_link up.other_link false node_rest;
-            node_value_now = under t.node node_marked _ node_there
-                ∙ value_known t.node t.turn up.key up.value up.turn_link up.other_link false node_rest;
-            child_key_now = under t.child child_marked _ child_there
-                ∙ key_known t.child t.turn down.key down.value down.turn_link down.other_link false child_rest;
-            child_value_now = under t.child child_marked _ child_there
-                ∙ value_known t.child t.turn down.key down.value down.turn_link down.other_link false child_rest;
+            node_is = record {
+              key_is = under t.node node_marked _ node_there
+                  ∙ key_known t.node t.turn up.key up.value up.turn_link up.other_link false node_rest;
+              value_is = under t.node node_marked _ node_there
+                  ∙ value_known t.node t.turn up.key up.value up.turn_link up.other_link false node_rest;
+              near_is = under t.node node_marked _ node_there
+                  ∙ turn_known t.node t.turn up.key up.value up.turn_link up.other_link false node_rest ∙ ap Some may.as_recorded.turn_link;
+              far_is = under t.node node_marked _ node_there
+                  ∙ other_known t.node t.turn up.key up.value up.turn_link up.other_link false node_rest;
+            };
+            child_is = record {
+              key_is = under t.child child_marked _ child_there
+                  ∙ key_known t.child t.turn down.key down.value down.turn_link down.other_link false child_rest;
+              value_is = under t.child child_marked _ child_there
+                  ∙ value_known t.child t.turn down.key down.value down.turn_link down.other_link false child_rest;
+              near_is = under t.child child_marked _ child_there
+                  ∙ turn_known t.child t.turn down.key down.value down.turn_link down.other_link false child_rest;
+              far_is = under t.child child_marked _ child_there
+                  ∙ other_known t.child t.turn down.key down.value down.turn_link down.other_link false child_rest;
+            };
             spare_is = (ap (λ (z : View). z.hands.spare) stands_4.is, may.spare_is.1);
             hand_is = (ap (λ (z : View). z.hands.hand) stands_4.is, may.hand_is.1);
             unraised = may.unraised;
-            top_key = key_known top t.turn high.key high.value high.turn_link high.other_link true may.upper.known;
-            top_value = value_known top t.turn high.key high.value high.turn_link high.other_link true may.upper.known;
-            top_outer = turn_known top t.turn high.key high.value high.turn_link high.other_link true may.upper.known;
-            top_bottom = other_known top t.turn high.key high.value high.turn_link high.other_link true may.upper.known;
-            bottom_key = key_known bottom t.turn low.key low.value low.turn_link low.other_link true may.lower.known;
-            bottom_value = value_known bottom t.turn low.key low.value low.turn_link low.other_link true may.lower.known;
-            bottom_inner = turn_known bottom t.turn low.key low.value low.turn_link low.other_link true may.lower.known;
-            bottom_far = other_known bottom t.turn low.key low.value low.turn_link low.other_link true may.lower.known;
+            top_is = record {
+              key_is = key_known top t.turn high.key high.value high.turn_link high.other_link true may.upper.known;
+              value_is = value_known top t.turn high.key high.value high.turn_link high.other_link true may.upper.known;
+              near_is = turn_known top t.turn high.key high.value high.turn_link high.other_link true may.upper.known;
+              far_is = other_known top t.turn high.key high.value high.turn_link high.other_link true may.upper.known;
+            };
+            bottom_is = record {
+              key_is = key_known bottom t.turn low.key low.value low.turn_link low.other_link true may.lower.known;
+              value_is = value_known bottom t.turn low.key low.value low.turn_link low.other_link true may.lower.known;
+              near_is = turn_known bottom t.turn low.key low.value low.turn_link low.other_link true may.lower.known;
+              far_is = other_known bottom t.turn low.key low.value low.turn_link low.other_link true may.lower.known;
+            };
           }
 
           pub asks_rotate : IsAsked k v4 (Rotate t.parent t.side t.node t.child top)
           asks_rotate = λ told. (
             told.tells.locks_within t.parent (parent_lock, parent_there),
-            (
-              recorded.reading,
-              upper,
-              lower,
-              t.turn,
-              bottom,
-              down.turn_link,
-              down.other_link,
-              up.other_link,
-              up.key,
-              up.value,
-              down.key,
-              down.value,
-              needs,
-            ),
+            (recorded.reading, upper, lower, turning, needs),
           )
 
           -- the two are replaced

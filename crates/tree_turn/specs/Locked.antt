@@ -128,12 +128,12 @@ abbrev pub HasUnlocked : View → Turn → View → Type 0
 HasUnlocked v t w = w ≡ record v { locks = []; trail = adding v.trail (unlock_steps t) }
 
 -- All that stands under the locks is as recorded, and the seat may replace the node and the child.
-pub record MayReplace (v : View) (t : Turn) (words : TurnWords) (bottom top : ℕ) : Type 0 where
+pub record MayReplace (most : ℕ) (v : View) (t : Turn) (words : TurnWords) (bottom top : ℕ) : Type 0 where
   pub as_recorded : IsAsRecorded t words
   pub locks_are : v.locks ≡ loaded_locks t words
   pub settled : v.moving ≡ None
   pub ticket : 1 ≤ v.allowance.tickets
-  pub room : length v.hands.retired < 15
+  pub room : length v.hands.retired + 1 < most
   pub lower : Held
   pub hand_is : IsInHand v lower bottom
   pub unraised : lower.raised ≡ false

@@ -46,13 +46,13 @@ pub record HasRecorded (k : Shape) (v : View) (t : Turn) : Type 0 where
   pub child_age : LoadedGeneration reading t.child t.child_generation
 
 -- The seat is outside a section, holds no lock and moves nothing. It has a slot in hand, whose generation wasn't raised, and a spare, one
--- ticket, and room for two more retired slots.
-pub record IsReadyToTurn (v : View) : Type 0 where
+-- ticket, and room for two more retired slots, where its place may hold so many back.
+pub record IsReadyToTurn (most : ℕ) (v : View) : Type 0 where
   pub outside : v.section ≡ None
   pub unlocked : v.locks ≡ []
   pub settled : v.moving ≡ None
   pub ticket : 1 ≤ v.allowance.tickets
-  pub room : length v.hands.retired < 15
+  pub room : length v.hands.retired + 1 < most
   pub hand : Held
   pub hand_is : v.hands.hand ≡ Some hand
   pub unraised : hand.raised ≡ false

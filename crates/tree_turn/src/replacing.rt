@@ -22,7 +22,7 @@ pub(crate) fn replace<W: WaitWords>(
 )
     requires table { seat.old.table ≡ table.now }
     requires recorded { HasRecorded (shape_of W.WAY table.now) seat.old.view turn }
-    requires ready { MayReplace seat.old.view turn words bottom top }
+    requires ready { MayReplace table.now.room seat.old.view turn words bottom top }
     ensures seat { (seat.new.table ≡ seat.old.table) × (seat.new.listed ≡ seat.old.listed) }
     ensures view { HasReplaced seat.old.view turn words bottom top seat.new.view }
 {

@@ -21,7 +21,7 @@ use seat_table::{CitrusTable, Seat, WaitWords};
 pub fn make_turn<W: WaitWords>(table: &CitrusTable<W>, seat: &mut Seat<W>, turn: Turn) -> bool
     requires table { seat.old.table ≡ table.now }
     requires recorded { HasRecorded (shape_of W.WAY table.now) seat.old.view turn }
-    requires ready { IsReadyToTurn seat.old.view }
+    requires ready { IsReadyToTurn table.now.room seat.old.view }
     requires listed { AreListed seat.old }
     ensures table { seat.new.table ≡ seat.old.table }
     ensures turned { result ≡ true → HasTurned seat.old.view turn seat.new.view }
@@ -60,7 +60,7 @@ fn attempt<W: WaitWords>(
 ) -> bool
     requires table { seat.old.table ≡ table.now }
     requires recorded { HasRecorded (shape_of W.WAY table.now) seat.old.view turn }
-    requires ready { IsReadyToTurn seat.old.view }
+    requires ready { IsReadyToTurn table.now.room seat.old.view }
     requires hand { IsSlotOf (Some bottom) seat.old.view.hands.hand }
     requires spare { IsSlotOf (Some top) seat.old.view.hands.spare }
     ensures seat { (seat.new.table ≡ seat.old.table) × (seat.new.listed ≡ seat.old.listed) }

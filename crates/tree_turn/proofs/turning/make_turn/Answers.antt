@@ -6,6 +6,7 @@ use Rattle.core_state.specs.declared.view.View.{View}
 use Rattle.core_state.specs.steps.Slots.{IsRetiredAt}
 use Rattle.list_laws.specs.Counts.{times, IsIn}
 use Rattle.seat_table.specs.Gains.{TellsApart, IsInformed}
+use Rattle.seat_table.specs.Seats.{TableAt}
 use Rattle.tree_turn.specs.Turns.{HasTurned}
 use Rattle.tree_turn.proofs.Ended.{turned_once, turned_none, turned_gone, refused_gone, turned_quiet, refused_quiet, refused_listed, node_retired, child_retired, node_unlisted, child_unlisted, both_listed, few_listed, turned_free, no_lock}
 use Rattle.tree_turn.proofs.turning.make_turn.Goals as goal
@@ -28,9 +29,10 @@ list_retired-requires-clause-unlisted g c =
 
 pub list_retired-requires-clause-few : goal.list_retired-requires-clause-few
 list_retired-requires-clause-few g c =
-    let few = few_listed c.args.seat.now c.requires.listed c.requires.ready.room in
+    let few = few_listed c.args.seat.now c.args.table.now.room c.requires.listed c.requires.ready.room in
     let same = ap length c.attempt.ensures.seat.1 in
-    omega (arith, few, same)
+    let room = ap (λ (z : TableAt). z.room) (c.attempt.ensures.seat.0 ∙ c.requires.table) in
+    omega (arith, few, same, room)
 
 pub list_retired-requires-2-clause-retired : goal.list_retired-requires-2-clause-retired
 list_retired-requires-2-clause-retired g c =
@@ -53,10 +55,11 @@ list_retired-requires-2-clause-unlisted g c =
 
 pub list_retired-requires-2-clause-few : goal.list_retired-requires-2-clause-few
 list_retired-requires-2-clause-few g c =
-    let few = few_listed c.args.seat.now c.requires.listed c.requires.ready.room in
+    let few = few_listed c.args.seat.now c.args.table.now.room c.requires.listed c.requires.ready.room in
     let same = ap length (c.list_retired.ensures.listed ∙ ap (λ xs. xs ++ c.args.turn.node ∷ []) c.attempt.ensures.seat.1) in
     let long = length-append c.args.seat.now.listed (c.args.turn.node ∷ []) in
-    omega (arith, few, same, long)
+    let room = ap (λ (z : TableAt). z.room) (c.list_retired.ensures.seat.0 ∙ c.attempt.ensures.seat.0 ∙ c.requires.table) in
+    omega (arith, few, same, long, room)
 
 pub returns-then-not-attempt-clause-refused : goal.returns-then-not-attempt-clause-refused
 returns-then-not-attempt-clause-refused g c = λ _. c.attempt.ensures.refused c.if-not-attempt.true
