@@ -1,6 +1,6 @@
 -- The parts of an attempt, one after another, and attempts one after another.
 use Rattle.std.specs.List.{AllByRecursion}
-use Rattle.std.proofs.Common.{◌≡◌, ◌≢◌, ◌⊎◌, ℕ, ◌+◌, ◌*◌, ◌<◌, ◌≤◌, Bool, true, false, List, [], ◌∷◌, ◌++◌, length, map, Some, None, inl, inr, ⊎_elim, refl, sym, ap, subst, ◌∙◌, arith, append-nil, length-append}
+use Rattle.std.proofs.Common.{◌≡◌, ◌≢◌, ◌⊎◌, ℕ, ◌+◌, ◌*◌, ◌<◌, ◌≤◌, Bool, true, false, cond, List, [], ◌∷◌, ◌++◌, length, map, Some, None, inl, inr, ⊎_elim, refl, sym, ap, subst, ◌∙◌, arith, append-nil, length-append}
 use Rattle.std.proofs.lemmas.List.{map-append}
 use mir.Val.{bool_byte as from_bool}
 use Rattle.prcu_model.proofs.ListFacts.{all_append}
@@ -33,8 +33,8 @@ use Rattle.tree_lift.specs.Ways.{HasRead, RecordsTurn, Finds}
 use Rattle.tree_lift.specs.Rooms.{MakesRoom, Reclaims, TakesSlots}
 use Rattle.tree_lift.specs.declared.lifting.Attempt.TheVariants.{Tried, Ended as EndedBy}
 use Rattle.tree_lift.specs.declared.lifting.Stop.{Stop}
-use Rattle.tree_lift.specs.declared.lifting.Stop.TheVariants.{Level, NoRoom, NoSlot}
-use Rattle.tree_lift.specs.Lifts.{LeavesNoUpdate, Proceeds, TurnMade, AreTurns, EndsBy, Attempts, HasAttempted, HasLifted}
+use Rattle.tree_lift.specs.declared.lifting.Stop.TheVariants.{Level, NoRoom, NoSlot, Spent}
+use Rattle.tree_lift.specs.Lifts.{LeavesNoUpdate, Proceeds, TurnTried, WereTried, made_among, EndsBy, Attempts, HasAttempted, HasLifted}
 use Rattle.tree_lift.proofs.Ways.{goes_read, read_quiet}
 use Rattle.tree_lift.proofs.Slots.{goes_back, put_back_quiet}
 
@@ -163,7 +163,7 @@ pub room_lacking : (k : Shape) (aim : Aim) (s t : SeatAt) → MakesRoom k aim.ha
     → HasAttempted k aim s (EndedBy NoRoom) t
 room_lacking k aim s t none q = subst (HasAttempted k aim s (EndedBy NoRoom)) (sym none.0) (record {
   proceeds = proceeds_same aim.key aim.hard s;
-  attempts = (left_none aim.key gone_same, (none.1, none.2));
+  attempts = (left_none aim.key gone_same, (none.1, none.2), (λ e. absurd (let other : NoRoom ≡ Spent = e in cc)));
   tickets = omega arith;
   quiet = q;
 })
@@ -272,10 +272,11 @@ module _ (k : Shape) (key : ℕ) (hard : Bool) (s t : SeatAt) (room : HasRoom k 
               → Proceeds key hard s y
           all_turned turned retires informed = proceeds_on key hard s x y proceeds_takes (proceeds_turned turned retires informed)
 
-          pub turn_made : HasTurned x.view turn y.view → (m : TurnMade) × AreTurns k key salt s.view (m ∷ []) y.view
+          pub turn_made : HasTurned x.view turn y.view → (m : TurnTried) × (m.made ≡ true) × WereTried k key salt s.view (m ∷ []) y.view
           turn_made turned = (
-            record { turn = turn; reading = r; before = x.view; after = y.view },
-            (proceeds_takes.updates, record { recorded = recorded; kept = kept_takes; turned = turned }, left_none key gone_same),
+            record { turn = turn; reading = r; made = true; before = x.view; after = y.view },
+            refl,
+            (proceeds_takes.updates, record { recorded = recorded; kept = kept_takes; comes = turned }, left_none key gone_same),
           )
 
           pub turned_tickets : HasTurned x.view turn y.view → s.view.allowance.tickets ≤ y.view.allowance.tickets + 3
@@ -304,6 +305,17 @@ module _ (k : Shape) (key : ℕ) (hard : Bool) (s t : SeatAt) (room : HasRoom k 
               all_lost = proceeds_on key hard s x z proceeds_takes
                   (proceeds_goes key hard x z [] (goes_on none_goes (goes_back back)) tt (last ∙ same_list) (λ was. told))
 
+              pub turn_lost : (m : TurnTried) × (m.made ≡ false) × WereTried k key salt s.view (m ∷ []) z.view
+              turn_lost = (
+                record { turn = turn; reading = r; made = false; before = x.view; after = y.view },
+                refl,
+                (
+                  proceeds_takes.updates,
+                  record { recorded = recorded; kept = kept_takes; comes = none },
+                  left_none key (goes_back back).gone,
+                ),
+              )
+
               pub lost_quiet : IsQuietSeat z
               lost_quiet = put_back_quiet y z back last still
 
@@ -320,7 +332,7 @@ module _ (k : Shape) (aim : Aim) (s t : SeatAt) (room : HasRoom k aim.key aim.ha
   level_attempt found =
       let on = proceeds_read k aim.key aim.hard s t room u found.0 found.1 listed in record {
         proceeds = on;
-        attempts = (on.updates, (t.view, found));
+        attempts = (on.updates, (t.view, found), (λ e. absurd (let other : Level ≡ Spent = e in cc)));
         tickets = read_tickets k aim.key aim.hard s t room u found.0 found.1 listed;
         quiet = quiet_read k aim.key aim.hard s t room u found.0 found.1 listed;
       }
@@ -337,7 +349,7 @@ module _ (k : Shape) (aim : Aim) (s t : SeatAt) (room : HasRoom k aim.key aim.ha
         let on = proceeds_takes k aim.key aim.hard s t room u found.0 found.1 listed false x takes same in
         let none = takes.none refl in record {
           proceeds = on;
-          attempts = (on.updates, none.full);
+          attempts = (on.updates, none.full, (λ e. absurd (let other : NoSlot ≡ Spent = e in cc)));
           tickets = (let a = takes_tickets k aim.key aim.hard s t room u found.0 found.1 listed false x takes same in omega arith);
           quiet = none.quiet;
         }
@@ -374,7 +386,8 @@ module _ (k : Shape) (aim : Aim) (s t : SeatAt) (room : HasRoom k aim.key aim.ha
               let on = all_lost k aim.key aim.hard s t room u found.0 found.1 listed true x takes same turn aim.salt found.2 y gone none
               still same_list z held_there.0.slot back last told in record {
                 proceeds = on;
-                attempts = on.updates;
+                attempts = turn_lost k aim.key aim.hard s t room u found.0 found.1 listed true x takes same turn aim.salt found.2 y gone none
+                    still same_list z held_there.0.slot back last told;
                 tickets = lost_tickets k aim.key aim.hard s t room u found.0 found.1 listed true x takes same turn aim.salt found.2 y gone
                     none still same_list z held_there.0.slot back last told;
                 quiet = lost_quiet k aim.key aim.hard s t room u found.0 found.1 listed true x takes same turn aim.salt found.2 y gone none
@@ -382,55 +395,85 @@ module _ (k : Shape) (aim : Aim) (s t : SeatAt) (room : HasRoom k aim.key aim.ha
               }
 
 -- attempts one after another
-pub turns_on : (k : Shape) (key salt : ℕ) (u v w : View) (a b : List TurnMade) → AreTurns k key salt u a v → AreTurns k key salt v b w
-    → AreTurns k key salt u (a ++ b) w
-turns_on k key salt u v w [] [] first second = left_on first second
-turns_on k key salt u v w [] (t ∷ later) first second = (left_on first second.0, second.1, second.2)
-turns_on k key salt u v w (t ∷ earlier) b first second = (first.0, first.1, turns_on k key salt t.after v w earlier b first.2 second)
+tries_on : (k : Shape) (key salt : ℕ) (u v w : View) (a b : List TurnTried) → WereTried k key salt u a v → WereTried k key salt v b w
+    → WereTried k key salt u (a ++ b) w
+tries_on k key salt u v w [] [] first second = left_on first second
+tries_on k key salt u v w [] (t ∷ later) first second = (left_on first second.0, second.1, second.2)
+tries_on k key salt u v w (t ∷ earlier) b first second = (first.0, first.1, tries_on k key salt t.after v w earlier b first.2 second)
 
-pub lifted_none : (k : Shape) (aim : Aim) (v : View) → HasLifted k aim 0 v v
-lifted_none k aim v = record { made = []; many = refl; are = left_none aim.key gone_same }
+made_more : (a : List TurnTried) (t : TurnTried) → made_among (a ++ t ∷ []) ≡ made_among a + cond t.made 1 0
+made_more [] t = omega arith
+made_more (x ∷ a) t = let rest = made_more a t in omega arith
 
-pub lifted_one : (k : Shape) (aim : Aim) (turns : ℕ) (u v w : View) → HasLifted k aim turns u v
-    → (m : TurnMade) × AreTurns k aim.key aim.salt v (m ∷ []) w → HasLifted k aim (turns + 1) u w
-lifted_one k aim turns u v w has one = record {
-  made = has.made ++ one.0 ∷ [];
-  many = length-append has.made (one.0 ∷ []) ∙ ap (λ n. n + 1) has.many;
-  are = turns_on k aim.key aim.salt u v w has.made (one.0 ∷ []) has.are one.1;
+-- So many turns were tried so far, and so many made.
+pub record HasTried (k : Shape) (aim : Aim) (turns tries : ℕ) (v w : View) : Type 0 where
+  pub tried : List TurnTried
+  pub many : length tried ≡ tries
+  pub turned : made_among tried ≡ turns
+  pub were : WereTried k aim.key aim.salt v tried w
+
+pub tried_none : (k : Shape) (aim : Aim) (v : View) → HasTried k aim 0 0 v v
+tried_none k aim v = record { tried = []; many = refl; turned = refl; were = left_none aim.key gone_same }
+
+made_one : (turned : Bool) (t : TurnTried) → t.made ≡ turned → cond t.made 1 0 ≡ from_bool turned
+made_one true t is = ap (λ b. cond b 1 0) is
+made_one false t is = ap (λ b. cond b 1 0) is
+
+pub tried_more : (k : Shape) (aim : Aim) (turns i : ℕ) (turned : Bool) (u v w : View) → HasTried k aim turns i u v
+    → Attempts k aim v (Tried turned) w → HasTried k aim (turns + from_bool turned) (i + 1) u w
+tried_more k aim turns i turned u v w has one = record {
+  tried = has.tried ++ one.0 ∷ [];
+  many = length-append has.tried (one.0 ∷ []) ∙ ap (λ n. n + 1) has.many;
+  turned = made_more has.tried one.0 ∙ (λ j. has.turned j + made_one turned one.0 one.1 j);
+  were = tries_on k aim.key aim.salt u v w has.tried (one.0 ∷ []) has.were one.2;
 }
 
-pub lifted_still : (k : Shape) (aim : Aim) (turns : ℕ) (u v w : View) → HasLifted k aim turns u v → LeavesNoUpdate v aim.key w
-    → HasLifted k aim turns u w
-lifted_still k aim turns u v w has none = record {
-  made = has.made;
+tried_still : (k : Shape) (aim : Aim) (turns i : ℕ) (u v w : View) → HasTried k aim turns i u v → LeavesNoUpdate v aim.key w
+    → HasTried k aim turns i u w
+tried_still k aim turns i u v w has none = record {
+  tried = has.tried;
   many = has.many;
-  are = subst (λ l. AreTurns k aim.key aim.salt u l w) (append-nil has.made) (turns_on k aim.key aim.salt u v w has.made [] has.are none);
+  turned = has.turned;
+  were = subst (λ l. WereTried k aim.key aim.salt u l w) (append-nil has.tried) (tries_on k aim.key aim.salt u v w has.tried [] has.were none);
 }
-
-pub lifted_tried : (k : Shape) (aim : Aim) (turns : ℕ) (turned : Bool) (u v w : View) → HasLifted k aim turns u v
-    → Attempts k aim v (Tried turned) w → HasLifted k aim (turns + from_bool turned) u w
-lifted_tried k aim turns true u v w has made = lifted_one k aim turns u v w has made
-lifted_tried k aim turns false u v w has made = subst (λ n. HasLifted k aim n u w) (omega arith) (lifted_still k aim turns u v w has made)
 
 pub one_at_most : (turned : Bool) → from_bool turned ≤ 1
 one_at_most true = omega arith
 one_at_most false = omega arith
 
+-- all attempts were made
+pub spent_lift : (k : Shape) (aim : Aim) (turns i : ℕ) (v w : View) → HasTried k aim turns i v w → i ≡ aim.attempts
+    → HasLifted k aim (record { turns = turns; stop = Spent }) v w
+spent_lift k aim turns i v w has all = record {
+  tried = has.tried;
+  were = has.were;
+  few = (let many = has.many in omega arith);
+  turns = has.turned;
+  spent = λ e. has.many ∙ all;
+}
+
 -- What a lift comes to, where an attempt ended it, and where all attempts were made.
 pub record HasEnded (k : Shape) (aim : Aim) (turns : ℕ) (stop : Stop) (s t : SeatAt) : Type 0 where
   pub proceeds : Proceeds aim.key aim.hard s t
-  pub lifted : HasLifted k aim turns s.view t.view
+  pub lifted : HasLifted k aim (record { turns = turns; stop = stop }) s.view t.view
   pub ends : EndsBy k aim stop t.view
   pub tickets : s.view.allowance.tickets ≤ t.view.allowance.tickets + 3 * aim.attempts
   pub quiet : IsQuietSeat t
 
 pub ended_lift : (k : Shape) (aim : Aim) (turns i : ℕ) (stop : Stop) (s t u : SeatAt) → Proceeds aim.key aim.hard s t
-    → HasLifted k aim turns s.view t.view → s.view.allowance.tickets ≤ t.view.allowance.tickets + 3 * i → i < aim.attempts
+    → HasTried k aim turns i s.view t.view → s.view.allowance.tickets ≤ t.view.allowance.tickets + 3 * i → i < aim.attempts
     → HasAttempted k aim t (EndedBy stop) u → HasEnded k aim turns stop s u
-ended_lift k aim turns i stop s t u proceeds lifted tickets more made = record {
-  proceeds = proceeds_on aim.key aim.hard s t u proceeds made.proceeds;
-  lifted = lifted_still k aim turns s.view t.view u.view lifted made.attempts.0;
-  ends = made.attempts.1;
-  tickets = (let last = made.tickets in omega arith);
-  quiet = made.quiet;
-}
+ended_lift k aim turns i stop s t u proceeds tried tickets more made =
+    let still = tried_still k aim turns i s.view t.view u.view tried made.attempts.0 in record {
+      proceeds = proceeds_on aim.key aim.hard s t u proceeds made.proceeds;
+      lifted = record {
+        tried = still.tried;
+        were = still.were;
+        few = (let many = still.many in omega arith);
+        turns = still.turned;
+        spent = λ e. absurd (made.attempts.2 e);
+      };
+      ends = made.attempts.1;
+      tickets = (let last = made.tickets in omega arith);
+      quiet = made.quiet;
+    }

@@ -46,7 +46,7 @@ use Rattle.tree_lift.specs.declared.finding.Child.{Child}
 use Rattle.tree_lift.specs.declared.finding.Stand.{Stand}
 use Rattle.tree_lift.specs.declared.finding.Crossing.{Crossing}
 use Rattle.tree_lift.specs.Rule.{rises}
-use Rattle.tree_lift.specs.Ways.{IsReading, HasRead, IsLevel, keys_in, went_down, StandsBy, StandsAt, IsCrossing, RecordsTurn, Starts}
+use Rattle.tree_lift.specs.Ways.{IsAtEnd, IsReading, HasRead, IsLevel, IsLevelWay, keys_in, went_down, StandsBy, StandsAt, IsCrossing, RecordsTurn, Starts}
 
 -- one load more
 abbrev pub noted_load : Reading → Field → ℕ → Reading
@@ -215,15 +215,16 @@ module _ (k : Shape) (key salt : ℕ) where
   starts_empty v w i = (
     _,
     i,
-    subst (λ (z : Reading). IsLevel salt (keys_in z.loads)) (sym (ended_is (fresh_reading key) 0 Right refl)) tt,
+    subst (IsLevelWay salt) (sym (ended_is (fresh_reading key) 0 Right refl)) (record { level = tt; ended = tt }),
   )
 
-  pub starts_found : (v w : View) (c : Child) → c.slot ≢ 0 → IsReading v key (went_down (fresh_reading key) 0 Right c) w
-      → Starts k v key salt None w
-  starts_found v w c some i = (
+  pub starts_found : (v w : View) (c : Child) → c.slot ≢ 0 → step_side key c.key ≡ None
+      → IsReading v key (went_down (fresh_reading key) 0 Right c) w → Starts k v key salt None w
+  starts_found v w c some same i = (
     _,
     i,
-    subst (λ (z : Reading). IsLevel salt (keys_in z.loads)) (sym (went_is (fresh_reading key) 0 Right c refl some)) tt,
+    subst (IsLevelWay salt) (sym (went_is (fresh_reading key) 0 Right c refl some))
+        (record { level = tt; ended = subst (λ side. IsAtEnd (key_stand c.slot 0 Right side)) (sym same) tt }),
   )
 
   module _ (at : Stand) (r : Reading) (i : StandsAt k key salt at r) where
@@ -231,9 +232,9 @@ module _ (k : Shape) (key salt : ℕ) where
     stands_by = record { state_is = i.state_is; stood = i.node_stood }
 
     -- the way ended here
-    pub level_end : IsLevel salt (keys_in (loaded r (Link at.node at.turn) 0).loads)
-    level_end = subst (λ (z : Reading). IsLevel salt (keys_in z.loads)) (sym (ended_is r at.node at.turn i.state_is))
-        (subst (IsLevel salt) (sym i.keys) i.level)
+    pub level_end : IsLevelWay salt (loaded r (Link at.node at.turn) 0)
+    level_end = subst (IsLevelWay salt) (sym (ended_is r at.node at.turn i.state_is))
+        (record { level = subst (IsLevel salt) (sym i.keys) i.level; ended = tt })
 
     module _ (c : Child) (some : c.slot ≢ 0) where
       went : went_down r at.node at.turn c ≡ stepped_down r at.node at.turn c
@@ -242,8 +243,11 @@ module _ (k : Shape) (key salt : ℕ) where
       level_more : rises salt c.key at.key ≡ false → IsLevel salt (keys_in (stepped_down r at.node at.turn c).loads)
       level_more none = subst (λ l. IsLevel salt (c.key ∷ l)) (sym i.keys) (none, i.level)
 
-      pub level_found : rises salt c.key at.key ≡ false → IsLevel salt (keys_in (went_down r at.node at.turn c).loads)
-      level_found none = subst (λ (z : Reading). IsLevel salt (keys_in z.loads)) (sym went) (level_more none)
+      pub level_found : rises salt c.key at.key ≡ false → step_side key c.key ≡ None → IsLevelWay salt (went_down r at.node at.turn c)
+      level_found none same = subst (IsLevelWay salt) (sym went) (record {
+        level = level_more none;
+        ended = subst (λ side. IsAtEnd (key_stand c.slot at.node at.turn side)) (sym (ap (λ z. step_side z c.key) i.sought ∙ same)) tt;
+      })
 
       module _ (slot : IsSlot k c.slot) where
         pub goes_below : (turn : Side) → rises salt c.key at.key ≡ false → step_side key c.key ≡ Some turn

@@ -1,6 +1,6 @@
 -- What a lift leaves, and what it answers.
 -- Source: docs/TREE_CALLS.md, "Lifts".
-use Rattle.std.specs.Prelude.{◌≡◌, ℕ, ◌+◌, ◌≤◌, Bool, true, false, List, [], ◌∷◌, length, None}
+use Rattle.std.specs.Prelude.{◌≡◌, ◌≢◌, if◌then◌else◌, ℕ, ◌+◌, ◌≤◌, Bool, true, false, List, [], ◌∷◌, length, None}
 use Rattle.std.specs.List.{AllByRecursion}
 use Rattle.prcu_marks.specs.declared.mark.Mark.{Mark}
 use Rattle.core_state.specs.declared.shape.Shape.{Shape}
@@ -12,9 +12,10 @@ use Rattle.seat_table.specs.Seats.{SeatAt, IsQuietSeat}
 use Rattle.tree_points.specs.Progress.{HasGone}
 use Rattle.citrus_tree.specs.Gone.{IsOfTry, KeepsSlots, KeepsWait}
 use Rattle.tree_turn.specs.declared.turn.Turn.{Turn}
-use Rattle.tree_turn.specs.Turns.{HasTurned}
+use Rattle.tree_turn.specs.Turns.{HasTurned, HasTurnedNone}
 use Rattle.tree_lift.specs.declared.lifting.Aim.{Aim}
 use Rattle.tree_lift.specs.declared.lifting.Attempt.{Attempt}
+use Rattle.tree_lift.specs.declared.lifting.Lifted.{Lifted}
 use Rattle.tree_lift.specs.declared.lifting.Attempt.TheVariants.{Tried, Ended}
 use Rattle.tree_lift.specs.declared.lifting.Stop.{Stop}
 use Rattle.tree_lift.specs.declared.lifting.Stop.TheVariants.{Level, NoRoom, NoSlot, Spent}
@@ -34,26 +35,39 @@ pub record Proceeds (key : ℕ) (hard : Bool) (s t : SeatAt) : Type 0 where
   pub unwaited : hard ≡ false → t.view.counts.waits ≡ s.view.counts.waits
   pub informed : IsInformed s.view → IsInformed t.view
 
--- a turn that was made: what a section found out, and what the seat knew before the turn and after it
-pub record TurnMade : Type 0 where
+-- a turn that was tried: what a section found out, whether the turn was made, and what the seat knew before it was tried and afterwards
+pub record TurnTried : Type 0 where
   pub turn : Turn
   pub reading : Reading
+  pub made : Bool
   pub before : View
   pub after : View
 
--- The section went down along the key, and found the topmost node whose child on the way is to stand above it. These two changed places.
-pub record WasTurned (k : Shape) (key salt : ℕ) (t : TurnMade) : Type 0 where
+-- The node and the child changed places; or nothing did, for its cause.
+abbrev pub ComesOf : Bool → View → Turn → View → Type 0
+ComesOf true v t w = HasTurned v t w
+ComesOf false v t w = HasTurnedNone v t w
+
+-- The section went down along the key, and found the topmost node whose child on the way is to stand above it. That these two change
+-- places was tried.
+pub record WasTried (k : Shape) (key salt : ℕ) (t : TurnTried) : Type 0 where
   pub recorded : RecordsTurn k key salt t.turn t.reading
   pub kept : IsIn t.before.records t.reading
-  pub turned : HasTurned t.before t.turn t.after
+  pub comes : ComesOf t.made t.before t.turn t.after
 
--- Between two moments these turns were made, one after another, and the place made no update.
-abbrev pub AreTurns : Shape → ℕ → ℕ → View → List TurnMade → View → Type 0
-AreTurns k key salt v [] w = LeavesNoUpdate v key w
-AreTurns k key salt v (t ∷ later) w = LeavesNoUpdate v key t.before × WasTurned k key salt t × AreTurns k key salt t.after later w
+-- Between two moments these turns were tried, one after another, and the place made no update.
+abbrev pub WereTried : Shape → ℕ → ℕ → View → List TurnTried → View → Type 0
+WereTried k key salt v [] w = LeavesNoUpdate v key w
+WereTried k key salt v (t ∷ later) w = LeavesNoUpdate v key t.before × WasTried k key salt t × WereTried k key salt t.after later w
+
+-- how many of them were made
+abbrev pub made_among : List TurnTried → ℕ
+made_among [] = 0
+made_among (t ∷ later) = (if t.made then 1 else 0) + made_among later
 
 -- Why a lift ended: its last section found that the way needs no turn; or the place has no room for two more
--- retired slots, and it wasn't to stand still; or no slot was free, and the dictionary is as large as Full asks for; or all attempts were made.
+-- retired slots, and it wasn't to stand still; or no slot was free, and the dictionary is as large as Full asks for. Where it has spent all
+-- attempts, `HasLifted` says so.
 abbrev pub EndsBy : Shape → Aim → Stop → View → Type 0
 EndsBy k aim Level w = (v : View) × Finds k v aim.key aim.salt None w
 EndsBy k aim NoRoom w = (aim.hard ≡ false) × (k.room ≤ length w.hands.retired + 1)
@@ -62,9 +76,8 @@ EndsBy k aim Spent w = Unit {0}
 
 -- what an attempt came to
 abbrev pub Attempts : Shape → Aim → View → Attempt → View → Type 0
-Attempts k aim v (Tried true) w = (t : TurnMade) × AreTurns k aim.key aim.salt v (t ∷ []) w
-Attempts k aim v (Tried false) w = LeavesNoUpdate v aim.key w
-Attempts k aim v (Ended stop) w = LeavesNoUpdate v aim.key w × EndsBy k aim stop w
+Attempts k aim v (Tried turned) w = (t : TurnTried) × (t.made ≡ turned) × WereTried k aim.key aim.salt v (t ∷ []) w
+Attempts k aim v (Ended stop) w = LeavesNoUpdate v aim.key w × EndsBy k aim stop w × (stop ≢ Spent)
 
 -- What an attempt leaves, with at most three tickets.
 pub record HasAttempted (k : Shape) (aim : Aim) (s : SeatAt) (answer : Attempt) (t : SeatAt) : Type 0 where
@@ -73,8 +86,10 @@ pub record HasAttempted (k : Shape) (aim : Aim) (s : SeatAt) (answer : Attempt) 
   pub tickets : s.view.allowance.tickets ≤ t.view.allowance.tickets + 3
   pub quiet : IsQuietSeat t
 
--- So many turns were made, one after another.
-pub record HasLifted (k : Shape) (aim : Aim) (turns : ℕ) (v w : View) : Type 0 where
-  pub made : List TurnMade
-  pub many : length made ≡ turns
-  pub are : AreTurns k aim.key aim.salt v made w
+-- At most so many turns were tried as it was asked for, one after another, and as many were made as it tells. Where it is spent it tried all.
+pub record HasLifted (k : Shape) (aim : Aim) (lifted : Lifted) (v w : View) : Type 0 where
+  pub tried : List TurnTried
+  pub were : WereTried k aim.key aim.salt v tried w
+  pub few : length tried ≤ aim.attempts
+  pub turns : made_among tried ≡ lifted.turns
+  pub spent : lifted.stop ≡ Spent → length tried ≡ aim.attempts

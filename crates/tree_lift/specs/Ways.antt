@@ -11,7 +11,8 @@ use Rattle.core_state.specs.declared.words.Field.{Field}
 use Rattle.core_state.specs.declared.words.Field.TheVariants.{Key, Link}
 use Rattle.core_state.specs.declared.view.Known.{Known}
 use Rattle.core_state.specs.declared.view.Reading.{Reading}
-use Rattle.core_state.specs.declared.view.SearchState.TheVariants.{At}
+use Rattle.core_state.specs.declared.view.SearchState.{SearchState}
+use Rattle.core_state.specs.declared.view.SearchState.TheVariants.{At, Found, Missed}
 use Rattle.core_state.specs.declared.view.View.{View}
 use Rattle.core_state.specs.memory.Words.{step_side}
 use Rattle.core_state.specs.steps.Loads.{loaded}
@@ -69,6 +70,17 @@ abbrev pub IsLevel : ℕ → List ℕ → Type 0
 IsLevel salt [] = Unit {0}
 IsLevel salt (key ∷ []) = Unit {0}
 IsLevel salt (below ∷ (above ∷ keys)) = (rises salt below above ≡ false) × IsLevel salt (above ∷ keys)
+
+-- It came to an end: to the slot that has the key, or to an empty side.
+abbrev pub IsAtEnd : SearchState → Type 0
+IsAtEnd (Found s parent b value) = Unit {0}
+IsAtEnd (Missed s b) = Unit {0}
+IsAtEnd _ = ⊥
+
+-- The whole way was found to need no turn.
+pub record IsLevelWay (salt : ℕ) (r : Reading) : Type 0 where
+  pub level : IsLevel salt (keys_in r.loads)
+  pub ended : IsAtEnd r.state
 
 -- what is found out by a step down: by the link and the key, or by a link that is 0
 abbrev pub went_down : Reading → ℕ → Side → Child → Reading
@@ -132,17 +144,17 @@ LedTwice c = (c.at.parent ≡ c.at.node) ⊎ ((c.at.node ≡ c.child.slot) ⊎ (
 
 -- From a section that was just entered the way came to the first node, unless this has the key or the tree is empty.
 abbrev pub Starts : Shape → View → ℕ → ℕ → Option Stand → View → Type 0
-Starts k v key salt None w = (r : Reading) × IsReading v key r w × IsLevel salt (keys_in r.loads)
+Starts k v key salt None w = (r : Reading) × IsReading v key r w × IsLevelWay salt r
 Starts k v key salt (Some at) w = (r : Reading) × IsReading v key r w × StandsAt k key salt at r
 
 -- It came to a node whose child is to stand above it, or to its end, and needs no turn.
 abbrev pub Comes : Shape → View → ℕ → ℕ → Option Crossing → View → Type 0
-Comes k v key salt None w = (r : Reading) × IsReading v key r w × IsLevel salt (keys_in r.loads)
+Comes k v key salt None w = (r : Reading) × IsReading v key r w × IsLevelWay salt r
 Comes k v key salt (Some c) w = (r : Reading) × IsReading v key r w × IsCrossing k key salt c r
 
 -- What was found out: a turn; or none, where the way needs none, or where it led to a slot twice.
 abbrev pub FindsOut : Shape → ℕ → ℕ → Option Turn → Reading → Type 0
-FindsOut k key salt None r = IsLevel salt (keys_in r.loads) ⊎ ((c : Crossing) × IsCrossing k key salt c r × LedTwice c)
+FindsOut k key salt None r = IsLevelWay salt r ⊎ ((c : Crossing) × IsCrossing k key salt c r × LedTwice c)
 FindsOut k key salt (Some t) r = RecordsTurn k key salt t r
 
 -- in the open section, and when it was left

@@ -72,7 +72,7 @@ pub fn lift<P: Patience, W: WaitPart>(
     requires tickets { 3 * aim.attempts ≤ seat.old.view.allowance.tickets }
     ensures table { seat.new.table ≡ seat.old.table }
     ensures updates { IfOk result (λ _. LeavesNoUpdate seat.old.view aim.key seat.new.view) }
-    ensures turns { IfOk result (λ answer. HasLifted (shape_of W.WAY table.now) aim answer.turns seat.old.view seat.new.view) }
+    ensures turns { IfOk result (λ answer. HasLifted (shape_of W.WAY table.now) aim answer seat.old.view seat.new.view) }
     ensures ends { IfOk result (λ answer. EndsBy (shape_of W.WAY table.now) aim answer.stop seat.new.view) }
     ensures few { IfOk result (λ answer. answer.turns ≤ aim.attempts) }
     ensures wait { IfOk result (λ _. KeepsWait seat.old.view seat.new.view) }

@@ -65,7 +65,7 @@ returns-in_default-step_side-clause-comes g c = λ v e.
       subst (λ o. IsReading v c.args.key (after_step at.0 c.loop-round.at.node c.loop-round.at.turn o) c.go_down.new.seat.view) c.in-Some-go_down.is
           (c.go_down.ensures.reading v c.args.key at.0 at.1),
       level_found (shape_of g.W.WaitWords.WAY c.args.table.now) c.args.key c.args.salt c.loop-round.at at.0 at.2 child slot.0
-          (sym c.rises_above.ensures ∙ c.if-rises_above.false),
+          (sym c.rises_above.ensures ∙ c.if-rises_above.false) (sym c.step_side.ensures ∙ c.in_default-step_side.is),
     )
 
 pub loop-round-preserved : goal.loop-round-preserved

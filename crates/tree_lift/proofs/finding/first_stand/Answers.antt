@@ -30,7 +30,7 @@ pub returns-in_err-turn-clause-starts : goal.returns-in_err-turn-clause-starts
 returns-in_err-turn-clause-starts g c = λ v salt e.
     let k = shape_of g.W.WaitWords.WAY c.args.table.now in
     subst (λ o. Starts k v c.args.key salt o c.go_down.new.seat.view) (sym c.from_residual-in_err-turn.ensures)
-    (starts_found k c.args.key salt v c.go_down.new.seat.view c.in_ok-top.top c.in_ok-top.ensures.slot.0
+    (starts_found k c.args.key salt v c.go_down.new.seat.view c.in_ok-top.top c.in_ok-top.ensures.slot.0 (sym c.in_err-turn.ensures)
     (c.in_ok-top.ensures.reading v c.args.key (fresh_reading c.args.key) (begun k v c.args.key c.args.seat.now.view e)))
 
 pub returns-clause-starts : goal.returns-clause-starts

@@ -1,7 +1,7 @@
 use Rattle.std.proofs.Common.{◌+◌, refl, sym, subst, ◌∙◌, arith}
 use Rattle.seat_table.specs.Seats.{shape_of}
-use Rattle.tree_lift.specs.Lifts.{HasAttempted, HasLifted}
-use Rattle.tree_lift.proofs.Attempts.{lifted_none, lifted_tried, one_at_most, proceeds_on, proceeds_same, ended_lift}
+use Rattle.tree_lift.specs.Lifts.{HasAttempted}
+use Rattle.tree_lift.proofs.Attempts.{HasTried, tried_none, tried_more, one_at_most, spent_lift, proceeds_on, proceeds_same, ended_lift}
 use Rattle.tree_lift.proofs.lifting.lift.Goals as goal
 
 pub loop-i-init : goal.loop-i-init
@@ -9,7 +9,7 @@ loop-i-init g c = record {
   table = refl;
   quiet = c.requires.quiet;
   proceeds = proceeds_same c.args.aim.key c.args.aim.hard c.args.seat.now;
-  lifted = lifted_none (shape_of g.W.WaitWords.WAY c.args.table.now) c.args.aim c.args.seat.now.view;
+  tried = tried_none (shape_of g.W.WaitWords.WAY c.args.table.now) c.args.aim c.args.seat.now.view;
   few = omega arith;
   tickets = omega arith;
 }
@@ -31,9 +31,10 @@ loop-i-preserved g c =
       table = c.make_attempt.ensures.table ∙ inv.table;
       quiet = made.quiet;
       proceeds = proceeds_on c.args.aim.key c.args.aim.hard c.args.seat.now c.loop-i.seat c.make_attempt.new.seat inv.proceeds made.proceeds;
-      lifted = subst (λ n. HasLifted k c.args.aim (c.loop-i.turns + n) c.args.seat.now.view c.make_attempt.new.seat.view) (sym c.from-turns.ensures)
-          (lifted_tried k c.args.aim c.loop-i.turns turned c.args.seat.now.view c.loop-i.seat.view c.make_attempt.new.seat.view inv.lifted
-          made.attempts);
+      tried = subst (λ n. HasTried k c.args.aim (c.loop-i.turns + n) (c.loop-i.i + 1) c.args.seat.now.view c.make_attempt.new.seat.view)
+          (sym c.from-turns.ensures)
+          (tried_more k c.args.aim c.loop-i.turns c.loop-i.i turned c.args.seat.now.view c.loop-i.seat.view c.make_attempt.new.seat.view
+          inv.tried made.attempts);
       few = (let a = inv.few in let b = one_at_most turned in let same = c.from-turns.ensures in omega arith);
       tickets = (let a = inv.tickets in let b = made.tickets in omega arith);
     }
@@ -43,7 +44,7 @@ returns-in-Ended-clause-updates g c =
     let k = shape_of g.W.WaitWords.WAY c.args.table.now in
     let inv = c.loop-i.invariant in
     let ended = ended_lift k c.args.aim c.loop-i.turns c.loop-i.i c.in-Ended.stop c.args.seat.now c.loop-i.seat c.make_attempt.new.seat
-    inv.proceeds inv.lifted inv.tickets c.loop-i-test.true
+    inv.proceeds inv.tried inv.tickets c.loop-i-test.true
     (subst (λ a. HasAttempted k c.args.aim c.loop-i.seat a c.make_attempt.new.seat) c.in-Ended.is c.in_ok-turned.ensures.attempted) in
     ended.proceeds.updates
 
@@ -52,7 +53,7 @@ returns-in-Ended-clause-turns g c =
     let k = shape_of g.W.WaitWords.WAY c.args.table.now in
     let inv = c.loop-i.invariant in
     let ended = ended_lift k c.args.aim c.loop-i.turns c.loop-i.i c.in-Ended.stop c.args.seat.now c.loop-i.seat c.make_attempt.new.seat
-    inv.proceeds inv.lifted inv.tickets c.loop-i-test.true
+    inv.proceeds inv.tried inv.tickets c.loop-i-test.true
     (subst (λ a. HasAttempted k c.args.aim c.loop-i.seat a c.make_attempt.new.seat) c.in-Ended.is c.in_ok-turned.ensures.attempted) in
     ended.lifted
 
@@ -61,7 +62,7 @@ returns-in-Ended-clause-ends g c =
     let k = shape_of g.W.WaitWords.WAY c.args.table.now in
     let inv = c.loop-i.invariant in
     let ended = ended_lift k c.args.aim c.loop-i.turns c.loop-i.i c.in-Ended.stop c.args.seat.now c.loop-i.seat c.make_attempt.new.seat
-    inv.proceeds inv.lifted inv.tickets c.loop-i-test.true
+    inv.proceeds inv.tried inv.tickets c.loop-i-test.true
     (subst (λ a. HasAttempted k c.args.aim c.loop-i.seat a c.make_attempt.new.seat) c.in-Ended.is c.in_ok-turned.ensures.attempted) in
     ended.ends
 
@@ -70,7 +71,7 @@ returns-in-Ended-clause-wait g c =
     let k = shape_of g.W.WaitWords.WAY c.args.table.now in
     let inv = c.loop-i.invariant in
     let ended = ended_lift k c.args.aim c.loop-i.turns c.loop-i.i c.in-Ended.stop c.args.seat.now c.loop-i.seat c.make_attempt.new.seat
-    inv.proceeds inv.lifted inv.tickets c.loop-i-test.true
+    inv.proceeds inv.tried inv.tickets c.loop-i-test.true
     (subst (λ a. HasAttempted k c.args.aim c.loop-i.seat a c.make_attempt.new.seat) c.in-Ended.is c.in_ok-turned.ensures.attempted) in
     ended.proceeds.wait
 
@@ -79,7 +80,7 @@ returns-in-Ended-clause-unwaited g c =
     let k = shape_of g.W.WaitWords.WAY c.args.table.now in
     let inv = c.loop-i.invariant in
     let ended = ended_lift k c.args.aim c.loop-i.turns c.loop-i.i c.in-Ended.stop c.args.seat.now c.loop-i.seat c.make_attempt.new.seat
-    inv.proceeds inv.lifted inv.tickets c.loop-i-test.true
+    inv.proceeds inv.tried inv.tickets c.loop-i-test.true
     (subst (λ a. HasAttempted k c.args.aim c.loop-i.seat a c.make_attempt.new.seat) c.in-Ended.is c.in_ok-turned.ensures.attempted) in
     ended.proceeds.unwaited
 
@@ -88,7 +89,7 @@ returns-in-Ended-clause-slots g c =
     let k = shape_of g.W.WaitWords.WAY c.args.table.now in
     let inv = c.loop-i.invariant in
     let ended = ended_lift k c.args.aim c.loop-i.turns c.loop-i.i c.in-Ended.stop c.args.seat.now c.loop-i.seat c.make_attempt.new.seat
-    inv.proceeds inv.lifted inv.tickets c.loop-i-test.true
+    inv.proceeds inv.tried inv.tickets c.loop-i-test.true
     (subst (λ a. HasAttempted k c.args.aim c.loop-i.seat a c.make_attempt.new.seat) c.in-Ended.is c.in_ok-turned.ensures.attempted) in
     ended.proceeds.slots
 
@@ -97,7 +98,7 @@ returns-in-Ended-clause-tickets g c =
     let k = shape_of g.W.WaitWords.WAY c.args.table.now in
     let inv = c.loop-i.invariant in
     let ended = ended_lift k c.args.aim c.loop-i.turns c.loop-i.i c.in-Ended.stop c.args.seat.now c.loop-i.seat c.make_attempt.new.seat
-    inv.proceeds inv.lifted inv.tickets c.loop-i-test.true
+    inv.proceeds inv.tried inv.tickets c.loop-i-test.true
     (subst (λ a. HasAttempted k c.args.aim c.loop-i.seat a c.make_attempt.new.seat) c.in-Ended.is c.in_ok-turned.ensures.attempted) in
     ended.tickets
 
@@ -106,7 +107,7 @@ returns-in-Ended-clause-allowance g c =
     let k = shape_of g.W.WaitWords.WAY c.args.table.now in
     let inv = c.loop-i.invariant in
     let ended = ended_lift k c.args.aim c.loop-i.turns c.loop-i.i c.in-Ended.stop c.args.seat.now c.loop-i.seat c.make_attempt.new.seat
-    inv.proceeds inv.lifted inv.tickets c.loop-i-test.true
+    inv.proceeds inv.tried inv.tickets c.loop-i-test.true
     (subst (λ a. HasAttempted k c.args.aim c.loop-i.seat a c.make_attempt.new.seat) c.in-Ended.is c.in_ok-turned.ensures.attempted) in
     ended.proceeds.updates.gone.allowance
 
@@ -115,7 +116,7 @@ returns-in-Ended-clause-quiet g c =
     let k = shape_of g.W.WaitWords.WAY c.args.table.now in
     let inv = c.loop-i.invariant in
     let ended = ended_lift k c.args.aim c.loop-i.turns c.loop-i.i c.in-Ended.stop c.args.seat.now c.loop-i.seat c.make_attempt.new.seat
-    inv.proceeds inv.lifted inv.tickets c.loop-i-test.true
+    inv.proceeds inv.tried inv.tickets c.loop-i-test.true
     (subst (λ a. HasAttempted k c.args.aim c.loop-i.seat a c.make_attempt.new.seat) c.in-Ended.is c.in_ok-turned.ensures.attempted) in
     ended.quiet
 
@@ -124,7 +125,7 @@ returns-in-Ended-clause-informed g c =
     let k = shape_of g.W.WaitWords.WAY c.args.table.now in
     let inv = c.loop-i.invariant in
     let ended = ended_lift k c.args.aim c.loop-i.turns c.loop-i.i c.in-Ended.stop c.args.seat.now c.loop-i.seat c.make_attempt.new.seat
-    inv.proceeds inv.lifted inv.tickets c.loop-i-test.true
+    inv.proceeds inv.tried inv.tickets c.loop-i-test.true
     (subst (λ a. HasAttempted k c.args.aim c.loop-i.seat a c.make_attempt.new.seat) c.in-Ended.is c.in_ok-turned.ensures.attempted) in
     ended.proceeds.informed
 
@@ -138,7 +139,11 @@ returns-clause-updates g c =
 
 pub returns-clause-turns : goal.returns-clause-turns
 returns-clause-turns g c =
-    let inv = c.loop-i.invariant in inv.lifted
+    let inv = c.loop-i.invariant in
+    let inside = c.loop-i.auto.i-end in
+    let over = c.loop-i-test.false in
+    spent_lift (shape_of g.W.WaitWords.WAY c.args.table.now) c.args.aim c.loop-i.turns c.loop-i.i c.args.seat.now.view c.loop-i.seat.view
+    inv.tried (omega arith)
 
 pub returns-clause-ends : goal.returns-clause-ends
 returns-clause-ends g c =
