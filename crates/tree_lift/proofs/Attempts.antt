@@ -3,6 +3,7 @@ use Rattle.std.specs.List.{AllByRecursion}
 use Rattle.std.proofs.Common.{◌≡◌, ◌≢◌, ◌⊎◌, ℕ, ◌+◌, ◌*◌, ◌-◌, ◌<◌, ◌≤◌, Bool, true, false, List, [], ◌∷◌, ◌++◌, length, map, Option, Some, None, inl, inr, ⊎_elim, refl, sym, ap, subst, ◌∙◌, arith, append-nil, length-append}
 use Rattle.std.proofs.lemmas.List.{map-append}
 use mathlib.Core.List.{IsPrefix}
+use Rattle.core.specs.Int.{from_bool}
 use Rattle.prcu_model.proofs.ListFacts.{all_append}
 use Rattle.prcu_marks.specs.declared.mark.Mark.{Mark}
 use Rattle.prcu_marks.specs.declared.mark.Mark.TheVariants.{Entered, Left, Began, Ended}
@@ -33,10 +34,10 @@ use Rattle.tree_turn.specs.Turns.{HasRecorded, HasTurned, HasTurnedNone, IsQuiet
 use Rattle.tree_lift.specs.declared.lifting.Aim.{Aim}
 use Rattle.tree_lift.specs.Ways.{HasRead, RecordsTurn, Finds}
 use Rattle.tree_lift.specs.Rooms.{HasBoth, MakesRoom, Reclaims, TakesSlots}
-use Rattle.tree_lift.specs.declared.lifting.Attempt.TheVariants.{Turned, Lost, Ended as EndedBy}
+use Rattle.tree_lift.specs.declared.lifting.Attempt.TheVariants.{Tried, Ended as EndedBy}
 use Rattle.tree_lift.specs.declared.lifting.Stop.{Stop}
 use Rattle.tree_lift.specs.declared.lifting.Stop.TheVariants.{Level, NoRoom, NoSlot}
-use Rattle.tree_lift.specs.Lifts.{LeavesNoUpdate, Proceeds, TurnMade, WasTurned, AreTurns, EndsBy, HasAttempted, HasLifted}
+use Rattle.tree_lift.specs.Lifts.{LeavesNoUpdate, Proceeds, TurnMade, WasTurned, AreTurns, EndsBy, Attempts, HasAttempted, HasLifted}
 use Rattle.tree_lift.proofs.Ways.{goes_read, read_quiet}
 use Rattle.tree_lift.proofs.Slots.{goes_back, put_back_quiet}
 
@@ -55,10 +56,10 @@ left_on {u} {v} {w} {key} a b = record {
 }
 
 pub left_read : {v w : View} {key : ℕ} {r : Reading} → HasRead v key r w → LeavesNoUpdate v key w
-left_read read = record { marks = _; gone = (goes_read read).gone; each = ((refl, refl), refl, tt) }
+left_read read = record { marks = _; gone = (goes_read read).gone; each = ((refl, refl), (refl, tt)) }
 
 left_reclaimed : {k : Shape} {v w : View} {listed : List ℕ} (key : ℕ) → HasReclaimed k v listed w → LeavesNoUpdate v key w
-left_reclaimed key back = record { marks = _; gone = reclaim_gone back; each = ((refl, refl, refl), refl, tt) }
+left_reclaimed key back = record { marks = _; gone = reclaim_gone back; each = ((refl, refl, refl), (refl, tt)) }
 
 -- the parts of an attempt
 pub proceeds_same : (key : ℕ) (hard : Bool) (s : SeatAt) → Proceeds key hard s s
@@ -146,7 +147,7 @@ reclaimed_quiet k s t listed back none q =
 room_reclaimed : (k : Shape) (key : ℕ) (hard : Bool) (s t : SeatAt) → Reclaims k hard s t → (IsInformed s.view → IsInformed t.view)
     → IsQuietSeat s → HasRoom k key hard s t
 room_reclaimed k key hard s t back informed q =
-    let all = gives_all (some_retired k.room s.view.hands.retired back.roomy back.many) q.listed.each back.back in record {
+    let all = gives_all (λ none. some_retired k.room s.view.hands.retired back.roomy back.many) q.listed.each back.back in record {
       proceeds = proceeds_reclaimed k key hard s t back informed;
       quiet = reclaimed_quiet k s t s.listed back.back back.listed q;
       few = (let long = ap (length {A = Retired}) (reclaim_retired back.back) in let roomy = back.roomy in omega arith);
@@ -165,7 +166,7 @@ pub room_lacking : (k : Shape) (aim : Aim) (s t : SeatAt) → MakesRoom k aim.ha
     → HasAttempted k aim s (EndedBy NoRoom) t
 room_lacking k aim s t none q = subst (HasAttempted k aim s (EndedBy NoRoom)) (sym none.0) (record {
   proceeds = proceeds_same aim.key aim.hard s;
-  attempts = (left_none aim.key gone_same, none.1, none.2);
+  attempts = (left_none aim.key gone_same, (none.1, none.2));
   tickets = omega arith;
   quiet = q;
 })
@@ -175,7 +176,7 @@ module _ (k : Shape) (key : ℕ) (hard : Bool) (s t : SeatAt) (room : HasRoom k 
   module _ (u : SeatAt) (r : Reading) (read : HasRead t.view key r u.view) (listed : u.listed ≡ t.listed) where
     pub proceeds_read : Proceeds key hard s u
     proceeds_read = proceeds_on key hard s t u room.proceeds
-        (proceeds_goes key hard t u _ (goes_read read) ((refl, refl), refl, tt) listed (λ told. read.informed))
+        (proceeds_goes key hard t u _ (goes_read read) ((refl, refl), (refl, tt)) listed (λ told. read.informed))
 
     pub read_tickets : s.view.allowance.tickets ≤ u.view.allowance.tickets + 3
     read_tickets = ⊎_elim
@@ -233,8 +234,8 @@ module _ (k : Shape) (key : ℕ) (hard : Bool) (s t : SeatAt) (room : HasRoom k 
         }
 
         pub ready : some ≡ true → 3 ≤ s.view.allowance.tickets → IsReadyToTurn k.room x.view
-        ready yes three =
-            let both = takes.both yes in
+        ready taken three =
+            let both = takes.both taken in
             let q = both.quiet.quiet.view in record {
               outside = q.section;
               unlocked = q.locks;
@@ -249,7 +250,7 @@ module _ (k : Shape) (key : ℕ) (hard : Bool) (s t : SeatAt) (room : HasRoom k 
             }
 
         pub listed_takes : some ≡ true → AreListed x
-        listed_takes yes = record { each = (takes.both yes).quiet.quiet.listed.each }
+        listed_takes taken = record { each = (takes.both taken).quiet.quiet.listed.each }
 
         -- The turn was made.
         module _ (y : SeatAt) (gone : HasGone x.view y.view []) where
@@ -289,8 +290,8 @@ module _ (k : Shape) (key : ℕ) (hard : Bool) (s t : SeatAt) (room : HasRoom k 
           -- It wasn't, and the slot in hand was put back.
           module _ (none : HasTurnedNone x.view turn y.view) (still : IsQuietButHand y) (same_list : y.listed ≡ x.listed) where
             pub held_still : some ≡ true → (held : Held) × (y.view.hands.hand ≡ Some held) × (held.raised ≡ false)
-            held_still yes =
-                let both = takes.both yes in
+            held_still taken =
+                let both = takes.both taken in
                 (both.hand, ap (λ (z : View). z.hands.hand) none.rest ∙ both.hand_is, both.unraised)
 
             module _ (z : SeatAt) (slot : ℕ) (back : PutsBack y.view slot z.view) (last : z.listed ≡ y.listed) (told : IsInformed z.view) where
@@ -356,7 +357,7 @@ module _ (k : Shape) (aim : Aim) (s t : SeatAt) (room : HasRoom k aim.key aim.ha
 
       module _ (y : SeatAt) (gone : HasGone x.view y.view []) where
         pub turned_attempt : HasTurned x.view turn y.view → y.listed ≡ x.listed ++ turn.node ∷ (turn.child ∷ []) → IsInformed y.view
-            → IsQuietSeat y → HasAttempted k aim s Turned y
+            → IsQuietSeat y → HasAttempted k aim s (Tried true) y
         turned_attempt turned retires informed quiet = record {
           proceeds = all_turned k aim.key aim.hard s t room u found.0 found.1 listed true x takes same turn aim.salt found.2 y gone turned
               retires informed;
@@ -371,7 +372,7 @@ module _ (k : Shape) (aim : Aim) (s t : SeatAt) (room : HasRoom k aim.key aim.ha
               still same_list refl
 
           pub lost_attempt : (z : SeatAt) → PutsBack y.view held_there.0.slot z.view → z.listed ≡ y.listed → IsInformed z.view
-              → HasAttempted k aim s Lost z
+              → HasAttempted k aim s (Tried false) z
           lost_attempt z back last told =
               let on = all_lost k aim.key aim.hard s t room u found.0 found.1 listed true x takes same turn aim.salt found.2 y gone none
               still same_list z held_there.0.slot back last told in record {
@@ -408,6 +409,15 @@ lifted_still k aim turns u v w has none = record {
   many = has.many;
   are = subst (λ l. AreTurns k aim.key aim.salt u l w) (append-nil has.made) (turns_on k aim.key aim.salt u v w has.made [] has.are none);
 }
+
+pub lifted_tried : (k : Shape) (aim : Aim) (turns : ℕ) (turned : Bool) (u v w : View) → HasLifted k aim turns u v
+    → Attempts k aim v (Tried turned) w → HasLifted k aim (turns + from_bool turned) u w
+lifted_tried k aim turns true u v w has made = lifted_one k aim turns u v w has made
+lifted_tried k aim turns false u v w has made = subst (λ n. HasLifted k aim n u w) (omega arith) (lifted_still k aim turns u v w has made)
+
+pub one_at_most : (turned : Bool) → from_bool turned ≤ 1
+one_at_most true = omega arith
+one_at_most false = omega arith
 
 -- What a lift comes to, where an attempt ended it, and where all attempts were made.
 pub record HasEnded (k : Shape) (aim : Aim) (turns : ℕ) (stop : Stop) (s t : SeatAt) : Type 0 where

@@ -271,7 +271,7 @@ module _ (k : Shape) (key salt : ℕ) where
             })
 
         pub crosses : rises salt c.key at.key ≡ true → IsCrossing k key salt (record { at = at; child = c }) (went_down r at.node at.turn c)
-        crosses yes = record { earlier = r; stands = i; child_slot = slot; some_child = some; is = refl; rises_above = yes }
+        crosses above = record { earlier = r; stands = i; child_slot = slot; some_child = some; is = refl; rises_above = above }
 
   module _ (c : Crossing) (r : Reading) (x : IsCrossing k key salt c r) where
     abbrev early : Reading

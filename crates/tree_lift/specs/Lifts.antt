@@ -1,6 +1,6 @@
 -- What a lift leaves, and what it answers.
 -- Source: docs/TREE_CALLS.md, "Lifts".
-use Rattle.std.specs.Prelude.{◌≡◌, ◌⊎◌, ℕ, ◌+◌, ◌<◌, ◌≤◌, Bool, false, List, [], ◌∷◌, length, Option, Some, None}
+use Rattle.std.specs.Prelude.{◌≡◌, ◌⊎◌, ℕ, ◌+◌, ◌<◌, ◌≤◌, Bool, true, false, List, [], ◌∷◌, length, Option, Some, None}
 use Rattle.std.specs.List.{AllByRecursion}
 use Rattle.prcu_marks.specs.declared.mark.Mark.{Mark}
 use Rattle.core_state.specs.declared.shape.Shape.{Shape}
@@ -15,7 +15,7 @@ use Rattle.tree_turn.specs.declared.turn.Turn.{Turn}
 use Rattle.tree_turn.specs.Turns.{HasTurned}
 use Rattle.tree_lift.specs.declared.lifting.Aim.{Aim}
 use Rattle.tree_lift.specs.declared.lifting.Attempt.{Attempt}
-use Rattle.tree_lift.specs.declared.lifting.Attempt.TheVariants.{Turned, Lost, Ended}
+use Rattle.tree_lift.specs.declared.lifting.Attempt.TheVariants.{Tried, Ended}
 use Rattle.tree_lift.specs.declared.lifting.Stop.{Stop}
 use Rattle.tree_lift.specs.declared.lifting.Stop.TheVariants.{Level, NoRoom, NoSlot, Spent}
 use Rattle.tree_lift.specs.Ways.{HasRead, RecordsTurn, Finds}
@@ -62,8 +62,8 @@ EndsBy k aim Spent w = Unit {0}
 
 -- what an attempt came to
 abbrev pub Attempts : Shape → Aim → View → Attempt → View → Type 0
-Attempts k aim v Turned w = (t : TurnMade) × AreTurns k aim.key aim.salt v (t ∷ []) w
-Attempts k aim v Lost w = LeavesNoUpdate v aim.key w
+Attempts k aim v (Tried true) w = (t : TurnMade) × AreTurns k aim.key aim.salt v (t ∷ []) w
+Attempts k aim v (Tried false) w = LeavesNoUpdate v aim.key w
 Attempts k aim v (Ended stop) w = LeavesNoUpdate v aim.key w × EndsBy k aim stop w
 
 -- What an attempt leaves, with at most three tickets.

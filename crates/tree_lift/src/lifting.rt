@@ -51,9 +51,8 @@ pub struct Lifted {
 // What an attempt came to.
 #[derive(Clone, Copy)]
 enum Attempt {
-    Turned,
-    /// A lock was taken, or something was changed meanwhile.
-    Lost,
+    /// A turn was made, or a lock was taken or something changed meanwhile.
+    Tried { turned: bool },
     Ended { stop: Stop },
 }
 
@@ -88,8 +87,7 @@ pub fn lift<P: Patience, W: WaitPart>(
     let mut turns = 0;
     for i in 0..aim.attempts {
         match make_attempt(patience, table, seat, aim)? {
-            Attempt::Turned => turns += 1,
-            Attempt::Lost => (),
+            Attempt::Tried { turned } => turns += u32::from(turned),
             Attempt::Ended { stop } => return Ok(Lifted { turns, stop }),
         }
     }
@@ -123,8 +121,8 @@ fn make_attempt<P: Patience, W: WaitPart>(
         return Ok(Attempt::Ended { stop: Stop::NoSlot });
     }
     if make_turn(table, seat, turn) {
-        return Ok(Attempt::Turned);
+        return Ok(Attempt::Tried { turned: true });
     }
     put_back(table, seat);
-    Ok(Attempt::Lost)
+    Ok(Attempt::Tried { turned: false })
 }

@@ -35,11 +35,11 @@ go_down-requires-clause-reading g c =
       stands_by (shape_of g.W.WaitWords.WAY c.args.table.now) c.args.key c.args.salt c.loop-round.at at.0 at.2,
     )
 
-pub returns-in_default-2-clause-comes : goal.returns-in_default-2-clause-comes
-returns-in_default-2-clause-comes g c = λ v e.
+pub returns-in_default-go_down-clause-comes : goal.returns-in_default-go_down-clause-comes
+returns-in_default-go_down-clause-comes g c = λ v e.
     let at = c.loop-round.invariant.stands v e in (
       _,
-      subst (λ o. IsReading v c.args.key (after_step at.0 c.loop-round.at.node c.loop-round.at.turn o) c.go_down.new.seat.view) c.in_default-2.is
+      subst (λ o. IsReading v c.args.key (after_step at.0 c.loop-round.at.node c.loop-round.at.turn o) c.go_down.new.seat.view) c.in_default-go_down.is
           (c.go_down.ensures.reading v c.args.key at.0 at.1),
       level_end (shape_of g.W.WaitWords.WAY c.args.table.now) c.args.key c.args.salt c.loop-round.at at.0 at.2,
     )
@@ -47,22 +47,22 @@ returns-in_default-2-clause-comes g c = λ v e.
 pub returns-then-rises_above-clause-comes : goal.returns-then-rises_above-clause-comes
 returns-then-rises_above-clause-comes g c = λ v e.
     let at = c.loop-round.invariant.stands v e in
-    let child = c.in-Some-2.child in
-    let slot = c.go_down.ensures.slot child c.in-Some-2.is in (
+    let child = c.in-Some-go_down.child in
+    let slot = c.in-Some-go_down.ensures.slot in (
       _,
-      subst (λ o. IsReading v c.args.key (after_step at.0 c.loop-round.at.node c.loop-round.at.turn o) c.go_down.new.seat.view) c.in-Some-2.is
+      subst (λ o. IsReading v c.args.key (after_step at.0 c.loop-round.at.node c.loop-round.at.turn o) c.go_down.new.seat.view) c.in-Some-go_down.is
           (c.go_down.ensures.reading v c.args.key at.0 at.1),
       crosses (shape_of g.W.WaitWords.WAY c.args.table.now) c.args.key c.args.salt c.loop-round.at at.0 at.2 child slot.0 slot.1
           (sym c.rises_above.ensures ∙ c.if-rises_above.true),
     )
 
-pub returns-in_default-3-clause-comes : goal.returns-in_default-3-clause-comes
-returns-in_default-3-clause-comes g c = λ v e.
+pub returns-in_default-step_side-clause-comes : goal.returns-in_default-step_side-clause-comes
+returns-in_default-step_side-clause-comes g c = λ v e.
     let at = c.loop-round.invariant.stands v e in
-    let child = c.in-Some-2.child in
-    let slot = c.go_down.ensures.slot child c.in-Some-2.is in (
+    let child = c.in-Some-go_down.child in
+    let slot = c.in-Some-go_down.ensures.slot in (
       _,
-      subst (λ o. IsReading v c.args.key (after_step at.0 c.loop-round.at.node c.loop-round.at.turn o) c.go_down.new.seat.view) c.in-Some-2.is
+      subst (λ o. IsReading v c.args.key (after_step at.0 c.loop-round.at.node c.loop-round.at.turn o) c.go_down.new.seat.view) c.in-Some-go_down.is
           (c.go_down.ensures.reading v c.args.key at.0 at.1),
       level_found (shape_of g.W.WaitWords.WAY c.args.table.now) c.args.key c.args.salt c.loop-round.at at.0 at.2 child slot.0
           (sym c.rises_above.ensures ∙ c.if-rises_above.false),
@@ -75,12 +75,12 @@ loop-round-preserved g c = record {
   made = let before = c.loop-round.invariant.made in let steps = c.go_down.ensures.steps in omega (arith, before, steps);
   stands = λ v e.
       let at = c.loop-round.invariant.stands v e in
-      let child = c.in-Some-2.child in
-      let slot = c.go_down.ensures.slot child c.in-Some-2.is in (
+      let child = c.in-Some-go_down.child in
+      let slot = c.in-Some-go_down.ensures.slot in (
         _,
-        subst (λ o. IsReading v c.args.key (after_step at.0 c.loop-round.at.node c.loop-round.at.turn o) c.go_down.new.seat.view) c.in-Some-2.is
+        subst (λ o. IsReading v c.args.key (after_step at.0 c.loop-round.at.node c.loop-round.at.turn o) c.go_down.new.seat.view) c.in-Some-go_down.is
             (c.go_down.ensures.reading v c.args.key at.0 at.1),
         goes_below (shape_of g.W.WaitWords.WAY c.args.table.now) c.args.key c.args.salt c.loop-round.at at.0 at.2 child slot.0 slot.1
-            c.in-Some-3.turn (sym c.rises_above.ensures ∙ c.if-rises_above.false) (sym c.step_side.ensures ∙ c.in-Some-3.is),
+            c.in-Some-step_side.turn (sym c.rises_above.ensures ∙ c.if-rises_above.false) (sym c.step_side.ensures ∙ c.in-Some-step_side.is),
       );
 }

@@ -20,26 +20,26 @@ go_down-requires-clause-reading g c =
       at_root c.args.key,
     )
 
-pub returns-in_default-clause-starts : goal.returns-in_default-clause-starts
-returns-in_default-clause-starts g c = λ v salt e.
+pub returns-in_err-top-clause-starts : goal.returns-in_err-top-clause-starts
+returns-in_err-top-clause-starts g c = λ v salt e.
     let k = shape_of g.W.WaitWords.WAY c.args.table.now in
     starts_empty k c.args.key salt v c.go_down.new.seat.view (subst (λ o. IsReading v c.args.key
-    (after_step (fresh_reading c.args.key) 0 Right o) c.go_down.new.seat.view) c.in_default.is
+    (after_step (fresh_reading c.args.key) 0 Right o) c.go_down.new.seat.view) c.in_err-top.is
     (c.go_down.ensures.reading v c.args.key (fresh_reading c.args.key) (begun k v c.args.key c.args.seat.now.view e)))
 
-pub returns-in_default-2-clause-starts : goal.returns-in_default-2-clause-starts
-returns-in_default-2-clause-starts g c = λ v salt e.
+pub returns-in_err-turn-clause-starts : goal.returns-in_err-turn-clause-starts
+returns-in_err-turn-clause-starts g c = λ v salt e.
     let k = shape_of g.W.WaitWords.WAY c.args.table.now in
-    starts_found k c.args.key salt v c.go_down.new.seat.view c.in-Some.top (c.go_down.ensures.slot c.in-Some.top c.in-Some.is).0
-    (subst (λ o. IsReading v c.args.key (after_step (fresh_reading c.args.key) 0 Right o) c.go_down.new.seat.view) c.in-Some.is
+    starts_found k c.args.key salt v c.go_down.new.seat.view c.in_ok-top.top c.in_ok-top.ensures.slot.0
+    (subst (λ o. IsReading v c.args.key (after_step (fresh_reading c.args.key) 0 Right o) c.go_down.new.seat.view) c.in_ok-top.is
     (c.go_down.ensures.reading v c.args.key (fresh_reading c.args.key) (begun k v c.args.key c.args.seat.now.view e)))
 
 pub returns-clause-starts : goal.returns-clause-starts
 returns-clause-starts g c = λ v salt e.
     let k = shape_of g.W.WaitWords.WAY c.args.table.now in
-    let slot = c.go_down.ensures.slot c.in-Some.top c.in-Some.is in (
+    let slot = c.in_ok-top.ensures.slot in (
       _,
-      subst (λ o. IsReading v c.args.key (after_step (fresh_reading c.args.key) 0 Right o) c.go_down.new.seat.view) c.in-Some.is
+      subst (λ o. IsReading v c.args.key (after_step (fresh_reading c.args.key) 0 Right o) c.go_down.new.seat.view) c.in_ok-top.is
           (c.go_down.ensures.reading v c.args.key (fresh_reading c.args.key) (begun k v c.args.key c.args.seat.now.view e)),
-      starts_at k c.args.key salt c.in-Some.top c.in-Some-2.turn slot.0 slot.1 (sym c.step_side.ensures ∙ c.in-Some-2.is),
+      starts_at k c.args.key salt c.in_ok-top.top c.in_ok-turn.turn slot.0 slot.1 (sym c.step_side.ensures ∙ c.in_ok-turn.is),
     )
