@@ -23,9 +23,9 @@ use Rattle.cookie_client.proofs.Callers.{called_answers}
 use Rattle.cookie_client.specs.Clients.{CookieClientAt, HasCalled, ChainsMeetFronts}
 
 -- a cookie beside a call of the tree
-pub call_keeps : (k : Shape) (op : Op) (told : Told) (s t : SeatAt) → IsToldThenLifts k s op told t → KeepsSlots s t → KeepsCookies s t
+pub call_keeps : (k : Shape) (op : Op) (told : Told) (s t : SeatAt) → IsToldThenLifts k s.view op told t.view → KeepsSlots s t → KeepsCookies s t
 call_keeps k op told s t is slots =
-    let answers = told_answers k s t op told is in record {
+    let answers = told_answers k s.view t.view op told is in record {
       place = answers.place;
       seen = answers.since;
       waits = slots.waits;

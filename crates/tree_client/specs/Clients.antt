@@ -15,11 +15,11 @@ use Rattle.citrus_tree.specs.Clients.{ClientAt, room_of}
 use Rattle.citrus_tree.specs.Gone.{KeepsWait}
 use Rattle.tree_client.specs.Calls.{IsToldThenLifts}
 
--- A call of a client: what its operation was told, what came after the answer, and what holds after each call.
+-- A call of a client: what its operation was told, what may come behind the answer, and what holds after each call.
 pub record HasCalled (before : ClientAt) (op : Op) (told : Told) (after : ClientAt) : Type 0 where
   pub shape : after.shape ≡ before.shape
   pub table : after.table ≡ before.table
-  pub told_is : IsToldThenLifts before.shape before.seat op told after.seat
+  pub answer : IsToldThenLifts before.shape before.seat.view op told after.seat.view
   pub wait : KeepsWait before.seat.view after.seat.view
   pub tickets : before.seat.view.allowance.tickets ≤ after.seat.view.allowance.tickets + 16
   pub allowance : KeepsAllowance before.seat.view after.seat.view

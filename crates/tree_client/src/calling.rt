@@ -38,7 +38,7 @@ pub fn call_and_lift<R: Wait, W: WaitPart, G: Gate>(
     requires quiet { IsQuietSeat seat.old }
     requires tickets { 16 ≤ seat.old.view.allowance.tickets }
     ensures table { seat.new.table ≡ seat.old.table }
-    ensures told { IsToldThenLifts (shape_of W.WAY table.now) seat.old op result seat.new }
+    ensures told { IsToldThenLifts (shape_of W.WAY table.now) seat.old.view op result seat.new.view }
     ensures wait { KeepsWait seat.old.view seat.new.view }
     ensures slots { KeepsSlots seat.old seat.new }
     ensures tickets { seat.old.view.allowance.tickets ≤ seat.new.view.allowance.tickets + 16 }

@@ -41,7 +41,7 @@ returns-clause-made g c =
     (record {
       shape = refl;
       table = refl;
-      told_is = e.told;
+      answer = e.told;
       wait = e.wait;
       tickets = e.tickets;
       allowance = e.allowance;
