@@ -17,7 +17,7 @@ use Rattle.citrus_tree.specs.Clients.{ClientAt, caller_of, IsTold, room_of}
 use Rattle.citrus_tree.specs.Gone.{IsOfTry}
 use Rattle.citrus_tree.proofs.Clients.{made_answers, met_its_own, chain_told}
 use Rattle.tree_lift.specs.Lifts.{LeavesNoUpdate}
-use Rattle.tree_client.specs.Calls.{PutsThenLifts, IsToldThenLifts}
+use Rattle.tree_client.specs.Calls.{IsToldThenLifts}
 use Rattle.tree_client.specs.Clients.{HasCalled, ChainsMeetFronts}
 use Rattle.tree_client.proofs.Longer.{answered_longer, tries_plain}
 
