@@ -33,6 +33,7 @@ PICTURES = {
         "schedule_run": "scripts by a number",
         "core_machine": "the calls, step by step",
         "cookie_client": "a client with a cookie",
+        "tree_client": "a client that lifts",
         "grace_cookie": "waits asked about later",
         "citrus_c": "for C, C++ and Rust",
         "tree_handles": "indexes by handles",

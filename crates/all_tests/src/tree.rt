@@ -3,12 +3,12 @@ ghost use Rattle.std.specs.Prelude.{◌≡◌};
 ghost use Rattle.seat_table.specs.Seats.{IsQuietSeat};
 
 use crate::same::assert_same;
-use citrus_tree::TreeClient;
 use prcu_marks::{Client, OpenGate};
 use prcu_model::{Op, Reply, Told};
 use seat_table::{CitrusTable, Seat, WaitPart};
 use std::process::Abort;
 use std::sync::Wait;
+use tree_client::TreeClient;
 
 // A call as a line of an account tells it, with the number of its update where it is one.
 macro_rules! call {

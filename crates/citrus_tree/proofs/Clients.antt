@@ -23,7 +23,7 @@ use Rattle.prcu_marks.specs.Chains.{IsChain}
 use Rattle.prcu_marks.specs.Callers as callers
 use Rattle.prcu_marks.specs.Callers.{Caller, HasSeenItsOwn, IsLeftBy, entered_for, IsMoveWait, WaitsFor, HasMadeUpdate, WasExplained, HasAnswered}
 use Rattle.prcu_marks.specs.Marks.{updates_of, own_of}
-use Rattle.prcu_marks.proofs.Callers.{HasTold, chain_tells, told_meets, map_at-longer}
+use Rattle.prcu_marks.proofs.Callers.{HasTold, chain_tells, map_at-longer}
 use Rattle.prcu_marks.proofs.MarkLists.{updates_of-append, updates_below}
 use Rattle.prcu_marks.proofs.OwnMarks.{entered_for-append, own_twice}
 use Rattle.core_state.specs.declared.shape.Shape.{Shape}
@@ -33,12 +33,12 @@ use Rattle.tree_points.proofs.Gone.{gone_same}
 use Rattle.citrus_tree.specs.Gone.{IsOfTry}
 use Rattle.citrus_tree.specs.Lookups.{Looked, told_of, Gets}
 use Rattle.citrus_tree.specs.Replies.{WasAnswered, HasUpdated, HasTried, PutsBy, SetsBy, DelsBy}
-use Rattle.citrus_tree.specs.Clients.{ClientAt, caller_of, IsTold, HasCalled, room_of, ChainsMeetFronts}
+use Rattle.citrus_tree.specs.Clients.{ClientAt, caller_of, IsTold, room_of}
 use Rattle.citrus_tree.proofs.Leavings.{goes_looked, was_answered}
 
 -- ---- marks of a call before its update
 
-try_left : (place key : ℕ) (m : Mark) → IsOfTry place key m → IsLeftBy place key m
+pub try_left : (place key : ℕ) (m : Mark) → IsOfTry place key m → IsLeftBy place key m
 try_left place key (Entered p c x) is = is
 try_left place key (Left p c) is = is
 try_left place key (Began p c low high) is = is.0
@@ -48,7 +48,7 @@ try_left place key (Given s) is = absurd is
 try_left place key (Unlinked s) is = absurd is
 try_left place key (Freed s) is = absurd is
 
-try_waits : (us : List Update) (place key : ℕ) (m : Mark) → IsOfTry place key m → WaitsFor us m
+pub try_waits : (us : List Update) (place key : ℕ) (m : Mark) → IsOfTry place key m → WaitsFor us m
 try_waits us place key (Entered p c x) is = tt
 try_waits us place key (Left p c) is = tt
 try_waits us place key (Began p c low high) is = inl (is.1, (let top = is.2 in omega arith))
@@ -58,7 +58,7 @@ try_waits us place key (Given s) is = absurd is
 try_waits us place key (Unlinked s) is = absurd is
 try_waits us place key (Freed s) is = absurd is
 
-no_updates : (place key : ℕ) (ms : List Mark) → AllByRecursion (IsOfTry place key) ms → updates_of ms ≡ []
+pub no_updates : (place key : ℕ) (ms : List Mark) → AllByRecursion (IsOfTry place key) ms → updates_of ms ≡ []
 no_updates place key [] all = refl
 no_updates place key (Entered p c x ∷ ms) all = no_updates place key ms all.1
 no_updates place key (Left p c ∷ ms) all = no_updates place key ms all.1
@@ -345,14 +345,3 @@ chain_told {C} made on_tree answers k ops tolds before after same none chain =
     with_shape [] (t ∷ ts) c is done = absurd done
     with_shape (o ∷ os) [] c is done = absurd done
     with_shape (o ∷ os) (t ∷ ts) c is done = (done.0, (done.1, is), with_shape os ts done.0 ((answers c o t done.0 done.1).0 ∙ is) done.2)
-
-pub chain_has_told : (k : Shape) (ops : List Op) (tolds : List Told) (before after : ClientAt) → before.shape ≡ k
-    → own_updates before.seat.view.allowance.place (updates_of before.seat.view.seen) ≡ []
-    → IsChain HasCalled before ops tolds after → HasTold (Explains (room_of k)) (caller_of before) ops tolds (caller_of after)
-chain_has_told = chain_told HasCalled (λ c. c)
-    (λ c op told d call. (call.shape, made_answers c.shape c.seat.view d.seat.view op told call.answer))
-
-pub chains_meet : ChainsMeetFronts
-chains_meet ops tolds before after none chain =
-    told_meets (Explains (room_of before.shape)) (caller_of before) ops tolds (caller_of after)
-    (chain_has_told before.shape ops tolds before after refl none chain)

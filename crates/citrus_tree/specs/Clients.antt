@@ -1,14 +1,12 @@
--- Clients of the tree.
+-- Calls by clients of the tree.
 -- Source: docs/ACCOUNTS.md, "Clients".
-use Rattle.std.specs.Prelude.{◌≡◌, ◌+◌, ◌-◌, ◌*◌, ◌≤◌, List, []}
-use Rattle.prcu_marks.specs.Callers.{Caller, MeetsFronts}
-use Rattle.prcu_marks.specs.Chains.{IsChain}
-use Rattle.prcu_marks.specs.Marks.{own_of, updates_of}
+use Rattle.std.specs.Prelude.{◌≡◌, ◌+◌, ◌-◌, ◌*◌, ◌≤◌}
+use Rattle.prcu_marks.specs.Callers.{Caller}
+use Rattle.prcu_marks.specs.Marks.{own_of}
 use Rattle.prcu_model.specs.declared.operation.Op.{Op}
 use Rattle.prcu_model.specs.declared.operation.Op.TheVariants.{Put, Get, Del, Set}
 use Rattle.prcu_model.specs.declared.operation.Told.{Told}
-use Rattle.prcu_model.specs.Fronts.{told_lines, own_updates}
-use Rattle.prcu_model.specs.Replies.{Room, Explains}
+use Rattle.prcu_model.specs.Replies.{Room}
 use Rattle.core_state.specs.declared.shape.Shape.{Shape}
 use Rattle.core_state.specs.declared.view.View.{View}
 use Rattle.seat_table.specs.Gains.{IsInformed}
@@ -39,7 +37,7 @@ IsTold k v (Get key) told w = Gets v key told w
 IsTold k v (Del key) told w = Dels k v key told w
 IsTold k v (Set key value) told w = Sets v key value told w
 
--- A call of a client: what its operation was told, and what holds after each call.
+-- A call: what its operation was told, and what holds after each call.
 pub record HasCalled (before : ClientAt) (op : Op) (told : Told) (after : ClientAt) : Type 0 where
   pub shape : after.shape ≡ before.shape
   pub table : after.table ≡ before.table
@@ -54,10 +52,3 @@ pub record HasCalled (before : ClientAt) (op : Op) (told : Told) (after : Client
 -- back 16 retired ones; what it may hold back beyond them are slots that the account's table hasn't.
 abbrev pub room_of : Shape → Room
 room_of k = record { scripts = k.places; slots = k.slots - (k.room - 16) * (k.places - 1) }
-
--- Of a client whose place had made no update, the calls so far tell of lines that fit the updates that it has seen.
-abbrev pub ChainsMeetFronts : Type 0
-ChainsMeetFronts = (ops : List Op) (tolds : List Told) (before after : ClientAt)
-    → own_updates before.seat.view.allowance.place (updates_of before.seat.view.seen) ≡ []
-    → IsChain HasCalled before ops tolds after → MeetsFronts (Explains (room_of before.shape))
-    (updates_of after.seat.view.seen) before.seat.view.allowance.place (told_lines ops tolds)

@@ -3,12 +3,10 @@
 #![tactic(auto)]
 
 mod answer;
-mod client;
 mod commit;
 mod delete;
 mod descent;
 mod insert;
-pub mod laws;
 mod lives;
 mod lookup;
 pub mod patient;
@@ -17,8 +15,7 @@ mod search;
 mod steadfast;
 
 pub use answer::Called;
-pub use client::{TreeClient, call};
 pub use core_points::stage::Spot;
 pub use delete::Removed;
 pub use search::{End, Hop, Search};
-pub use steadfast::{del, get, put, remove, set};
+pub use steadfast::{call, del, get, put, remove, set};

@@ -1,6 +1,7 @@
 //! The calls, for callers that never give up.
 ghost use Rattle.std.specs.Prelude.{◌≡◌, ◌+◌, ◌≤◌};
-ghost use Rattle.citrus_tree.specs.Beginnings.{BeginsByLookup, BeginsOnceReady};
+ghost use Rattle.citrus_tree.specs.Beginnings.{Begins, BeginsByLookup, BeginsOnceReady};
+ghost use Rattle.citrus_tree.specs.Clients.{IsTold};
 ghost use Rattle.citrus_tree.specs.Gone.{KeepsSlots, KeepsWait};
 ghost use Rattle.citrus_tree.specs.Lookups.{Gets};
 ghost use Rattle.citrus_tree.specs.Replies.{Dels, Puts, RetiresInOrder, Sets, TellsValue};
@@ -9,11 +10,12 @@ ghost use Rattle.seat_table.specs.Gains.{IsInformed};
 ghost use Rattle.seat_table.specs.Seats.{IsQuietSeat, shape_of};
 ghost use Rattle.tree_points.specs.Progress.{KeepsAllowance};
 
+use crate::answer::Called;
 use crate::delete::Removed;
 use crate::patient;
 use patience::Steadfast;
 use prcu_marks::Gate;
-use prcu_model::Told;
+use prcu_model::{Op, Told};
 use seat_table::{CitrusTable, Seat, WaitPart};
 use std::sync::Wait;
 
@@ -156,6 +158,34 @@ pub fn remove<R: Wait, W: WaitPart, G: Gate>(
 {
     match patient::remove(&Steadfast::new(rt), table, seat, gate, key) {
         Ok(removed) => removed,
+        Err(never) => match never {},
+    }
+}
+
+/// Makes the operation by its own call: `put`, `get`, `del` or `set`. There it is said what it waits for. The depth is `put`'s, and 0
+/// of the others.
+pub fn call<R: Wait, W: WaitPart, G: Gate>(
+    rt: &R,
+    table: &CitrusTable<W>,
+    seat: &mut Seat<W>,
+    gate: &G,
+    op: Op,
+) -> Called
+    requires table { seat.old.table ≡ table.now }
+    requires quiet { IsQuietSeat seat.old }
+    requires tickets { 4 ≤ seat.old.view.allowance.tickets }
+    ensures table { seat.new.table ≡ seat.old.table }
+    ensures told { IsTold (shape_of W.WAY table.now) seat.old.view op result.told seat.new.view }
+    ensures begins { Begins (shape_of W.WAY table.now) seat.old.view op seat.new.view }
+    ensures wait { KeepsWait seat.old.view seat.new.view }
+    ensures slots { KeepsSlots seat.old seat.new }
+    ensures tickets { seat.old.view.allowance.tickets ≤ seat.new.view.allowance.tickets + 4 }
+    ensures allowance { KeepsAllowance seat.old.view seat.new.view }
+    ensures quiet { IsQuietSeat seat.new }
+    ensures informed { IsInformed seat.new.view }
+{
+    match patient::call(&Steadfast::new(rt), table, seat, gate, op) {
+        Ok(called) => called,
         Err(never) => match never {},
     }
 }

@@ -12,9 +12,10 @@ use Rattle.prcu_marks.specs.Callers.{HasAnswered}
 use Rattle.prcu_marks.specs.Marks.{updates_of, own_of}
 use Rattle.core_state.specs.declared.view.View.{View}
 use Rattle.citrus_tree.specs.Clients.{caller_of, room_of}
-use Rattle.citrus_tree.proofs.Clients.{made_answers, met_its_own}
+use Rattle.citrus_tree.proofs.Clients.{met_its_own}
 use Rattle.grace_cookie.specs.Cookies.{CookieAt}
-use Rattle.cookie_client.proofs.Longer.{IsPlain, ended_plain, began_plain, no_plain, both_plain, answered_longer, answered_earlier}
+use Rattle.tree_client.proofs.Calls.{call_answers}
+use Rattle.tree_client.proofs.Longer.{IsPlain, ended_plain, began_plain, no_plain, both_plain, answered_longer, answered_earlier}
 use Rattle.cookie_client.specs.Clients.{CookieClientAt, HasCalled}
 
 -- the marks of what was done about the cookie
@@ -34,12 +35,12 @@ pub called_answers : (before : CookieClientAt) (op : Op) (told : Told) (after : 
 called_answers before op told after call =
     let v : View = before.tree.seat.view in
     let r : View = call.ready.view in
-    let m : View = call.answered.view in
+    let m : View = call.called.view in
     let w : View = after.tree.seat.view in
     let explains = Explains (room_of before.tree.shape) in
     let key = key_of op in
     let us = updates_of w.seen in
-    let answered = made_answers before.tree.shape r m op told call.call.answer in
+    let answered = call_answers (record before.tree { seat = call.ready }) op told (record before.tree { seat = call.called }) call.call in
     let ends = call.ends in
     let settled = call.waits in
     let gone = settled.gone in
@@ -52,7 +53,7 @@ called_answers before op told after call =
     (begins_plain r.allowance.place key us m.counts.waits settled.began
     (subst (λ p. (settled.began ≡ []) ⊎ (settled.began ≡ Began p m.counts.waits 0 greatest_key ∷ [])) place settled.begins)) in
     let until = answered_longer explains (caller_of (record before.tree { seat = call.ready }))
-    (caller_of (record before.tree { seat = call.answered })) (caller_of after.tree) op told
+    (caller_of (record before.tree { seat = call.called })) (caller_of after.tree) op told
     (settled.ended ++ settled.began) answered last.none gone.begins
     gone.same (ap (λ p. own_of p w.seen) gone.same ∙ gone.own) last.keyed last.waits (met_its_own w) in
     answered_earlier explains (caller_of before.tree) (caller_of (record before.tree { seat = call.ready }))

@@ -7,13 +7,15 @@ use Rattle.prcu_marks.proofs.Callers.{told_meets}
 use Rattle.core_state.specs.declared.shape.Shape.{Shape}
 use Rattle.core_state.specs.declared.view.Allowance.{Allowance}
 use Rattle.seat_table.specs.Seats.{TableAt, SeatAt, IsQuietSeat}
-use Rattle.citrus_tree.specs.Clients.{ClientAt, caller_of, IsTold, room_of}
-use Rattle.citrus_tree.specs.Clients as tree
+use Rattle.citrus_tree.specs.Clients.{ClientAt, caller_of, room_of}
 use Rattle.citrus_tree.specs.Gone.{KeepsSlots}
-use Rattle.citrus_tree.proofs.Clients.{made_answers, chain_told}
+use Rattle.citrus_tree.proofs.Clients.{chain_told}
 use Rattle.grace_cookie.specs.Cookies.{CookieAt}
 use Rattle.grace_cookie.specs.Keeping.{KeepsCookies}
 use Rattle.grace_cookie.proofs.Keeping.{cookies_stay, stay_retired}
+use Rattle.tree_client.specs.Clients as tree
+use Rattle.tree_client.specs.Calls.{IsToldThenLifts}
+use Rattle.tree_client.proofs.Calls.{told_answers}
 use Rattle.cookie_client.specs.Settling.{IsGood, Settles, AreSound}
 use Rattle.cookie_client.specs.Rooms.{MakesRoom}
 use Rattle.cookie_client.proofs.Leaving.{room_ends, room_allows, settles_leave, settles_pay, starts_few, informed_sound}
@@ -21,9 +23,9 @@ use Rattle.cookie_client.proofs.Callers.{called_answers}
 use Rattle.cookie_client.specs.Clients.{CookieClientAt, HasCalled, ChainsMeetFronts}
 
 -- a cookie beside a call of the tree
-pub call_keeps : (k : Shape) (op : Op) (told : Told) (s t : SeatAt) → IsTold k s.view op told t.view → KeepsSlots s t → KeepsCookies s t
+pub call_keeps : (k : Shape) (op : Op) (told : Told) (s t : SeatAt) → IsToldThenLifts k s.view op told t.view → KeepsSlots s t → KeepsCookies s t
 call_keeps k op told s t is slots =
-    let answers = made_answers k s.view t.view op told is in record {
+    let answers = told_answers k s.view t.view op told is in record {
       place = answers.place;
       seen = answers.since;
       waits = slots.waits;
@@ -46,7 +48,7 @@ pub made_call : (shape : Shape) (table : TableAt) (cookie left held : Option Coo
 made_call shape table cookie left held s ready mid t op told first room call good settles quiet sound = record {
   held = left;
   ready = ready;
-  answered = mid;
+  called = mid;
   room = room;
   call = call;
   settles = settles;

@@ -1,4 +1,3 @@
 pub mod Leaving
-pub mod Longer
 pub mod Callers
 pub mod Calls

@@ -10,8 +10,8 @@ use Rattle.prcu_marks.specs.Chains.{IsChain}
 use Rattle.prcu_marks.specs.Marks.{updates_of}
 use Rattle.seat_table.specs.Seats.{SeatAt, IsQuietSeat}
 use Rattle.citrus_tree.specs.Clients.{ClientAt, room_of}
-use Rattle.citrus_tree.specs.Clients as tree
 use Rattle.grace_cookie.specs.Cookies.{CookieAt}
+use Rattle.tree_client.specs.Clients as tree
 use Rattle.cookie_client.specs.Settling.{Settles, LeavesWaits, IsFewOrHeld, AreSound}
 use Rattle.cookie_client.specs.Rooms.{MakesRoom, LeavesEnd}
 
@@ -20,20 +20,20 @@ pub record CookieClientAt : Type 0 where
   pub tree : ClientAt
   pub cookie : Option CookieAt
 
--- A call: where the operation lacks room, what was done about the cookie first; that of a client of the tree, which began with this seat
--- and was answered with that one; and then what was done about the cookie.
+-- A call: where the operation lacks room, what was done about the cookie first; that of a client of the tree, which began with this seat and
+-- left that one; and then what was done about the cookie.
 pub record HasCalled (before : CookieClientAt) (op : Op) (told : Told) (after : CookieClientAt) : Type 0 where
   pub held : Option CookieAt
   pub ready : SeatAt
-  pub answered : SeatAt
+  pub called : SeatAt
   pub room : MakesRoom before.tree.shape op before.cookie before.tree.seat held ready
-  pub call : tree.HasCalled (record before.tree { seat = ready }) op told (record before.tree { seat = answered })
-  pub settles : Settles before.tree.shape held answered after.cookie after.tree.seat
+  pub call : tree.HasCalled (record before.tree { seat = ready }) op told (record before.tree { seat = called })
+  pub settles : Settles before.tree.shape held called after.cookie after.tree.seat
   pub same : after.tree ≡ record before.tree { seat = after.tree.seat }
   pub ends : LeavesEnd before.cookie before.tree.seat.view ready.view
-  pub waits : LeavesWaits held answered.view after.tree.seat.view
+  pub waits : LeavesWaits held called.view after.tree.seat.view
   pub few : IsFewOrHeld after.tree.seat after.cookie
-  pub tickets : before.tree.seat.view.allowance.tickets ≤ after.tree.seat.view.allowance.tickets + 5
+  pub tickets : before.tree.seat.view.allowance.tickets ≤ after.tree.seat.view.allowance.tickets + 17
   pub quiet : IsQuietSeat after.tree.seat
   pub sound : AreSound after.tree.seat.view.seen
 

@@ -3,22 +3,22 @@ ghost use Rattle.std.specs.Prelude.{◌≡◌, ◌/◌, None};
 ghost use Rattle.seat_table.specs.Seats.{IsQuietSeat, shape_of};
 
 use crate::settling::{make_room, settle};
-use citrus_tree::call;
 use grace_cookie::Cookie;
 use prcu_marks::{Client, Gate};
 use prcu_model::{Op, Told};
 use seat_table::{CitrusTable, Seat, WaitPart};
 use std::marker::Model;
 use std::sync::Wait;
+use tree_client::call_and_lift;
 
-/// How many tickets a call may use: four for its operation, and one for a cookie.
-pub(crate) const TICKETS: u64 = 5;
+/// How many tickets a call may use: sixteen for its operation with the lift behind it, and one for a cookie.
+pub(crate) const TICKETS: u64 = 17;
 
-/// A seat that makes operations on a tree, one after another, passes a gate, and holds at most one cookie. After the answer of each call it
-/// asks once about the cookie that it holds. When the cookie is over, its slots go back; where the call began a later wait, it is
-/// dropped. Then the client starts one, where it holds none and half of the room for retired slots is taken, of 16 slots 8. Only before a
-/// del that finds room for one more at most does it ask until the cookie is over, and so wait. It may be sent to another thread where its
-/// gate may be shared with one.
+/// A seat that makes operations on a tree, one after another, passes a gate, keeps the tree shallow as a `TreeClient` does, and holds at most
+/// one cookie. After each call, and the lift behind it, it asks once about the cookie that it holds. When the cookie is over, its slots go
+/// back; where the call or the lift began a later wait, it is dropped. Then the client starts one, where it holds none and half of the room
+/// for retired slots is taken, of 16 slots 8. Only before a del that finds room for one more at most does it ask until the cookie is over,
+/// and so wait. It may be sent to another thread where its gate may be shared with one.
 #[derive(Drop)]
 pub struct CookieClient<'a, W: WaitPart, G: Gate> {
     table: &'a CitrusTable<W>,
@@ -75,15 +75,16 @@ impl<'a, W: WaitPart, G: Gate> Client for CookieClient<'a, W, G> {
     ghost use Rattle.std.specs.Prelude.{◌/◌};
     ghost use Rattle.cookie_client.specs.Clients.{HasCalled};
 
-    /// Five tickets are left for each.
-    ghost left = { λ c. c.tree.seat.view.allowance.tickets / 5 };
+    /// Seventeen tickets are left for each.
+    ghost left = { λ c. c.tree.seat.view.allowance.tickets / 17 };
 
-    /// What was done about the cookie before the call of the tree, that call, what was done about the cookie after it, and what holds then.
+    /// What was done about the cookie before the call of the tree, that call with what may come after its answer, what was done about the
+    /// cookie then, and what holds at the end.
     ghost made = { HasCalled };
 
     fn call<R: Wait>(&mut self, rt: &R, op: Op) -> Told {
         self.cookie = make_room(rt, self.table, &mut self.seat, self.cookie.take(), op);
-        let told = call(rt, self.table, &mut self.seat, self.gate, op).told;
+        let told = call_and_lift(rt, self.table, &mut self.seat, self.gate, op);
         self.cookie = settle(self.table, &mut self.seat, self.cookie.take());
         told
     }

@@ -5,7 +5,6 @@
 ghost use Rattle.std.specs.Prelude.{◌/◌, ◌≤◌};
 ghost use Rattle.citrus_tree.specs.Lookups.{Looked};
 
-use citrus_tree::TreeClient;
 use eer_wait::Eer;
 use prcu_marks::{Client, OpenGate};
 use prcu_model::{NoMemory, Op, Reply};
@@ -14,18 +13,19 @@ use std::alloc::Global;
 use std::process::ExitCode;
 use std::sync::Wait;
 use std::thread::{Threads, join};
+use tree_client::TreeClient;
 
-/// How many articles each thread adds, and how many tickets it may use: four for each of four calls about an article.
+/// How many articles each thread adds, and how many tickets it may use: sixteen for each of four calls about an article.
 const OWN: u32 = 100;
 
-const SHARE: u64 = 1600;
+const SHARE: u64 = 6400;
 
 /// What a thread works with: a seat at the index, with no call under way.
 type Keeper<'a> = TreeClient<'a, Eer, OpenGate>;
 
 /// The price of an article, as the index had it at some time of the call.
 fn price<R: Wait>(rt: &R, keeper: &mut Keeper, article: u64) -> Option<u64>
-    requires tickets { 1 ≤ keeper.old.seat.view.allowance.tickets / 4 }
+    requires tickets { 1 ≤ keeper.old.seat.view.allowance.tickets / 16 }
     ensures looked { Looked keeper.old.seat.view article result keeper.new.seat.view }
 {
     match keeper.call(rt, Op::Get { key: article }).reply {

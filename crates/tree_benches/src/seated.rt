@@ -2,10 +2,10 @@
 ghost use Rattle.std.specs.Prelude.{◌≡◌, ◌+◌, ◌<◌, ◌≤◌};
 ghost use Rattle.seat_table.specs.Seats.{IsQuietSeat};
 
-use citrus_tree::TreeClient;
 use prcu_marks::OpenGate;
 use seat_table::{CitrusTable, Seat, WaitPart};
 use std::marker::Model;
+use tree_client::TreeClient;
 
 /// A quiet seat at its table. Callers see for how many places it answers.
 #[derive(Drop)]

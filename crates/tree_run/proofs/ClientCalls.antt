@@ -3,7 +3,7 @@ use Rattle.std.proofs.Common.{◌≡◌, refl, sym, subst}
 use Rattle.prcu_model.specs.declared.operation.Op.{Op}
 use Rattle.prcu_model.specs.declared.operation.Told.{Told}
 use Rattle.citrus_tree.specs.Clients.{ClientAt}
-use Rattle.citrus_tree.specs.Clients as waiting
+use Rattle.tree_client.specs.Clients as waiting
 use Rattle.cookie_client.specs.Clients.{CookieClientAt}
 use Rattle.cookie_client.specs.Clients as holding
 use Rattle.tree_run.specs.declared.client.EitherClient.{EitherClient}

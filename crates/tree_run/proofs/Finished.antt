@@ -17,7 +17,8 @@ use Rattle.client_run.proofs.Crews.{crew_ready, crew_keeps, crew_has_told, entri
 use Rattle.seat_table.specs.Seats.{TableAt, SeatAt, KeepsOwn}
 use Rattle.seat_table.specs.Gains.{IsInformed, StaysIn}
 use Rattle.citrus_tree.specs.Clients.{ClientAt, room_of}
-use Rattle.citrus_tree.proofs.Clients.{sixteen_room, made_answers, chain_told}
+use Rattle.citrus_tree.proofs.Clients.{sixteen_room, chain_told}
+use Rattle.tree_client.proofs.Calls.{call_answers}
 use Rattle.cookie_client.proofs.Callers.{called_answers}
 use Rattle.tree_run.specs.Callers.{ScriptClientAt, left_of, tickets_last, CalledBy, HasCalled}
 use Rattle.tree_run.specs.declared.running.RunWith.{RunWith}
@@ -56,7 +57,7 @@ called_tells false before op told after call =
     record {
       shape = call.shape;
       table = call.table;
-      answers = made_answers before.tree.shape before.tree.seat.view after.tree.seat.view op told call.answer;
+      answers = call_answers before.tree op told after.tree call;
     }
 
 tells : (before : ScriptClientAt) (op : Op) (told : Told) (after : ScriptClientAt) → HasCalled before op told after

@@ -4,7 +4,7 @@ use Rattle.std.specs.Prelude.{◌≡◌, ℕ, ◌/◌, Bool, true, false, Option
 use Rattle.prcu_model.specs.declared.operation.Op.{Op}
 use Rattle.prcu_model.specs.declared.operation.Told.{Told}
 use Rattle.citrus_tree.specs.Clients.{ClientAt}
-use Rattle.citrus_tree.specs.Clients as waiting
+use Rattle.tree_client.specs.Clients as waiting
 use Rattle.grace_cookie.specs.Cookies.{CookieAt}
 use Rattle.cookie_client.specs.Clients.{CookieClientAt}
 use Rattle.cookie_client.specs.Clients as holding
@@ -27,8 +27,8 @@ newcomer cookies tree = record { cookies = cookies; tree = tree; cookie = None }
 
 -- for how many calls it has the tickets
 abbrev pub tickets_last : Bool → ℕ → ℕ
-tickets_last true tickets = tickets / 5
-tickets_last false tickets = tickets / 4
+tickets_last true tickets = tickets / 17
+tickets_last false tickets = tickets / 16
 
 abbrev pub left_of : ScriptClientAt → ℕ
 left_of client = tickets_last client.cookies client.tree.seat.view.allowance.tickets

@@ -18,10 +18,10 @@ use Rattle.seat_table.specs.Scans.{region}
 use Rattle.tree_run.specs.declared.running.RunWith.{RunWith}
 use Rattle.tree_run.specs.Callers.{ScriptClientAt, newcomer, HasCalled}
 
--- how many tickets so many operations may use: four for each, and one more for each where cookies are held
+-- how many tickets so many operations may use: sixteen for each, and one more for each where cookies are held
 abbrev pub tickets_for : Bool → ℕ → ℕ
-tickets_for true ops = 5 * ops
-tickets_for false ops = 4 * ops
+tickets_for true ops = 17 * ops
+tickets_for false ops = 16 * ops
 
 -- a seat that has done and seen nothing, with these places and tickets
 abbrev pub seat_for : TableAt → ℕ → ℕ → ℕ → SeatAt

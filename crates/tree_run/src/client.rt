@@ -4,20 +4,20 @@ ghost use Rattle.seat_table.specs.Seats.{IsQuietSeat, shape_of};
 ghost use Rattle.tree_run.specs.Callers.{newcomer, left_of, HasCalled};
 ghost use Rattle.tree_run.specs.Runs.{tickets_for};
 
-use citrus_tree::TreeClient;
 use cookie_client::CookieClient;
 use prcu_marks::{Client, Gate};
 use prcu_model::{Op, Told};
 use seat_table::{CitrusTable, Seat, WaitPart};
 use std::marker::Model;
 use std::sync::Wait;
+use tree_client::TreeClient;
 
-/// How many tickets so many operations may use: four for each, and one more for each where cookies are held.
+/// How many tickets so many operations may use: sixteen for each, and one more for each where cookies are held.
 pub fn tickets_for(cookies: bool, ops: u64) -> u64
     requires few { ops ≤ 1048576 }
     ensures { result ≡ tickets_for cookies ops }
 {
-    if cookies { 5 * ops } else { 4 * ops }
+    if cookies { 17 * ops } else { 16 * ops }
 }
 
 /// A client of the tree, which stands still for readers where many slots are retired, or one that holds cookies.
@@ -77,7 +77,7 @@ impl<'a, W: WaitPart, G: Gate> ScriptClient<'a, W, G> {
 impl<'a, W: WaitPart, G: Gate> Client for ScriptClient<'a, W, G> {
     ghost use Rattle.tree_run.specs.Callers.{left_of, HasCalled};
 
-    /// Four tickets are left for each, or five where cookies are held.
+    /// Sixteen tickets are left for each, or seventeen where cookies are held.
     ghost left = { left_of };
 
     /// The call of the client that it is.

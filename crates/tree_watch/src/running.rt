@@ -75,7 +75,7 @@ pub fn run_watched<R: Threads + Wait + Sync, W: WaitPart + Send + Sync, G: Gate 
     ensures looked { IfOk result (λ run. WereLookedAt (length scripts.now) run.seat.view.looks run.snapshots) }
     ensures marks { IfOk result (λ run. FitsScripts scripts.now run.seat.view.seen) }
     ensures table { IfOk result (λ run. (run.table.slots ≡ slots + 20) × (run.table.places ≡ length scripts.now + 1)
-        × (run.table.tickets ≡ 4 * op_count scripts.now)) }
+        × (run.table.tickets ≡ 16 * op_count scripts.now)) }
     ensures room { IfOk result (λ run. run.table.room ≡ 16) }
     ensures seat { IfOk result (λ run. run.seat.table ≡ run.table) }
     ensures quiet { IfOk result (λ run. IsQuietSeat run.seat) }

@@ -28,7 +28,7 @@ fn get_beside<R: Wait>(rt: &R, table: &CitrusTable<Eer>, seat: &mut Seat<Eer>) -
 
 #[test]
 fn slots_go_back_once_the_cookie_is_over(rt: HostRuntime) -> Result<(), Fail> {
-    let (table, seat) = CitrusTable::<Eer>::new(rt.alloc(), 1, 2, 16)?;
+    let (table, seat) = CitrusTable::<Eer>::new(rt.alloc(), 1, 2, 64)?;
     let (writer, mut reader) = seat.split(&table, 1, 4);
     let calls = [call!(put 5 50 new 1), call!(del 5 gone 2)];
     let mut writer = run(&rt, &table, writer, "a slot is retired", &calls);

@@ -36,7 +36,7 @@ fn remove_each<R: Abort + Wait>(
 
 #[test]
 fn a_remove_tells_the_value_that_the_key_had(rt: HostRuntime) -> Result<(), Fail> {
-    let (table, seat) = CitrusTable::<Eer>::new(rt.alloc(), 8, 1, 64)?;
+    let (table, seat) = CitrusTable::<Eer>::new(rt.alloc(), 8, 1, 256)?;
     let calls = [
         call!(put 5 50 new 1),
         call!(put 3 30 new 2),

@@ -40,7 +40,7 @@ fn run_each<R: Abort + Wait, W: WaitPart>(
             ..
         } = *script;
         assert!(rt; 1 <= slots && slots <= 8);
-        let (table, seat) = CitrusTable::<W>::new(alloc, slots, 1, 64)?;
+        let (table, seat) = CitrusTable::<W>::new(alloc, slots, 1, 256)?;
         let seat = run(rt, &table, seat, name, calls);
         assert_same(rt, left(&seat), script.left, name);
     }
@@ -226,7 +226,7 @@ fn put_and_delete<R: Abort + Wait>(
 ) -> Result<Left, Fail>
     requires room { (16 ≤ room) × (room ≤ 256) }
 {
-    let (table, mut seat) = CitrusTable::<Eer>::with_room(alloc, 37, 1, room, 256)?;
+    let (table, mut seat) = CitrusTable::<Eer>::with_room(alloc, 37, 1, room, 1024)?;
     for time in 0..times {
         let put = 2 * u64::from(time) + 1;
         let del = put + 1;

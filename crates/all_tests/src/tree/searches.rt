@@ -7,7 +7,7 @@ use std::test::Fail;
 
 #[test]
 fn a_search_comes_to_a_key_below_another(rt: HostRuntime) -> Result<(), Fail> {
-    let (table, seat) = CitrusTable::<Eer>::new(rt.alloc(), 4, 1, 64)?;
+    let (table, seat) = CitrusTable::<Eer>::new(rt.alloc(), 4, 1, 256)?;
     let calls = [call!(put 5 50 new 1), call!(put 2 20 new 2)];
     let mut seat = run(&rt, &table, seat, "two keys", &calls);
     let mut search = Search::start(&table, &mut seat, 2);
@@ -26,7 +26,7 @@ fn a_search_comes_to_a_key_below_another(rt: HostRuntime) -> Result<(), Fail> {
 
 #[test]
 fn a_search_comes_to_the_side_where_a_key_belongs(rt: HostRuntime) -> Result<(), Fail> {
-    let (table, seat) = CitrusTable::<Eer>::new(rt.alloc(), 4, 1, 64)?;
+    let (table, seat) = CitrusTable::<Eer>::new(rt.alloc(), 4, 1, 256)?;
     let calls = [
         call!(put 5 50 new 1),
         call!(put 2 20 new 2),

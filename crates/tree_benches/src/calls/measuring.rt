@@ -9,7 +9,6 @@ use crate::crew::Crew;
 use crate::jobs::{Crewed, Worked, time};
 use crate::seated::Seated;
 use crate::words::{Ask, write_line};
-use citrus_tree::TreeClient;
 use d_wait::Domain;
 use deer_wait::Deer;
 use eer_wait::Eer;
@@ -21,6 +20,7 @@ use std::io;
 use std::rt::Runtime;
 use std::sync::{Mutex, Wait};
 use std::thread::Threads;
+use tree_client::TreeClient;
 
 /// So many rounds at most.
 pub const MOST_ROUNDS: u32 = 100_000_000;
@@ -91,7 +91,7 @@ fn time_tree<R: Threads + Wait + Sync + Runtime, W: WaitPart + Sync>(
     let places = crew.count();
     let rounds = rounds.min(MOST_ROUNDS);
     let keys = row.keys.min(200_000);
-    let tickets = 4 * u64::from(places) * (u64::from(rounds) + u64::from(keys));
+    let tickets = 16 * u64::from(places) * (u64::from(rounds) + u64::from(keys));
     let Ok((table, seat)) = CitrusTable::<W>::new(alloc, keys + 64, places, tickets) else {
         return Err(io::Error::from(io::ErrorKind::OutOfMemory));
     };

@@ -4,7 +4,6 @@ use crate::jobs::{Job, side_by_side};
 use crate::lists::listing::{Listing, Shape, Tally, Updating, fill};
 use crate::seated::Seated;
 use crate::words::{Ask, tenths_of};
-use citrus_tree::TreeClient;
 use eer_wait::Eer;
 use exact_list::Page;
 use prcu_marks::OpenGate;
@@ -14,6 +13,7 @@ use std::io;
 use std::rt::Runtime;
 use std::sync::{Mutex, Wait};
 use std::thread::Threads;
+use tree_client::TreeClient;
 
 /// So many rounds at most.
 pub const MOST_ROUNDS: u32 = 10_000_000;

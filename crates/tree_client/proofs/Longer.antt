@@ -1,4 +1,4 @@
--- Marks that a client leaves after an answer or before a call: the answer stays one.
+-- Marks that a client leaves after an answer, or before a call: the answer stays one.
 use Rattle.std.proofs.Common.{◌≡◌, ℕ, ◌≤◌, ◌-◌, Bool, true, false, MatchBool, List, [], ◌∷◌, ◌++◌, length, Some, inl, refl, sym, ap, subst, ◌∙◌, arith, append_assoc, append-nil, length-append}
 use Rattle.std.specs.List.{AllByRecursion, slice_get}
 use Rattle.std.proofs.lemmas.Option.{slice_get_within}
@@ -18,6 +18,8 @@ use Rattle.prcu_marks.specs.Marks.{updates_of}
 use Rattle.prcu_marks.proofs.Callers.{map_at-longer, waits_longer, slice_get-longer}
 use Rattle.prcu_marks.proofs.MarkLists.{updates_of-append}
 use Rattle.prcu_marks.proofs.OwnMarks.{entered_for-append}
+use Rattle.citrus_tree.specs.Gone.{IsOfTry}
+use Rattle.citrus_tree.proofs.Clients.{try_left, try_waits, no_updates}
 
 -- ---- more marks after an answer
 
@@ -60,7 +62,7 @@ module _ (explains : Dictionary → Op → Reply → Type 0) (before mid after :
             ∙ map_at-longer (updates_of mid.seen) (updates_of since.0) was.front was.until)) was.explained;
       }
 
-  -- further marks of the place that are of no section and of no update
+  -- further marks of the place that are of no update, with sections for the key alone
   pub answered_longer : after.place ≡ mid.place → after.own ≡ mid.own ++ more → AllByRecursion (IsLeftBy before.place (key_of op)) more
       → AllByRecursion (WaitsFor (updates_of after.seen)) more → HasSeenItsOwn after
       → HasAnswered explains before op told after
@@ -114,7 +116,7 @@ module _ (explains : Dictionary → Op → Reply → Type 0) (before mid after :
         explained = was.explained;
       }
 
-  -- earlier marks of the place that are of no section and of no update
+  -- earlier marks of the place of this kind
   pub answered_earlier : mid.own ≡ before.own ++ first → AllByRecursion (IsLeftBy before.place (key_of op)) first
       → AllByRecursion (WaitsFor (updates_of after.seen)) first → HasAnswered explains before op told after
   answered_earlier own keyed waits = record {
@@ -135,7 +137,7 @@ module _ (explains : Dictionary → Op → Reply → Type 0) (before mid after :
 -- ---- marks that may follow an answer, or come before a call
 
 module _ (p key : ℕ) (us : List Update) where
-  -- at the place, of no section and of no update
+  -- at the place: of no update, and with sections for the key alone
   pub record IsPlain (ms : List Mark) : Type 0 where
     pub none : updates_of ms ≡ []
     pub keyed : AllByRecursion (IsLeftBy p key) ms
@@ -155,4 +157,11 @@ module _ (p key : ℕ) (us : List Update) where
     none = updates_of-append xs ys ∙ (λ i. a.none i ++ b.none i);
     keyed = all_append (IsLeftBy p key) xs ys a.keyed b.keyed;
     waits = all_append (WaitsFor us) xs ys a.waits b.waits;
+  }
+
+  pub tries_plain : (ms : List Mark) → AllByRecursion (IsOfTry p key) ms → IsPlain ms
+  tries_plain ms each = record {
+    none = no_updates p key ms each;
+    keyed = all_map (IsOfTry p key) (IsLeftBy p key) ms (try_left p key) each;
+    waits = all_map (IsOfTry p key) (WaitsFor us) ms (try_waits us p key) each;
   }
