@@ -43,7 +43,7 @@ static inline citrus_handle citrus_closed_handle(void) {
     return closed;
 }
 
-#define CITRUS_MAX_SLOTS 2097152u
+#define CITRUS_MAX_PAIRS 2092868u
 #define CITRUS_MAX_HANDLES 64u
 #define CITRUS_MAX_ROOM 1048576u
 /* 2^57: what the first handle of an index has. At a million updates a second, 4 tickets each, they last 1,100 years. */
@@ -60,7 +60,7 @@ enum {
     CITRUS_DONE = 0,
     CITRUS_UNCHANGED = 1,     /* insert: the key is there already; get, replace, remove: it is absent; first: there is no such pair;
                                  reopen: no closed handle left a place */
-    CITRUS_FULL = 2,          /* the key is absent, and there is no free slot for it */
+    CITRUS_FULL = 2,          /* the key is absent, and there is no free slot for it: as many pairs as were asked for are there, or more */
     CITRUS_MORE = 3,          /* list: there are more pairs than room */
     CITRUS_MOVED = 4,         /* others updated the index in each of 1,000 tries; nothing was changed. A later call may get through */
     CITRUS_NEW = 5,           /* upsert: the pair was added */
@@ -74,14 +74,14 @@ enum {
 typedef struct { uint64_t key, value; } citrus_pair;
 
 /* Opens a new, empty index. At DONE, what the handle was open on before is closed.
- *   slots    1 to CITRUS_MAX_SLOTS: room for so many pairs, less up to 20 for each handle beside the first, which a thread may have taken
- *            out of the index and not yet given back
+ *   pairs    1 to CITRUS_MAX_PAIRS: so many always fit. Up to 68 more fit for each handle beside the first: as many slots are there for it,
+ *            which a thread may have taken out of the index and not yet given back
  *   handles  1 to CITRUS_MAX_HANDLES: how many there can be at once. Each has a place, and a closed one leaves it to a reopen
  *   waiter   CITRUS_EER, CITRUS_DOMAIN or CITRUS_DEER
  * It takes all memory of the index, and twice as much until it comes back; only a list, a first, a share or a reopen takes more later. Its
- * time grows with the slots.
+ * time grows with the pairs.
  * DONE; BAD_ARGUMENT or NO_MEMORY, and then the handle is as it was. */
-int32_t citrus_open(citrus_handle *handle, uint32_t slots, uint32_t handles, uint32_t waiter);
+int32_t citrus_open(citrus_handle *handle, uint32_t pairs, uint32_t handles, uint32_t waiter);
 
 /* Makes `other` a second handle of the index. So many of the handles that are left to the first one (1 or more; `other` itself is one of
  * them) and so many of its tickets (0 or more) go over to it, and can be shared from it in turn. What `other` was open on before is closed.

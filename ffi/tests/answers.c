@@ -2,9 +2,9 @@
 #include "cases.h"
 #include <string.h>
 
-static citrus_handle open_index(uint32_t slots, uint32_t handles, uint32_t waiter) {
+static citrus_handle open_index(uint32_t pairs, uint32_t handles, uint32_t waiter) {
     citrus_handle index = CITRUS_CLOSED_HANDLE;
-    WANT(citrus_open(&index, slots, handles, waiter), CITRUS_DONE);
+    WANT(citrus_open(&index, pairs, handles, waiter), CITRUS_DONE);
     return index;
 }
 

@@ -59,10 +59,10 @@ static void refusals() {
     WANT(is_refused(citrus::fault::bad_argument, [] { citrus::handle(0, 1); }), true);
     WANT(is_refused(citrus::fault::bad_argument, [] { citrus::handle(1, 65); }), true);
     WANT(is_refused(citrus::fault::bad_argument, [] { citrus::handle(1, 1, citrus::waiter{3}); }), true);
-    citrus::handle index(1, 2);
-    index.insert(1, 10);
-    WANT(is_refused(citrus::fault::full, [&] { index.insert(2, 20); }), true);
-    WANT(is_refused(citrus::fault::full, [&] { index.upsert(2, 20); }), true);
+    citrus::handle full(1, 1), index(1, 2);
+    full.insert(1, 10);
+    WANT(is_refused(citrus::fault::full, [&] { full.insert(2, 20); }), true);
+    WANT(is_refused(citrus::fault::full, [&] { full.upsert(2, 20); }), true);
     citrus::handle poor = index.share(1, 3);
     WANT(is_refused(citrus::fault::spent, [&] { poor.get(1); }), true);
     WANT(is_refused(citrus::fault::bad_argument, [&] { index.share(); }), true);

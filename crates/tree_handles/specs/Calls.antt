@@ -9,7 +9,7 @@ use Rattle.prcu_model.specs.declared.operation.Told.{Told}
 use Rattle.seat_table.specs.Rounds.{HasMade}
 use Rattle.citrus_tree.specs.Clients.{HasCalled}
 use Rattle.citrus_tree.specs.Replies.{TellsValue}
-use Rattle.tree_handles.specs.Callers.{CallerAt, client_of, AreOfOneIndex, MayGoOn}
+use Rattle.tree_handles.specs.Callers.{CallerAt, client_of, AreOfOneIndex, IsFilled, MayGoOn}
 use Rattle.tree_handles.specs.declared.status.Status.{Status}
 use Rattle.tree_handles.specs.declared.status.Status.TheVariants.{Done, Unchanged, Full, Moved, New, Spent, Lost}
 
@@ -54,10 +54,11 @@ Gets c key was Done value d = IsAnswered c (Get key) (reply.Val value) d
 Gets c key was Unchanged value d = IsAnswered c (Get key) reply.Absent d × (value ≡ was)
 Gets c key was status value d = CausedBy status c d × (value ≡ was)
 
+-- What an insert answers. It is Full only where as many pairs are there as always fit.
 abbrev pub Inserts : CallerAt → ℕ → ℕ → Status → CallerAt → Type 0
 Inserts c key value Done d = IsAnswered c (Put key value) reply.New d
 Inserts c key value Unchanged d = IsAnswered c (Put key value) reply.Old d
-Inserts c key value Full d = IsAnswered c (Put key value) reply.Full d
+Inserts c key value Full d = IsAnswered c (Put key value) reply.Full d × IsFilled d
 Inserts c key value status d = CausedBy status c d
 
 abbrev pub Replaces : CallerAt → ℕ → ℕ → ℕ → Status → ℕ → CallerAt → Type 0
@@ -92,7 +93,8 @@ MissesOnceMore c key value d = (a : CallerAt) × MissesSome c key value a × IsA
 abbrev pub Upserts : CallerAt → ℕ → ℕ → ℕ → Status → ℕ → CallerAt → Type 0
 Upserts c key value was Done old d = (a : CallerAt) × MissesSome c key value a × IsAnswered a (Set key value) (reply.Was old) d
 Upserts c key value was New old d = (a : CallerAt) × MissesOnceMore c key value a × IsAnswered a (Put key value) reply.New d × (old ≡ was)
-Upserts c key value was Full old d = (a : CallerAt) × MissesOnceMore c key value a × IsAnswered a (Put key value) reply.Full d × (old ≡ was)
+Upserts c key value was Full old d = (a : CallerAt) × MissesOnceMore c key value a × IsAnswered a (Put key value) reply.Full d × IsFilled d
+    × (old ≡ was)
 Upserts c key value was Moved old d = (rounds : ℕ) × (rounds ≡ 1000) × Misses c key value rounds d × (old ≡ was)
 Upserts c key value was status old d = (a : CallerAt) × (MissesSome c key value a ⊎ MissesOnceMore c key value a) × CausedBy status a d
     × (old ≡ was)

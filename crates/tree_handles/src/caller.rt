@@ -12,7 +12,6 @@ use crate::spinning::{GaveUp, Spinning};
 use crate::status::Status;
 use citrus_tree::patient::{call, remove};
 use core::mem::replace_with;
-use core_state::shape::ROOM;
 use exact_list::patient::list;
 use exact_list::{Listed, Page};
 use key_interval::Keys;
@@ -28,6 +27,16 @@ const TICKETS: u64 = 4;
 
 /// The tickets of a new index, all that a table can have.
 const ALL_TICKETS: u64 = 144_115_188_075_855_872;
+
+/// The retired slots that a place of an index may hold back. With many a handle that removes waits for readers rarely; with few less memory
+/// lies idle.
+pub(crate) const LIBRARY_ROOM: u32 = 64;
+
+/// The slots that a place may keep from the others beside its retired ones.
+const IN_HAND: u32 = 4;
+
+/// The slots that each handle beside the first needs.
+pub(crate) const KEPT_BACK: u32 = LIBRARY_ROOM + IN_HAND;
 
 /// How many times a list is tried.
 pub(crate) const TRIES: u32 = 1_000;
@@ -85,14 +94,16 @@ fn divide<W: WaitPart>(seat: Seat<W>, gift: Gift<W>) -> (Seat<W>, Seat<W>)
 }
 
 impl<W: WaitPart> Caller<W> {
-    /// The first caller on a new table with so many slots, for so many handles, with all tickets.
-    pub(crate) fn new(alloc: Global, slots: u32, handles: u32) -> Result<Caller<W>, NoMemory>
+    /// The first caller on a new table in which so many pairs always fit, for so many handles, with all tickets.
+    pub(crate) fn new(alloc: Global, pairs: u32, handles: u32) -> Result<Caller<W>, NoMemory>
         requires way { W.WAY ≤ 2 }
-        requires slots { (1 ≤ slots) × (slots ≤ 2097152) }
+        requires pairs { (1 ≤ pairs) × (pairs ≤ 2092868) }
         requires handles { (1 ≤ handles) × (handles ≤ 64) }
-        ensures { IfOk result (λ caller. IsFresh W.WAY slots handles caller) }
+        ensures { IfOk result (λ caller. IsFresh W.WAY pairs handles caller) }
     {
-        let (table, seat) = CitrusTable::<W>::with_room(alloc, slots, handles, ROOM, ALL_TICKETS)?;
+        let slots = pairs + KEPT_BACK * (handles - 1);
+        let (table, seat) =
+            CitrusTable::<W>::with_room(alloc, slots, handles, LIBRARY_ROOM, ALL_TICKETS)?;
         match Arc::new(alloc, Shared::new(alloc, table, handles)?) {
             Ok(shared) => Ok(Caller {
                 shared,
