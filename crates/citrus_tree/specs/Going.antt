@@ -25,6 +25,7 @@ use Rattle.core_points.specs.declared.stage.Aim.TheVariants.{Leaf}
 use Rattle.seat_table.specs.Gains.{IsSlot}
 use Rattle.tree_points.specs.At.{IsAt}
 use Rattle.tree_points.specs.Progress.{HasGone}
+use Rattle.citrus_tree.specs.declared.insert.Reached.{Reached}
 use Rattle.citrus_tree.specs.declared.replace.Holder.{Holder}
 use Rattle.citrus_tree.specs.declared.replace.Replaced.{Replaced}
 use Rattle.citrus_tree.specs.Gone.{HasBegunFirst, IsOfTry, NeededRoom, waits_in}
@@ -68,9 +69,9 @@ pub record Closed (v w : View) : Type 0 where
   pub rest : w ≡ record v { commit = None; latest = w.latest; trail = w.trail }
 
 -- what a put's search came to: the empty side at which the key belongs, or that the key is there
-abbrev pub Searched : Shape → View → ℕ → Option Spot → View → Type 0
+abbrev pub Searched : Shape → View → ℕ → Option Reached → View → Type 0
 Searched k v key None w = (old : ℕ) × Looked v key (Some old) w
-Searched k v key (Some spot) w = (looked : Looked v key None w) × Records looked.reading spot × IsSlot k spot.slot
+Searched k v key (Some reached) w = (looked : Looked v key None w) × Records looked.reading reached.spot × IsSlot k reached.spot.slot
 
 -- A set's search found the slot that has the key, and recorded its generation.
 pub record FoundHolder (k : Shape) (v : View) (key : ℕ) (holder : Holder) (w : View) : Type 0 where

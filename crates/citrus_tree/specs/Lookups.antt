@@ -52,7 +52,7 @@ pub record IsSearching (v : View) (key : ℕ) (state : SearchState) (w : View) :
 -- where a search stands that came to this end
 abbrev pub state_of : Descent → SearchState
 state_of (descent.Found s p b) = Found s p b None
-state_of (descent.Ended s b) = Missed s b
+state_of (descent.Ended s b depth) = Missed s b
 
 -- A section with the key was entered after these marks and left after those. The dictionary gave the answer at a front in between.
 -- No step was made but those that enter, load in the section and leave, and nothing else that the view knows changed.

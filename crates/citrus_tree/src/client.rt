@@ -7,6 +7,7 @@ ghost use Rattle.citrus_tree.specs.Beginnings.{Begins};
 ghost use Rattle.citrus_tree.specs.Clients.{IsTold};
 ghost use Rattle.citrus_tree.specs.Gone.{KeepsSlots, KeepsWait};
 
+use crate::answer::Called;
 use crate::patient;
 use patience::Steadfast;
 use prcu_marks::{Client, Gate};
@@ -18,19 +19,20 @@ use std::sync::Wait;
 /// How many tickets a call may use.
 const TICKETS: u64 = 4;
 
-/// Makes the operation by its own call: `put`, `get`, `del` or `set`. There it is said what it waits for.
+/// Makes the operation by its own call: `put`, `get`, `del` or `set`. There it is said what it waits for. The depth is `put`'s, and 0
+/// of the others.
 pub fn call<R: Wait, W: WaitPart, G: Gate>(
     rt: &R,
     table: &CitrusTable<W>,
     seat: &mut Seat<W>,
     gate: &G,
     op: Op,
-) -> Told
+) -> Called
     requires table { seat.old.table ≡ table.now }
     requires quiet { IsQuietSeat seat.old }
     requires tickets { 4 ≤ seat.old.view.allowance.tickets }
     ensures table { seat.new.table ≡ seat.old.table }
-    ensures told { IsTold (shape_of W.WAY table.now) seat.old.view op result seat.new.view }
+    ensures told { IsTold (shape_of W.WAY table.now) seat.old.view op result.told seat.new.view }
     ensures begins { Begins (shape_of W.WAY table.now) seat.old.view op seat.new.view }
     ensures wait { KeepsWait seat.old.view seat.new.view }
     ensures slots { KeepsSlots seat.old seat.new }
@@ -40,7 +42,7 @@ pub fn call<R: Wait, W: WaitPart, G: Gate>(
     ensures informed { IsInformed seat.new.view }
 {
     match patient::call(&Steadfast::new(rt), table, seat, gate, op) {
-        Ok(told) => told,
+        Ok(called) => called,
         Err(never) => match never {},
     }
 }
@@ -97,7 +99,7 @@ impl<'a, W: WaitPart, G: Gate> Client for TreeClient<'a, W, G> {
     ghost made = { HasCalled };
 
     fn call<R: Wait>(&mut self, rt: &R, op: Op) -> Told {
-        call(rt, self.table, &mut self.seat, self.gate, op)
+        call(rt, self.table, &mut self.seat, self.gate, op).told
     }
 
     fn remaining(&self) -> u64 {

@@ -30,8 +30,8 @@ pub(crate) enum Step {
 pub(crate) enum Descent {
     /// The slot has the key, and hangs on that side of its parent.
     Found { slot: u32, parent: u32, side: Side },
-    /// The key belongs at an empty side.
-    Ended { slot: u32, side: Side },
+    /// The key belongs at an empty side. From the root the search came down over so many slots.
+    Ended { slot: u32, side: Side, depth: u64 },
 }
 
 /// Loads the link of a side and, where it leads to a slot, that slot's key.
@@ -101,7 +101,13 @@ pub(crate) fn descend<P: Patience, W: WaitPart, G: Gate>(
                     side,
                 });
             }
-            Step::Ended => return Ok(Descent::Ended { slot: at, side }),
+            Step::Ended => {
+                return Ok(Descent::Ended {
+                    slot: at,
+                    side,
+                    depth: round,
+                });
+            }
         }
     }
     Err(patience.tired())

@@ -16,7 +16,7 @@ ghost use Rattle.citrus_tree.specs.Gone.{KeepsSlots, KeepsWait};
 ghost use Rattle.citrus_tree.specs.Putting.{old_stage, taken_stage, filled_stage, held_stage, linked_stage, MakesRoom, Links};
 ghost use Rattle.citrus_tree.specs.Replies.{IsFullNow, Puts};
 
-use crate::answer::answered;
+use crate::answer::{Called, answered};
 use crate::commit::{close_front, open_front};
 use crate::descent::{Descent, descend};
 use crate::lives::is_life;
@@ -27,12 +27,19 @@ use node_slots::patient::{reclaim, take};
 use node_slots::{Taken, put_back};
 use patience::Patience;
 use prcu_marks::{Gate, Point, Side};
-use prcu_model::{Reply, Told};
+use prcu_model::Reply;
 use seat_table::{CitrusTable, Part, Seat, WaitPart, steps};
+
+/// An empty side that a search reached, and over how many slots it came there from the root.
+#[derive(Clone, Copy)]
+pub(crate) struct Reached {
+    spot: Spot,
+    depth: u64,
+}
 
 /// Adds the pair, where the key is absent: `New` with the update's position. `Old` where the key is present, as at `get`, and `Full`
 /// where it is absent, no slot is free, and the caller has none to give back. It waits for the holder of the lock of the node above, for
-/// other updates, and, where no slot is free, for all open sections.
+/// other updates, and, where no slot is free, for all open sections. The depth is that of its last search, and 0 where no pair was added.
 pub fn put<P: Patience, W: WaitPart, G: Gate>(
     patience: &P,
     table: &CitrusTable<W>,
@@ -40,12 +47,12 @@ pub fn put<P: Patience, W: WaitPart, G: Gate>(
     gate: &G,
     key: u64,
     value: u64,
-) -> Result<Told, P::Tired>
+) -> Result<Called, P::Tired>
     requires table { seat.old.table ≡ table.now }
     requires quiet { IsQuietSeat seat.old }
     requires tickets { 4 ≤ seat.old.view.allowance.tickets }
     ensures table { seat.new.table ≡ seat.old.table }
-    ensures puts { IfOk result (λ answer. Puts (shape_of W.WAY table.now) seat.old.view key value answer seat.new.view) }
+    ensures puts { IfOk result (λ answer. Puts (shape_of W.WAY table.now) seat.old.view key value answer.told seat.new.view) }
     ensures begins { IfOk result (λ _. BeginsByLookup seat.old.view key seat.new.view) }
     ensures quiet { IfOk result (λ _. IsQuietSeat seat.new) }
     ensures wait { IfOk result (λ _. KeepsWait seat.old.view seat.new.view) }
@@ -58,31 +65,40 @@ pub fn put<P: Patience, W: WaitPart, G: Gate>(
     // Without end, for all that a thread lives to see; the longer others are in the way, the longer the pauses.
     let mut pauses = patience.pauses();
     for round in 0..u64::MAX {
-        let Some(spot) = find_spot(patience, table, seat, gate, key)? else {
+        let Some(Reached { spot, depth }) = find_spot(patience, table, seat, gate, key)? else {
             give_up_leaf(table, seat);
-            return Ok(answered(gate, seat, Reply::Old, 0));
+            return Ok(Called {
+                told: answered(gate, seat, Reply::Old, 0),
+                depth: 0,
+            });
         };
         let Some(leaf) = leaf_in_hand(patience, table, seat, key, value)? else {
-            return Ok(answered(gate, seat, Reply::Full, 0));
+            return Ok(Called {
+                told: answered(gate, seat, Reply::Full, 0),
+                depth: 0,
+            });
         };
         // A gate is the caller's: a test holds a thread back here, and any other caller lets it through.
         gate.pass(Point::BeforeLock, seat.place());
         if let Some(number) = link_leaf(patience, table, seat, spot, leaf, key, value)? {
-            return Ok(answered(gate, seat, Reply::New, number));
+            return Ok(Called {
+                told: answered(gate, seat, Reply::New, number),
+                depth,
+            });
         }
         patience.pause(&mut pauses)?;
     }
     Err(patience.tired())
 }
 
-// The empty side at which the key belongs, or none where the key is present.
+// The empty side at which the key belongs, with the way there, or none where the key is present.
 fn find_spot<P: Patience, W: WaitPart, G: Gate>(
     patience: &P,
     table: &CitrusTable<W>,
     seat: &mut Seat<W>,
     gate: &G,
     key: u64,
-) -> Result<Option<Spot>, P::Tired>
+) -> Result<Option<Reached>, P::Tired>
     requires table { seat.old.table ≡ table.now }
     requires outside { seat.old.view.section ≡ None }
     requires unlocked { seat.old.view.locks ≡ [] }
@@ -97,7 +113,12 @@ fn find_spot<P: Patience, W: WaitPart, G: Gate>(
             W::leave(table, seat);
             Ok(None)
         }
-        Descent::Ended { slot, side } => Ok(Some(leave_with_spot(table, seat, slot, side))),
+        Descent::Ended { slot, side, depth } => {
+            Ok(Some(Reached {
+                spot: leave_with_spot(table, seat, slot, side),
+                depth,
+            }))
+        }
     }
 }
 

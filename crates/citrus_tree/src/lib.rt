@@ -16,6 +16,7 @@ mod replace;
 mod search;
 mod steadfast;
 
+pub use answer::Called;
 pub use client::{TreeClient, call};
 pub use core_points::stage::Spot;
 pub use delete::Removed;

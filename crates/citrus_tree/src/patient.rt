@@ -8,28 +8,30 @@ ghost use Rattle.citrus_tree.specs.Beginnings.{Begins};
 ghost use Rattle.citrus_tree.specs.Clients.{IsTold};
 ghost use Rattle.citrus_tree.specs.Gone.{KeepsSlots, KeepsWait};
 
+use crate::answer::Called;
 pub use crate::delete::{Removed, del, remove};
 pub use crate::insert::put;
 pub use crate::lookup::get;
 pub use crate::replace::set;
 use patience::Patience;
 use prcu_marks::Gate;
-use prcu_model::{Op, Told};
+use prcu_model::Op;
 use seat_table::{CitrusTable, Seat, WaitPart};
 
-/// Makes the operation by its own call: `put`, `get`, `del` or `set`. There it is said what it waits for.
+/// Makes the operation by its own call: `put`, `get`, `del` or `set`. There it is said what it waits for. The depth is `put`'s, and 0
+/// of the others.
 pub fn call<P: Patience, W: WaitPart, G: Gate>(
     patience: &P,
     table: &CitrusTable<W>,
     seat: &mut Seat<W>,
     gate: &G,
     op: Op,
-) -> Result<Told, P::Tired>
+) -> Result<Called, P::Tired>
     requires table { seat.old.table ≡ table.now }
     requires quiet { IsQuietSeat seat.old }
     requires tickets { 4 ≤ seat.old.view.allowance.tickets }
     ensures table { seat.new.table ≡ seat.old.table }
-    ensures told { IfOk result (λ answer. IsTold (shape_of W.WAY table.now) seat.old.view op answer seat.new.view) }
+    ensures told { IfOk result (λ answer. IsTold (shape_of W.WAY table.now) seat.old.view op answer.told seat.new.view) }
     ensures begins { IfOk result (λ _. Begins (shape_of W.WAY table.now) seat.old.view op seat.new.view) }
     ensures wait { IfOk result (λ _. KeepsWait seat.old.view seat.new.view) }
     ensures slots { IfOk result (λ _. KeepsSlots seat.old seat.new) }
@@ -41,8 +43,23 @@ pub fn call<P: Patience, W: WaitPart, G: Gate>(
 {
     match op {
         Op::Put { key, value } => put(patience, table, seat, gate, key, value),
-        Op::Get { key } => get(patience, table, seat, gate, key),
-        Op::Del { key } => del(patience, table, seat, gate, key),
-        Op::Set { key, value } => set(patience, table, seat, gate, key, value),
+        Op::Get { key } => {
+            Ok(Called {
+                told: get(patience, table, seat, gate, key)?,
+                depth: 0,
+            })
+        }
+        Op::Del { key } => {
+            Ok(Called {
+                told: del(patience, table, seat, gate, key)?,
+                depth: 0,
+            })
+        }
+        Op::Set { key, value } => {
+            Ok(Called {
+                told: set(patience, table, seat, gate, key, value)?,
+                depth: 0,
+            })
+        }
     }
 }

@@ -64,7 +64,7 @@ pub fn put<R: Wait, W: WaitPart, G: Gate>(
     ensures informed { IsInformed seat.new.view }
 {
     match patient::put(&Steadfast::new(rt), table, seat, gate, key, value) {
-        Ok(told) => told,
+        Ok(called) => called.told,
         Err(never) => match never {},
     }
 }

@@ -83,7 +83,7 @@ impl<'a, W: WaitPart, G: Gate> Client for CookieClient<'a, W, G> {
 
     fn call<R: Wait>(&mut self, rt: &R, op: Op) -> Told {
         self.cookie = make_room(rt, self.table, &mut self.seat, self.cookie.take(), op);
-        let told = call(rt, self.table, &mut self.seat, self.gate, op);
+        let told = call(rt, self.table, &mut self.seat, self.gate, op).told;
         self.cookie = settle(self.table, &mut self.seat, self.cookie.take());
         told
     }

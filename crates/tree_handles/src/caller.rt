@@ -160,7 +160,7 @@ impl<W: WaitPart> Caller<W> {
         }
         let table = self.shared.table();
         match call(&Spinning, table, &mut self.seat, &OpenGate, op) {
-            Ok(told) => Ok(told),
+            Ok(called) => Ok(called.told),
             Err(GaveUp) => {
                 self.lost = true;
                 Err(Status::Lost)

@@ -35,6 +35,7 @@ use Rattle.citrus_tree.proofs.Beginning.{MayHaveBegun, begins_later, begins_look
 use Rattle.tree_points.proofs.Holding.{slot_in_hand}
 use Rattle.tree_points.proofs.SameCall.{moves_on}
 use Rattle.citrus_tree.specs.Deletes.{Comes, StandsAt}
+use Rattle.citrus_tree.specs.declared.insert.Reached.{Reached}
 use Rattle.citrus_tree.specs.Going.{Goes, MayBegin, Searched, Since, Unwaited, Waited, leaf_stage}
 use Rattle.citrus_tree.specs.Gone.{AreTries, HasBegunNone, IsOfTry, KeepsWait, NeededRoom, waits_in}
 use Rattle.citrus_tree.specs.Hops.{Records}
@@ -259,9 +260,9 @@ module _ {k : Shape} {key value : ℕ} {v : View} where
     unlocked = (t.ready 0 few).unlocked
 
     -- the key is there
-    module _ {answer : Option Spot} (some_place : 1 ≤ k.places) (x : View) (is : answer ≡ None) (searched : Searched k w key answer x) where
+    module _ {answer : Option Reached} (some_place : 1 ≤ k.places) (x : View) (is : answer ≡ None) (searched : Searched k w key answer x) where
       pub old_found : Searched k w key None x
-      old_found = subst (λ (r : Option Spot). Searched k w key r x) is searched
+      old_found = subst (λ (r : Option Reached). Searched k w key r x) is searched
 
       old_ready : (kept : ℕ) → kept + 4 ≤ v.allowance.tickets → IsAt k (Put key value) kept (old_stage x.hands.hand) x
       old_ready kept enough = old_at ((t.ready kept enough).at (record { works = old_found.1.sees.works; some_place = some_place }))
@@ -305,10 +306,13 @@ module _ {k : Shape} {key value : ℕ} {v : View} where
               (old_ready (v.allowance.tickets - 4) (omega arith))) in omega arith)
 
     -- it isn't
-    module _ {answer : Option Spot} {spot : Spot} (some_place : 1 ≤ k.places) (x : View) (is : answer ≡ Some spot)
+    module _ {answer : Option Reached} {reached : Reached} (some_place : 1 ≤ k.places) (x : View) (is : answer ≡ Some reached)
         (searched : Searched k w key answer x) where
-      pub spot_found : Searched k w key (Some spot) x
-      spot_found = subst (λ (r : Option Spot). Searched k w key r x) is searched
+      abbrev spot : Spot
+      spot = reached.spot
+
+      pub spot_found : Searched k w key (Some reached) x
+      spot_found = subst (λ (r : Option Reached). Searched k w key r x) is searched
 
       spot_ready : (kept : ℕ) → kept + 4 ≤ v.allowance.tickets → IsAt k (Put key value) kept (leaf_stage x.hands.hand spot) x
       spot_ready kept enough = spot_at ((t.ready kept enough).at
