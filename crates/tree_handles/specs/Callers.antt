@@ -7,8 +7,7 @@ use Rattle.prcu_marks.specs.Marks.{updates_of}
 use Rattle.prcu_model.specs.Dictionary.{map_of}
 use Rattle.core_state.specs.steps.Seating.{first_of, second_of}
 use Rattle.seat_table.specs.Fresh.{fresh_seat}
-use Rattle.seat_table.specs.Seats.{SeatAt, TableAt, IsQuietSeat, shape_of}
-use Rattle.citrus_tree.specs.Clients.{ClientAt}
+use Rattle.seat_table.specs.Seats.{SeatAt, TableAt, IsQuietSeat}
 
 -- what a clause sees of a caller: the number of its waiter, its table, its seat, and whether a call of it gave up
 pub record CallerAt : Type 0 where
@@ -16,10 +15,6 @@ pub record CallerAt : Type 0 where
   pub table : TableAt
   pub seat : SeatAt
   pub lost : Bool
-
--- the client of the tree that a caller is
-abbrev pub client_of : CallerAt → ClientAt
-client_of c = record { shape = shape_of c.way c.table; table = c.table; seat = c.seat }
 
 -- Both are callers of one index.
 pub record AreOfOneIndex (c d : CallerAt) : Type 0 where
