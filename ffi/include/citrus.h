@@ -46,7 +46,7 @@ static inline citrus_handle citrus_closed_handle(void) {
 #define CITRUS_MAX_PAIRS 2092868u
 #define CITRUS_MAX_HANDLES 64u
 #define CITRUS_MAX_ROOM 1048576u
-/* 2^57: what the first handle of an index has. At a million updates a second, 4 tickets each, they last 1,100 years. */
+/* 2^57: what the first handle of an index has. At a million updates a second, 16 tickets each, they last 280 years. */
 #define CITRUS_ALL_TICKETS 144115188075855872u
 
 /* How a remove waits for the readers that may still stand on what it takes out. CITRUS_EER looks at each handle: begin with it.
@@ -113,12 +113,15 @@ int32_t citrus_get(citrus_handle *handle, uint64_t key, uint64_t *value);
 
 /* The updates. Each searches as a get does, locks the few nodes that it changes, and begins again where another thread changed them first.
  * Where another thread holds one of these locks it spins, since the library can't yield the processor: take no more threads that update
- * than there are processors. It waits for readers only as said below. It needs 4 tickets and uses 4 at most, and so does each replace and
- * insert of an upsert. */
+ * than there are processors. It waits for readers only as said below. It needs 4 tickets and uses 4 at most, an insert that turns nodes up
+ * to 12 more; and so does each replace and insert of an upsert. */
 
 /* Adds the pair, where the key is absent. Where no slot is free it first waits for all readers inside a call, to give back slots of its
  * own.
- * DONE; UNCHANGED where the key is there; FULL; CLOSED; SPENT; LOST. */
+ * Where it went deep to add the pair, and has 12 tickets left, it then turns nodes on the way, in four attempts at most, so that the tree
+ * stays shallow in whatever order keys come. A turn locks three nodes, and is given up where one of them is locked. It waits for all readers
+ * inside a call only where the way is more than twice as deep as it is to be, and the handle keeps back 63 slots or more.
+ * DONE, and after a loss at a turn too: then the next call is LOST; UNCHANGED where the key is there; FULL; CLOSED; SPENT; LOST. */
 int32_t citrus_insert(citrus_handle *handle, uint64_t key, uint64_t value);
 
 /* Gives the key another value, where it is present. It waits for no reader.
@@ -131,7 +134,8 @@ int32_t citrus_replace(citrus_handle *handle, uint64_t key, uint64_t value, uint
 int32_t citrus_upsert(citrus_handle *handle, uint64_t key, uint64_t value, uint64_t *old);
 
 /* Takes the pair out, where the key is present. Where its node has two children it waits for the readers inside a call whose key lies above
- * this key and up to the next one; and each 15th remove or so waits for all threads that are inside a call, a list too.
+ * this key and up to the next one; and where the handle keeps back 63 slots, a slot or two of each remove and two of each turn of an insert,
+ * it first waits for all threads that are inside a call, a list too.
  * DONE, and the value in *old; UNCHANGED where the key is absent; CLOSED; SPENT; LOST. */
 int32_t citrus_remove(citrus_handle *handle, uint64_t key, uint64_t *old);
 

@@ -32,11 +32,12 @@
 //!
 //! # What it costs
 //! - All memory is taken when the index is made, but for lists, which take theirs by the call.
-//! - The tree isn't balanced. Keys that come in no order make it some 2 log(n) deep; keys that come ascending make it a path.
-//! - A removal waits for lookups under way near its key, and every fifteenth one of a handle for all lookups and lists under way.
+//! - The tree stays shallow in whatever order keys come: an insertion that went deep turns nodes on its way. How deep it is isn't proved, and
+//!   who chooses keys by the library's rule can make it a path.
+//! - A removal waits for lookups under way near its key, and every sixtieth or so of a handle for all lookups and lists under way.
 //!
 //! # Limits
-//! An index for 2,092,868 pairs, 64 handles, and 2^55 updates divided by the number of handles. No call from a signal handler, or from the
+//! An index for 2,092,868 pairs, 64 handles, and 2^53 updates divided by the number of handles. No call from a signal handler, or from the
 //! child of a `fork` of a program with threads.
 //!
 //! The crate needs Rust 1.63 and the library, which `build.rs` finds by pkg-config (`citrus.pc`) or in the folder `CITRUS_LIB_DIR`.
@@ -60,7 +61,7 @@ pub const MAX_HANDLES: u32 = 64;
 /// The greatest number of pairs that one list tells.
 pub const MAX_ROOM: usize = 1_048_576;
 
-/// The tickets of an index; an update uses at most 4 of them.
+/// The tickets of an index; an update uses at most 16 of them.
 const ALL_TICKETS: u64 = 1 << 57;
 
 /// The README's program is tried with the other examples.
