@@ -111,8 +111,13 @@ impl<W: WaitPart> Caller<W> {
         ensures { IfOk result (λ caller. IsFresh W.WAY pairs handles caller) }
     {
         let slots = pairs + KEPT_BACK * (handles - 1);
-        let (table, seat) =
-            CitrusTable::<W>::with_room(alloc, slots, handles, LIBRARY_ROOM, ALL_TICKETS)?;
+        let (table, seat) = CitrusTable::<W>::with_room(
+            alloc,
+            slots,
+            handles,
+            LIBRARY_ROOM,
+            ALL_TICKETS,
+        )?;
         match Arc::new(alloc, Shared::new(alloc, table, handles)?) {
             Ok(shared) => Ok(Caller {
                 shared,
@@ -205,8 +210,9 @@ impl<W: WaitPart> Caller<W> {
             attempts: ATTEMPTS,
             hard: is_far_too_deep(called.depth, most),
         };
-        if let Err(GaveUp) = lift(&Spinning, table, &mut self.seat, aim) {
-            self.lost = true;
+        match lift(&Spinning, table, &mut self.seat, aim) {
+            Ok(_) => (),
+            Err(GaveUp) => self.lost = true,
         }
     }
 
