@@ -24,7 +24,7 @@ fitting way table v w key value told full puts =
 -- nothing comes behind a put that is told Full
 full_ends : (key value : ℕ) (told : Told) (s : SeatAt) (d : CallerAt) → told.reply ≡ Full → ComesBehind (Put key value) told s d → d.seat ≡ s
 full_ends key value told s d full (inl goes) = goes.seat
-full_ends key value told s d full (inr (at, added, then)) = absurd (let e : Full ≡ New = sym full ∙ added.new in cc)
+full_ends key value told s d full (inr (at, added, lifted)) = absurd (let e : Full ≡ New = sym full ∙ added.new in cc)
 
 pub filled : (c : CallerAt) (key value : ℕ) (d : CallerAt) → IsAnswered c (Put key value) Full d → IsFilled d
 filled c key value d (told, full, called) =
