@@ -4,6 +4,7 @@ use Rattle.citrus_tree.proofs.sets.Replacing.{listed_on}
 use Rattle.citrus_tree.proofs.KeepingSlots.{goes_slots, slots_on, slots_self}
 use Rattle.seat_table.proofs.Rounding.{prefix_steps}
 use Rattle.citrus_tree.proofs.Rounds.{room_steps}
+use Rattle.std.proofs.lemmas.Result.{err_from_is_err_and}
 use Rattle.citrus_tree.proofs.insert.put.Goals as goal
 
 pub loop-round-init : goal.loop-round-init
@@ -219,3 +220,13 @@ pub returns-in-Some-3-clause-begins : goal.returns-in-Some-3-clause-begins
 returns-in-Some-3-clause-begins g c = new_begins c.loop-round.invariant.tries c.requires.tickets c.in_ok-spot.ensures.place _ c.in-Some.is
     c.in_ok-spot.ensures.searched c.in_ok-leaf.ensures.room
     c.in-Some-2.is c.in_ok-leaf.ensures.at c.in-Some-3.is c.in_ok-number.ensures.linked
+
+pub returns-in_err-pause-clause-tired : goal.returns-in_err-pause-clause-tired
+returns-in_err-pause-clause-tired g c =
+    let p = err_from_is_err_and c.from_residual-in_err-pause.result c.from_residual-in_err-pause.ensures.1 in
+    let few = c.in_err-pause.ensures in
+    let found = c.in_ok-spot.ensures.stepped in
+    let taken = room_steps c.in_ok-leaf.ensures.room in
+    let tried = prefix_steps c.leaf_in_hand.new.seat.view c.link_leaf.new.seat.view (c.in_ok-number.ensures.again
+    c.in_default-3.is).gone.steps in
+    rw p.1 (omega (arith, few, found, taken, tried))
