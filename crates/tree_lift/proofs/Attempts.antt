@@ -1,29 +1,26 @@
 -- The parts of an attempt, one after another, and attempts one after another.
 use Rattle.std.specs.List.{AllByRecursion}
-use Rattle.std.proofs.Common.{◌≡◌, ◌≢◌, ◌⊎◌, ℕ, ◌+◌, ◌*◌, ◌-◌, ◌<◌, ◌≤◌, Bool, true, false, List, [], ◌∷◌, ◌++◌, length, map, Option, Some, None, inl, inr, ⊎_elim, refl, sym, ap, subst, ◌∙◌, arith, append-nil, length-append}
+use Rattle.std.proofs.Common.{◌≡◌, ◌≢◌, ◌⊎◌, ℕ, ◌+◌, ◌*◌, ◌<◌, ◌≤◌, Bool, true, false, List, [], ◌∷◌, ◌++◌, length, map, Some, None, inl, inr, ⊎_elim, refl, sym, ap, subst, ◌∙◌, arith, append-nil, length-append}
 use Rattle.std.proofs.lemmas.List.{map-append}
-use mathlib.Core.List.{IsPrefix}
-use Rattle.core.specs.Int.{from_bool}
+use mir.Val.{bool_byte as from_bool}
 use Rattle.prcu_model.proofs.ListFacts.{all_append}
 use Rattle.prcu_marks.specs.declared.mark.Mark.{Mark}
-use Rattle.prcu_marks.specs.declared.mark.Mark.TheVariants.{Entered, Left, Began, Ended}
 use Rattle.core_state.specs.declared.shape.Shape.{Shape}
 use Rattle.core_state.specs.declared.view.Held.{Held}
 use Rattle.core_state.specs.declared.view.Reading.{Reading}
 use Rattle.core_state.specs.declared.view.Retired.{Retired}
 use Rattle.core_state.specs.declared.view.View.{View}
-use Rattle.list_laws.specs.Counts.{IsIn, Each}
+use Rattle.list_laws.specs.Counts.{IsIn}
 use Rattle.seat_table.specs.Gains.{IsInformed}
 use Rattle.seat_table.specs.Seats.{SeatAt, IsQuietSeat, AreListed}
-use Rattle.node_slots.specs.Reclaiming.{HasReclaimed, first_spare}
+use Rattle.node_slots.specs.Reclaiming.{HasReclaimed}
 use Rattle.node_slots.specs.Slots.{PutsBack}
-use Rattle.node_slots.proofs.Listed.{listed_length}
 use Rattle.node_slots.proofs.Points.{MayReclaim, gives_all, reclaim_gone, reclaim_retired}
 use Rattle.tree_points.specs.Progress.{HasGone}
 use Rattle.tree_points.proofs.Ends.{none_raised}
 use Rattle.tree_points.proofs.Gone.{gone_on, gone_same}
 use Rattle.citrus_tree.specs.Going.{Goes}
-use Rattle.citrus_tree.specs.Gone.{IsOfTry, KeepsSlots, KeepsWait, retired_marks}
+use Rattle.citrus_tree.specs.Gone.{IsOfTry, retired_marks}
 use Rattle.core_state.specs.views.Views.{unraised_among}
 use Rattle.citrus_tree.proofs.Leavings.{goes_on}
 use Rattle.citrus_tree.proofs.KeepingSlots.{slots_goes, slots_more, slots_on, slots_reclaimed, slots_self}
@@ -33,11 +30,11 @@ use Rattle.tree_turn.specs.declared.turn.Turn.{Turn}
 use Rattle.tree_turn.specs.Turns.{HasRecorded, HasTurned, HasTurnedNone, IsQuietButHand, IsReadyToTurn}
 use Rattle.tree_lift.specs.declared.lifting.Aim.{Aim}
 use Rattle.tree_lift.specs.Ways.{HasRead, RecordsTurn, Finds}
-use Rattle.tree_lift.specs.Rooms.{HasBoth, MakesRoom, Reclaims, TakesSlots}
+use Rattle.tree_lift.specs.Rooms.{MakesRoom, Reclaims, TakesSlots}
 use Rattle.tree_lift.specs.declared.lifting.Attempt.TheVariants.{Tried, Ended as EndedBy}
 use Rattle.tree_lift.specs.declared.lifting.Stop.{Stop}
 use Rattle.tree_lift.specs.declared.lifting.Stop.TheVariants.{Level, NoRoom, NoSlot}
-use Rattle.tree_lift.specs.Lifts.{LeavesNoUpdate, Proceeds, TurnMade, WasTurned, AreTurns, EndsBy, Attempts, HasAttempted, HasLifted}
+use Rattle.tree_lift.specs.Lifts.{LeavesNoUpdate, Proceeds, TurnMade, AreTurns, EndsBy, Attempts, HasAttempted, HasLifted}
 use Rattle.tree_lift.proofs.Ways.{goes_read, read_quiet}
 use Rattle.tree_lift.proofs.Slots.{goes_back, put_back_quiet}
 

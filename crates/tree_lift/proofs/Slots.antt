@@ -1,5 +1,5 @@
 -- A spare and a slot in hand, and what taking them leaves.
-use Rattle.std.proofs.Common.{◌≡◌, ◌≢◌, ℕ, ◌+◌, ◌-◌, ◌≤◌, Bool, true, false, is_some, List, [], length, map, Option, Some, None, refl, sym, ap, subst, ◌∙◌, arith}
+use Rattle.std.proofs.Common.{◌≡◌, ◌≢◌, ℕ, ◌≤◌, Bool, true, false, List, [], length, map, Option, Some, None, refl, sym, ap, subst, ◌∙◌, arith}
 use mathlib.Core.List.{IsPrefix}
 use Rattle.list_laws.specs.Counts.{times}
 use Rattle.core_state.specs.declared.shape.Shape.{Shape}
@@ -14,7 +14,7 @@ use Rattle.core_state.specs.views.Views.{unraised_among}
 use Rattle.core_acts.specs.declared.act.Act.TheVariants as acts
 use Rattle.core_acts.specs.declared.act.Part.TheVariants as part
 use Rattle.core_acts.proofs.Acting.{part_word}
-use Rattle.seat_table.specs.Gains.{IsFull, IsInformed}
+use Rattle.seat_table.specs.Gains.{IsInformed}
 use Rattle.seat_table.specs.Seats.{SeatAt, IsQuietSeat}
 use Rattle.seat_table.specs.Told.{IsAsked, Told}
 use Rattle.node_slots.specs.Slots.{PutsBack, aged, next_life}
@@ -25,7 +25,7 @@ use Rattle.citrus_tree.specs.Going.{Goes}
 use Rattle.citrus_tree.proofs.Leavings.{goes_on, goes_same}
 use Rattle.citrus_tree.proofs.puts.Filling.{goes_none, goes_taken}
 use Rattle.tree_turn.specs.Turns.{IsQuietButHand}
-use Rattle.tree_lift.specs.Rooms.{SeesToSpare, HasBoth, HasNone, TakesSlots}
+use Rattle.tree_lift.specs.Rooms.{SeesToSpare, TakesSlots}
 
 -- Of what makes a seat quiet nothing is other, but for the slot in hand and the spare.
 pub record StaysCalm (v w : View) : Type 0 where

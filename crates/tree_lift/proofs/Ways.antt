@@ -1,5 +1,5 @@
 -- Loads in a section, one after another, and what they find out.
-use Rattle.std.proofs.Common.{◌≡◌, ◌≢◌, ◌⊎◌, ◌/◌, ℕ, ◌&&◌, cond, Bool, true, false, List, [], ◌∷◌, ◌++◌, Option, Some, None, inl, inr, refl, sym, ap, subst, ◌∙◌, arith, eq-eqb, ne_eqb, append_assoc}
+use Rattle.std.proofs.Common.{◌≡◌, ◌≢◌, ◌/◌, ℕ, ◌&&◌, cond, true, false, List, [], ◌∷◌, ◌++◌, Some, None, refl, sym, ap, subst, ◌∙◌, eq-eqb, ne_eqb, append_assoc}
 use mathlib.Core.List.{IsPrefix}
 use Rattle.prcu_marks.specs.declared.mark.Mark.{Mark}
 use Rattle.prcu_marks.specs.declared.mark.Mark.TheVariants.{Entered, Left as LeftMark}
@@ -26,7 +26,6 @@ use Rattle.core_frames.proofs.views.SeatFacts.{works_there}
 use Rattle.core_frames.proofs.views.Fields.{side_self}
 use Rattle.core_acts.specs.declared.act.Act.TheVariants.{SearchLoad}
 use Rattle.core_acts.specs.declared.act.Part.{Part}
-use Rattle.core_acts.specs.declared.act.Part.TheVariants as part
 use Rattle.core_acts.specs.Acts.{in_slot, noted}
 use Rattle.core_acts.proofs.Acting.{part_word, section_is as opened}
 use Rattle.core_points.proofs.TargetWords.{part_loadable}

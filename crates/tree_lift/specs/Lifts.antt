@@ -1,6 +1,6 @@
 -- What a lift leaves, and what it answers.
 -- Source: docs/TREE_CALLS.md, "Lifts".
-use Rattle.std.specs.Prelude.{◌≡◌, ◌⊎◌, ℕ, ◌+◌, ◌<◌, ◌≤◌, Bool, true, false, List, [], ◌∷◌, length, Option, Some, None}
+use Rattle.std.specs.Prelude.{◌≡◌, ℕ, ◌+◌, ◌≤◌, Bool, true, false, List, [], ◌∷◌, length, None}
 use Rattle.std.specs.List.{AllByRecursion}
 use Rattle.prcu_marks.specs.declared.mark.Mark.{Mark}
 use Rattle.core_state.specs.declared.shape.Shape.{Shape}
@@ -18,7 +18,7 @@ use Rattle.tree_lift.specs.declared.lifting.Attempt.{Attempt}
 use Rattle.tree_lift.specs.declared.lifting.Attempt.TheVariants.{Tried, Ended}
 use Rattle.tree_lift.specs.declared.lifting.Stop.{Stop}
 use Rattle.tree_lift.specs.declared.lifting.Stop.TheVariants.{Level, NoRoom, NoSlot, Spent}
-use Rattle.tree_lift.specs.Ways.{HasRead, RecordsTurn, Finds}
+use Rattle.tree_lift.specs.Ways.{RecordsTurn, Finds}
 
 -- Of its place no marks were left but those of sections with the key, and of waits for everybody: so none of an update.
 pub record LeavesNoUpdate (v : View) (key : ℕ) (w : View) : Type 0 where

@@ -1,9 +1,8 @@
 -- What a turn needs of the place, and how it comes by it.
 -- Source: docs/TREE_CALLS.md, "Lifts".
-use Rattle.std.specs.Prelude.{◌≡◌, ◌≢◌, ◌⊎◌, ℕ, ◌+◌, ◌<◌, ◌≤◌, Bool, true, false, List, [], length, Some, None}
+use Rattle.std.specs.Prelude.{◌≡◌, ◌≢◌, ◌⊎◌, ◌+◌, ◌<◌, ◌≤◌, Bool, true, false, [], length, Some, None}
 use Rattle.core_state.specs.declared.shape.Shape.{Shape}
 use Rattle.core_state.specs.declared.view.Held.{Held}
-use Rattle.core_state.specs.declared.view.View.{View}
 use Rattle.seat_table.specs.Gains.{IsFull, IsInformed}
 use Rattle.seat_table.specs.Seats.{SeatAt, IsQuietSeat}
 use Rattle.node_slots.specs.Reclaiming.{HasReclaimed}

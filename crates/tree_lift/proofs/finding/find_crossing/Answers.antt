@@ -1,4 +1,4 @@
-use Rattle.std.proofs.Common.{◌≡◌, None, Some, sym, subst, ◌∙◌, arith}
+use Rattle.std.proofs.Common.{sym, subst, ◌∙◌, arith}
 use Rattle.seat_table.specs.Seats.{shape_of}
 use Rattle.tree_lift.specs.Ways.{IsReading, Starts, after_step}
 use Rattle.tree_lift.proofs.Ways.{stands_by, level_end, level_found, goes_below, crosses}

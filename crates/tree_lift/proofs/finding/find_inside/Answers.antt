@@ -1,4 +1,4 @@
-use Rattle.std.proofs.Common.{◌≡◌, None, Some, inl, subst}
+use Rattle.std.proofs.Common.{inl, subst}
 use Rattle.seat_table.specs.Seats.{shape_of}
 use Rattle.tree_lift.specs.Ways.{Comes}
 use Rattle.tree_lift.proofs.finding.find_inside.Goals as goal

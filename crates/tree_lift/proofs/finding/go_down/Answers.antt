@@ -1,4 +1,4 @@
-use Rattle.std.proofs.Common.{◌<◌, rules, subst, arith}
+use Rattle.std.proofs.Common.{rules, subst, arith}
 use Rattle.core_acts.specs.declared.act.Part.TheVariants as part
 use Rattle.core_state.specs.declared.words.Field.TheVariants.{Link}
 use Rattle.core_state.specs.steps.Loads.{loaded}

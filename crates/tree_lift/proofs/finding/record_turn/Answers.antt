@@ -1,4 +1,3 @@
-use Rattle.std.proofs.Common.{inl, inr, sym}
 use Rattle.core_acts.specs.declared.act.Part.TheVariants as part
 use Rattle.core_state.specs.declared.words.Field.TheVariants.{Life}
 use Rattle.core_state.specs.steps.Loads.{loaded}

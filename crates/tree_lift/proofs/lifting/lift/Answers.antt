@@ -1,6 +1,6 @@
-use Rattle.std.proofs.Common.{◌≡◌, ◌+◌, ◌*◌, ◌<◌, ◌≤◌, refl, subst, ◌∙◌, arith}
+use Rattle.std.proofs.Common.{◌+◌, refl, sym, subst, ◌∙◌, arith}
 use Rattle.seat_table.specs.Seats.{shape_of}
-use Rattle.tree_lift.specs.Lifts.{HasAttempted}
+use Rattle.tree_lift.specs.Lifts.{HasAttempted, HasLifted}
 use Rattle.tree_lift.proofs.Attempts.{lifted_none, lifted_tried, one_at_most, proceeds_on, proceeds_same, ended_lift}
 use Rattle.tree_lift.proofs.lifting.lift.Goals as goal
 
@@ -27,13 +27,14 @@ loop-i-preserved g c =
     let inv = c.loop-i.invariant in
     let turned = c.in-Tried.turned in
     let made = subst (λ a. HasAttempted k c.args.aim c.loop-i.seat a c.make_attempt.new.seat) c.in-Tried.is
-    c.in_ok-make_attempt.ensures.attempted in record {
+    c.in_ok-turned.ensures.attempted in record {
       table = c.make_attempt.ensures.table ∙ inv.table;
       quiet = made.quiet;
       proceeds = proceeds_on c.args.aim.key c.args.aim.hard c.args.seat.now c.loop-i.seat c.make_attempt.new.seat inv.proceeds made.proceeds;
-      lifted = lifted_tried k c.args.aim c.loop-i.turns turned c.args.seat.now.view c.loop-i.seat.view c.make_attempt.new.seat.view inv.lifted
-          made.attempts;
-      few = (let a = inv.few in let b = one_at_most turned in omega arith);
+      lifted = subst (λ n. HasLifted k c.args.aim (c.loop-i.turns + n) c.args.seat.now.view c.make_attempt.new.seat.view) (sym c.from-turns.ensures)
+          (lifted_tried k c.args.aim c.loop-i.turns turned c.args.seat.now.view c.loop-i.seat.view c.make_attempt.new.seat.view inv.lifted
+          made.attempts);
+      few = (let a = inv.few in let b = one_at_most turned in let same = c.from-turns.ensures in omega arith);
       tickets = (let a = inv.tickets in let b = made.tickets in omega arith);
     }
 
@@ -43,7 +44,7 @@ returns-in-Ended-clause-updates g c =
     let inv = c.loop-i.invariant in
     let ended = ended_lift k c.args.aim c.loop-i.turns c.loop-i.i c.in-Ended.stop c.args.seat.now c.loop-i.seat c.make_attempt.new.seat
     inv.proceeds inv.lifted inv.tickets c.loop-i-test.true
-    (subst (λ a. HasAttempted k c.args.aim c.loop-i.seat a c.make_attempt.new.seat) c.in-Ended.is c.in_ok-make_attempt.ensures.attempted) in
+    (subst (λ a. HasAttempted k c.args.aim c.loop-i.seat a c.make_attempt.new.seat) c.in-Ended.is c.in_ok-turned.ensures.attempted) in
     ended.proceeds.updates
 
 pub returns-in-Ended-clause-turns : goal.returns-in-Ended-clause-turns
@@ -52,7 +53,7 @@ returns-in-Ended-clause-turns g c =
     let inv = c.loop-i.invariant in
     let ended = ended_lift k c.args.aim c.loop-i.turns c.loop-i.i c.in-Ended.stop c.args.seat.now c.loop-i.seat c.make_attempt.new.seat
     inv.proceeds inv.lifted inv.tickets c.loop-i-test.true
-    (subst (λ a. HasAttempted k c.args.aim c.loop-i.seat a c.make_attempt.new.seat) c.in-Ended.is c.in_ok-make_attempt.ensures.attempted) in
+    (subst (λ a. HasAttempted k c.args.aim c.loop-i.seat a c.make_attempt.new.seat) c.in-Ended.is c.in_ok-turned.ensures.attempted) in
     ended.lifted
 
 pub returns-in-Ended-clause-ends : goal.returns-in-Ended-clause-ends
@@ -61,7 +62,7 @@ returns-in-Ended-clause-ends g c =
     let inv = c.loop-i.invariant in
     let ended = ended_lift k c.args.aim c.loop-i.turns c.loop-i.i c.in-Ended.stop c.args.seat.now c.loop-i.seat c.make_attempt.new.seat
     inv.proceeds inv.lifted inv.tickets c.loop-i-test.true
-    (subst (λ a. HasAttempted k c.args.aim c.loop-i.seat a c.make_attempt.new.seat) c.in-Ended.is c.in_ok-make_attempt.ensures.attempted) in
+    (subst (λ a. HasAttempted k c.args.aim c.loop-i.seat a c.make_attempt.new.seat) c.in-Ended.is c.in_ok-turned.ensures.attempted) in
     ended.ends
 
 pub returns-in-Ended-clause-wait : goal.returns-in-Ended-clause-wait
@@ -70,7 +71,7 @@ returns-in-Ended-clause-wait g c =
     let inv = c.loop-i.invariant in
     let ended = ended_lift k c.args.aim c.loop-i.turns c.loop-i.i c.in-Ended.stop c.args.seat.now c.loop-i.seat c.make_attempt.new.seat
     inv.proceeds inv.lifted inv.tickets c.loop-i-test.true
-    (subst (λ a. HasAttempted k c.args.aim c.loop-i.seat a c.make_attempt.new.seat) c.in-Ended.is c.in_ok-make_attempt.ensures.attempted) in
+    (subst (λ a. HasAttempted k c.args.aim c.loop-i.seat a c.make_attempt.new.seat) c.in-Ended.is c.in_ok-turned.ensures.attempted) in
     ended.proceeds.wait
 
 pub returns-in-Ended-clause-unwaited : goal.returns-in-Ended-clause-unwaited
@@ -79,7 +80,7 @@ returns-in-Ended-clause-unwaited g c =
     let inv = c.loop-i.invariant in
     let ended = ended_lift k c.args.aim c.loop-i.turns c.loop-i.i c.in-Ended.stop c.args.seat.now c.loop-i.seat c.make_attempt.new.seat
     inv.proceeds inv.lifted inv.tickets c.loop-i-test.true
-    (subst (λ a. HasAttempted k c.args.aim c.loop-i.seat a c.make_attempt.new.seat) c.in-Ended.is c.in_ok-make_attempt.ensures.attempted) in
+    (subst (λ a. HasAttempted k c.args.aim c.loop-i.seat a c.make_attempt.new.seat) c.in-Ended.is c.in_ok-turned.ensures.attempted) in
     ended.proceeds.unwaited
 
 pub returns-in-Ended-clause-slots : goal.returns-in-Ended-clause-slots
@@ -88,7 +89,7 @@ returns-in-Ended-clause-slots g c =
     let inv = c.loop-i.invariant in
     let ended = ended_lift k c.args.aim c.loop-i.turns c.loop-i.i c.in-Ended.stop c.args.seat.now c.loop-i.seat c.make_attempt.new.seat
     inv.proceeds inv.lifted inv.tickets c.loop-i-test.true
-    (subst (λ a. HasAttempted k c.args.aim c.loop-i.seat a c.make_attempt.new.seat) c.in-Ended.is c.in_ok-make_attempt.ensures.attempted) in
+    (subst (λ a. HasAttempted k c.args.aim c.loop-i.seat a c.make_attempt.new.seat) c.in-Ended.is c.in_ok-turned.ensures.attempted) in
     ended.proceeds.slots
 
 pub returns-in-Ended-clause-tickets : goal.returns-in-Ended-clause-tickets
@@ -97,7 +98,7 @@ returns-in-Ended-clause-tickets g c =
     let inv = c.loop-i.invariant in
     let ended = ended_lift k c.args.aim c.loop-i.turns c.loop-i.i c.in-Ended.stop c.args.seat.now c.loop-i.seat c.make_attempt.new.seat
     inv.proceeds inv.lifted inv.tickets c.loop-i-test.true
-    (subst (λ a. HasAttempted k c.args.aim c.loop-i.seat a c.make_attempt.new.seat) c.in-Ended.is c.in_ok-make_attempt.ensures.attempted) in
+    (subst (λ a. HasAttempted k c.args.aim c.loop-i.seat a c.make_attempt.new.seat) c.in-Ended.is c.in_ok-turned.ensures.attempted) in
     ended.tickets
 
 pub returns-in-Ended-clause-allowance : goal.returns-in-Ended-clause-allowance
@@ -106,7 +107,7 @@ returns-in-Ended-clause-allowance g c =
     let inv = c.loop-i.invariant in
     let ended = ended_lift k c.args.aim c.loop-i.turns c.loop-i.i c.in-Ended.stop c.args.seat.now c.loop-i.seat c.make_attempt.new.seat
     inv.proceeds inv.lifted inv.tickets c.loop-i-test.true
-    (subst (λ a. HasAttempted k c.args.aim c.loop-i.seat a c.make_attempt.new.seat) c.in-Ended.is c.in_ok-make_attempt.ensures.attempted) in
+    (subst (λ a. HasAttempted k c.args.aim c.loop-i.seat a c.make_attempt.new.seat) c.in-Ended.is c.in_ok-turned.ensures.attempted) in
     ended.proceeds.updates.gone.allowance
 
 pub returns-in-Ended-clause-quiet : goal.returns-in-Ended-clause-quiet
@@ -115,7 +116,7 @@ returns-in-Ended-clause-quiet g c =
     let inv = c.loop-i.invariant in
     let ended = ended_lift k c.args.aim c.loop-i.turns c.loop-i.i c.in-Ended.stop c.args.seat.now c.loop-i.seat c.make_attempt.new.seat
     inv.proceeds inv.lifted inv.tickets c.loop-i-test.true
-    (subst (λ a. HasAttempted k c.args.aim c.loop-i.seat a c.make_attempt.new.seat) c.in-Ended.is c.in_ok-make_attempt.ensures.attempted) in
+    (subst (λ a. HasAttempted k c.args.aim c.loop-i.seat a c.make_attempt.new.seat) c.in-Ended.is c.in_ok-turned.ensures.attempted) in
     ended.quiet
 
 pub returns-in-Ended-clause-informed : goal.returns-in-Ended-clause-informed
@@ -124,7 +125,7 @@ returns-in-Ended-clause-informed g c =
     let inv = c.loop-i.invariant in
     let ended = ended_lift k c.args.aim c.loop-i.turns c.loop-i.i c.in-Ended.stop c.args.seat.now c.loop-i.seat c.make_attempt.new.seat
     inv.proceeds inv.lifted inv.tickets c.loop-i-test.true
-    (subst (λ a. HasAttempted k c.args.aim c.loop-i.seat a c.make_attempt.new.seat) c.in-Ended.is c.in_ok-make_attempt.ensures.attempted) in
+    (subst (λ a. HasAttempted k c.args.aim c.loop-i.seat a c.make_attempt.new.seat) c.in-Ended.is c.in_ok-turned.ensures.attempted) in
     ended.proceeds.informed
 
 pub returns-in-Ended-clause-few : goal.returns-in-Ended-clause-few
