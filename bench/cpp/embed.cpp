@@ -19,11 +19,11 @@ struct HandleClient {
     uint64_t call(const Op &op) { return PlainClient<HandlePlace>{place}.call(op); }
 };
 
-// An index with some more slots than keys, as many as the trees that it is measured beside.
+// An index with room for each key.
 class IndexOfRoom {
 public:
     IndexOfRoom(const Room &room, citrus::waiter waiter) {
-        handles_.emplace_back(uint32_t(room.keys + 20 * room.places), room.places, waiter);
+        handles_.emplace_back(uint32_t(room.keys), room.places, waiter);
         for (uint32_t place = 1; place < room.places; place++) handles_.push_back(handles_[0].share());
     }
 

@@ -43,10 +43,10 @@ static inline citrus_handle citrus_closed_handle(void) {
     return closed;
 }
 
-#define CITRUS_MAX_SLOTS 2097152u
+#define CITRUS_MAX_PAIRS 2092868u
 #define CITRUS_MAX_HANDLES 64u
 #define CITRUS_MAX_ROOM 1048576u
-/* 2^57: what the first handle of an index has. At a million updates a second, 4 tickets each, they last 1,100 years. */
+/* 2^57: what the first handle of an index has. At a million updates a second, 16 tickets each, they last 280 years. */
 #define CITRUS_ALL_TICKETS 144115188075855872u
 
 /* How a remove waits for the readers that may still stand on what it takes out. CITRUS_EER looks at each handle: begin with it.
@@ -60,7 +60,7 @@ enum {
     CITRUS_DONE = 0,
     CITRUS_UNCHANGED = 1,     /* insert: the key is there already; get, replace, remove: it is absent; first: there is no such pair;
                                  reopen: no closed handle left a place */
-    CITRUS_FULL = 2,          /* the key is absent, and there is no free slot for it */
+    CITRUS_FULL = 2,          /* the key is absent, and there is no free slot for it: as many pairs as were asked for are there, or more */
     CITRUS_MORE = 3,          /* list: there are more pairs than room */
     CITRUS_MOVED = 4,         /* others updated the index in each of 1,000 tries; nothing was changed. A later call may get through */
     CITRUS_NEW = 5,           /* upsert: the pair was added */
@@ -74,14 +74,14 @@ enum {
 typedef struct { uint64_t key, value; } citrus_pair;
 
 /* Opens a new, empty index. At DONE, what the handle was open on before is closed.
- *   slots    1 to CITRUS_MAX_SLOTS: room for so many pairs, less up to 20 for each handle beside the first, which a thread may have taken
- *            out of the index and not yet given back
+ *   pairs    1 to CITRUS_MAX_PAIRS: so many always fit. Up to 68 more fit for each handle beside the first: as many slots are there for it,
+ *            which a thread may have taken out of the index and not yet given back
  *   handles  1 to CITRUS_MAX_HANDLES: how many there can be at once. Each has a place, and a closed one leaves it to a reopen
  *   waiter   CITRUS_EER, CITRUS_DOMAIN or CITRUS_DEER
  * It takes all memory of the index, and twice as much until it comes back; only a list, a first, a share or a reopen takes more later. Its
- * time grows with the slots.
+ * time grows with the pairs.
  * DONE; BAD_ARGUMENT or NO_MEMORY, and then the handle is as it was. */
-int32_t citrus_open(citrus_handle *handle, uint32_t slots, uint32_t handles, uint32_t waiter);
+int32_t citrus_open(citrus_handle *handle, uint32_t pairs, uint32_t handles, uint32_t waiter);
 
 /* Makes `other` a second handle of the index. So many of the handles that are left to the first one (1 or more; `other` itself is one of
  * them) and so many of its tickets (0 or more) go over to it, and can be shared from it in turn. What `other` was open on before is closed.
@@ -113,12 +113,15 @@ int32_t citrus_get(citrus_handle *handle, uint64_t key, uint64_t *value);
 
 /* The updates. Each searches as a get does, locks the few nodes that it changes, and begins again where another thread changed them first.
  * Where another thread holds one of these locks it spins, since the library can't yield the processor: take no more threads that update
- * than there are processors. It waits for readers only as said below. It needs 4 tickets and uses 4 at most, and so does each replace and
- * insert of an upsert. */
+ * than there are processors. It waits for readers only as said below. It needs 4 tickets and uses 4 at most, an insert that turns nodes up
+ * to 12 more; and so does each replace and insert of an upsert. */
 
 /* Adds the pair, where the key is absent. Where no slot is free it first waits for all readers inside a call, to give back slots of its
  * own.
- * DONE; UNCHANGED where the key is there; FULL; CLOSED; SPENT; LOST. */
+ * Where it went deep to add the pair, and has 12 tickets left, it then turns nodes on the way, in four attempts at most, so that the tree
+ * stays shallow in whatever order keys come. A turn locks three nodes, and is given up where one of them is locked. It waits for all readers
+ * inside a call only where the way is more than twice as deep as it is to be, and the handle keeps back 63 slots or more.
+ * DONE, and after a loss at a turn too: then the next call is LOST; UNCHANGED where the key is there; FULL; CLOSED; SPENT; LOST. */
 int32_t citrus_insert(citrus_handle *handle, uint64_t key, uint64_t value);
 
 /* Gives the key another value, where it is present. It waits for no reader.
@@ -131,7 +134,8 @@ int32_t citrus_replace(citrus_handle *handle, uint64_t key, uint64_t value, uint
 int32_t citrus_upsert(citrus_handle *handle, uint64_t key, uint64_t value, uint64_t *old);
 
 /* Takes the pair out, where the key is present. Where its node has two children it waits for the readers inside a call whose key lies above
- * this key and up to the next one; and each 15th remove or so waits for all threads that are inside a call, a list too.
+ * this key and up to the next one; and where the handle keeps back 63 slots, a slot or two of each remove and two of each turn of an insert,
+ * it first waits for all threads that are inside a call, a list too.
  * DONE, and the value in *old; UNCHANGED where the key is absent; CLOSED; SPENT; LOST. */
 int32_t citrus_remove(citrus_handle *handle, uint64_t key, uint64_t *old);
 

@@ -2,7 +2,7 @@
 // what each call does, waits for and costs, and what a caller owes. What is left to owe here: one call at a time with one handle; no call
 // from a signal handler, nor from the child of a fork of a program with threads.
 //
-//     citrus::handle mine(100000, 2);             // 100,000 slots, two handles
+//     citrus::handle mine(100000, 2);             // for 100,000 pairs and two handles
 //     citrus::handle other = mine.share();        // for the second thread
 //     mine.insert(5, 50);
 //     std::optional<uint64_t> value = mine.get(5);
@@ -71,9 +71,9 @@ public:
     // A closed handle, which refuses each call by fault::closed.
     handle() noexcept = default;
 
-    // The first handle of a new index. Throws bad_argument or no_memory.
-    handle(uint32_t slots, uint32_t handles, waiter how = waiter::eer) {
-        refuse_unless_done(citrus_open(&at_, slots, handles, static_cast<uint32_t>(how)));
+    // The first handle of a new index, in which so many pairs always fit. Throws bad_argument or no_memory.
+    handle(uint32_t pairs, uint32_t handles, waiter how = waiter::eer) {
+        refuse_unless_done(citrus_open(&at_, pairs, handles, static_cast<uint32_t>(how)));
     }
 
     handle(handle &&other) noexcept : at_(std::exchange(other.at_, closed)) {}

@@ -1,10 +1,11 @@
 /* Each answer of each call, in one thread. */
 #include "cases.h"
 #include <string.h>
+#include <time.h>
 
-static citrus_handle open_index(uint32_t slots, uint32_t handles, uint32_t waiter) {
+static citrus_handle open_index(uint32_t pairs, uint32_t handles, uint32_t waiter) {
     citrus_handle index = CITRUS_CLOSED_HANDLE;
-    WANT(citrus_open(&index, slots, handles, waiter), CITRUS_DONE);
+    WANT(citrus_open(&index, pairs, handles, waiter), CITRUS_DONE);
     return index;
 }
 
@@ -85,6 +86,80 @@ static void a_full_index(uint32_t waiter) {
     WANT(citrus_remove(&index, 2, &told), CITRUS_DONE);
     WANT(told, 20);
     WANT(citrus_insert(&index, 4, 40), CITRUS_DONE);
+    citrus_close(&index);
+}
+
+/* Handles that take pairs out keep slots back, and yet as many pairs fit as the index was opened for. */
+static void as_many_pairs_fit_as_were_asked_for(uint32_t waiter) {
+    enum { PAIRS = 200, HANDLES = 8, TAKEN_OUT = 60 };
+    citrus_handle handles[HANDLES] = {open_index(PAIRS, HANDLES, waiter)};
+    uint64_t told = UNTOUCHED, pairs = 0;
+    for (size_t i = 1; i < HANDLES; i++) {
+        WANT(citrus_share(&handles[0], 1, 1000, &handles[i]), CITRUS_DONE);
+        for (uint64_t key = 0; key < TAKEN_OUT; key++) {
+            WANT(citrus_insert(&handles[i], key, key), CITRUS_DONE);
+            WANT(citrus_remove(&handles[i], key, &told), CITRUS_DONE);
+        }
+    }
+    while (citrus_insert(&handles[0], pairs, 10 * pairs) == CITRUS_DONE) pairs++;
+    WANT(citrus_insert(&handles[0], pairs, 10 * pairs), CITRUS_FULL);
+    WANT(pairs >= PAIRS && pairs < PAIRS + 68 * (HANDLES - 1), 1);
+    for (uint64_t key = 0; key <= pairs; key++)
+        WANT(citrus_get(&handles[1], key, &told), key < pairs ? CITRUS_DONE : CITRUS_UNCHANGED);
+    for (size_t i = 0; i < HANDLES; i++) citrus_close(&handles[i]);
+}
+
+static uint64_t scattered(uint64_t i) { return i * 0x9e3779b97f4a7c15u; }
+static uint64_t ascending(uint64_t i) { return i; }
+static uint64_t descending(uint64_t i) { return ~i; }
+static uint64_t inwards(uint64_t i) { return i % 2 ? ~i : i; }
+
+/* Puts keys in, in this order, and looks each up: how many seconds that takes. */
+static double load_seconds(uint64_t (*key_of)(uint64_t), uint32_t waiter) {
+    enum { LOADED = 100000 };
+    citrus_handle index = open_index(LOADED, 1, waiter);
+    struct timespec begin, end;
+    uint64_t told = UNTOUCHED;
+    clock_gettime(CLOCK_MONOTONIC, &begin);
+    for (uint64_t i = 0; i < LOADED && !wrong_here; i++) WANT(citrus_insert(&index, key_of(i), i), CITRUS_DONE);
+    for (uint64_t i = 0; i < LOADED && !wrong_here; i++) {
+        WANT(citrus_get(&index, key_of(i), &told), CITRUS_DONE);
+        WANT(told, i);
+    }
+    clock_gettime(CLOCK_MONOTONIC, &end);
+    citrus_close(&index);
+    return (double)(end.tv_sec - begin.tv_sec) + 1e-9 * (double)(end.tv_nsec - begin.tv_nsec);
+}
+
+/* On a path these would take a thousand times as long as keys in no order. */
+static void keys_in_order_make_no_path(uint32_t waiter) {
+    const double most = 20 * load_seconds(scattered, waiter) + 0.5;
+    WANT(load_seconds(ascending, waiter) < most, 1);
+    WANT(load_seconds(descending, waiter) < most, 1);
+    WANT(load_seconds(inwards, waiter) < most, 1);
+}
+
+/* An insert whose way is deep turns nodes for tickets, but not the last ones: it needs four, as any update. */
+static void a_deep_insert_with_few_tickets(uint32_t waiter) {
+    citrus_handle index = open_index(10000, 2, waiter), few = CITRUS_CLOSED_HANDLE;
+    uint32_t handles = 0;
+    uint64_t tickets = 0, told = UNTOUCHED;
+    WANT(citrus_share(&index, 1, 12, &few), CITRUS_DONE);
+    for (uint64_t key = 0; key < 10000 && tickets <= 4; key++) {
+        WANT(citrus_left(&index, &handles, &tickets), CITRUS_DONE);
+        const uint64_t before = tickets;
+        WANT(citrus_insert(&index, key, key), CITRUS_DONE);
+        WANT(citrus_left(&index, &handles, &tickets), CITRUS_DONE);
+        tickets = before - tickets;
+        WANT(tickets <= 16, 1);
+    }
+    WANT(tickets > 4, 1);
+    WANT(citrus_insert(&few, 10000, 7), CITRUS_DONE);
+    WANT(citrus_left(&few, &handles, &tickets), CITRUS_DONE);
+    WANT(tickets >= 8, 1);
+    WANT(citrus_get(&few, 10000, &told), CITRUS_DONE);
+    WANT(told, 7);
+    citrus_close(&few);
     citrus_close(&index);
 }
 
@@ -325,6 +400,9 @@ static const struct waiter_case cases[] = {
     {"an upsert adds and then replaces", an_upsert_adds_and_then_replaces},
     {"numbers at their ends", numbers_at_their_ends},
     {"a full index", a_full_index},
+    {"as many pairs fit as were asked for", as_many_pairs_fit_as_were_asked_for},
+    {"keys in order make no path", keys_in_order_make_no_path},
+    {"a deep insert with few tickets", a_deep_insert_with_few_tickets},
     {"a remove at each node", a_remove_at_each_node},
     {"lists", lists},
     {"handles and tickets are shared", handles_and_tickets_are_shared},

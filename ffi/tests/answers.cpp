@@ -1,5 +1,6 @@
 // Each call of citrus.hpp: its answers, its refusals, and what becomes of handles.
 #include "cases.h"
+#include <chrono>
 #include <citrus.hpp>
 #include <functional>
 #include <thread>
@@ -59,10 +60,10 @@ static void refusals() {
     WANT(is_refused(citrus::fault::bad_argument, [] { citrus::handle(0, 1); }), true);
     WANT(is_refused(citrus::fault::bad_argument, [] { citrus::handle(1, 65); }), true);
     WANT(is_refused(citrus::fault::bad_argument, [] { citrus::handle(1, 1, citrus::waiter{3}); }), true);
-    citrus::handle index(1, 2);
-    index.insert(1, 10);
-    WANT(is_refused(citrus::fault::full, [&] { index.insert(2, 20); }), true);
-    WANT(is_refused(citrus::fault::full, [&] { index.upsert(2, 20); }), true);
+    citrus::handle full(1, 1), index(1, 2);
+    full.insert(1, 10);
+    WANT(is_refused(citrus::fault::full, [&] { full.insert(2, 20); }), true);
+    WANT(is_refused(citrus::fault::full, [&] { full.upsert(2, 20); }), true);
     citrus::handle poor = index.share(1, 3);
     WANT(is_refused(citrus::fault::spent, [&] { poor.get(1); }), true);
     WANT(is_refused(citrus::fault::bad_argument, [&] { index.share(); }), true);
@@ -134,6 +135,30 @@ static void handles_go_to_threads() {
     WANT(index.get(399).value_or(0), 3);
 }
 
+// Four threads put in every fourth key each, and look it up: how many seconds that takes. The keys are in order by a factor of 1.
+static double load_seconds(uint64_t factor) {
+    enum : uint64_t { LOADED = 100000, THREADS = 4 };
+    citrus::handle index(LOADED, THREADS + 1);
+    std::vector<std::thread> threads;
+    const auto begin = std::chrono::steady_clock::now();
+    for (uint64_t number = 0; number < THREADS; number++)
+        threads.emplace_back([number, factor, mine = index.share()]() mutable {
+            for (uint64_t i = number; i < LOADED; i += THREADS) mine.insert(factor * i, i);
+            for (uint64_t i = number; i < LOADED; i += THREADS) mine.get(factor * i);
+        });
+    for (std::thread &thread : threads) thread.join();
+    const std::chrono::duration<double> taken = std::chrono::steady_clock::now() - begin;
+    uint64_t right = 0;
+    for (uint64_t i = 0; i < LOADED; i++) right += index.get(factor * i).value_or(LOADED) == i;
+    WANT(right, LOADED);
+    return taken.count();
+}
+
+static void keys_in_order_make_no_path() {
+    const double scattered = load_seconds(0x9e3779b97f4a7c15u);
+    WANT(load_seconds(1) < 20 * scattered + 0.5, true);
+}
+
 static const waiter_case waiter_cases[] = {{"C++: answers", answers}, {"C++: pages", pages}};
 
 static const plain_case plain_cases[] = {
@@ -142,6 +167,7 @@ static const plain_case plain_cases[] = {
     {"C++: handles are shared", handles_are_shared},
     {"C++: handles are opened again", handles_are_opened_again},
     {"C++: handles go to threads", handles_go_to_threads},
+    {"C++: keys in order make no path", keys_in_order_make_no_path},
 };
 
 int main() {

@@ -26,12 +26,12 @@ static inline void member_wants(struct member *member, const char *what, uint64_
 
 /* Runs the work in so many threads on a new index, each with a handle from which one handle less than `each` can be shared. They are to
  * share all of these. */
-static inline void run_crew(uint32_t threads, uint32_t each, uint32_t slots, uint32_t waiter, void *(*work)(void *), void *shared) {
+static inline void run_crew(uint32_t threads, uint32_t each, uint32_t pairs, uint32_t waiter, void *(*work)(void *), void *shared) {
     struct member members[MOST_THREADS] = {{.handle = CITRUS_CLOSED_HANDLE}};
     pthread_t ids[MOST_THREADS];
     uint32_t handles = 0;
     uint64_t tickets = 0;
-    WANT(citrus_open(&members[0].handle, slots, threads * each, waiter), CITRUS_DONE);
+    WANT(citrus_open(&members[0].handle, pairs, threads * each, waiter), CITRUS_DONE);
     for (uint32_t i = 1; i < threads; i++)
         WANT(citrus_share(&members[0].handle, each, CITRUS_ALL_TICKETS / 64, &members[i].handle), CITRUS_DONE);
     for (uint32_t i = 0; i < threads; i++) {

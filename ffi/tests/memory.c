@@ -171,7 +171,7 @@ static void *close_one_after_the_other(void *member) {
 /* A handle that is closed holds nobody up: the updates of others go on. */
 static void handles_are_closed_beside_updates(uint32_t waiter) {
     const int64_t before = held;
-    run_crew(4, HANDLES_EACH, 4 * OWN_KEYS + 20 * 64, waiter, close_one_after_the_other, NULL);
+    run_crew(4, HANDLES_EACH, 4 * OWN_KEYS, waiter, close_one_after_the_other, NULL);
     WANT(held, before);
 }
 

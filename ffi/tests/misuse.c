@@ -28,7 +28,7 @@ static void a_closed_handle_at_each_call(void) {
 
 static void numbers_that_open_no_index(void) {
     static const uint32_t numbers[][3] = {
-        {0, 1, 0},  {CITRUS_MAX_SLOTS + 1, 1, 0}, {UINT32_MAX, 1, 0}, {1, 0, 0},
+        {0, 1, 0},  {CITRUS_MAX_PAIRS + 1, 1, 0}, {UINT32_MAX, 1, 0}, {1, 0, 0},
         {1, 65, 0}, {1, UINT32_MAX, 0},           {1, 1, 3},          {1, 1, UINT32_MAX},
     };
     for (size_t i = 0; i < COUNT_OF(numbers); i++) {
@@ -42,7 +42,7 @@ static void numbers_that_open_no_index(void) {
 static void the_largest_index(void) {
     citrus_handle handles[64] = {CITRUS_CLOSED_HANDLE};
     uint64_t told = UNTOUCHED;
-    WANT(citrus_open(&handles[0], CITRUS_MAX_SLOTS, CITRUS_MAX_HANDLES, CITRUS_EER), CITRUS_DONE);
+    WANT(citrus_open(&handles[0], CITRUS_MAX_PAIRS, CITRUS_MAX_HANDLES, CITRUS_EER), CITRUS_DONE);
     for (uint64_t i = 1; i < 64; i++) WANT(citrus_share(&handles[0], 1, 4, &handles[i]), CITRUS_DONE);
     for (uint64_t i = 0; i < 64; i++) WANT(citrus_insert(&handles[i], i, 100 + i), CITRUS_DONE);
     for (uint64_t i = 0; i < 64; i++) {

@@ -4,7 +4,7 @@
 
 enum { KEYS = 40, STEPS = 20000 };
 
-enum { THREADS = 4, SLOTS = 4000 };
+enum { THREADS = 4, PAIRS = 4000 };
 
 /* All begin once the first pairs are there, and the readers go on until the writer is done, and look once more. */
 struct stage {
@@ -55,7 +55,7 @@ static void write_or_look(struct member *me, uint64_t first_keys, void (*write)(
 static void run_stage(uint32_t waiter, void *(*work)(void *)) {
     struct stage stage = {.is_over = 0};
     pthread_barrier_init(&stage.begin, NULL, THREADS);
-    run_crew(THREADS, 1, SLOTS, waiter, work, &stage);
+    run_crew(THREADS, 1, PAIRS, waiter, work, &stage);
     pthread_barrier_destroy(&stage.begin);
     WANT(stage.answers >= 1, 1);
 }

@@ -108,7 +108,8 @@ static std::vector<Call> script_of(citrus::handle &index, uint32_t number, const
 }
 
 static std::vector<std::vector<Call>> scripts_of(const Settings &settings) {
-    citrus::handle first(settings.keys + 20 * settings.threads, settings.threads, citrus::waiter{settings.waiter});
+    // One pair more than there are keys: so no call finds the index full.
+    citrus::handle first(settings.keys + 1, settings.threads, citrus::waiter{settings.waiter});
     std::vector<citrus::handle> handles;
     for (uint32_t i = 1; i < settings.threads; i++) handles.push_back(first.share());
     handles.push_back(std::move(first));

@@ -98,7 +98,7 @@ static void *work(void *member) {
 
 static void run_on(uint32_t threads, uint64_t keys, uint32_t waiter) {
     char of[100];
-    run_crew(threads, 1, keys + 20 * threads, waiter, work, &keys);
+    run_crew(threads, 1, keys, waiter, work, &keys);
     snprintf(of, sizeof of, "%" PRIu32 " threads, %" PRIu64 " keys, %s", threads, keys, waiter_names[waiter]);
     end_case("each thread is told what it knows of its own keys", of);
 }

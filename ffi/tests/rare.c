@@ -5,7 +5,7 @@
 #include <unistd.h>
 
 /* The keys that are there from the beginning. Only the disputed one is updated by more than one thread. */
-enum { KEYS = 15, DISPUTED = 8, FAR = 1, NEVER_THERE = 1000, SLOTS = 4000, PATIENCE_SECONDS = 10 };
+enum { KEYS = 15, DISPUTED = 8, FAR = 1, NEVER_THERE = 1000, PAIRS = 4000, PATIENCE_SECONDS = 10 };
 
 static int is_late(time_t began) { return time(NULL) > began + PATIENCE_SECONDS; }
 
@@ -207,7 +207,7 @@ static void run_dispute(uint32_t waiter, int is_always_there, int32_t (*update)(
     const uint32_t threads = 1 + many_threads();
     pthread_barrier_init(&dispute.begin, NULL, threads);
     pthread_barrier_init(&dispute.end, NULL, threads);
-    run_crew(threads, 2, SLOTS, waiter, update_or_watch, &dispute);
+    run_crew(threads, 2, PAIRS, waiter, update_or_watch, &dispute);
     pthread_barrier_destroy(&dispute.end);
     pthread_barrier_destroy(&dispute.begin);
 }
@@ -315,7 +315,7 @@ static void an_upsert_is_moved(uint32_t waiter) {
         struct chase chase = {.began = began};
         pthread_barrier_init(&chase.begin, NULL, 2);
         pthread_barrier_init(&chase.end, NULL, 2);
-        run_crew(2, 1, SLOTS, waiter, upsert_or_toggle, &chase);
+        run_crew(2, 1, PAIRS, waiter, upsert_or_toggle, &chase);
         pthread_barrier_destroy(&chase.end);
         pthread_barrier_destroy(&chase.begin);
         is_seen = chase.is_moved && !chase.is_lost;

@@ -61,7 +61,7 @@ static void run_members(struct member *members, void *(*work)(void *)) {
 }
 
 static void share_members(struct member *members, uint32_t waiter) {
-    WANT(citrus_open(&members[0].handle, KEYS * THREADS + 20 * 2 * THREADS, 2 * THREADS, waiter), CITRUS_DONE);
+    WANT(citrus_open(&members[0].handle, KEYS * THREADS, 2 * THREADS, waiter), CITRUS_DONE);
     for (uint32_t i = 0; i < THREADS; i++) {
         members[i].number = i;
         members[i].of = THREADS;

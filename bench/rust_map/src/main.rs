@@ -6,7 +6,7 @@ mod measuring;
 #[path = "../../btree/src/mixes.rs"]
 mod mixes;
 
-use citrus_map::{Handle, Index, Waiter, HELD_SLOTS};
+use citrus_map::{Handle, Index, Waiter};
 use measuring::{measure_all, Client, Map, Options, Room};
 use mixes::Op;
 use std::process::ExitCode;
@@ -16,8 +16,8 @@ struct Tree(Index);
 impl Tree {
     fn new(waiter: Waiter, room: Room) -> Tree {
         let handles = u32::try_from(room.threads).expect("few threads");
-        let slots = u32::try_from(room.keys).expect("keys that fit an index") + HELD_SLOTS * handles;
-        Tree(Index::builder(slots, handles).waiter(waiter).build().expect("memory for the index"))
+        let pairs = u32::try_from(room.keys).expect("keys that fit an index");
+        Tree(Index::builder(pairs, handles).waiter(waiter).build().expect("memory for the index"))
     }
 }
 

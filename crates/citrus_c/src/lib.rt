@@ -22,13 +22,13 @@ use tree_handles::{Handle, Pair};
 pub extern "C" fn citrus_open(
     alloc: Global,
     handle: &mut Handle,
-    slots: u32,
+    pairs: u32,
     handles: u32,
     waiter: u32,
 ) -> i32
-    ensures opened { Says result (λ status. Opens slots handles waiter handle.old.held status handle.new.held) }
+    ensures opened { Says result (λ status. Opens pairs handles waiter handle.old.held status handle.new.held) }
 {
-    handle.open(alloc, slots, handles, waiter).code()
+    handle.open(alloc, pairs, handles, waiter).code()
 }
 
 /// [`Handle::close`].

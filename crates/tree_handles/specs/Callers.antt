@@ -1,11 +1,13 @@
 -- What a handle leads to.
 -- Source: docs/TREE_CALLS.md, "The tree's table".
-use Rattle.std.specs.Prelude.{◌≡◌, ℕ, Bool, false}
+use Rattle.std.specs.Prelude.{◌≡◌, ℕ, ◌+◌, ◌-◌, ◌*◌, ◌≤◌, Bool, false}
+use Rattle.std.specs.FinMap as finite
 use Rattle.prcu_marks.specs.Bounds.{most_tickets}
+use Rattle.prcu_marks.specs.Marks.{updates_of}
+use Rattle.prcu_model.specs.Dictionary.{map_of}
 use Rattle.core_state.specs.steps.Seating.{first_of, second_of}
 use Rattle.seat_table.specs.Fresh.{fresh_seat}
-use Rattle.seat_table.specs.Seats.{SeatAt, TableAt, IsQuietSeat, shape_of}
-use Rattle.citrus_tree.specs.Clients.{ClientAt}
+use Rattle.seat_table.specs.Seats.{SeatAt, TableAt, IsQuietSeat}
 
 -- what a clause sees of a caller: the number of its waiter, its table, its seat, and whether a call of it gave up
 pub record CallerAt : Type 0 where
@@ -13,10 +15,6 @@ pub record CallerAt : Type 0 where
   pub table : TableAt
   pub seat : SeatAt
   pub lost : Bool
-
--- the client of the tree that a caller is
-abbrev pub client_of : CallerAt → ClientAt
-client_of c = record { shape = shape_of c.way c.table; table = c.table; seat = c.seat }
 
 -- Both are callers of one index.
 pub record AreOfOneIndex (c d : CallerAt) : Type 0 where
@@ -29,12 +27,21 @@ pub record MayGoOn (c : CallerAt) : Type 0 where
   pub seat : c.seat.table ≡ c.table
   pub quiet : IsQuietSeat c.seat
 
--- The first caller of a new index with this waiter, so many slots and handles, and all tickets. A place may hold back 16 retired slots.
-pub record IsFresh (way slots handles : ℕ) (c : CallerAt) : Type 0 where
+-- how many pairs always fit: the slots, less what each place but one may keep from it, its room for retired slots and four
+abbrev pub pairs_that_fit : TableAt → ℕ
+pairs_that_fit table = table.slots - (table.room + 4) * (table.places - 1)
+
+-- The dictionary, as the caller has seen it, has as many pairs as always fit, or more.
+pub record IsFilled (c : CallerAt) : Type 0 where
+  pub pairs : pairs_that_fit c.table ≤ finite.len (map_of (updates_of c.seat.view.seen))
+
+-- The first caller of a new index with this waiter, in which so many pairs always fit, for so many handles, with all tickets. A place may
+-- hold back 64 retired slots.
+pub record IsFresh (way pairs handles : ℕ) (c : CallerAt) : Type 0 where
   pub way_is : c.way ≡ way
-  pub slots_are : c.table.slots ≡ slots
+  pub pairs_are : pairs_that_fit c.table ≡ pairs
   pub handles_are : c.table.places ≡ handles
-  pub room_is : c.table.room ≡ 16
+  pub room_is : c.table.room ≡ 64
   pub tickets_are : c.table.tickets ≡ most_tickets
   pub seat_is : c.seat ≡ fresh_seat way c.table
   pub may : MayGoOn c

@@ -1,25 +1,75 @@
 -- What gets and updates answer, of a caller before and after.
 -- Source: docs/TREE_CALLS.md, "The calls".
-use Rattle.std.specs.Prelude.{◌≡◌, ◌⊎◌, ℕ, zero, suc, ◌<◌, ◌≤◌, true, false, Option, Some, None}
+use Rattle.std.specs.Prelude.{◌≡◌, ◌⊎◌, ℕ, zero, suc, ◌+◌, ◌<◌, ◌≤◌, true, false, Option, Some, None}
 use Rattle.prcu_model.specs.declared.operation.Op.{Op}
 use Rattle.prcu_model.specs.declared.operation.Op.TheVariants.{Put, Get, Del, Set}
 use Rattle.prcu_model.specs.declared.operation.Reply.{Reply}
 use Rattle.prcu_model.specs.declared.operation.Reply.TheVariants as reply
 use Rattle.prcu_model.specs.declared.operation.Told.{Told}
+use Rattle.seat_table.specs.Gains.{IsInformed}
 use Rattle.seat_table.specs.Rounds.{HasMade}
-use Rattle.citrus_tree.specs.Clients.{HasCalled}
+use Rattle.seat_table.specs.Seats.{SeatAt, IsQuietSeat, shape_of}
+use Rattle.tree_points.specs.Progress.{KeepsAllowance}
+use Rattle.citrus_tree.specs.Clients.{IsTold}
+use Rattle.citrus_tree.specs.Gone.{KeepsWait}
 use Rattle.citrus_tree.specs.Replies.{TellsValue}
-use Rattle.tree_handles.specs.Callers.{CallerAt, client_of, AreOfOneIndex, MayGoOn}
+use Rattle.tree_lift.specs.Lifts.{LeavesNoUpdate}
+use Rattle.tree_handles.specs.Callers.{CallerAt, AreOfOneIndex, IsFilled, MayGoOn}
 use Rattle.tree_handles.specs.declared.status.Status.{Status}
 use Rattle.tree_handles.specs.declared.status.Status.TheVariants.{Done, Unchanged, Full, Moved, New, Spent, Lost}
+
+-- how many steps a seat has made at least with which a call gives up
+abbrev pub patient_steps : ℕ
+patient_steps = 18446744073709551615
+
+-- The tree's call told this of the operation, and left this seat, with at most four tickets less.
+pub record TreeTells (c : CallerAt) (op : Op) (told : Told) (s : SeatAt) : Type 0 where
+  pub table : s.table ≡ c.table
+  pub answer : IsTold (shape_of c.way c.table) c.seat.view op told s.view
+  pub wait : KeepsWait c.seat.view s.view
+  pub tickets : c.seat.view.allowance.tickets ≤ s.view.allowance.tickets + 4
+  pub allowance : KeepsAllowance c.seat.view s.view
+  pub quiet : IsQuietSeat s
+  pub informed : IsInformed s.view
+
+-- The caller has the seat as it was left, and may go on.
+pub record GoesOn (s : SeatAt) (d : CallerAt) : Type 0 where
+  pub seat : d.seat ≡ s
+  pub may : MayGoOn d
+
+-- A put added the pair of this key.
+pub record HasAdded (key : ℕ) (op : Op) (told : Told) : Type 0 where
+  pub value : ℕ
+  pub put : op ≡ Put key value
+  pub new : told.reply ≡ reply.New
+
+-- Nodes on the way to the key were lifted, with at most twelve tickets: of the place no marks were left but those of sections with the key,
+-- and of waits for everybody.
+pub record HasLifted (key : ℕ) (s : SeatAt) (d : CallerAt) : Type 0 where
+  pub updates : LeavesNoUpdate s.view key d.seat.view
+  pub wait : KeepsWait s.view d.seat.view
+  pub tickets : s.view.allowance.tickets ≤ d.seat.view.allowance.tickets + 12
+  pub allowance : KeepsAllowance s.view d.seat.view
+  pub informed : IsInformed d.seat.view
+  pub may : MayGoOn d
+
+-- The lift gave up in its midst, when the seat had made that many steps.
+pub record IsLostBehind (d : CallerAt) : Type 0 where
+  pub lost : d.lost ≡ true
+  pub tired : HasMade patient_steps d.seat.view
+
+-- What comes behind the tree's call: nothing; or behind a put that added its pair a lift, which may give up.
+abbrev pub ComesBehind : Op → Told → SeatAt → CallerAt → Type 0
+ComesBehind op told s d = GoesOn s d ⊎ ((key : ℕ) × HasAdded key op told × (HasLifted key s d ⊎ IsLostBehind d))
 
 -- The caller, which had four tickets or more, made the operation, and was told this by the tree's call.
 pub record IsCalled (c : CallerAt) (op : Op) (told : Told) (d : CallerAt) : Type 0 where
   pub index : AreOfOneIndex c d
   pub before : MayGoOn c
   pub enough : 4 ≤ c.seat.view.allowance.tickets
-  pub after : MayGoOn d
-  pub called : HasCalled (client_of c) op told (client_of d)
+  pub answered : SeatAt
+  pub tells : TreeTells c op told answered
+  pub behind : ComesBehind op told answered d
 
 -- the same, where the reply was this
 abbrev pub IsAnswered : CallerAt → Op → Reply → CallerAt → Type 0
@@ -30,10 +80,6 @@ pub record IsSpent (c d : CallerAt) : Type 0 where
   pub same : d ≡ c
   pub may : MayGoOn c
   pub few : c.seat.view.allowance.tickets < 4
-
--- how many steps a seat has made at least with which a call gives up
-abbrev pub patient_steps : ℕ
-patient_steps = 18446744073709551615
 
 -- The call gave up in its midst, when its seat had made that many steps; or an earlier one had, and then nothing has changed.
 pub record IsLost (c d : CallerAt) : Type 0 where
@@ -54,10 +100,11 @@ Gets c key was Done value d = IsAnswered c (Get key) (reply.Val value) d
 Gets c key was Unchanged value d = IsAnswered c (Get key) reply.Absent d × (value ≡ was)
 Gets c key was status value d = CausedBy status c d × (value ≡ was)
 
+-- What an insert answers. It is Full only where as many pairs are there as always fit.
 abbrev pub Inserts : CallerAt → ℕ → ℕ → Status → CallerAt → Type 0
 Inserts c key value Done d = IsAnswered c (Put key value) reply.New d
 Inserts c key value Unchanged d = IsAnswered c (Put key value) reply.Old d
-Inserts c key value Full d = IsAnswered c (Put key value) reply.Full d
+Inserts c key value Full d = IsAnswered c (Put key value) reply.Full d × IsFilled d
 Inserts c key value status d = CausedBy status c d
 
 abbrev pub Replaces : CallerAt → ℕ → ℕ → ℕ → Status → ℕ → CallerAt → Type 0
@@ -92,7 +139,8 @@ MissesOnceMore c key value d = (a : CallerAt) × MissesSome c key value a × IsA
 abbrev pub Upserts : CallerAt → ℕ → ℕ → ℕ → Status → ℕ → CallerAt → Type 0
 Upserts c key value was Done old d = (a : CallerAt) × MissesSome c key value a × IsAnswered a (Set key value) (reply.Was old) d
 Upserts c key value was New old d = (a : CallerAt) × MissesOnceMore c key value a × IsAnswered a (Put key value) reply.New d × (old ≡ was)
-Upserts c key value was Full old d = (a : CallerAt) × MissesOnceMore c key value a × IsAnswered a (Put key value) reply.Full d × (old ≡ was)
+Upserts c key value was Full old d = (a : CallerAt) × MissesOnceMore c key value a × IsAnswered a (Put key value) reply.Full d × IsFilled d
+    × (old ≡ was)
 Upserts c key value was Moved old d = (rounds : ℕ) × (rounds ≡ 1000) × Misses c key value rounds d × (old ≡ was)
 Upserts c key value was status old d = (a : CallerAt) × (MissesSome c key value a ⊎ MissesOnceMore c key value a) × CausedBy status a d
     × (old ≡ was)

@@ -6,18 +6,19 @@ use Rattle.tree_handles.specs.Lists.{IsLeft}
 use Rattle.tree_handles.specs.declared.status.Status.{Status}
 use Rattle.tree_handles.specs.declared.status.Status.TheVariants.{Done, Unchanged, BadArgument, NoMemory, Lost}
 
--- an index can be made with these slots, handles and this waiter
-pub record CanOpen (slots handles way : ℕ) : Type 0 where
-  pub slots_are : (1 ≤ slots) × (slots ≤ 2097152)
+-- An index can be made for so many pairs and handles, with this waiter. The most pairs are those for which there are slots enough, 2,097,152,
+-- beside what 63 handles may keep back, each its room and four.
+pub record CanOpen (pairs handles way : ℕ) : Type 0 where
+  pub pairs_are : (1 ≤ pairs) × (pairs ≤ 2092868)
   pub handles_are : (1 ≤ handles) × (handles ≤ 64)
   pub way_is : way ≤ 2
 
 -- What an open answers, of what the handle holds before and after.
 abbrev pub Opens : ℕ → ℕ → ℕ → Option CallerAt → Status → Option CallerAt → Type 0
-Opens slots handles way before Done after = (c : CallerAt) × (after ≡ Some c) × IsFresh way slots handles c
-Opens slots handles way before BadArgument after = (CanOpen slots handles way → ⊥) × (after ≡ before)
-Opens slots handles way before NoMemory after = CanOpen slots handles way × (after ≡ before)
-Opens slots handles way before _ after = ⊥
+Opens pairs handles way before Done after = (c : CallerAt) × (after ≡ Some c) × IsFresh way pairs handles c
+Opens pairs handles way before BadArgument after = (CanOpen pairs handles way → ⊥) × (after ≡ before)
+Opens pairs handles way before NoMemory after = CanOpen pairs handles way × (after ≡ before)
+Opens pairs handles way before _ after = ⊥
 
 -- so many of the caller's unused handles, and so many of its tickets, can go over to another
 pub record CanShare (c : CallerAt) (handles tickets : ℕ) : Type 0 where

@@ -40,27 +40,27 @@ impl Model for AnyCaller {
 }
 
 impl AnyCaller {
-    /// The first caller on a new table with so many slots, for so many handles, with all tickets.
+    /// The first caller on a new table in which so many pairs always fit, for so many handles, with all tickets.
     pub(crate) fn new(
         alloc: Global,
-        slots: u32,
+        pairs: u32,
         handles: u32,
         waiter: u32,
     ) -> Result<AnyCaller, NoMemory>
-        requires slots { (1 ≤ slots) × (slots ≤ 2097152) }
+        requires pairs { (1 ≤ pairs) × (pairs ≤ 2092868) }
         requires handles { (1 ≤ handles) × (handles ≤ 64) }
         requires waiter { waiter ≤ 2 }
-        ensures { IfOk result (λ caller. IsFresh waiter slots handles caller) }
+        ensures { IfOk result (λ caller. IsFresh waiter pairs handles caller) }
     {
         match waiter {
             0 => Ok(AnyCaller {
-                caller: ByWaiter::Eer(Caller::new(alloc, slots, handles)?),
+                caller: ByWaiter::Eer(Caller::new(alloc, pairs, handles)?),
             }),
             1 => Ok(AnyCaller {
-                caller: ByWaiter::Domain(Caller::new(alloc, slots, handles)?),
+                caller: ByWaiter::Domain(Caller::new(alloc, pairs, handles)?),
             }),
             _ => Ok(AnyCaller {
-                caller: ByWaiter::Deer(Caller::new(alloc, slots, handles)?),
+                caller: ByWaiter::Deer(Caller::new(alloc, pairs, handles)?),
             }),
         }
     }

@@ -2,32 +2,50 @@
 ghost use Rattle.std.specs.Prelude.{◌≡◌, ◌≤◌, ◌<◌, ◌+◌, false, IfOk, IfErr, IfNone, IfSome};
 ghost use Rattle.seat_table.specs.Seats.{IsQuietSeat};
 ghost use Rattle.core_state.specs.steps.Seating.{first_of, second_of};
-ghost use Rattle.tree_handles.specs.Callers.{MayGoOn, IsFresh, IsShared, IsReopened};
+ghost use Rattle.seat_table.specs.Gains.{IsInformed};
+ghost use Rattle.tree_handles.specs.Callers.{AreOfOneIndex, MayGoOn, IsFresh, IsShared, IsReopened};
 ghost use Rattle.tree_handles.specs.Opening.{FailsToReopen};
-ghost use Rattle.tree_handles.specs.Calls.{IsCalled, TakesOut, CausedBy};
+ghost use Rattle.tree_handles.specs.Calls.{ComesBehind, IsCalled, TakesOut, CausedBy};
 ghost use Rattle.tree_handles.specs.Lists.{Lists, IsLostBy};
 
 use crate::shared::Shared;
 use crate::spinning::{GaveUp, Spinning};
 use crate::status::Status;
+use citrus_tree::Called;
 use citrus_tree::patient::{call, remove};
 use core::mem::replace_with;
-use core_state::shape::ROOM;
 use exact_list::patient::list;
 use exact_list::{Listed, Page};
 use key_interval::Keys;
 use prcu_marks::OpenGate;
-use prcu_model::{NoMemory, Op, Told};
+use prcu_model::{NoMemory, Op, Reply, Told};
 use seat_table::{CitrusTable, Seat, WaitPart};
 use std::alloc::Global;
 use std::marker::Model;
 use std::sync::Arc;
+use tree_lift::{Aim, is_deep, is_far_too_deep, lift};
 
 /// How many tickets a call may use.
 const TICKETS: u64 = 4;
 
+/// How often a lift tries to turn a node.
+const ATTEMPTS: u32 = 4;
+
+/// How many tickets a lift may use: three for each attempt.
+const LIFT_TICKETS: u64 = 12;
+
 /// The tickets of a new index, all that a table can have.
 const ALL_TICKETS: u64 = 144_115_188_075_855_872;
+
+/// The retired slots that a place of an index may hold back. With many a handle that removes waits for readers rarely; with few less memory
+/// lies idle.
+pub(crate) const LIBRARY_ROOM: u32 = 64;
+
+/// The slots that a place may keep from the others beside its retired ones.
+const IN_HAND: u32 = 4;
+
+/// The slots that each handle beside the first needs.
+pub(crate) const KEPT_BACK: u32 = LIBRARY_ROOM + IN_HAND;
 
 /// How many times a list is tried.
 pub(crate) const TRIES: u32 = 1_000;
@@ -85,14 +103,21 @@ fn divide<W: WaitPart>(seat: Seat<W>, gift: Gift<W>) -> (Seat<W>, Seat<W>)
 }
 
 impl<W: WaitPart> Caller<W> {
-    /// The first caller on a new table with so many slots, for so many handles, with all tickets.
-    pub(crate) fn new(alloc: Global, slots: u32, handles: u32) -> Result<Caller<W>, NoMemory>
+    /// The first caller on a new table in which so many pairs always fit, for so many handles, with all tickets.
+    pub(crate) fn new(alloc: Global, pairs: u32, handles: u32) -> Result<Caller<W>, NoMemory>
         requires way { W.WAY ≤ 2 }
-        requires slots { (1 ≤ slots) × (slots ≤ 2097152) }
+        requires pairs { (1 ≤ pairs) × (pairs ≤ 2092868) }
         requires handles { (1 ≤ handles) × (handles ≤ 64) }
-        ensures { IfOk result (λ caller. IsFresh W.WAY slots handles caller) }
+        ensures { IfOk result (λ caller. IsFresh W.WAY pairs handles caller) }
     {
-        let (table, seat) = CitrusTable::<W>::with_room(alloc, slots, handles, ROOM, ALL_TICKETS)?;
+        let slots = pairs + KEPT_BACK * (handles - 1);
+        let (table, seat) = CitrusTable::<W>::with_room(
+            alloc,
+            slots,
+            handles,
+            LIBRARY_ROOM,
+            ALL_TICKETS,
+        )?;
         match Arc::new(alloc, Shared::new(alloc, table, handles)?) {
             Ok(shared) => Ok(Caller {
                 shared,
@@ -149,11 +174,45 @@ impl<W: WaitPart> Caller<W> {
         }
         let table = self.shared.table();
         match call(&Spinning, table, &mut self.seat, &OpenGate, op) {
-            Ok(called) => Ok(called.told),
+            Ok(called) => {
+                self.lift_behind(op, called);
+                Ok(called.told)
+            }
             Err(GaveUp) => {
                 self.lost = true;
                 Err(Status::Lost)
             }
+        }
+    }
+
+    // Lifts nodes on the way to a key that was added, where the way was deep and there are tickets for it. What bounds the pairs is known
+    // without a step: the slots. Where the lift gives up the caller is lost from now on.
+    fn lift_behind(&mut self, op: Op, called: Called)
+        requires may { MayGoOn self.old }
+        requires informed { IsInformed self.old.seat.view }
+        ensures index { AreOfOneIndex self.old self.new }
+        ensures behind { ComesBehind op called.told self.old.seat self.new }
+    {
+        let Op::Put { key, value: _ } = op else {
+            return;
+        };
+        let Reply::New = called.told.reply else {
+            return;
+        };
+        let table = self.shared.table();
+        let most = u64::from(table.slots());
+        if self.seat.tickets() < LIFT_TICKETS || !is_deep(called.depth, most) {
+            return;
+        }
+        let aim = Aim {
+            key,
+            salt: self.shared.salt(),
+            attempts: ATTEMPTS,
+            hard: is_far_too_deep(called.depth, most),
+        };
+        match lift(&Spinning, table, &mut self.seat, aim) {
+            Ok(_) => (),
+            Err(GaveUp) => self.lost = true,
         }
     }
 

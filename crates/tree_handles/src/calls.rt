@@ -88,7 +88,8 @@ impl Handle {
 
     /// Adds the pair, where the key is absent.
     ///
-    /// `Done`; `Unchanged` where the key is present; `Full` where no slot is free; `Closed`; `Spent`; `Lost`.
+    /// `Done`; `Unchanged` where the key is present; `Full` where no slot is free, and then at least as many pairs are there as were asked
+    /// for at the open; `Closed`; `Spent`; `Lost`.
     pub fn insert(&mut self, alloc: Global, key: u64, value: u64) -> Status
         ensures inserted { Makes (λ c d. Inserts c key value result d) self.old.held result self.new.held }
     {
@@ -117,8 +118,8 @@ impl Handle {
 
     /// Gives the key this value, whether or not it is present: a replace, else an insert, until one of the two makes an update.
     ///
-    /// `Done` where a value was replaced, which is told; `New` where the pair was added; `Full` where no slot is free; `Moved` where others
-    /// put the key in and took it out in each of 1,000 rounds; `Closed`; `Spent`; `Lost`. Only at `Done` the old value is written.
+    /// `Done` where a value was replaced, which is told; `New` where the pair was added; `Full` as of an insert; `Moved` where others put the
+    /// key in and took it out in each of 1,000 rounds; `Closed`; `Spent`; `Lost`. Only at `Done` the old value is written.
     pub fn upsert(&mut self, alloc: Global, key: u64, value: u64, old: &mut u64) -> Status
         ensures upserted { Makes (λ c d. Upserts c key value old.old result old.new d) self.old.held result self.new.held }
         ensures closed { self.old.held ≡ None → old.new ≡ old.old }

@@ -1,6 +1,6 @@
 use crate::handle::Handle;
 use crate::library::{citrus_open, citrus_share, status, RawHandle};
-use crate::{Error, ALL_TICKETS, MAX_HANDLES, MAX_SLOTS};
+use crate::{Error, ALL_TICKETS, MAX_HANDLES, MAX_PAIRS};
 use std::fmt;
 use std::sync::{Arc, Mutex, MutexGuard, PoisonError};
 
@@ -53,7 +53,7 @@ impl Waiter {
 #[derive(Clone, Copy, Debug)]
 #[must_use]
 pub struct Builder {
-    slots: u32,
+    pairs: u32,
     handles: u32,
     waiter: Waiter,
 }
@@ -64,21 +64,21 @@ impl Builder {
         Builder { waiter, ..self }
     }
 
-    /// Makes the index, with nothing in it. It takes the memory of all its slots at once.
+    /// Makes the index, with nothing in it. It takes all its memory at once.
     ///
     /// # Errors
-    /// [`Error::Slots`] and [`Error::Handles`] where a number is out of range, [`Error::NoMemory`].
+    /// [`Error::Pairs`] and [`Error::Handles`] where a number is out of range, [`Error::NoMemory`].
     pub fn build(self) -> Result<Index, Error> {
-        let Builder { slots, handles, waiter } = self;
-        if !(1..=MAX_SLOTS).contains(&slots) {
-            return Err(Error::Slots);
+        let Builder { pairs, handles, waiter } = self;
+        if !(1..=MAX_PAIRS).contains(&pairs) {
+            return Err(Error::Pairs);
         }
         if !(1..=MAX_HANDLES).contains(&handles) {
             return Err(Error::Handles);
         }
         let mut first = RawHandle::CLOSED;
         // SAFETY: `first` is a closed handle of our own.
-        done(unsafe { citrus_open(&mut first, slots, handles, waiter.number()) })?;
+        done(unsafe { citrus_open(&mut first, pairs, handles, waiter.number()) })?;
         let mut all = Vec::with_capacity(handles as usize);
         for _ in 1..handles {
             let mut other = RawHandle::CLOSED;
@@ -87,7 +87,7 @@ impl Builder {
             all.push(other);
         }
         all.push(first);
-        Ok(Index { slots, handles, pool: Arc::new(Pool(Mutex::new(all))) })
+        Ok(Index { pairs, handles, pool: Arc::new(Pool(Mutex::new(all))) })
     }
 }
 
@@ -105,35 +105,35 @@ fn done(status: i32) -> Result<(), Error> {
 ///
 /// An index may be dropped before its handles. It is freed with the last of them.
 pub struct Index {
-    slots: u32,
+    pairs: u32,
     handles: u32,
     pool: Arc<Pool>,
 }
 
 impl Index {
-    /// A new index with 1 to [`MAX_SLOTS`] slots, and 1 to [`MAX_HANDLES`] handles that may be out at one time.
+    /// A new index for 1 to [`MAX_PAIRS`] pairs, and 1 to [`MAX_HANDLES`] handles that may be out at one time.
     ///
-    /// A pair takes a slot, and each handle may keep up to [`HELD_SLOTS`](crate::HELD_SLOTS) for itself. So no insert finds the index full
-    /// while it has fewer than `pairs` pairs, if it has `pairs + HELD_SLOTS * handles` slots.
+    /// So many pairs always fit: no insert finds the index full while it has fewer. Up to 68 more fit for each handle beside the first, as
+    /// long as the handles don't keep back what removals freed.
     ///
     /// # Errors
-    /// [`Error::Slots`] and [`Error::Handles`] where a number is out of range, [`Error::NoMemory`].
+    /// [`Error::Pairs`] and [`Error::Handles`] where a number is out of range, [`Error::NoMemory`].
     ///
     /// ```
-    /// use citrus_map::{Error, Index, HELD_SLOTS};
+    /// use citrus_map::{Error, Index};
     ///
-    /// let index = Index::new(10_000 + HELD_SLOTS * 4, 4)?;
+    /// let index = Index::new(10_000, 4)?;
     /// assert_eq!(index.handle()?.get(7), Ok(None));
-    /// assert!(matches!(Index::new(0, 4), Err(Error::Slots)));
+    /// assert!(matches!(Index::new(0, 4), Err(Error::Pairs)));
     /// # Ok::<(), Error>(())
     /// ```
-    pub fn new(slots: u32, handles: u32) -> Result<Index, Error> {
-        Index::builder(slots, handles).build()
+    pub fn new(pairs: u32, handles: u32) -> Result<Index, Error> {
+        Index::builder(pairs, handles).build()
     }
 
     /// The same as [`Index::new`], with more to say before the index is made.
-    pub fn builder(slots: u32, handles: u32) -> Builder {
-        Builder { slots, handles, waiter: Waiter::default() }
+    pub fn builder(pairs: u32, handles: u32) -> Builder {
+        Builder { pairs, handles, waiter: Waiter::default() }
     }
 
     /// A handle for a thread. It goes back to the index when it is dropped.
@@ -166,6 +166,6 @@ impl Index {
 
 impl fmt::Debug for Index {
     fn fmt(&self, text: &mut fmt::Formatter<'_>) -> fmt::Result {
-        text.debug_struct("Index").field("slots", &self.slots).field("handles", &self.handles).finish_non_exhaustive()
+        text.debug_struct("Index").field("pairs", &self.pairs).field("handles", &self.handles).finish_non_exhaustive()
     }
 }

@@ -1,9 +1,9 @@
 //! A concurrent ordered map from `u64` to `u64` for programs that read far more often than they write. Lookups and lists take no lock.
 //!
 //! ```
-//! use citrus_map::{Index, HELD_SLOTS};
+//! use citrus_map::Index;
 //!
-//! let index = Index::new(10_000 + HELD_SLOTS * 4, 4)?;
+//! let index = Index::new(10_000, 4)?;
 //! std::thread::scope(|scope| {
 //!     for who in 0..4 {
 //!         let handle = index.handle().unwrap();
@@ -32,12 +32,13 @@
 //!
 //! # What it costs
 //! - All memory is taken when the index is made, but for lists, which take theirs by the call.
-//! - The tree isn't balanced. Keys that come in no order make it some 2 log(n) deep; keys that come ascending make it a path.
-//! - A removal waits for lookups under way near its key, and every fifteenth one of a handle for all lookups and lists under way.
+//! - The tree stays shallow in whatever order keys come: an insertion that went deep turns nodes on its way. How deep it is isn't proved, and
+//!   who chooses keys by the library's rule can make it a path.
+//! - A removal waits for lookups under way near its key, and every sixtieth or so of a handle for all lookups and lists under way.
 //!
 //! # Limits
-//! 2,097,152 slots, 64 handles, and 2^55 updates divided by the number of handles. No call from a signal handler, or from the child of a
-//! `fork` of a program with threads.
+//! An index for 2,092,868 pairs, 64 handles, and 2^53 updates divided by the number of handles. No call from a signal handler, or from the
+//! child of a `fork` of a program with threads.
 //!
 //! The crate needs Rust 1.63 and the library, which `build.rs` finds by pkg-config (`citrus.pc`) or in the folder `CITRUS_LIB_DIR`.
 
@@ -53,16 +54,14 @@ pub use error::Error;
 pub use handle::{Handle, Page};
 pub use index::{Builder, Index, Waiter};
 
-/// The greatest number of slots of an index.
-pub const MAX_SLOTS: u32 = 2_097_152;
+/// The greatest number of pairs that an index can be made for.
+pub const MAX_PAIRS: u32 = 2_092_868;
 /// The greatest number of handles of an index.
 pub const MAX_HANDLES: u32 = 64;
 /// The greatest number of pairs that one list tells.
 pub const MAX_ROOM: usize = 1_048_576;
-/// So many slots a handle may keep for itself at most: those that its removals freed, until it gives them back, and a few in hand.
-pub const HELD_SLOTS: u32 = 20;
 
-/// The tickets of an index; an update uses at most 4 of them.
+/// The tickets of an index; an update uses at most 16 of them.
 const ALL_TICKETS: u64 = 1 << 57;
 
 /// The README's program is tried with the other examples.

@@ -46,7 +46,7 @@ pub(crate) mod status {
 // Each handle is closed or as the last call with it left it, and one call at a time is made with it. The pointers of one call are distinct,
 // and lead to memory of their type. Whatever else a call may ask the library tests itself.
 extern "C" {
-    pub(crate) fn citrus_open(handle: *mut RawHandle, slots: u32, handles: u32, waiter: u32) -> i32;
+    pub(crate) fn citrus_open(handle: *mut RawHandle, pairs: u32, handles: u32, waiter: u32) -> i32;
     pub(crate) fn citrus_share(handle: *mut RawHandle, handles: u32, tickets: u64, other: *mut RawHandle) -> i32;
     pub(crate) fn citrus_close(handle: *mut RawHandle);
     pub(crate) fn citrus_get(handle: *mut RawHandle, key: u64, value: *mut u64) -> i32;

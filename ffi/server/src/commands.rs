@@ -243,8 +243,8 @@ mod tests {
         String::from_utf8_lossy(replies.bytes()).replace("\r\n", " ")
     }
 
-    fn check(slots: u32, session: &[(&str, &str)]) {
-        let handle = Index::new(slots, 1).and_then(|index| index.handle()).expect("there is memory");
+    fn check(pairs: u32, session: &[(&str, &str)]) {
+        let handle = Index::new(pairs, 1).and_then(|index| index.handle()).expect("there is memory");
         for (line, reply) in session {
             assert_eq!(told(&handle, line).trim_end(), *reply, "{line}");
         }

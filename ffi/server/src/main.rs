@@ -1,6 +1,6 @@
 //! `citrus_server [--bind ADDRESS] [--port N] [--pairs N] [--connections N] [--waiter eer|domain|deer]`
 
-use citrus_map::{Index, Waiter, HELD_SLOTS, MAX_HANDLES, MAX_SLOTS};
+use citrus_map::{Index, Waiter, MAX_HANDLES, MAX_PAIRS};
 use citrus_server::server::Server;
 use std::process::ExitCode;
 
@@ -36,11 +36,10 @@ impl Options {
         if !(1..=MAX_HANDLES).contains(&self.connections) {
             return Err(format!("--connections is from 1 to {MAX_HANDLES}"));
         }
-        let held = HELD_SLOTS * self.connections;
-        if !(1..=MAX_SLOTS - held).contains(&self.pairs) {
-            return Err(format!("--pairs is from 1 to {} with {} connections", MAX_SLOTS - held, self.connections));
+        if !(1..=MAX_PAIRS).contains(&self.pairs) {
+            return Err(format!("--pairs is from 1 to {MAX_PAIRS}"));
         }
-        let index = Index::builder(self.pairs + held, self.connections).waiter(self.waiter).build().map_err(|error| error.to_string())?;
+        let index = Index::builder(self.pairs, self.connections).waiter(self.waiter).build().map_err(|error| error.to_string())?;
         Server::bind((self.bind.as_str(), self.port), index).map_err(|error| format!("{}:{}: {error}", self.bind, self.port))
     }
 }

@@ -1,6 +1,6 @@
 //! A server on a port of the system's choice, and clients that talk to it.
 
-use citrus_map::{Index, HELD_SLOTS};
+use citrus_map::Index;
 use citrus_server::server::Server;
 use std::io::{Read, Write};
 use std::net::{Shutdown, SocketAddr, TcpStream};
@@ -8,7 +8,7 @@ use std::thread;
 use std::time::Duration;
 
 fn server(pairs: u32, connections: u32) -> SocketAddr {
-    let index = Index::new(pairs + HELD_SLOTS * connections, connections).unwrap();
+    let index = Index::new(pairs, connections).unwrap();
     let server = Server::bind("127.0.0.1:0", index).unwrap();
     let address = server.address().unwrap();
     thread::spawn(move || server.run());

@@ -1,0 +1,17 @@
+use Rattle.std.proofs.Common.{rules, refl, inl}
+use Rattle.tree_handles.proofs.caller.Caller.take_out.Goals as goal
+
+-- the seat as the removal left it, and nothing behind
+pub returns-in-Ok-clause-taken : goal.returns-in-Ok-clause-taken
+returns-in-Ok-clause-taken g c = (
+  c.in-Ok.removed.told,
+  record {
+    index = search rules;
+    before = search rules;
+    enough = search rules;
+    answered = c.remove.new.seat;
+    tells = search rules;
+    behind = inl (record { seat = refl; may = search rules });
+  },
+  search rules,
+)
