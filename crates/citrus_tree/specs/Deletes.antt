@@ -27,7 +27,7 @@ use Rattle.core_points.specs.declared.stage.Stage.{Stage}
 use Rattle.core_points.specs.declared.stage.Stage.TheVariants as at
 use Rattle.tree_points.specs.At.{IsAt}
 use Rattle.citrus_tree.specs.Going.{MayBegin}
-use Rattle.citrus_tree.specs.Gone.{KeepsWait, retired_marks, waits_in}
+use Rattle.citrus_tree.specs.Gone.{KeepsWait, NeededSlots, retired_marks, waits_in}
 use Rattle.seat_table.specs.Seats.{SeatAt}
 use Rattle.seat_table.specs.Sections.{Makes}
 use Rattle.citrus_tree.specs.Lookups.{is_load, is_of_lookup}
@@ -125,16 +125,16 @@ pub record HasCopied (v : View) (key next_key node number : ℕ) (w : View) : Ty
 abbrev pub IsReadyToDelete : Shape → View → View → Type 0
 IsReadyToDelete k v w = (key kept : ℕ) → key < 2 ^ 64 → kept + 4 ≤ v.allowance.tickets → MayBegin k (Del key) kept w
 
--- A wait for everybody was begun and has ended; that comes only where the place had room for one more retired slot at most, or no spare.
-pub record HasWaitedForRoom (k : Shape) (v : View) (marks : List Mark) : Type 0 where
+-- A wait for everybody was begun and has ended; that comes only where it is needed.
+pub record HasWaitedForRoom (k : Shape) (v : View) (marks : List Mark) (w : View) : Type 0 where
   pub count : ℕ
   pub marks_are : marks ≡ Began v.allowance.place count 0 18446744073709551615 ∷ (Ended v.allowance.place count ∷ [])
-  pub why : (k.room ≤ length v.hands.retired + 1) ⊎ (v.hands.spare ≡ None)
+  pub why : NeededSlots k v w
 
 pub record HasMadeRoom (k : Shape) (v w : View) : Type 0 where
   pub marks : List Mark
   pub gone : HasGone v w marks
-  pub waited : (marks ≡ []) ⊎ HasWaitedForRoom k v marks
+  pub waited : (marks ≡ []) ⊎ HasWaitedForRoom k v marks w
   pub waits : v.counts.waits ≤ w.counts.waits
   pub latest : KeepsWait v w
 

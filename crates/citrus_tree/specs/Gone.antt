@@ -1,6 +1,6 @@
 -- What a call leaves of marks, and what it leaves alone.
 -- Source: docs/TREE_CALLS.md, "The calls".
-use Rattle.std.specs.Prelude.{◌≡◌, ◌⊎◌, ℕ, ◌+◌, ◌-◌, ◌*◌, ◌≤◌, Bool, List, [], ◌∷◌, ◌++◌, length, map, Some}
+use Rattle.std.specs.Prelude.{◌≡◌, ◌⊎◌, ℕ, ◌+◌, ◌-◌, ◌*◌, ◌≤◌, Bool, List, [], ◌∷◌, ◌++◌, length, map, Some, None}
 use Rattle.std.specs.List.{AllByRecursion}
 use Rattle.std.specs.FinMap as finite
 use mathlib.Core.List.{IsPrefix}
@@ -61,14 +61,19 @@ pub record HasBegunFirst (v w : View) : Type 0 where
 abbrev pub KeepsWait : View → View → Type 0
 KeepsWait v w = HasBegunNone v w ⊎ HasBegunFirst v w
 
--- A put begins a wait only where slots were retired at the call, and where with these, and as many as each other place may keep from it,
--- the dictionary filled the slots at some front in the call: after these marks.
+-- No slot was free for the place, and it had some to give back: slots were retired at the call, and with these, and as many as each other
+-- place may keep from it, the dictionary filled the slots at some front in the call: after these marks. A put begins a wait only there.
 pub record NeededRoom (k : Shape) (v w : View) : Type 0 where
   pub retired : 1 ≤ length v.hands.retired
   pub until : List Mark
   pub since : IsPrefix v.seen until
   pub made : IsPrefix until w.seen
   pub fills : k.slots ≤ finite.len (map_of (updates_of until)) + length v.hands.retired + (k.room + 4) * (k.places - 1)
+
+-- A del begins a wait for everybody only where the place had room for one more retired slot at most at the call; or where it had no spare
+-- then, and no slot was free for one.
+abbrev pub NeededSlots : Shape → View → View → Type 0
+NeededSlots k v w = (k.room ≤ length v.hands.retired + 1) ⊎ ((v.hands.spare ≡ None) × NeededRoom k v w)
 
 -- a retired slot with what a later wait needs of it: where its unlinking stands among the marks, and whether it was waited for
 abbrev pub retired_marks : View → List (ℕ × ℕ × Bool)

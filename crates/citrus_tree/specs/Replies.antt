@@ -22,7 +22,7 @@ use Rattle.core_state.specs.declared.view.View.{View}
 use Rattle.seat_table.specs.Seats.{SeatAt}
 use Rattle.seat_table.specs.Waits.{EndWith}
 use Rattle.tree_points.specs.Progress.{HasGone}
-use Rattle.citrus_tree.specs.Gone.{AreTries, NeededRoom, waits_in}
+use Rattle.citrus_tree.specs.Gone.{AreTries, NeededRoom, NeededSlots, waits_in}
 
 -- A section with the key was entered at the place after all that was seen at the call, and left before what is seen now. It is the last
 -- one:
@@ -117,8 +117,7 @@ pub record RetiresInOrder (s : SeatAt) (key number : ℕ) (t : SeatAt) : Type 0 
   pub kept_is : (kept ≡ s.listed) ⊎ (kept ≡ [])
   pub listed : t.listed ≡ kept ++ deleted ∷ old
 
--- After its update a del has begun no other wait, or just the one for its move. Before it one for everybody at most, where at the call the
--- place had room for one more retired slot at most, or no spare.
+-- After its update a del has begun no other wait, or just the one for its move. Before it one for everybody at most, where that was needed.
 abbrev pub DelsBy : View → ℕ → List Mark → Reply → ℕ → View → Type 0
 DelsBy v key tries Gone number w = (before after : List Mark) × HasUpdated v (Del key) tries before after number w
     × ((after ≡ []) ⊎ IsMoveWait v before key after)
@@ -127,7 +126,7 @@ DelsBy v key tries _ number w = ⊥
 
 abbrev pub Dels : Shape → View → ℕ → Told → View → Type 0
 Dels k v key told w = (tries : List Mark) × DelsBy v key tries told.reply told.number w
-    × (1 ≤ waits_in tries → (k.room ≤ length v.hands.retired + 1) ⊎ (v.hands.spare ≡ None))
+    × (1 ≤ waits_in tries → NeededSlots k v w)
 
 -- The update of this number took this pair out: the dictionary of the updates before it had the pair.
 pub record TookOut (history : List Update) (caller key value number : ℕ) : Type 0 where

@@ -55,7 +55,7 @@ struct TakenOut {
 /// and behind it the old successor, where the node had two children. `Absent` as at `get`. It waits for the holders of the locks of the
 /// nodes that it touches, and for other updates. Where the node has two children it waits too, after its update, for the open sections
 /// whose keys lie above the key and up to the next one. Before its first search it may wait for all open sections, but only where its place
-/// has room for one more retired slot at most at the call, or has no spare then.
+/// has room for one more retired slot at most at the call, or has no spare then and no slot is free for one.
 pub fn del<P: Patience, W: WaitPart, G: Gate>(
     patience: &P,
     table: &CitrusTable<W>,

@@ -104,7 +104,7 @@ pub fn set<R: Wait, W: WaitPart, G: Gate>(
 /// and behind it the old successor, where the node had two children. `Absent` as at `get`. It waits for the holders of the locks of the
 /// nodes that it touches, and for other updates. Where the node has two children it waits too, after its update, for the open sections
 /// whose keys lie above the key and up to the next one. Before its first search it may wait for all open sections, but only where its place
-/// has room for one more retired slot at most at the call, or has no spare then.
+/// has room for one more retired slot at most at the call, or has no spare then and no slot is free for one.
 pub fn del<R: Wait, W: WaitPart, G: Gate>(
     rt: &R,
     table: &CitrusTable<W>,

@@ -1,9 +1,13 @@
 -- What a delete does before its first search: it sees to a spare, and to room among the retired slots.
-use Rattle.std.proofs.Common.{◌≡◌, ◌≢◌, ℕ, ◌+◌, ◌^◌, ◌<◌, ◌≤◌, true, false, List, [], ◌∷◌, map, length, Option, Some, None, refl, sym, ap, subst, ◌∙◌, ◌⊎◌, inl, inr, ⊎_elim, arith}
+use Rattle.std.proofs.Common.{◌≡◌, ◌≢◌, ℕ, ◌+◌, ◌-◌, ◌*◌, ◌^◌, ◌<◌, ◌≤◌, true, false, List, [], ◌∷◌, map, length, Option, Some, None, refl, sym, ap, subst, ◌∙◌, ◌⊎◌, inl, inr, ⊎_elim, arith}
+use Rattle.std.specs.FinMap as finite
 use mathlib.Core.List.{IsPrefix}
 use Rattle.std.specs.Option.{is_some}
 use Rattle.list_laws.specs.Counts.{Each, times}
 use Rattle.prcu_marks.specs.declared.mark.Mark.TheVariants.{Began, Ended}
+use Rattle.prcu_marks.specs.Marks.{updates_of}
+use Rattle.prcu_model.specs.Dictionary.{map_of}
+use Rattle.prcu_model.proofs.ListFacts.{prefix_self, prefix_trans}
 use Rattle.prcu_model.specs.declared.operation.Op.TheVariants.{Del}
 use Rattle.core_state.specs.declared.shape.Shape.{Shape}
 use Rattle.core_state.specs.declared.view.Held.{Held}
@@ -27,6 +31,8 @@ use Rattle.tree_points.proofs.Staying.{stays}
 use Rattle.tree_points.proofs.Updating.{needs_keep, passes_keep}
 use Rattle.citrus_tree.specs.Going.{IsSeated}
 use Rattle.citrus_tree.specs.Deletes.{HasMadeRoom, HasWaitedForRoom, IsReadyToDelete, KeepsWaits}
+use Rattle.citrus_tree.specs.Gone.{NeededRoom, NeededSlots}
+use Rattle.citrus_tree.proofs.puts.Filling.{at_least_one}
 use Rattle.citrus_tree.proofs.sets.Replacing.{may_begin}
 use Rattle.citrus_tree.proofs.KeepingWaits.{none_begun, none_yet, reclaimed_first, wait_later}
 
@@ -59,7 +65,7 @@ room_same v = record { marks = []; gone = gone_same; waited = inl refl; waits = 
 
 -- All retired slots were given back.
 pub room_reclaimed : {k : Shape} {v w : View} {listed : List ℕ} → HasReclaimed k v listed w
-    → (k.room ≤ length v.hands.retired + 1) ⊎ (v.hands.spare ≡ None) → HasMadeRoom k v w
+    → NeededSlots k v w → HasMadeRoom k v w
 room_reclaimed {k} {v} {w} {listed} back why = record {
   marks = Began v.allowance.place v.counts.waits 0 18446744073709551615 ∷ (Ended v.allowance.place v.counts.waits ∷ []);
   gone = reclaim_gone back;
@@ -68,6 +74,23 @@ room_reclaimed {k} {v} {w} {listed} back why = record {
   latest = inr (reclaimed_first back);
 }
 
+-- What was needed then was needed at the call, since when nothing was retired and the spare is the same.
+needed_before : {k : Shape} {v w x : View} → IsPrefix v.seen w.seen → w.hands.retired ≡ v.hands.retired → w.hands.spare ≡ v.hands.spare
+    → NeededSlots k w x → NeededSlots k v x
+needed_before {k} {v} {w} {x} seen retired spare = ⊎_elim
+    (λ (many : k.room ≤ length w.hands.retired + 1). inl (subst (λ (rs : List Retired). k.room ≤ length rs + 1) retired many))
+    (λ (full : (w.hands.spare ≡ None) × NeededRoom k w x). inr (
+      sym spare ∙ full.0,
+      record {
+        retired = subst (λ (rs : List Retired). 1 ≤ length rs) retired full.1.retired;
+        until = full.1.until;
+        since = prefix_trans v.seen w.seen full.1.until seen full.1.since;
+        made = full.1.made;
+        fills = subst (λ (rs : List Retired). k.slots
+            ≤ finite.len (map_of (updates_of full.1.until)) + length rs + (k.room + 4) * (k.places - 1)) retired full.1.fills;
+      },
+    ))
+
 -- Nothing of the place's own was left before.
 pub room_later : {k : Shape} {v w x : View} → HasGone v w [] → KeepsWaits v w → w.hands.retired ≡ v.hands.retired → w.hands.spare ≡ v.hands.spare
     → HasMadeRoom k w x → HasMadeRoom k v x
@@ -75,11 +98,10 @@ room_later {k} {v} {w} {x} g same retired spare r = record {
   marks = r.marks;
   gone = gone_on g r.gone;
   waited = ⊎_elim (λ (none : r.marks ≡ []). inl none)
-      (λ (f : HasWaitedForRoom k w r.marks). inr (record {
+      (λ (f : HasWaitedForRoom k w r.marks x). inr (record {
         count = f.count;
         marks_are = f.marks_are ∙ ap (λ p. Began p f.count 0 18446744073709551615 ∷ (Ended p f.count ∷ [])) g.same;
-        why = ⊎_elim (λ (many : k.room ≤ length w.hands.retired + 1). inl (subst (λ (rs : List Retired). k.room ≤ length rs + 1) retired many))
-            (λ (none : w.hands.spare ≡ None). inr (sym spare ∙ none)) f.why;
+        why = needed_before g.begins retired spare f.why;
       })) r.waited;
   waits = subst (λ n. n ≤ x.counts.waits) same.count r.waits;
   latest = wait_later (none_begun g same.count same.wait) r.latest;
@@ -162,8 +184,20 @@ module _ {k : Shape} {v : View} (quiet : IsQuiet v) where
               (gives_all empty.spare_comes same back);
         }
 
+        needed_spare : NeededSlots k w x
+        needed_spare = let spare = ap (λ (z : View). z.hands.spare) empty.rest ∙ none in inr (
+          spare,
+          record {
+            retired = at_least_one w.hands.retired (empty.spare_comes spare);
+            until = w.seen;
+            since = prefix_self w.seen;
+            made = (reclaim_gone back).begins;
+            fills = empty.full quiet.moving quiet.owes;
+          },
+        )
+
         pub room_spare : IsPrefix v.trail.steps w.trail.steps → HasMadeRoom k v x
         room_spare steps = room_later (none_gone empty steps) (record
             { wait = ap (λ (z : View). z.wait) empty.rest; count = ap (λ (z : View). z.counts.waits) empty.rest })
             (ap (λ (z : View). z.hands.retired) empty.rest) (ap (λ (z : View). z.hands.spare) empty.rest)
-            (room_reclaimed back (inr (ap (λ (z : View). z.hands.spare) empty.rest ∙ none)))
+            (room_reclaimed back needed_spare)

@@ -1,5 +1,5 @@
 -- A delete's tries, one after another, and the call whole.
-use Rattle.std.proofs.Common.{◌≡◌, ℕ, ◌+◌, ◌-◌, ◌^◌, ◌<◌, ◌≤◌, ◌==◌, cond, List, [], ◌∷◌, ◌++◌, Option, Some, None, refl, sym, ap, subst, ◌∙◌, inl, inr, ⊎_elim, arith, eq-eqb, append_assoc}
+use Rattle.std.proofs.Common.{◌≡◌, ℕ, ◌+◌, ◌-◌, ◌^◌, ◌<◌, ◌≤◌, ◌==◌, cond, List, [], ◌∷◌, ◌++◌, length, Option, Some, None, refl, sym, ap, subst, ◌∙◌, inl, inr, ⊎_elim, arith, eq-eqb, append_assoc}
 use Rattle.std.specs.List.{AllByRecursion}
 use mathlib.Core.List.{IsPrefix}
 use Rattle.prcu_marks.specs.declared.mark.Mark.{Mark}
@@ -27,9 +27,10 @@ use Rattle.citrus_tree.specs.Beginnings.{BeginsByLookup}
 use Rattle.citrus_tree.proofs.Beginning.{MayHaveBegun, begins_later, begins_searched}
 use Rattle.citrus_tree.specs.Deletes.{DelsAtOnce, HasDeleted, HasMadeRoom, HasSearched, HasWaitedForRoom, IsReadyToDelete, KeepsRest, KeepsWaits, retired_slots, TellsTaken}
 use Rattle.citrus_tree.specs.Going.{MayBegin}
-use Rattle.citrus_tree.specs.Gone.{AreTries, IsOfTry, KeepsWait, waits_in}
+use Rattle.citrus_tree.specs.Gone.{AreTries, IsOfTry, KeepsWait, NeededRoom, NeededSlots, waits_in}
 use Rattle.citrus_tree.specs.Replies.{Dels, DelsBy, IsMoveWait, RetiresInOrder, TellsValue, TookOut, WasAnswered}
 use Rattle.citrus_tree.proofs.sets.Replacing.{may_begin, waits_in-append}
+use Rattle.citrus_tree.proofs.puts.Filling.{needed_on}
 use Rattle.citrus_tree.proofs.deletes.Retiring.{retires_before}
 use Rattle.citrus_tree.proofs.deletes.Sections.{answered_before}
 use Rattle.citrus_tree.proofs.KeepingWaits.{none_begun, wait_later, wait_on}
@@ -175,6 +176,22 @@ pub tried_retires : {k : Shape} {key : ℕ} (r l q y : SeatAt) (number : ℕ) �
     → HasSearched l.view key q.view → q.listed ≡ r.listed → RetiresInOrder q key number y → RetiresInOrder r key number y
 tried_retires {key = key} r l q y number t s same x = retires_before r q y key number (gone_on t.gone s.gone) (inl same) x
 
+-- the marks that a delete left
+dels_gone : (v w : View) (key number : ℕ) (ms : List Mark) (reply : Reply) → DelsBy v key ms reply number w
+    → (left : List Mark) × HasGone v w left
+dels_gone v w key number ms Gone d = ((ms ++ Done (record { caller = v.allowance.place; op = Del key }) ∷ []) ++ d.1, d.2.own)
+dels_gone v w key number ms Absent d = (ms, d.1.own)
+dels_gone v w key number ms New d = absurd d
+dels_gone v w key number ms Old d = absurd d
+dels_gone v w key number ms Full d = absurd d
+dels_gone v w key number ms (Val value) d = absurd d
+dels_gone v w key number ms (Was value) d = absurd d
+
+-- a wait that was needed by what had been seen
+needed_later : {k : Shape} {v u w : View} → IsPrefix u.seen w.seen → NeededSlots k v u → NeededSlots k v w
+needed_later {k} {v} {u} {w} seen = ⊎_elim (λ (many : k.room ≤ length v.hands.retired + 1). inl many)
+    (λ (full : (v.hands.spare ≡ None) × NeededRoom k v u). inr (full.0, needed_on full.1 seen))
+
 -- The call whole: what came before its first search, and the rest.
 module _ {k : Shape} {v u : View} (room : HasMadeRoom k v u) (key : ℕ) where
   place_first : u.allowance.place ≡ v.allowance.place
@@ -182,12 +199,12 @@ module _ {k : Shape} {v u : View} (room : HasMadeRoom k v u) (key : ℕ) where
 
   first_each : AllByRecursion (IsOfTry v.allowance.place key) room.marks
   first_each = ⊎_elim (λ (bare : room.marks ≡ []). subst (AllByRecursion (IsOfTry v.allowance.place key)) (sym bare) tt)
-      (λ (f : HasWaitedForRoom k v room.marks). subst (AllByRecursion (IsOfTry v.allowance.place key)) (sym f.marks_are)
+      (λ (f : HasWaitedForRoom k v room.marks u). subst (AllByRecursion (IsOfTry v.allowance.place key)) (sym f.marks_are)
       ((refl, refl, refl), (refl, tt))) room.waited
 
   first_once : waits_in room.marks ≤ 1
   first_once = ⊎_elim (λ (bare : room.marks ≡ []). subst (λ ms. waits_in ms ≤ 1) (sym bare) (omega arith))
-      (λ (f : HasWaitedForRoom k v room.marks). subst (λ ms. waits_in ms ≤ 1) (sym f.marks_are) (omega arith)) room.waited
+      (λ (f : HasWaitedForRoom k v room.marks u). subst (λ ms. waits_in ms ≤ 1) (sym f.marks_are) (omega arith)) room.waited
 
   all_tries : (ms : List Mark) → waits_in ms ≡ 0 → AreTries u.allowance.place key ms → AreTries v.allowance.place key (room.marks ++ ms)
   all_tries ms bare are = record {
@@ -238,24 +255,15 @@ module _ {k : Shape} {v u : View} (room : HasMadeRoom k v u) (key : ℕ) where
     dels_by ms bare w told.reply told.number by,
     λ some. ⊎_elim (λ (e : room.marks ≡ []). absurd
         (let f : waits_in room.marks ≡ 0 = ap waits_in e in let split = waits_in-append room.marks ms in omega arith))
-        (λ (f : HasWaitedForRoom k v room.marks). f.why) room.waited,
+        (λ (f : HasWaitedForRoom k v room.marks u). needed_later (dels_gone u w key told.number ms told.reply by).1.begins f.why) room.waited,
   )
 
   pub keeps_wait : (w : View) → KeepsWait u w → KeepsWait v w
   keeps_wait w later = wait_on room.waits room.latest later
 
 -- of the allowance only tickets were used
-dels_keep : (v w : View) (key number : ℕ) (ms : List Mark) (reply : Reply) → DelsBy v key ms reply number w → KeepsAllowance v w
-dels_keep v w key number ms Gone d = d.2.own.allowance
-dels_keep v w key number ms Absent d = d.1.own.allowance
-dels_keep v w key number ms New d = absurd d
-dels_keep v w key number ms Old d = absurd d
-dels_keep v w key number ms Full d = absurd d
-dels_keep v w key number ms (Val value) d = absurd d
-dels_keep v w key number ms (Was value) d = absurd d
-
 pub dels_allowance : (k : Shape) (v w : View) (key : ℕ) (told : Told) → Dels k v key told w → KeepsAllowance v w
-dels_allowance k v w key told d = dels_keep v w key told.number d.0 told.reply d.1
+dels_allowance k v w key told d = (dels_gone v w key told.number d.0 told.reply d.1).1.allowance
 
 -- What a call that is ready and comes to its end leaves: the seat is quiet, and it used four tickets at most.
 module _ {k : Shape} (v : View) {u w : View} {key : ℕ} (ready : IsReadyToDelete k v u) (fits : key < 2 ^ 64)

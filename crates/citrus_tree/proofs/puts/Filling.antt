@@ -148,7 +148,7 @@ some_retired (x ∷ xs) rs long some none = absurd (let e = ap length none in om
 pub something_retired : (s : SeatAt) → AreListed s → s.listed ≢ [] → s.view.hands.retired ≢ []
 something_retired s are some = some_retired s.listed s.view.hands.retired (listed_length s are) some
 
-at_least_one : (rs : List Retired) → rs ≢ [] → 1 ≤ length rs
+pub at_least_one : (rs : List Retired) → rs ≢ [] → 1 ≤ length rs
 at_least_one [] some = absurd (some refl)
 at_least_one (r ∷ rs) some = omega arith
 
