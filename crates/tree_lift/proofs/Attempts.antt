@@ -1,0 +1,439 @@
+-- The parts of an attempt, one after another, and attempts one after another.
+use Rattle.std.specs.List.{AllByRecursion}
+use Rattle.std.proofs.Common.{◌≡◌, ◌≢◌, ◌⊎◌, ℕ, ◌+◌, ◌*◌, ◌-◌, ◌<◌, ◌≤◌, Bool, true, false, List, [], ◌∷◌, ◌++◌, length, map, Option, Some, None, inl, inr, ⊎_elim, refl, sym, ap, subst, ◌∙◌, arith, append-nil, length-append}
+use Rattle.std.proofs.lemmas.List.{map-append}
+use mathlib.Core.List.{IsPrefix}
+use Rattle.core.specs.Int.{from_bool}
+use Rattle.prcu_model.proofs.ListFacts.{all_append}
+use Rattle.prcu_marks.specs.declared.mark.Mark.{Mark}
+use Rattle.prcu_marks.specs.declared.mark.Mark.TheVariants.{Entered, Left, Began, Ended}
+use Rattle.core_state.specs.declared.shape.Shape.{Shape}
+use Rattle.core_state.specs.declared.view.Held.{Held}
+use Rattle.core_state.specs.declared.view.Reading.{Reading}
+use Rattle.core_state.specs.declared.view.Retired.{Retired}
+use Rattle.core_state.specs.declared.view.View.{View}
+use Rattle.list_laws.specs.Counts.{IsIn, Each}
+use Rattle.seat_table.specs.Gains.{IsInformed}
+use Rattle.seat_table.specs.Seats.{SeatAt, IsQuietSeat, AreListed}
+use Rattle.node_slots.specs.Reclaiming.{HasReclaimed, first_spare}
+use Rattle.node_slots.specs.Slots.{PutsBack}
+use Rattle.node_slots.proofs.Listed.{listed_length}
+use Rattle.node_slots.proofs.Points.{MayReclaim, gives_all, reclaim_gone, reclaim_retired}
+use Rattle.tree_points.specs.Progress.{HasGone}
+use Rattle.tree_points.proofs.Ends.{none_raised}
+use Rattle.tree_points.proofs.Gone.{gone_on, gone_same}
+use Rattle.citrus_tree.specs.Going.{Goes}
+use Rattle.citrus_tree.specs.Gone.{IsOfTry, KeepsSlots, KeepsWait, retired_marks}
+use Rattle.core_state.specs.views.Views.{unraised_among}
+use Rattle.citrus_tree.proofs.Leavings.{goes_on}
+use Rattle.citrus_tree.proofs.KeepingSlots.{slots_goes, slots_more, slots_on, slots_reclaimed, slots_self}
+use Rattle.citrus_tree.proofs.KeepingWaits.{none_begun, none_yet, reclaimed_first, wait_on}
+use Rattle.citrus_tree.proofs.deletes.Room.{empty_listed}
+use Rattle.tree_turn.specs.declared.turn.Turn.{Turn}
+use Rattle.tree_turn.specs.Turns.{HasRecorded, HasTurned, HasTurnedNone, IsQuietButHand, IsReadyToTurn}
+use Rattle.tree_lift.specs.declared.lifting.Aim.{Aim}
+use Rattle.tree_lift.specs.Ways.{HasRead, RecordsTurn, Finds}
+use Rattle.tree_lift.specs.Rooms.{HasBoth, MakesRoom, Reclaims, TakesSlots}
+use Rattle.tree_lift.specs.declared.lifting.Attempt.TheVariants.{Tried, Ended as EndedBy}
+use Rattle.tree_lift.specs.declared.lifting.Stop.{Stop}
+use Rattle.tree_lift.specs.declared.lifting.Stop.TheVariants.{Level, NoRoom, NoSlot}
+use Rattle.tree_lift.specs.Lifts.{LeavesNoUpdate, Proceeds, TurnMade, WasTurned, AreTurns, EndsBy, Attempts, HasAttempted, HasLifted}
+use Rattle.tree_lift.proofs.Ways.{goes_read, read_quiet}
+use Rattle.tree_lift.proofs.Slots.{goes_back, put_back_quiet}
+
+-- no update was left
+same_place : (key : ℕ) {p q : ℕ} → q ≡ p → (ms : List Mark) → AllByRecursion (IsOfTry q key) ms → AllByRecursion (IsOfTry p key) ms
+same_place key e ms = subst (λ z. AllByRecursion (IsOfTry z key) ms) e
+
+pub left_none : {v w : View} (key : ℕ) → HasGone v w [] → LeavesNoUpdate v key w
+left_none key gone = record { marks = []; gone = gone; each = tt }
+
+pub left_on : {u v w : View} {key : ℕ} → LeavesNoUpdate u key v → LeavesNoUpdate v key w → LeavesNoUpdate u key w
+left_on {u} {v} {w} {key} a b = record {
+  marks = a.marks ++ b.marks;
+  gone = gone_on a.gone b.gone;
+  each = all_append (IsOfTry u.allowance.place key) a.marks b.marks a.each (same_place key a.gone.same b.marks b.each);
+}
+
+pub left_read : {v w : View} {key : ℕ} {r : Reading} → HasRead v key r w → LeavesNoUpdate v key w
+left_read read = record { marks = _; gone = (goes_read read).gone; each = ((refl, refl), (refl, tt)) }
+
+left_reclaimed : {k : Shape} {v w : View} {listed : List ℕ} (key : ℕ) → HasReclaimed k v listed w → LeavesNoUpdate v key w
+left_reclaimed key back = record { marks = _; gone = reclaim_gone back; each = ((refl, refl, refl), (refl, tt)) }
+
+-- the parts of an attempt
+pub proceeds_same : (key : ℕ) (hard : Bool) (s : SeatAt) → Proceeds key hard s s
+proceeds_same key hard s = record {
+  updates = left_none key gone_same;
+  wait = inl (none_yet s.view);
+  slots = slots_self s;
+  unwaited = λ no. refl;
+  informed = λ told. told;
+}
+
+pub proceeds_on : (key : ℕ) (hard : Bool) (r s t : SeatAt) → Proceeds key hard r s → Proceeds key hard s t → Proceeds key hard r t
+proceeds_on key hard r s t a b = record {
+  updates = left_on a.updates b.updates;
+  wait = wait_on a.slots.waits a.wait b.wait;
+  slots = slots_on r s t a.slots b.slots;
+  unwaited = λ no. b.unwaited no ∙ a.unwaited no;
+  informed = λ told. b.informed (a.informed told);
+}
+
+proceeds_goes : (key : ℕ) (hard : Bool) (s t : SeatAt) (ms : List Mark) → Goes s.view t.view ms → AllByRecursion (IsOfTry s.view.allowance.place key) ms
+    → t.listed ≡ s.listed → (IsInformed s.view → IsInformed t.view) → Proceeds key hard s t
+proceeds_goes key hard s t ms goes each listed informed = record {
+  updates = record { marks = ms; gone = goes.gone; each = each };
+  wait = inl (none_begun goes.gone goes.waits goes.wait);
+  slots = slots_goes s t ms goes listed;
+  unwaited = λ no. goes.waits;
+  informed = informed;
+}
+
+proceeds_reclaimed : (k : Shape) (key : ℕ) (hard : Bool) (s t : SeatAt) → Reclaims k hard s t → (IsInformed s.view → IsInformed t.view)
+    → Proceeds key hard s t
+proceeds_reclaimed k key hard s t back informed = record {
+  updates = left_reclaimed key back.back;
+  wait = inr (reclaimed_first back.back);
+  slots = slots_reclaimed s t back.back;
+  unwaited = λ no. absurd (let e : true ≡ false = sym back.stands_still ∙ no in cc);
+  informed = informed;
+}
+
+-- Room was made.
+pub may_reclaim_room : (s : SeatAt) → IsQuietSeat s → 1 ≤ s.view.allowance.tickets → MayReclaim s.view
+may_reclaim_room s q paid = record {
+  outside = q.view.section;
+  unlocked = q.view.locks;
+  settled = q.view.moving;
+  paid = q.view.owes;
+  ticket = paid;
+  unraised = none_raised s.view.hands.retired q.view.raised;
+}
+
+-- What an attempt knows once there is room: two more slots may be retired, and it has three tickets left, or two and a spare.
+pub record HasRoom (k : Shape) (key : ℕ) (hard : Bool) (s t : SeatAt) : Type 0 where
+  pub proceeds : Proceeds key hard s t
+  pub quiet : IsQuietSeat t
+  pub few : length t.view.hands.retired + 1 < k.room
+  pub tickets : (s.view.allowance.tickets ≡ t.view.allowance.tickets)
+      ⊎ ((s.view.allowance.tickets ≤ t.view.allowance.tickets + 1) × (t.view.hands.spare ≢ None))
+
+room_there : (k : Shape) (key : ℕ) (hard : Bool) (s t : SeatAt) → t ≡ s → length s.view.hands.retired + 1 < k.room → IsQuietSeat s
+    → HasRoom k key hard s t
+room_there k key hard s t same few q = subst (HasRoom k key hard s) (sym same)
+    (record { proceeds = proceeds_same key hard s; quiet = q; few = few; tickets = inl refl })
+
+some_retired : (most : ℕ) (rs : List Retired) → 2 ≤ most → most ≤ length rs + 1 → rs ≢ []
+some_retired most rs roomy many none = let long = ap length none in absurd (omega (arith, roomy, many, long))
+
+pub reclaimed_quiet : (k : Shape) (s t : SeatAt) (listed : List ℕ) → HasReclaimed k s.view listed t.view → t.listed ≡ [] → IsQuietSeat s
+    → IsQuietSeat t
+reclaimed_quiet k s t listed back none q =
+    let e = back.rest in record {
+      view = record {
+        section = ap (λ (z : View). z.section) e ∙ q.view.section;
+        locks = ap (λ (z : View). z.locks) e ∙ q.view.locks;
+        reserved = ap (λ (z : View). z.hands.reserved) e ∙ q.view.reserved;
+        hand = ap (λ (z : View). z.hands.hand) e ∙ q.view.hand;
+        moving = ap (λ (z : View). z.moving) e ∙ q.view.moving;
+        owes = ap (λ (z : View). z.hands.owes) e ∙ q.view.owes;
+        commit = ap (λ (z : View). z.commit) e ∙ q.view.commit;
+        raised = subst (λ (rs : List Retired). unraised_among rs ≡ length rs) (sym (reclaim_retired back)) refl;
+      };
+      listed = empty_listed t none (reclaim_retired back);
+    }
+
+room_reclaimed : (k : Shape) (key : ℕ) (hard : Bool) (s t : SeatAt) → Reclaims k hard s t → (IsInformed s.view → IsInformed t.view)
+    → IsQuietSeat s → HasRoom k key hard s t
+room_reclaimed k key hard s t back informed q =
+    let all = gives_all (λ none. some_retired k.room s.view.hands.retired back.roomy back.many) q.listed.each back.back in record {
+      proceeds = proceeds_reclaimed k key hard s t back informed;
+      quiet = reclaimed_quiet k s t s.listed back.back back.listed q;
+      few = (let long = ap (length {A = Retired}) (reclaim_retired back.back) in let roomy = back.roomy in omega arith);
+      tickets = inr (all.paid, all.spare);
+    }
+
+pub has_room : (k : Shape) (key : ℕ) (hard : Bool) (s t : SeatAt) → MakesRoom k hard s true t → (IsInformed s.view → IsInformed t.view)
+    → IsQuietSeat s → HasRoom k key hard s t
+has_room k key hard s t room informed q = ⊎_elim
+    (λ (there : (t ≡ s) × (length s.view.hands.retired + 1 < k.room)). room_there k key hard s t there.0 there.1 q)
+    (λ (back : Reclaims k hard s t). room_reclaimed k key hard s t back informed q)
+    room
+
+-- Where there is none nothing was done.
+pub room_lacking : (k : Shape) (aim : Aim) (s t : SeatAt) → MakesRoom k aim.hard s false t → IsQuietSeat s
+    → HasAttempted k aim s (EndedBy NoRoom) t
+room_lacking k aim s t none q = subst (HasAttempted k aim s (EndedBy NoRoom)) (sym none.0) (record {
+  proceeds = proceeds_same aim.key aim.hard s;
+  attempts = (left_none aim.key gone_same, (none.1, none.2));
+  tickets = omega arith;
+  quiet = q;
+})
+
+module _ (k : Shape) (key : ℕ) (hard : Bool) (s t : SeatAt) (room : HasRoom k key hard s t) where
+  -- A section went down the way.
+  module _ (u : SeatAt) (r : Reading) (read : HasRead t.view key r u.view) (listed : u.listed ≡ t.listed) where
+    pub proceeds_read : Proceeds key hard s u
+    proceeds_read = proceeds_on key hard s t u room.proceeds
+        (proceeds_goes key hard t u _ (goes_read read) ((refl, refl), (refl, tt)) listed (λ told. read.informed))
+
+    pub read_tickets : s.view.allowance.tickets ≤ u.view.allowance.tickets + 3
+    read_tickets = ⊎_elim
+        (λ (same : s.view.allowance.tickets ≡ t.view.allowance.tickets). let e = ap (λ (z : View). z.allowance.tickets) read.others in omega arith)
+        (λ (paid : (s.view.allowance.tickets ≤ t.view.allowance.tickets + 1) × (t.view.hands.spare ≢ None)).
+        let a = paid.0 in let e = ap (λ (z : View). z.allowance.tickets) read.others in omega arith)
+        room.tickets
+
+    pub two_left : 3 ≤ s.view.allowance.tickets → 2 ≤ u.view.allowance.tickets
+    two_left three = ⊎_elim
+        (λ (same : s.view.allowance.tickets ≡ t.view.allowance.tickets). let e = ap (λ (z : View). z.allowance.tickets) read.others in omega arith)
+        (λ (paid : (s.view.allowance.tickets ≤ t.view.allowance.tickets + 1) × (t.view.hands.spare ≢ None)).
+        let a = paid.0 in let e = ap (λ (z : View). z.allowance.tickets) read.others in omega arith)
+        room.tickets
+
+    pub quiet_read : IsQuietSeat u
+    quiet_read = read_quiet t u read listed room.quiet
+
+    -- Slots were taken, or none was free.
+    module _ (some : Bool) (x : SeatAt) (takes : TakesSlots k u some x) (same : x.listed ≡ u.listed) where
+      pub proceeds_takes : Proceeds key hard s x
+      proceeds_takes = proceeds_on key hard s u x proceeds_read (proceeds_goes key hard u x [] takes.goes tt same takes.informed)
+
+      -- one ticket is left for the turn
+      pub takes_tickets : s.view.allowance.tickets ≤ x.view.allowance.tickets + 2
+      takes_tickets =
+          let e = ap (λ (z : View). z.allowance.tickets) read.others in
+          ⊎_elim
+          (λ (same : s.view.allowance.tickets ≡ t.view.allowance.tickets). let a = takes.tickets in omega arith)
+          (λ (paid : (s.view.allowance.tickets ≤ t.view.allowance.tickets + 1) × (t.view.hands.spare ≢ None)).
+          let a = paid.0 in
+          let b = takes.fewer (λ none. paid.1 (sym (ap (λ (z : View). z.hands.spare) read.others) ∙ none)) in
+          omega arith)
+          room.tickets
+
+      pub few_takes : length x.view.hands.retired + 1 < k.room
+      few_takes =
+          let a = ap (length {A = Retired}) takes.goes.retired in
+          let b = ap (λ (z : View). length z.hands.retired) read.others in
+          let c = room.few in
+          omega arith
+
+      module _ (turn : Turn) (salt : ℕ) (recorded : RecordsTurn k key salt turn r) where
+        kept_takes : IsIn x.view.records r
+        kept_takes = subst (λ l. IsIn l r) (sym (takes.records ∙ ap (λ (z : View). z.records) read.others)) (0, refl)
+
+        pub has_recorded : HasRecorded k x.view turn
+        has_recorded = record {
+          three = recorded.three;
+          reading = r;
+          kept = kept_takes;
+          parent_age = recorded.parent_age;
+          node_age = recorded.node_age;
+          child_age = recorded.child_age;
+        }
+
+        pub ready : some ≡ true → 3 ≤ s.view.allowance.tickets → IsReadyToTurn k.room x.view
+        ready taken three =
+            let both = takes.both taken in
+            let q = both.quiet.quiet.view in record {
+              outside = q.section;
+              unlocked = q.locks;
+              settled = q.moving;
+              ticket = (let a = takes_tickets in omega arith);
+              room = few_takes;
+              hand = both.hand;
+              hand_is = both.hand_is;
+              unraised = both.unraised;
+              spare = both.spare;
+              spare_is = both.spare_is;
+            }
+
+        pub listed_takes : some ≡ true → AreListed x
+        listed_takes taken = record { each = (takes.both taken).quiet.quiet.listed.each }
+
+        -- The turn was made.
+        module _ (y : SeatAt) (gone : HasGone x.view y.view []) where
+          proceeds_turned : HasTurned x.view turn y.view → y.listed ≡ x.listed ++ turn.node ∷ (turn.child ∷ []) → IsInformed y.view
+              → Proceeds key hard x y
+          proceeds_turned turned retires informed =
+              let e = turned.rest in record {
+                updates = left_none key gone;
+                wait = inl (none_begun gone (ap (λ (z : View). z.counts.waits) e) (ap (λ (z : View). z.wait) e));
+                slots = slots_more x y
+                    (map (λ (r : Retired). (r.slot, r.unlinked, r.waited)) (turned.node_gone ∷ (turned.child_gone ∷ [])))
+                    (turn.node ∷ (turn.child ∷ []))
+                    (ap (λ (z : View). z.counts.waits) e) (ap (λ (z : View). z.wait) e)
+                    (ap retired_marks e ∙ map-append (λ (r : Retired). (r.slot, r.unlinked, r.waited)) x.view.hands.retired
+                    (turned.node_gone ∷ (turned.child_gone ∷ [])))
+                    retires;
+                unwaited = λ no. ap (λ (z : View). z.counts.waits) e;
+                informed = λ told. informed;
+              }
+
+          pub all_turned : HasTurned x.view turn y.view → y.listed ≡ x.listed ++ turn.node ∷ (turn.child ∷ []) → IsInformed y.view
+              → Proceeds key hard s y
+          all_turned turned retires informed = proceeds_on key hard s x y proceeds_takes (proceeds_turned turned retires informed)
+
+          pub turn_made : HasTurned x.view turn y.view → (m : TurnMade) × AreTurns k key salt s.view (m ∷ []) y.view
+          turn_made turned = (
+            record { turn = turn; reading = r; before = x.view; after = y.view },
+            (proceeds_takes.updates, record { recorded = recorded; kept = kept_takes; turned = turned }, left_none key gone_same),
+          )
+
+          pub turned_tickets : HasTurned x.view turn y.view → s.view.allowance.tickets ≤ y.view.allowance.tickets + 3
+          turned_tickets turned =
+              let e = ap (λ (z : View). z.allowance.tickets) turned.rest in
+              let a = takes_tickets in
+              omega arith
+
+          -- It wasn't, and the slot in hand was put back.
+          module _ (none : HasTurnedNone x.view turn y.view) (still : IsQuietButHand y) (same_list : y.listed ≡ x.listed) where
+            pub held_still : some ≡ true → (held : Held) × (y.view.hands.hand ≡ Some held) × (held.raised ≡ false)
+            held_still taken =
+                let both = takes.both taken in
+                (both.hand, ap (λ (z : View). z.hands.hand) none.rest ∙ both.hand_is, both.unraised)
+
+            module _ (z : SeatAt) (slot : ℕ) (back : PutsBack y.view slot z.view) (last : z.listed ≡ y.listed) (told : IsInformed z.view) where
+              none_goes : Goes x.view y.view []
+              none_goes = record {
+                gone = gone;
+                retired = ap (λ (z : View). z.hands.retired) none.rest;
+                wait = ap (λ (z : View). z.wait) none.rest;
+                waits = ap (λ (z : View). z.counts.waits) none.rest;
+              }
+
+              pub all_lost : Proceeds key hard s z
+              all_lost = proceeds_on key hard s x z proceeds_takes
+                  (proceeds_goes key hard x z [] (goes_on none_goes (goes_back back)) tt (last ∙ same_list) (λ was. told))
+
+              pub lost_quiet : IsQuietSeat z
+              lost_quiet = put_back_quiet y z back last still
+
+              pub lost_tickets : s.view.allowance.tickets ≤ z.view.allowance.tickets + 3
+              lost_tickets =
+                  let e = ap (λ (z : View). z.allowance.tickets) none.rest in
+                  let f = ap (λ (z : View). z.allowance.tickets) back.rest in
+                  let a = takes_tickets in
+                  omega arith
+
+-- What an attempt comes to, by its ends.
+module _ (k : Shape) (aim : Aim) (s t : SeatAt) (room : HasRoom k aim.key aim.hard s t) (u : SeatAt) (listed : u.listed ≡ t.listed) where
+  pub level_attempt : Finds k t.view aim.key aim.salt None u.view → HasAttempted k aim s (EndedBy Level) u
+  level_attempt found =
+      let on = proceeds_read k aim.key aim.hard s t room u found.0 found.1 listed in record {
+        proceeds = on;
+        attempts = (on.updates, (t.view, found));
+        tickets = read_tickets k aim.key aim.hard s t room u found.0 found.1 listed;
+        quiet = quiet_read k aim.key aim.hard s t room u found.0 found.1 listed;
+      }
+
+  module _ (turn : Turn) (found : Finds k t.view aim.key aim.salt (Some turn) u.view) where
+    pub quiet_found : IsQuietSeat u
+    quiet_found = quiet_read k aim.key aim.hard s t room u found.0 found.1 listed
+
+    pub two_found : 3 ≤ s.view.allowance.tickets → 2 ≤ u.view.allowance.tickets
+    two_found = two_left k aim.key aim.hard s t room u found.0 found.1 listed
+
+    pub none_attempt : (x : SeatAt) → TakesSlots k u false x → x.listed ≡ u.listed → HasAttempted k aim s (EndedBy NoSlot) x
+    none_attempt x takes same =
+        let on = proceeds_takes k aim.key aim.hard s t room u found.0 found.1 listed false x takes same in
+        let none = takes.none refl in record {
+          proceeds = on;
+          attempts = (on.updates, none.full);
+          tickets = (let a = takes_tickets k aim.key aim.hard s t room u found.0 found.1 listed false x takes same in omega arith);
+          quiet = none.quiet;
+        }
+
+    module _ (x : SeatAt) (takes : TakesSlots k u true x) (same : x.listed ≡ u.listed) where
+      pub recorded_there : HasRecorded k x.view turn
+      recorded_there = has_recorded k aim.key aim.hard s t room u found.0 found.1 listed true x takes same turn aim.salt found.2
+
+      pub ready_there : 3 ≤ s.view.allowance.tickets → IsReadyToTurn k.room x.view
+      ready_there = ready k aim.key aim.hard s t room u found.0 found.1 listed true x takes same turn aim.salt found.2 refl
+
+      pub listed_there : AreListed x
+      listed_there = listed_takes k aim.key aim.hard s t room u found.0 found.1 listed true x takes same turn aim.salt found.2 refl
+
+      module _ (y : SeatAt) (gone : HasGone x.view y.view []) where
+        pub turned_attempt : HasTurned x.view turn y.view → y.listed ≡ x.listed ++ turn.node ∷ (turn.child ∷ []) → IsInformed y.view
+            → IsQuietSeat y → HasAttempted k aim s (Tried true) y
+        turned_attempt turned retires informed quiet = record {
+          proceeds = all_turned k aim.key aim.hard s t room u found.0 found.1 listed true x takes same turn aim.salt found.2 y gone turned
+              retires informed;
+          attempts = turn_made k aim.key aim.hard s t room u found.0 found.1 listed true x takes same turn aim.salt found.2 y gone turned;
+          tickets = turned_tickets k aim.key aim.hard s t room u found.0 found.1 listed true x takes same turn aim.salt found.2 y gone turned;
+          quiet = quiet;
+        }
+
+        module _ (none : HasTurnedNone x.view turn y.view) (still : IsQuietButHand y) (same_list : y.listed ≡ x.listed) where
+          pub held_there : (held : Held) × (y.view.hands.hand ≡ Some held) × (held.raised ≡ false)
+          held_there = held_still k aim.key aim.hard s t room u found.0 found.1 listed true x takes same turn aim.salt found.2 y gone none
+              still same_list refl
+
+          pub lost_attempt : (z : SeatAt) → PutsBack y.view held_there.0.slot z.view → z.listed ≡ y.listed → IsInformed z.view
+              → HasAttempted k aim s (Tried false) z
+          lost_attempt z back last told =
+              let on = all_lost k aim.key aim.hard s t room u found.0 found.1 listed true x takes same turn aim.salt found.2 y gone none
+              still same_list z held_there.0.slot back last told in record {
+                proceeds = on;
+                attempts = on.updates;
+                tickets = lost_tickets k aim.key aim.hard s t room u found.0 found.1 listed true x takes same turn aim.salt found.2 y gone
+                    none still same_list z held_there.0.slot back last told;
+                quiet = lost_quiet k aim.key aim.hard s t room u found.0 found.1 listed true x takes same turn aim.salt found.2 y gone none
+                    still same_list z held_there.0.slot back last told;
+              }
+
+-- attempts one after another
+pub turns_on : (k : Shape) (key salt : ℕ) (u v w : View) (a b : List TurnMade) → AreTurns k key salt u a v → AreTurns k key salt v b w
+    → AreTurns k key salt u (a ++ b) w
+turns_on k key salt u v w [] [] first second = left_on first second
+turns_on k key salt u v w [] (t ∷ later) first second = (left_on first second.0, second.1, second.2)
+turns_on k key salt u v w (t ∷ earlier) b first second = (first.0, first.1, turns_on k key salt t.after v w earlier b first.2 second)
+
+pub lifted_none : (k : Shape) (aim : Aim) (v : View) → HasLifted k aim 0 v v
+lifted_none k aim v = record { made = []; many = refl; are = left_none aim.key gone_same }
+
+pub lifted_one : (k : Shape) (aim : Aim) (turns : ℕ) (u v w : View) → HasLifted k aim turns u v
+    → (m : TurnMade) × AreTurns k aim.key aim.salt v (m ∷ []) w → HasLifted k aim (turns + 1) u w
+lifted_one k aim turns u v w has one = record {
+  made = has.made ++ one.0 ∷ [];
+  many = length-append has.made (one.0 ∷ []) ∙ ap (λ n. n + 1) has.many;
+  are = turns_on k aim.key aim.salt u v w has.made (one.0 ∷ []) has.are one.1;
+}
+
+pub lifted_still : (k : Shape) (aim : Aim) (turns : ℕ) (u v w : View) → HasLifted k aim turns u v → LeavesNoUpdate v aim.key w
+    → HasLifted k aim turns u w
+lifted_still k aim turns u v w has none = record {
+  made = has.made;
+  many = has.many;
+  are = subst (λ l. AreTurns k aim.key aim.salt u l w) (append-nil has.made) (turns_on k aim.key aim.salt u v w has.made [] has.are none);
+}
+
+pub lifted_tried : (k : Shape) (aim : Aim) (turns : ℕ) (turned : Bool) (u v w : View) → HasLifted k aim turns u v
+    → Attempts k aim v (Tried turned) w → HasLifted k aim (turns + from_bool turned) u w
+lifted_tried k aim turns true u v w has made = lifted_one k aim turns u v w has made
+lifted_tried k aim turns false u v w has made = subst (λ n. HasLifted k aim n u w) (omega arith) (lifted_still k aim turns u v w has made)
+
+pub one_at_most : (turned : Bool) → from_bool turned ≤ 1
+one_at_most true = omega arith
+one_at_most false = omega arith
+
+-- What a lift comes to, where an attempt ended it, and where all attempts were made.
+pub record HasEnded (k : Shape) (aim : Aim) (turns : ℕ) (stop : Stop) (s t : SeatAt) : Type 0 where
+  pub proceeds : Proceeds aim.key aim.hard s t
+  pub lifted : HasLifted k aim turns s.view t.view
+  pub ends : EndsBy k aim stop t.view
+  pub tickets : s.view.allowance.tickets ≤ t.view.allowance.tickets + 3 * aim.attempts
+  pub quiet : IsQuietSeat t
+
+pub ended_lift : (k : Shape) (aim : Aim) (turns i : ℕ) (stop : Stop) (s t u : SeatAt) → Proceeds aim.key aim.hard s t
+    → HasLifted k aim turns s.view t.view → s.view.allowance.tickets ≤ t.view.allowance.tickets + 3 * i → i < aim.attempts
+    → HasAttempted k aim t (EndedBy stop) u → HasEnded k aim turns stop s u
+ended_lift k aim turns i stop s t u proceeds lifted tickets more made = record {
+  proceeds = proceeds_on aim.key aim.hard s t u proceeds made.proceeds;
+  lifted = lifted_still k aim turns s.view t.view u.view lifted made.attempts.0;
+  ends = made.attempts.1;
+  tickets = (let last = made.tickets in omega arith);
+  quiet = made.quiet;
+}

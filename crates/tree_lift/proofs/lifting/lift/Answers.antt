@@ -1,0 +1,176 @@
+use Rattle.std.proofs.Common.{◌≡◌, ◌+◌, ◌*◌, ◌<◌, ◌≤◌, refl, subst, ◌∙◌, arith}
+use Rattle.seat_table.specs.Seats.{shape_of}
+use Rattle.tree_lift.specs.Lifts.{HasAttempted}
+use Rattle.tree_lift.proofs.Attempts.{lifted_none, lifted_tried, one_at_most, proceeds_on, proceeds_same, ended_lift}
+use Rattle.tree_lift.proofs.lifting.lift.Goals as goal
+
+pub loop-i-init : goal.loop-i-init
+loop-i-init g c = record {
+  table = refl;
+  quiet = c.requires.quiet;
+  proceeds = proceeds_same c.args.aim.key c.args.aim.hard c.args.seat.now;
+  lifted = lifted_none (shape_of g.W.WaitWords.WAY c.args.table.now) c.args.aim c.args.seat.now.view;
+  few = omega arith;
+  tickets = omega arith;
+}
+
+pub make_attempt-requires-clause-tickets : goal.make_attempt-requires-clause-tickets
+make_attempt-requires-clause-tickets g c =
+    let left = c.loop-i.invariant.tickets in
+    let all = c.requires.tickets in
+    let more = c.loop-i-test.true in
+    omega arith
+
+pub loop-i-preserved : goal.loop-i-preserved
+loop-i-preserved g c =
+    let k = shape_of g.W.WaitWords.WAY c.args.table.now in
+    let inv = c.loop-i.invariant in
+    let turned = c.in-Tried.turned in
+    let made = subst (λ a. HasAttempted k c.args.aim c.loop-i.seat a c.make_attempt.new.seat) c.in-Tried.is
+    c.in_ok-make_attempt.ensures.attempted in record {
+      table = c.make_attempt.ensures.table ∙ inv.table;
+      quiet = made.quiet;
+      proceeds = proceeds_on c.args.aim.key c.args.aim.hard c.args.seat.now c.loop-i.seat c.make_attempt.new.seat inv.proceeds made.proceeds;
+      lifted = lifted_tried k c.args.aim c.loop-i.turns turned c.args.seat.now.view c.loop-i.seat.view c.make_attempt.new.seat.view inv.lifted
+          made.attempts;
+      few = (let a = inv.few in let b = one_at_most turned in omega arith);
+      tickets = (let a = inv.tickets in let b = made.tickets in omega arith);
+    }
+
+pub returns-in-Ended-clause-updates : goal.returns-in-Ended-clause-updates
+returns-in-Ended-clause-updates g c =
+    let k = shape_of g.W.WaitWords.WAY c.args.table.now in
+    let inv = c.loop-i.invariant in
+    let ended = ended_lift k c.args.aim c.loop-i.turns c.loop-i.i c.in-Ended.stop c.args.seat.now c.loop-i.seat c.make_attempt.new.seat
+    inv.proceeds inv.lifted inv.tickets c.loop-i-test.true
+    (subst (λ a. HasAttempted k c.args.aim c.loop-i.seat a c.make_attempt.new.seat) c.in-Ended.is c.in_ok-make_attempt.ensures.attempted) in
+    ended.proceeds.updates
+
+pub returns-in-Ended-clause-turns : goal.returns-in-Ended-clause-turns
+returns-in-Ended-clause-turns g c =
+    let k = shape_of g.W.WaitWords.WAY c.args.table.now in
+    let inv = c.loop-i.invariant in
+    let ended = ended_lift k c.args.aim c.loop-i.turns c.loop-i.i c.in-Ended.stop c.args.seat.now c.loop-i.seat c.make_attempt.new.seat
+    inv.proceeds inv.lifted inv.tickets c.loop-i-test.true
+    (subst (λ a. HasAttempted k c.args.aim c.loop-i.seat a c.make_attempt.new.seat) c.in-Ended.is c.in_ok-make_attempt.ensures.attempted) in
+    ended.lifted
+
+pub returns-in-Ended-clause-ends : goal.returns-in-Ended-clause-ends
+returns-in-Ended-clause-ends g c =
+    let k = shape_of g.W.WaitWords.WAY c.args.table.now in
+    let inv = c.loop-i.invariant in
+    let ended = ended_lift k c.args.aim c.loop-i.turns c.loop-i.i c.in-Ended.stop c.args.seat.now c.loop-i.seat c.make_attempt.new.seat
+    inv.proceeds inv.lifted inv.tickets c.loop-i-test.true
+    (subst (λ a. HasAttempted k c.args.aim c.loop-i.seat a c.make_attempt.new.seat) c.in-Ended.is c.in_ok-make_attempt.ensures.attempted) in
+    ended.ends
+
+pub returns-in-Ended-clause-wait : goal.returns-in-Ended-clause-wait
+returns-in-Ended-clause-wait g c =
+    let k = shape_of g.W.WaitWords.WAY c.args.table.now in
+    let inv = c.loop-i.invariant in
+    let ended = ended_lift k c.args.aim c.loop-i.turns c.loop-i.i c.in-Ended.stop c.args.seat.now c.loop-i.seat c.make_attempt.new.seat
+    inv.proceeds inv.lifted inv.tickets c.loop-i-test.true
+    (subst (λ a. HasAttempted k c.args.aim c.loop-i.seat a c.make_attempt.new.seat) c.in-Ended.is c.in_ok-make_attempt.ensures.attempted) in
+    ended.proceeds.wait
+
+pub returns-in-Ended-clause-unwaited : goal.returns-in-Ended-clause-unwaited
+returns-in-Ended-clause-unwaited g c =
+    let k = shape_of g.W.WaitWords.WAY c.args.table.now in
+    let inv = c.loop-i.invariant in
+    let ended = ended_lift k c.args.aim c.loop-i.turns c.loop-i.i c.in-Ended.stop c.args.seat.now c.loop-i.seat c.make_attempt.new.seat
+    inv.proceeds inv.lifted inv.tickets c.loop-i-test.true
+    (subst (λ a. HasAttempted k c.args.aim c.loop-i.seat a c.make_attempt.new.seat) c.in-Ended.is c.in_ok-make_attempt.ensures.attempted) in
+    ended.proceeds.unwaited
+
+pub returns-in-Ended-clause-slots : goal.returns-in-Ended-clause-slots
+returns-in-Ended-clause-slots g c =
+    let k = shape_of g.W.WaitWords.WAY c.args.table.now in
+    let inv = c.loop-i.invariant in
+    let ended = ended_lift k c.args.aim c.loop-i.turns c.loop-i.i c.in-Ended.stop c.args.seat.now c.loop-i.seat c.make_attempt.new.seat
+    inv.proceeds inv.lifted inv.tickets c.loop-i-test.true
+    (subst (λ a. HasAttempted k c.args.aim c.loop-i.seat a c.make_attempt.new.seat) c.in-Ended.is c.in_ok-make_attempt.ensures.attempted) in
+    ended.proceeds.slots
+
+pub returns-in-Ended-clause-tickets : goal.returns-in-Ended-clause-tickets
+returns-in-Ended-clause-tickets g c =
+    let k = shape_of g.W.WaitWords.WAY c.args.table.now in
+    let inv = c.loop-i.invariant in
+    let ended = ended_lift k c.args.aim c.loop-i.turns c.loop-i.i c.in-Ended.stop c.args.seat.now c.loop-i.seat c.make_attempt.new.seat
+    inv.proceeds inv.lifted inv.tickets c.loop-i-test.true
+    (subst (λ a. HasAttempted k c.args.aim c.loop-i.seat a c.make_attempt.new.seat) c.in-Ended.is c.in_ok-make_attempt.ensures.attempted) in
+    ended.tickets
+
+pub returns-in-Ended-clause-allowance : goal.returns-in-Ended-clause-allowance
+returns-in-Ended-clause-allowance g c =
+    let k = shape_of g.W.WaitWords.WAY c.args.table.now in
+    let inv = c.loop-i.invariant in
+    let ended = ended_lift k c.args.aim c.loop-i.turns c.loop-i.i c.in-Ended.stop c.args.seat.now c.loop-i.seat c.make_attempt.new.seat
+    inv.proceeds inv.lifted inv.tickets c.loop-i-test.true
+    (subst (λ a. HasAttempted k c.args.aim c.loop-i.seat a c.make_attempt.new.seat) c.in-Ended.is c.in_ok-make_attempt.ensures.attempted) in
+    ended.proceeds.updates.gone.allowance
+
+pub returns-in-Ended-clause-quiet : goal.returns-in-Ended-clause-quiet
+returns-in-Ended-clause-quiet g c =
+    let k = shape_of g.W.WaitWords.WAY c.args.table.now in
+    let inv = c.loop-i.invariant in
+    let ended = ended_lift k c.args.aim c.loop-i.turns c.loop-i.i c.in-Ended.stop c.args.seat.now c.loop-i.seat c.make_attempt.new.seat
+    inv.proceeds inv.lifted inv.tickets c.loop-i-test.true
+    (subst (λ a. HasAttempted k c.args.aim c.loop-i.seat a c.make_attempt.new.seat) c.in-Ended.is c.in_ok-make_attempt.ensures.attempted) in
+    ended.quiet
+
+pub returns-in-Ended-clause-informed : goal.returns-in-Ended-clause-informed
+returns-in-Ended-clause-informed g c =
+    let k = shape_of g.W.WaitWords.WAY c.args.table.now in
+    let inv = c.loop-i.invariant in
+    let ended = ended_lift k c.args.aim c.loop-i.turns c.loop-i.i c.in-Ended.stop c.args.seat.now c.loop-i.seat c.make_attempt.new.seat
+    inv.proceeds inv.lifted inv.tickets c.loop-i-test.true
+    (subst (λ a. HasAttempted k c.args.aim c.loop-i.seat a c.make_attempt.new.seat) c.in-Ended.is c.in_ok-make_attempt.ensures.attempted) in
+    ended.proceeds.informed
+
+pub returns-in-Ended-clause-few : goal.returns-in-Ended-clause-few
+returns-in-Ended-clause-few g c =
+    let few = c.loop-i.invariant.few in let more = c.loop-i-test.true in omega arith
+
+pub returns-clause-updates : goal.returns-clause-updates
+returns-clause-updates g c =
+    let inv = c.loop-i.invariant in inv.proceeds.updates
+
+pub returns-clause-turns : goal.returns-clause-turns
+returns-clause-turns g c =
+    let inv = c.loop-i.invariant in inv.lifted
+
+pub returns-clause-ends : goal.returns-clause-ends
+returns-clause-ends g c =
+    tt
+
+pub returns-clause-wait : goal.returns-clause-wait
+returns-clause-wait g c =
+    let inv = c.loop-i.invariant in inv.proceeds.wait
+
+pub returns-clause-unwaited : goal.returns-clause-unwaited
+returns-clause-unwaited g c =
+    let inv = c.loop-i.invariant in inv.proceeds.unwaited
+
+pub returns-clause-slots : goal.returns-clause-slots
+returns-clause-slots g c =
+    let inv = c.loop-i.invariant in inv.proceeds.slots
+
+pub returns-clause-allowance : goal.returns-clause-allowance
+returns-clause-allowance g c =
+    let inv = c.loop-i.invariant in inv.proceeds.updates.gone.allowance
+
+pub returns-clause-quiet : goal.returns-clause-quiet
+returns-clause-quiet g c =
+    let inv = c.loop-i.invariant in inv.quiet
+
+pub returns-clause-informed : goal.returns-clause-informed
+returns-clause-informed g c =
+    let inv = c.loop-i.invariant in inv.proceeds.informed
+
+pub returns-clause-few : goal.returns-clause-few
+returns-clause-few g c =
+    let few = c.loop-i.invariant.few in let inside = c.loop-i.auto.i-end in omega arith
+
+pub returns-clause-tickets : goal.returns-clause-tickets
+returns-clause-tickets g c =
+    let left = c.loop-i.invariant.tickets in let inside = c.loop-i.auto.i-end in omega arith

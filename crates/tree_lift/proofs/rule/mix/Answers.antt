@@ -1,0 +1,7 @@
+use Rattle.std.proofs.Common.{refl}
+use Rattle.tree_lift.specs.Rule.{mixed}
+use Rattle.tree_lift.proofs.rule.mix.Goals as goal
+
+pub returns : goal.returns
+unfolding mixed
+returns c = refl

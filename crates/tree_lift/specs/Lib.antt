@@ -1,0 +1,4 @@
+pub mod Rule
+pub mod Ways
+pub mod Rooms
+pub mod Lifts

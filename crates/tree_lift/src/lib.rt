@@ -1,0 +1,11 @@
+//! The tree is kept shallow: a call that a caller makes after an update whose way was deep. On the way to a key it lets a node and its child
+//! change places where the child is to stand above. The dictionary stays as it was.
+#![tactic(auto)]
+
+mod finding;
+mod lifting;
+mod room;
+mod rule;
+
+pub use lifting::{Aim, Lifted, Stop, lift};
+pub use rule::{is_deep, is_far_too_deep, most_depth, rises_above};

@@ -1,0 +1,44 @@
+//! The rule by which the tree is kept shallow: which of a node and its child is to stand above the other, and when a way is deep.
+ghost use Rattle.std.specs.Prelude.{◌≡◌, ◌/◌, ℕ, nat_lt};
+ghost use Rattle.tree_lift.specs.Rule.{IsMostDepth, mixed, rises};
+
+// The finalizer of SplitMix64 (Steele, Lea and Flood, "Fast splittable pseudorandom number generators", 2014).
+fn mix(number: u64) -> u64
+    ensures { result ≡ mixed number }
+{
+    let first = (number ^ (number >> 30)).wrapping_mul(0xbf58_476d_1ce4_e5b9);
+    let second = (first ^ (first >> 27)).wrapping_mul(0x94d0_49bb_1331_11eb);
+    second ^ (second >> 31)
+}
+
+/// Whether a child is to stand above its node: whether the mix of its key's bits with the salt is the greater one. A tree in which no child
+/// rises above its node has the shape that it would have if its keys had been put in a random order, whatever order they came in: some 1.3
+/// times the binary logarithm of their number on average. Who knows the salt can choose keys whose mixes descend as the keys ascend, and so
+/// make the tree a path; so a salt is drawn once for each table, and not told.
+pub fn rises_above(salt: u64, child_key: u64, node_key: u64) -> bool
+    ensures { result ≡ rises salt child_key node_key }
+{
+    mix(node_key ^ salt) < mix(child_key ^ salt)
+}
+
+/// How many slots a way may lead over in a tree of so many keys before it is deep: 2 more than twice the number of binary digits.
+pub fn most_depth(size: u64) -> u64
+    ensures { IsMostDepth size result }
+{
+    let digits = u64::BITS - size.leading_zeros();
+    2 * u64::from(digits) + 2
+}
+
+/// Whether a way over so many slots is deep in a tree of so many keys.
+pub fn is_deep(depth: u64, size: u64) -> bool
+    ensures { (most : ℕ) × IsMostDepth size most × (result ≡ nat_lt most depth) }
+{
+    most_depth(size) < depth
+}
+
+/// Whether half of the way would be deep already, so that it is worth to stand still for readers.
+pub fn is_far_too_deep(depth: u64, size: u64) -> bool
+    ensures { (most : ℕ) × IsMostDepth size most × (result ≡ nat_lt most (depth / 2)) }
+{
+    most_depth(size) < depth / 2
+}
