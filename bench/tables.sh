@@ -55,6 +55,11 @@ lists() {
         { printf "| %s | %s | %s | %d of %d |\n", $1, rest, $3, $4, $5 }' "$1"
 }
 
+shapes() {
+    head_of 'keys come' keys threads 'ns a put' 'slots of a way' 'times log2 of the keys' 'longest way'
+    awk -F, '/^#/ || /^order/ { next } { printf "| %s | %s | %s | %s | %s | %s | %s |\n", $1, $2, $3, $4, $5, $6, $7 }' "$1"
+}
+
 # Medians of the Rust crate, and of other maps for Rust.
 rust_map() {
     head_of gets keys threads 'first waiter' second third 'BTreeMap, Mutex' RwLock DashMap
@@ -193,7 +198,7 @@ if [ $# -gt 0 ]; then
 fi
 out=$top/bench/out
 mkdir -p "$out"
-for name in tree waits lists threads text limits cookies embed rust_map server; do
+for name in tree waits lists shapes threads text limits cookies embed rust_map server; do
     [ -e "$results/$name.csv" ] || continue
     { echo; table "$name"; echo; } >"$out/table"
     put_in "$name" "$out/table"

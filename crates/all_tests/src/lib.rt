@@ -1,5 +1,5 @@
 //! Tests of the model, of intervals, of sources and sinks, of texts, of workers, of the machine, of the hash dictionary, of the tree's
-//! table and waiters, of the tree, and of the top call. They stand here and not in the crates that they are of, since tests are proved
+//! table and waiters, of the tree and its lifts, and of the top call. They stand here and not in the crates that they are of, since tests are proved
 //! together with all functions of their crate; and in one crate, since each reads what it needs of std anew.
 #![tactic(auto)]
 
@@ -8,7 +8,11 @@ mod hash;
 #[cfg(test)]
 mod intervals;
 #[cfg(test)]
+mod lifts;
+#[cfg(test)]
 mod machine;
+#[cfg(test)]
+mod merged;
 #[cfg(test)]
 mod model;
 #[cfg(test)]

@@ -43,6 +43,7 @@ macro_rules! call {
 
 mod cookies;
 mod histories;
+mod lifted;
 mod lists;
 mod removes;
 mod scripts;

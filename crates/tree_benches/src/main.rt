@@ -1,7 +1,7 @@
 //! `tree_benches [times] BENCH ROUNDS ..`: each bench with its number of rounds, one after another. It writes what was done, and how
 //! long it took only where `times` asks. The benches: `waits`, sections and waits while nobody reads; `lists`, lists of a key range at
 //! rest and beside a writer; `calls`, operations on a tree and on an ordered map under one lock; `cookies`, a writer beside a reader
-//! that stays in its sections for long.
+//! that stays in its sections for long; `shapes`, the shape of a tree after its keys came in some order.
 #![tactic(auto)]
 
 mod calls;
@@ -10,6 +10,7 @@ mod crew;
 mod jobs;
 mod lists;
 mod seated;
+mod shapes;
 mod waits;
 mod words;
 
@@ -34,6 +35,7 @@ fn measure<R: Threads + Wait + Sync + Runtime>(
         Bench::Lists => lists::MOST_ROUNDS,
         Bench::Calls => calls::MOST_ROUNDS,
         Bench::Cookies => cookies::MOST_ROUNDS,
+        Bench::Shapes => shapes::MOST_ROUNDS,
     };
     let Some(rounds) = rounds_of(word, most) else {
         return Ok(false);
@@ -44,6 +46,7 @@ fn measure<R: Threads + Wait + Sync + Runtime>(
         Bench::Lists => lists::measure_all(rt, alloc, &ask)?,
         Bench::Calls => calls::measure_all(rt, alloc, &ask)?,
         Bench::Cookies => cookies::measure_all(rt, alloc, &ask)?,
+        Bench::Shapes => shapes::measure_all(rt, alloc, &ask)?,
     }
     Ok(true)
 }

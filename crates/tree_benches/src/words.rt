@@ -13,6 +13,7 @@ pub enum Bench {
     Lists,
     Calls,
     Cookies,
+    Shapes,
 }
 
 impl Bench {
@@ -23,6 +24,7 @@ impl Bench {
             "lists" => Some(Bench::Lists),
             "calls" => Some(Bench::Calls),
             "cookies" => Some(Bench::Cookies),
+            "shapes" => Some(Bench::Shapes),
             _ => None,
         }
     }

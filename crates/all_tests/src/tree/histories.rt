@@ -24,7 +24,7 @@ const CALLS: u32 = 2000;
 const KEYS: u64 = 8;
 
 // The values of the keys at a front.
-type Values = [Option<u64>; 8];
+pub(super) type Values = [Option<u64>; 8];
 
 // Whether an operation is given this reply where the keys have these values, and four scripts share the slots.
 fn is_reply(values: &Values, slots: u32, op: Op, reply: Reply) -> bool {
@@ -43,7 +43,11 @@ fn is_reply(values: &Values, slots: u32, op: Op, reply: Reply) -> bool {
 }
 
 // The values after each front of the history, from none on. Each update does something.
-fn values_at(rt: &impl Abort, alloc: Global, history: &[Update]) -> Result<Vec<Values>, NoMemory> {
+pub(super) fn values_at(
+    rt: &impl Abort,
+    alloc: Global,
+    history: &[Update],
+) -> Result<Vec<Values>, NoMemory> {
     let mut map = PlainMap::new(alloc);
     let mut fronts = Vec::new(alloc);
     fronts.push([None; 8])?;
@@ -104,7 +108,7 @@ fn assert_explained(rt: &impl Abort, fronts: &[Values], slots: u32, script: &[Op
 }
 
 // That all that the scripts were told is explained.
-fn assert_all_explained(
+pub(super) fn assert_all_explained(
     rt: &impl Abort,
     fronts: &[Values],
     slots: u32,
@@ -124,7 +128,7 @@ fn assert_all_explained(
 }
 
 // A get of each key, which is told the value that is there.
-fn gets_of(values: &Values) -> [Call; 8] {
+pub(super) fn gets_of(values: &Values) -> [Call; 8] {
     let mut calls = [call!(get 0 none); 8];
     for key in 0..KEYS {
         let reply = match values[key as usize] {

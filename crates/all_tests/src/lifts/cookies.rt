@@ -1,0 +1,107 @@
+//! Cookies beside lifts: a lift that waits for nobody leaves a cookie as good as it was, and one that stands still gives it up.
+ghost use Rattle.std.specs.Prelude.{◌≡◌};
+ghost use Rattle.seat_table.specs.Seats.{IsQuietSeat};
+ghost use Rattle.grace_cookie.specs.Keeping.{KeepsCookies};
+
+use super::{NO_SALT, assert_there, lift_by, put_new};
+use crate::same::assert_same;
+use eer_wait::Eer;
+use grace_cookie::{Ask, ask, give_back, start};
+use seat_table::{CitrusTable, Seat, WaitPart};
+use std::process::Abort;
+use std::sync::Wait;
+use std::test::Fail;
+use tree_lift::{Aim, Stop};
+
+const KEYS: u64 = 60;
+
+// Puts the keys, ascending.
+fn put_path<R: Abort + Wait>(rt: &R, table: &CitrusTable<Eer>, seat: &mut Seat<Eer>)
+    requires table { seat.old.table ≡ table.now }
+    requires quiet { IsQuietSeat seat.old }
+    ensures table { seat.new.table ≡ seat.old.table }
+    ensures quiet { IsQuietSeat seat.new }
+{
+    for key in 0..KEYS {
+        put_new(rt, table, seat, key);
+    }
+}
+
+// Lifts the way to the greatest key by so many turns, without a wait, which leaves the seat's cookies as they are. How many slots are
+// retired then.
+fn lift_softly<R: Abort + Wait>(
+    rt: &R,
+    table: &CitrusTable<Eer>,
+    seat: &mut Seat<Eer>,
+    turns: u32,
+) -> usize
+    requires table { seat.old.table ≡ table.now }
+    requires quiet { IsQuietSeat seat.old }
+    ensures table { seat.new.table ≡ seat.old.table }
+    ensures quiet { IsQuietSeat seat.new }
+    ensures keeps { KeepsCookies seat.old seat.new }
+{
+    let aim = Aim {
+        key: KEYS - 1,
+        salt: NO_SALT,
+        attempts: turns,
+        hard: false,
+    };
+    let lifted = lift_by(rt, table, seat, aim);
+    assert_same(rt, lifted.turns, turns, "the turns");
+    assert_there(rt, table, seat, KEYS - 1, true);
+    seat.retired().len()
+}
+
+#[test]
+fn slots_of_lifts_go_back_once_the_cookie_is_over(rt: HostRuntime) -> Result<(), Fail> {
+    let (table, seat) = CitrusTable::<Eer>::new(rt.alloc(), 100, 2, 1000)?;
+    let (mut writer, mut reader) = seat.split(&table, 1, 4);
+    put_path(&rt, &table, &mut writer);
+    let before = lift_softly(&rt, &table, &mut writer, 2);
+    assert!(rt; writer.tickets() > 0);
+    Eer::enter(&table, &mut reader, 7);
+    let mut cookie = start(&table, &mut writer);
+    let beside = lift_softly(&rt, &table, &mut writer, 3);
+    let Ask::NotYet { why: _ } = ask(&table, &mut writer, &mut cookie) else {
+        panic!(rt; "the reader is inside");
+    };
+    Eer::leave(&table, &mut reader);
+    let Ask::Over = ask(&table, &mut writer, &mut cookie) else {
+        panic!(rt; "the reader has left");
+    };
+    // Those that were retired before it began. The first becomes the spare.
+    let given = give_back(&table, &mut writer, cookie);
+    let found = (before, beside, given, writer.retired().len());
+    assert_same(&rt, found, (4, 10, 4, 6), "the slots");
+    assert_same(&rt, writer.waits(), 1, "the waits");
+    Ok(())
+}
+
+#[test]
+fn a_lift_that_stands_still_gives_the_cookie_up(rt: HostRuntime) -> Result<(), Fail> {
+    let (table, mut seat) = CitrusTable::<Eer>::new(rt.alloc(), 100, 1, 1000)?;
+    put_path(&rt, &table, &mut seat);
+    let retired = lift_softly(&rt, &table, &mut seat, 8);
+    assert_same(&rt, retired, 16, "the room");
+    assert!(rt; seat.tickets() > 0);
+    let mut cookie = start(&table, &mut seat);
+    let aim = Aim {
+        key: KEYS - 1,
+        salt: NO_SALT,
+        attempts: 1,
+        hard: true,
+    };
+    let lifted = lift_by(&rt, &table, &mut seat, aim);
+    assert_same(
+        &rt,
+        (lifted.turns, lifted.stop),
+        (1, Stop::Spent),
+        "the lift",
+    );
+    let Ask::GivenUp { latest } = ask(&table, &mut seat, &mut cookie) else {
+        panic!(rt; "a later wait was begun");
+    };
+    assert_same(&rt, latest, 1, "the wait");
+    Ok(())
+}
