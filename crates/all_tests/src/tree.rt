@@ -48,6 +48,7 @@ mod lists;
 mod removes;
 mod scripts;
 mod searches;
+mod shallow;
 mod slots;
 
 // An operation, and what it is to be answered.
