@@ -75,7 +75,7 @@ fn lift_each<R: Abort + Wait>(
 }
 
 // A row of these.
-fn row_of(attempts: u32, hard: bool, turns: u32, stop: Stop, left: Left) -> Row {
+fn wanted(attempts: u32, hard: bool, turns: u32, stop: Stop, left: Left) -> Row {
     Row {
         attempts,
         hard,
@@ -90,15 +90,15 @@ fn a_path_is_lifted_as_far_as_there_is_room(rt: HostRuntime) -> Result<(), Fail>
     let (table, mut seat) = CitrusTable::<Eer>::new(rt.alloc(), 100, 1, 1_000_000)?;
     put_path(&rt, &table, &mut seat, 60);
     let rows = [
-        row_of(0, false, 0, Stop::Spent, (0, 0, 0, true)),
+        wanted(0, false, 0, Stop::Spent, (0, 0, 0, true)),
         // The first turn takes the spare that is there.
-        row_of(3, false, 3, Stop::Spent, (6, 0, 8, false)),
-        row_of(20, false, 5, Stop::NoRoom, (16, 0, 15, false)),
-        row_of(1, false, 0, Stop::NoRoom, (16, 0, 0, false)),
+        wanted(3, false, 3, Stop::Spent, (6, 0, 8, false)),
+        wanted(20, false, 5, Stop::NoRoom, (16, 0, 15, false)),
+        wanted(1, false, 0, Stop::NoRoom, (16, 0, 0, false)),
         // The wait takes a ticket, and its first slot becomes the spare.
-        row_of(1, true, 1, Stop::Spent, (2, 1, 3, false)),
-        row_of(200, true, 44, Stop::Level, (10, 6, 132, false)),
-        row_of(1, false, 0, Stop::Level, (10, 6, 0, false)),
+        wanted(1, true, 1, Stop::Spent, (2, 1, 3, false)),
+        wanted(200, true, 44, Stop::Level, (10, 6, 132, false)),
+        wanted(1, false, 0, Stop::Level, (10, 6, 0, false)),
     ];
     lift_each(&rt, &table, &mut seat, 59, &rows);
     Ok(())
@@ -116,7 +116,7 @@ fn a_tree_of_at_most_one_key_is_level(rt: HostRuntime) -> Result<(), Fail> {
     let empty = lift_by(&rt, &table, &mut seat, aim);
     assert_same(&rt, (empty.turns, empty.stop), (0, Stop::Level), "no key");
     put_path(&rt, &table, &mut seat, 1);
-    let rows = [row_of(1, true, 0, Stop::Level, (0, 0, 0, true))];
+    let rows = [wanted(1, true, 0, Stop::Level, (0, 0, 0, true))];
     lift_each(&rt, &table, &mut seat, 0, &rows);
     Ok(())
 }
@@ -125,14 +125,14 @@ fn a_tree_of_at_most_one_key_is_level(rt: HostRuntime) -> Result<(), Fail> {
 fn a_full_table_is_lifted_as_far_as_there_are_slots(rt: HostRuntime) -> Result<(), Fail> {
     let (table, mut seat) = CitrusTable::<Eer>::new(rt.alloc(), 4, 1, 1000)?;
     put_path(&rt, &table, &mut seat, 4);
-    let rows = [row_of(2, true, 0, Stop::NoSlot, (0, 0, 0, true))];
+    let rows = [wanted(2, true, 0, Stop::NoSlot, (0, 0, 0, true))];
     lift_each(&rt, &table, &mut seat, 3, &rows);
     let (table, mut seat) = CitrusTable::<Eer>::new(rt.alloc(), 5, 1, 1000)?;
     put_path(&rt, &table, &mut seat, 4);
     let rows = [
-        row_of(2, true, 1, Stop::NoSlot, (2, 0, 2, false)),
+        wanted(2, true, 1, Stop::NoSlot, (2, 0, 2, false)),
         // There is room for more retired slots, so it doesn't stand still.
-        row_of(2, true, 0, Stop::NoSlot, (2, 0, 0, false)),
+        wanted(2, true, 0, Stop::NoSlot, (2, 0, 0, false)),
     ];
     lift_each(&rt, &table, &mut seat, 3, &rows);
     Ok(())
@@ -146,10 +146,10 @@ fn a_lock_that_another_holds_costs_an_attempt(rt: HostRuntime) -> Result<(), Fai
     let Lock::Held = try_lock(&table, &mut other, 0) else {
         panic!(rt; "nobody holds the root");
     };
-    let rows = [row_of(2, true, 0, Stop::Spent, (0, 0, 2, true))];
+    let rows = [wanted(2, true, 0, Stop::Spent, (0, 0, 2, true))];
     lift_each(&rt, &table, &mut seat, 3, &rows);
     unlock(&table, &mut other, 0);
-    let rows = [row_of(5, true, 2, Stop::Level, (4, 0, 5, false))];
+    let rows = [wanted(5, true, 2, Stop::Level, (4, 0, 5, false))];
     lift_each(&rt, &table, &mut seat, 3, &rows);
     Ok(())
 }

@@ -4,8 +4,9 @@ use crate::same::assert_same;
 use std::test::Fail;
 use tree_lift::{is_deep, is_far_too_deep, most_depth, rises_above};
 
-// States of SplitMix64 from the seed 0 on, with the numbers that its reference in C and Java's SplittableRandom draw there.
-const DRAWN: [(u64, u64); 12] = [
+// Keys, with what SplitMix64's finalizer makes of them by its reference in C and by Java's SplittableRandom. The first twelve are its states
+// from the seed 0 on. Which of the last two is the greater turns on the last fold alone.
+const PRIORITIES: [(u64, u64); 14] = [
     (0x9e37_79b9_7f4a_7c15, 0xe220_a839_7b1d_cdaf),
     (0x3c6e_f372_fe94_f82a, 0x6e78_9e6a_a1b9_65f4),
     (0xdaa6_6d2c_7ddf_743f, 0x06c4_5d18_8009_454f),
@@ -18,13 +19,15 @@ const DRAWN: [(u64, u64); 12] = [
     (0x2e2a_c13e_f8e8_d8d2, 0xf3b8_488c_368c_b0a6),
     (0xcc62_3af8_7833_54e7, 0x657e_ecdd_3cb1_3d09),
     (0x6a99_b4b1_f77d_d0fc, 0xc2d3_26e0_055b_def6),
+    (0x8dbe_ec7d_d0cb_7432, 0x8000_0001_1234_5678),
+    (0xfb9f_d336_0d07_263b, 0x8000_0000_1234_567a),
 ];
 
 #[test]
 fn the_greater_number_of_splitmix64_rises(rt: HostRuntime) -> Result<(), Fail> {
     for salt in [NO_SALT, 1, 0x0123_4567_89ab_cdef, u64::MAX] {
-        for (child, upper) in DRAWN {
-            for (node, lower) in DRAWN {
+        for (child, upper) in PRIORITIES {
+            for (node, lower) in PRIORITIES {
                 let rises = rises_above(salt, child ^ salt, node ^ salt);
                 assert_same(&rt, rises, lower < upper, (salt, child, node));
             }
