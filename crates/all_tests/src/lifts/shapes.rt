@@ -1,5 +1,5 @@
 //! How shallow a tree becomes whose keys come in an order that would make it a path.
-ghost use Rattle.std.specs.Prelude.{◌≡◌};
+ghost use Rattle.std.specs.Prelude.{◌≡◌, ◌<◌};
 ghost use Rattle.seat_table.specs.Seats.{IsQuietSeat};
 
 use super::{NO_SALT, assert_there, depth_of, lift_by, put_new};
