@@ -59,10 +59,10 @@ fn a_way_is_deep_beyond_twice_the_digits_and_two(rt: HostRuntime) -> Result<(), 
         assert_same(&rt, most_depth(size), most, size);
         let deep = (is_deep(most, size), is_deep(most + 1, size));
         assert_same(&rt, deep, (false, true), size);
-        let twice = most + most;
+        let twice = most.wrapping_mul(2);
         let far = (
-            is_far_too_deep(twice + 1, size),
-            is_far_too_deep(twice + 2, size),
+            is_far_too_deep(twice.wrapping_add(1), size),
+            is_far_too_deep(twice.wrapping_add(2), size),
         );
         assert_same(&rt, far, (false, true), size);
     }

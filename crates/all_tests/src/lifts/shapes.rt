@@ -144,7 +144,7 @@ fn lift_deep<R: Abort + Wait>(
 // that long, and not far beyond. Half of the average is left to chance: 3,167 slots are on all ways where each is level.
 #[test]
 fn lifts_after_deep_puts_keep_ways_short(rt: HostRuntime) -> Result<(), Fail> {
-    let most = 2 * most_depth(KEYS) + 8;
+    let most = most_depth(KEYS).wrapping_mul(2).wrapping_add(8);
     for room in [16, 64, 256] {
         for order in Order::ALL {
             let (table, mut seat) = CitrusTable::<Eer>::with_room(

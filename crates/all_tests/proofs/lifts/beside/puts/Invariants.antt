@@ -1,0 +1,11 @@
+use Rattle.std.proofs.Common.{◌≡◌}
+use Rattle.seat_table.specs.Seats.{IsQuietSeat}
+use Rattle.all_tests.proofs.lifts.beside.puts.Given as goal
+
+-- the seat is of this table, and quiet
+abbrev pub invariant-loop-i : goal.invariant-loop-i
+invariant-loop-i g l = (l.seat.table ≡ l.table) × IsQuietSeat l.seat
+
+-- the seat is of this table, and quiet
+abbrev pub invariant-loop-i-2 : goal.invariant-loop-i-2
+invariant-loop-i-2 g l = (l.seat.table ≡ l.table) × IsQuietSeat l.seat
