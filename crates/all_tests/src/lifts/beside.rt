@@ -174,6 +174,18 @@ fn lists<R: Abort + Wait, W: WaitPart>(
     }
 }
 
+// Puts the keys that are listed, ascending.
+fn put_listed<R: Abort + Wait, W: WaitPart>(rt: &R, table: &CitrusTable<W>, seat: &mut Seat<W>)
+    requires table { seat.old.table ≡ table.now }
+    requires quiet { IsQuietSeat seat.old }
+    ensures table { seat.new.table ≡ seat.old.table }
+    ensures quiet { IsQuietSeat seat.new }
+{
+    for key in 0..LISTED {
+        put_new(rt, table, seat, key);
+    }
+}
+
 // A thread that lifts, and one that lists.
 fn list_beside<R: Threads + Wait + Sync + Abort, W: WaitPart + Sync>(
     rt: &R,
@@ -181,21 +193,19 @@ fn list_beside<R: Threads + Wait + Sync + Abort, W: WaitPart + Sync>(
 ) -> Result<(), Fail>
     requires way { W.WAY ≤ 2 }
 {
-    let (table, mut seat) = CitrusTable::<W>::new(alloc, 200, 2, TICKETS)?;
-    for key in 0..LISTED {
-        put_new(rt, &table, &mut seat, key);
-    }
+    let (table, seat) = CitrusTable::<W>::new(alloc, 200, 2, TICKETS)?;
+    let (mut lifter, lister) = seat.split(&table, 1, 0);
+    put_listed(rt, &table, &mut lifter);
     let page = Page::new(alloc, 128)?;
-    let (a, b) = seat.split(&table, 1, 0);
     let gate = Barrier::new(2);
     let (_, turns) = join(
         rt,
         || -> ()
-            requires { (b.table ≡ table) × IsQuietSeat b }
-        { lists(rt, &table, b, page, &gate) },
+            requires { (lister.table ≡ table) × IsQuietSeat lister }
+        { lists(rt, &table, lister, page, &gate) },
         || -> u64
-            requires { (a.table ≡ table) × IsQuietSeat a }
-        { lifts(rt, &table, a, &gate) },
+            requires { (lifter.table ≡ table) × IsQuietSeat lifter }
+        { lifts(rt, &table, lifter, &gate) },
     );
     assert!(rt; turns > LIFTS, "hardly anything was turned");
     Ok(())

@@ -3,15 +3,16 @@ ghost use Rattle.std.specs.Prelude.{◌≡◌};
 ghost use Rattle.seat_table.specs.Seats.{IsQuietSeat};
 ghost use Rattle.grace_cookie.specs.Keeping.{KeepsCookies};
 
-use super::{NO_SALT, assert_there, lift_by, put_new};
+use super::{NO_SALT, assert_there, put_new};
 use crate::same::assert_same;
 use eer_wait::Eer;
 use grace_cookie::{Ask, ask, give_back, start};
+use patience::Steadfast;
 use seat_table::{CitrusTable, Seat, WaitPart};
 use std::process::Abort;
 use std::sync::Wait;
 use std::test::Fail;
-use tree_lift::{Aim, Stop};
+use tree_lift::{Aim, Stop, lift};
 
 const KEYS: u64 = 60;
 
@@ -27,13 +28,14 @@ fn put_path<R: Abort + Wait>(rt: &R, table: &CitrusTable<Eer>, seat: &mut Seat<E
     }
 }
 
-// Lifts the way to the greatest key by so many turns, without a wait, which leaves the seat's cookies as they are. How many slots are
+// Lifts the way to the greatest key by so many turns. A cookie of the seat stays good unless the lift stands still. How many slots are
 // retired then.
-fn lift_softly<R: Abort + Wait>(
+fn lift_beside<R: Abort + Wait>(
     rt: &R,
     table: &CitrusTable<Eer>,
     seat: &mut Seat<Eer>,
     turns: u32,
+    hard: bool,
 ) -> usize
     requires table { seat.old.table ≡ table.now }
     requires quiet { IsQuietSeat seat.old }
@@ -41,16 +43,24 @@ fn lift_softly<R: Abort + Wait>(
     ensures quiet { IsQuietSeat seat.new }
     ensures keeps { KeepsCookies seat.old seat.new }
 {
+    assert!(rt;
+        seat.tickets() / 3 >= u64::from(turns),
+        "no tickets are left"
+    );
     let aim = Aim {
         key: KEYS - 1,
         salt: NO_SALT,
         attempts: turns,
-        hard: false,
+        hard,
     };
-    let lifted = lift_by(rt, table, seat, aim);
-    assert_same(rt, lifted.turns, turns, "the turns");
-    assert_there(rt, table, seat, KEYS - 1, true);
-    seat.retired().len()
+    match lift(&Steadfast::new(rt), table, seat, aim) {
+        Ok(lifted) => {
+            let ended = (lifted.turns, lifted.stop);
+            assert_same(rt, ended, (turns, Stop::Spent), "the lift");
+            seat.retired().len()
+        }
+        Err(never) => match never {},
+    }
 }
 
 #[test]
@@ -58,11 +68,11 @@ fn slots_of_lifts_go_back_once_the_cookie_is_over(rt: HostRuntime) -> Result<(),
     let (table, seat) = CitrusTable::<Eer>::new(rt.alloc(), 100, 2, 1000)?;
     let (mut writer, mut reader) = seat.split(&table, 1, 4);
     put_path(&rt, &table, &mut writer);
-    let before = lift_softly(&rt, &table, &mut writer, 2);
+    let before = lift_beside(&rt, &table, &mut writer, 2, false);
     assert!(rt; writer.tickets() > 0);
     Eer::enter(&table, &mut reader, 7);
     let mut cookie = start(&table, &mut writer);
-    let beside = lift_softly(&rt, &table, &mut writer, 3);
+    let beside = lift_beside(&rt, &table, &mut writer, 3, false);
     let Ask::NotYet { why: _ } = ask(&table, &mut writer, &mut cookie) else {
         panic!(rt; "the reader is inside");
     };
@@ -75,6 +85,7 @@ fn slots_of_lifts_go_back_once_the_cookie_is_over(rt: HostRuntime) -> Result<(),
     let found = (before, beside, given, writer.retired().len());
     assert_same(&rt, found, (4, 10, 4, 6), "the slots");
     assert_same(&rt, writer.waits(), 1, "the waits");
+    assert_there(&rt, &table, &mut writer, KEYS - 1, true);
     Ok(())
 }
 
@@ -82,26 +93,16 @@ fn slots_of_lifts_go_back_once_the_cookie_is_over(rt: HostRuntime) -> Result<(),
 fn a_lift_that_stands_still_gives_the_cookie_up(rt: HostRuntime) -> Result<(), Fail> {
     let (table, mut seat) = CitrusTable::<Eer>::new(rt.alloc(), 100, 1, 1000)?;
     put_path(&rt, &table, &mut seat);
-    let retired = lift_softly(&rt, &table, &mut seat, 8);
-    assert_same(&rt, retired, 16, "the room");
+    let before = lift_beside(&rt, &table, &mut seat, 8, false);
     assert!(rt; seat.tickets() > 0);
     let mut cookie = start(&table, &mut seat);
-    let aim = Aim {
-        key: KEYS - 1,
-        salt: NO_SALT,
-        attempts: 1,
-        hard: true,
-    };
-    let lifted = lift_by(&rt, &table, &mut seat, aim);
-    assert_same(
-        &rt,
-        (lifted.turns, lifted.stop),
-        (1, Stop::Spent),
-        "the lift",
-    );
+    // The place has room for 16.
+    let after = lift_beside(&rt, &table, &mut seat, 1, true);
     let Ask::GivenUp { latest } = ask(&table, &mut seat, &mut cookie) else {
         panic!(rt; "a later wait was begun");
     };
-    assert_same(&rt, latest, 1, "the wait");
+    let found = (before, after, latest);
+    assert_same(&rt, found, (16, 2, 1), "the slots and the wait");
+    assert_there(&rt, &table, &mut seat, KEYS - 1, true);
     Ok(())
 }

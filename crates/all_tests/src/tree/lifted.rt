@@ -7,7 +7,7 @@ use super::histories::{assert_all_explained, gets_of, values_at};
 use super::run;
 use crate::merged::merged;
 use crate::scripts::{drawn_scripts, key_of};
-use citrus_tree::{del, get, put, set};
+use citrus_tree::call;
 use client_run::{Worker, run_all};
 use d_wait::Domain;
 use deer_wait::Deer;
@@ -53,20 +53,25 @@ impl<'a, W: WaitPart> Model for Lifter<'a, W> {
     ghost invariant = { λ c. (c.seat.table ≡ c.table.now) × IsQuietSeat c.seat };
 }
 
+impl<'a, W: WaitPart> Lifter<'a, W> {
+    fn new(table: &'a CitrusTable<W>, seat: Seat<W>, salt: u64) -> Lifter<'a, W>
+        requires table { seat.table ≡ table.now }
+        requires quiet { IsQuietSeat seat }
+        ensures client { result ≡ seat.view.allowance.tickets / 16 }
+    {
+        Lifter { table, seat, salt }
+    }
+}
+
 impl<'a, W: WaitPart> Client for Lifter<'a, W> {
-    ghost use Rattle.std.specs.Prelude.{ℕ, Unit};
+    ghost use Rattle.std.specs.Prelude.{ℕ};
 
     ghost left = { λ c. c };
 
     ghost made = { λ a op told b. Unit {0} };
 
     fn call<R: Wait>(&mut self, rt: &R, op: Op) -> Told {
-        let told = match op {
-            Op::Put { key, value } => put(rt, self.table, &mut self.seat, &OpenGate, key, value),
-            Op::Get { key } => get(rt, self.table, &mut self.seat, &OpenGate, key),
-            Op::Del { key } => del(rt, self.table, &mut self.seat, &OpenGate, key),
-            Op::Set { key, value } => set(rt, self.table, &mut self.seat, &OpenGate, key, value),
-        };
+        let told = call(rt, self.table, &mut self.seat, &OpenGate, op).told;
         self.salt = self.salt.wrapping_add(1);
         let aim = Aim {
             key: key_of(op),
@@ -106,11 +111,7 @@ fn crew<'a, W: WaitPart>(
         assert!(rt; 0 < rest.unused() && tickets <= rest.tickets());
         let (left, own) = rest.split(table, 1, tickets);
         rest = left;
-        let client = Lifter {
-            table,
-            seat: own,
-            salt: u64::from(i),
-        };
+        let client = Lifter::new(table, own, u64::from(i));
         workers.push(Worker::new(alloc, client, calls as u32)?)?;
     }
     Ok((workers, rest))
