@@ -53,7 +53,7 @@ pub fn measure_all<R: Threads + Wait + Sync + Runtime>(
     Ok(())
 }
 
-// Grows a tree with so many keys for each of four threads, in each order that isn't left out at this size.
+// Grows a tree with so many keys for each of four threads, in each order.
 fn measure_share<R: Threads + Wait + Sync + Runtime>(
     rt: &R,
     alloc: Global,
@@ -64,9 +64,6 @@ fn measure_share<R: Threads + Wait + Sync + Runtime>(
 {
     let keys = 4 * share;
     for order in Order::ALL {
-        if keys > order.most_keys() {
-            continue;
-        }
         for crew in [Crew::One, Crew::Four] {
             let row = Row { order, keys, crew };
             let (worked, ways) = measure(rt, alloc, row)?;
@@ -91,7 +88,7 @@ fn measure<R: Threads + Wait + Sync + Runtime>(
     let (crewed, walker) = Seated::new(&table, seat).halves(1);
     let worked = time(rt, crew_of(crewed, row))?;
     let keys = u64::from(row.keys);
-    let puts = keys * u64::from(row.order.times());
+    let puts = keys.wrapping_mul(u64::from(row.order.times()));
     let ways = measure_ways(rt, walker, row.order, keys, puts);
     Ok((worked, ways))
 }

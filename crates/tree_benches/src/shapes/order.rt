@@ -55,14 +55,6 @@ impl Order {
             _ => 1,
         }
     }
-
-    /// How many keys the tree has at most. As long as clients let it become a path, each put of an ordered key goes along all others.
-    pub fn most_keys(self) -> u32 {
-        match self {
-            Order::Scattered => 1_000_000,
-            _ => 32_000,
-        }
-    }
 }
 
 // Numbers in no order, each once: by two rounds of a multiplication by an odd number and a fold.

@@ -48,11 +48,13 @@ fn depth_of<R: Wait, W: WaitPart>(
     let mut search = Search::start(table, seat, key);
     let mut depth = 1u64;
     for _ in rt.forever() {
-        let Hop::Moved = search.hop() else {
-            break;
-        };
-        depth = depth.wrapping_add(1);
+        let hop = search.hop();
+        if let Hop::Moved = hop {
+            depth = depth.wrapping_add(1);
+            continue;
+        }
+        search.finish();
+        return depth;
     }
-    search.finish();
-    depth
+    unreachable!()
 }
