@@ -234,4 +234,8 @@ pub enum Act {
         child: u32,
         top: u32,
     },
+    /// K39. The front, held for a list, is given back without an update.
+    GiveFrontBack {
+        front: u64,
+    },
 }

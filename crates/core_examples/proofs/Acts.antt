@@ -19,11 +19,11 @@ use Rattle.core_state.specs.memory.Memory.{is_field}
 use Rattle.core_acts.specs.declared.act.Part.{Part}
 use Rattle.core_acts.specs.declared.act.Part.TheVariants as part
 use Rattle.core_acts.specs.declared.act.Act.{Act}
-use Rattle.core_acts.specs.declared.act.Act.TheVariants.{LoadClock, AnnounceKey, EnterByStamp, LeaveByStamp, BeginWait, LookKey, LookStamp, LoadOwnLife, Reserve, Seize, Fill, Lock, Unlock, SearchLoad, ListLoad, LockedLoad, OpenCommit, RaiseTag, CloseCommit, LookAtFront}
+use Rattle.core_acts.specs.declared.act.Act.TheVariants.{LoadClock, AnnounceKey, EnterByStamp, LeaveByStamp, BeginWait, LookKey, LookStamp, LoadOwnLife, Reserve, Seize, Fill, Lock, Unlock, SearchLoad, ListLoad, LockedLoad, OpenCommit, RaiseTag, CloseCommit, LookAtFront, GiveFrontBack}
 use Rattle.core_acts.specs.Acts.{field_of, Asks, MayLook, Needs, section_of, listing_of, wait_of}
 use Rattle.core_examples.proofs.Spots.{all_spots}
 use Rattle.core_examples.proofs.Chosen.{clock_now, lock_now}
-use Rattle.core_examples.proofs.Tests.{all_of, passed, test_at, is_some, some_is, none_is, false_is, not_same, is_empty, empty_is, is_number, number_is, has, has_in, has_been, been_at, is_word, loadable, is_holder, holder_is, is_no_end, no_end_is, is_closing, closing_is, is_content, content_is}
+use Rattle.core_examples.proofs.Tests.{all_of, passed, test_at, is_some, some_is, none_is, false_is, not_same, is_empty, empty_is, is_number, number_is, has, has_in, has_been, been_at, is_word, loadable, is_holder, holder_is, is_no_end, no_end_is, is_closing, closing_is, is_unmade, unmade_is, is_content, content_is}
 use Rattle.core_examples.proofs.States.{State, AllAsked, after, reached, over, ◌⟫◌}
 
 -- a table with five slots, one place and the first waiter
@@ -226,6 +226,13 @@ close_commit front = record {
   act = CloseCommit front;
   tests = λ v. is_closing v.commit front ∷ [];
   met = λ v t. closing_is v.commit front (t 0);
+}
+
+abbrev pub give_front_back : ℕ → Step
+give_front_back front = record {
+  act = GiveFrontBack front;
+  tests = λ v. is_unmade v.commit front ∷ [];
+  met = λ v t. unmade_is v.commit front (t 0);
 }
 
 abbrev pub raise_tag : ℕ → Side → ℕ → Step

@@ -1,5 +1,5 @@
 -- A run on literal words: from a fresh table with five slots, one place and the first waiter, four pairs are put, a value is replaced,
--- and the pairs are listed.
+-- and the pairs are listed; then they are listed while the front is held.
 use Rattle.std.proofs.Common.{ℕ, ◌+◌, ◌-◌, List, [], ◌∷◌, ◌++◌, refl}
 use Rattle.prcu_marks.specs.declared.mark.Side.{Side}
 use Rattle.prcu_marks.specs.declared.mark.Side.TheVariants.{Left, Right}
@@ -8,7 +8,7 @@ use Rattle.core_acts.specs.declared.act.Part.TheVariants.{Key, Value, Life, Link
 use Rattle.core_state.specs.Fresh.{first_view}
 use Rattle.core_state.specs.memory.Memory.{own_room, idle}
 use Rattle.core_examples.proofs.States.{State, many, words_with}
-use Rattle.core_examples.proofs.Acts.{small, Step, Run, run, end_of, enter_for, search_by, leave, take_slot, fill, lock, look_at, look_front, list_root, list_part, open_commit, close_commit, unlock}
+use Rattle.core_examples.proofs.Acts.{small, Step, Run, run, end_of, enter_for, search_by, leave, take_slot, fill, lock, look_at, look_front, list_root, list_part, open_commit, close_commit, give_front_back, unlock}
 use Rattle.core_examples.proofs.Updates.{link_leaf, replace}
 
 -- five slots are free, the place's key and stamp stand with their room, and of seven slots the root and the first spare are taken
@@ -103,4 +103,13 @@ list_two =
     ++ (look_front ∷ list_root ∷ list_part 2 Key ∷ list_part 2 (Link Left) ∷ list_part 3 Key ∷ list_part 3 (Link Left) ∷ list_part 3 Value
     ∷ list_part 3 (Link Right)
     ∷ list_part 2 Value ∷ list_part 2 (Link Right) ∷ list_part 4 Key ∷ look_front ∷ leave ∷ []))
+    refl
+
+-- the front is made odd; a listing begins with that number, and finds 20; the front is given back, and made odd for the next update
+abbrev pub hold_front : Run (end_of set_twenty)
+hold_front =
+    run
+    (open_commit 10 ∷ enter_for 0
+    ++ (look_front ∷ list_root ∷ list_part 2 Key ∷ list_part 2 (Link Left) ∷ list_part 3 Key ∷ list_part 3 Value ∷ look_front ∷ leave
+    ∷ give_front_back 10 ∷ open_commit 10 ∷ []))
     refl

@@ -219,6 +219,17 @@ closing_is (Some commit) front e =
     let a = and_parts commit.stored (front == commit.found + 2) e in
     (commit.found, (λ i. Some (record { found = commit.found; stored = a.0 i })), eqb-true front (commit.found + 2) a.1)
 
+-- a commit whose store isn't made, and the front as it was found
+abbrev pub is_unmade : Option Commit → ℕ → Bool
+is_unmade None front = false
+is_unmade (Some commit) front = commit.found == front && not commit.stored
+
+pub unmade_is : (o : Option Commit) (front : ℕ) → is_unmade o front ≡ true → o ≡ Some (record { found = front; stored = false })
+unmade_is None front e = cc
+unmade_is (Some commit) front e =
+    let a = and_parts (commit.found == front) (not commit.stored) e in
+    (λ i. Some (record { found = eqb-true commit.found front a.0 i; stored = false_is commit.stored a.1 i }))
+
 -- where a search ended
 abbrev pub is_missed : SearchState → ℕ → Side → Bool
 is_missed (Missed t c) slot b = t == slot && same_side c b

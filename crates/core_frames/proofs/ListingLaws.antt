@@ -1,5 +1,5 @@
 -- Where a listing's walk goes on.
-use Rattle.std.proofs.Common.{◌≡◌, ◌≢◌, ℕ, zero, suc, ◌+◌, ◌^◌, ◌<◌, ◌≤◌, true, false, List, Option, Some, None, refl, sym, ap, ◌∙◌, ◌⊎◌, inl, inr, ⊎_elim, arith}
+use Rattle.std.proofs.Common.{◌≡◌, ◌≢◌, ℕ, zero, suc, ◌^◌, ◌<◌, true, false, List, refl, sym, ap, ◌∙◌, ◌⊎◌, inl, inr, ⊎_elim, arith}
 use Rattle.std.proofs.lemmas.Bool.{cases_order}
 use mathlib.Core.Logic.{dite}
 use native.Mathlib.Decide.{dec_le}
@@ -119,9 +119,9 @@ module _ (k : Shape) (m : Memory) (vs : List View) (h : List Mark) (i : HoldsNow
         (cases_order y (m (Key s)))
 
 pub listings_go_on : ListingsGoOn
-listings_go_on k m vs h i id v section listing t there inside lists even same has y fits between =
+listings_go_on k m vs h i id v section listing t there inside lists fewer has y fits between =
     let l = i.listings.listings id v there section listing inside lists in
-    let stands = (l.now even same).visits has.0 t has.1 in
+    let stands = (l.now fewer).visits has.0 t has.1 in
     let live = IsHeldBack i.chart h section.entered in
     let small : (s : ℕ) → live s → s < slot_count k = λ s r. gone_within k m vs h i s r.at r.gone in (
       follows k m vs h i y fits live (λ s r. r.out) small t.slot (inr (t.bounds, between, stands)),

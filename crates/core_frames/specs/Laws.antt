@@ -11,7 +11,7 @@ use Rattle.prcu_marks.specs.Marks.{updates_of, gone_at, IsGone}
 use Rattle.core_state.specs.declared.shape.Shape.{Shape}
 use Rattle.core_state.specs.declared.shape.Waiter.TheVariants.{Domain}
 use Rattle.core_state.specs.declared.words.Field.{Field}
-use Rattle.core_state.specs.declared.words.Field.TheVariants.{Clock, Front, Free, Life, Link, Tag}
+use Rattle.core_state.specs.declared.words.Field.TheVariants.{Clock, Free, Life, Link, Tag}
 use Rattle.core_state.specs.declared.words.Kind.{Kind}
 use Rattle.core_state.specs.declared.view.Listing.{Listing}
 use Rattle.core_state.specs.parts.ListingParts.{IsBetween}
@@ -25,7 +25,7 @@ use Rattle.core_state.specs.declared.view.Waiting.{Waiting}
 use Rattle.core_state.specs.views.Known.{known_in}
 use Rattle.core_state.specs.declared.view.View.{View}
 use Rattle.list_laws.specs.Counts.{IsIn}
-use Rattle.core_state.specs.memory.Lists.{IsEven, IsOdd}
+use Rattle.core_state.specs.memory.Lists.{IsOdd}
 use Rattle.core_state.specs.memory.Memory.{Memory, is_field, stored, slot_count}
 use Rattle.core_state.specs.tree.Nodes.{last_of, follow, Hops}
 use Rattle.core_state.specs.tree.Tree.{IsTree}
@@ -102,13 +102,13 @@ StampsAreOld = (k : Shape) (m : Memory) (vs : List View) (h : List Mark) → Hol
     → get_elem? vs i ≡ some v → v.wait ≡ Some wait → get_elem? vs j ≡ some u → u.section ≡ Some section
     → (section.clocked ≤ wait.began → section.stamp ≤ wait.clock) × (section.stamp ≤ m Clock) × (wait.clock < m Clock)
 
--- While the front is the even number that a listing loaded first, it goes on to what the dictionary has now from wherever it has been: for
--- each key strictly between the bounds, the follow from there answers as the dictionary; and it passes an old successor only for keys
--- above that one's.
+-- While no more updates were made than the number says with which a listing began, it goes on to what the dictionary has now from wherever
+-- it has been: for each key strictly between the bounds, the follow from there answers as the dictionary; and it passes an old successor
+-- only for keys above that one's.
 abbrev pub ListingsGoOn : Type 0
 ListingsGoOn = (k : Shape) (m : Memory) (vs : List View) (h : List Mark) → HoldsNow k m vs h
     → (id : ℕ) (v : View) (section : Section) (listing : Listing) (t : Visit) → get_elem? vs id ≡ some v
-    → v.section ≡ Some section → section.listing ≡ Some listing → IsEven listing.front → m Front ≡ listing.front → IsIn listing.visits t
+    → v.section ≡ Some section → section.listing ≡ Some listing → 2 * length (updates_of h) ≤ listing.front → IsIn listing.visits t
     → (y : ℕ) → y < 2 ^ 64 → IsBetween t.bounds y
     → (follow m (slot_count k) t.slot y ≡ map_now h y)
     × ((move : Move) (hops : ℕ) → IsPending vs move → Hops m y hops t.slot move.old → move.next_key < y)

@@ -102,7 +102,9 @@ module _ {k : Shape} {v : View} {key first n : ℕ} {d : View} (z : LooksTwice k
         (ap (λ (x : View). x.section) z.loads.others) refl (subst IsEven (sym same) (is_even first even)) (same ∙ sym is)
 
     first_is : first ≡ 2 * length (updates_of z.told.marks)
-    first_is = sym (front_is v key first z.first_seen z.loaded z.begins z.loads) ∙ now.front
+    first_is =
+        let is = front_is v key first z.first_seen z.loaded z.begins z.loads in
+        omega (arith, is, now.front, is_even first even)
 
     count : front ≡ length (updates_of z.told.marks)
     count = half ∙ half_of first (length (updates_of z.told.marks)) first_is

@@ -28,7 +28,7 @@ use Rattle.core_frames.proofs.Telling.{told_of}
 use Rattle.prcu_marks.proofs.Accesses.{made_by, makes}
 use Rattle.seat_table.proofs.Memories.{memory-word, memory-stored}
 use Rattle.seat_table.proofs.Facts.{sees, informed, fits, word_fits, said_fits, stood_inside, has_side, stays_in, still_works, tells_apart, word_below}
-use Rattle.seat_table.proofs.Gained.{gains}
+use Rattle.seat_table.proofs.Gained.{gains, gives}
 
 module _ (k : Shape) (slots id : ℕ) (me : Me Nothing View) (c : Act) (word : ℕ) (is : is_field k (field_of me.0.allowance.place c) ≡ true)
     (at_word : word ≡ word_of k (field_of me.0.allowance.place c)) (works : Works me.0) (asks : Asks k me.0 c) where
@@ -81,7 +81,7 @@ module _ (k : Shape) (slots id : ℕ) (me : Me Nothing View) (c : Act) (word : �
           fits = said_fits k field access (m field) (word_fits k m s.views h r.holds.now id me.0 at field is)
               (subst (WordFits k field) (ap (λ t. cond t left (m field)) (same_self field))
               (word_fits k m' vs' h' kept.now id w there field is));
-          gains = gains k m s.views h r.holds.now id me.0 at c works asks;
+          gains = gains k m s.views h r.holds.now id me.0 at c works asks (gives k m' vs' h' kept.now id w there);
           stood = stood_inside k m' vs' h' kept.now id w there;
           side = has_side k m' vs' h' kept.now id w there;
           before = record { word = m; found_is = refl; tells = told_of k m s.views h id me.0 r.holds.now at works };

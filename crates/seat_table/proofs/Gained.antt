@@ -17,6 +17,7 @@ use Rattle.prcu_marks.proofs.MarkLists.{updates_of-append}
 use Rattle.core_state.specs.declared.shape.Shape.{Shape}
 use Rattle.core_state.specs.declared.words.Field.TheVariants.{Front, Free, Lock, Key, Value, State as StateWord}
 use Rattle.core_state.specs.declared.view.Retired.{Retired}
+use Rattle.core_state.specs.declared.view.Listing.{Listing}
 use Rattle.core_state.specs.declared.view.Section.{Section}
 use Rattle.core_state.specs.declared.view.Reading.{Reading}
 use Rattle.core_state.specs.declared.view.SearchState.TheVariants.{Found}
@@ -30,27 +31,27 @@ use Rattle.core_state.specs.memory.Lists.{flag, IsEven}
 use Rattle.core_state.specs.views.Known.{lock_of}
 use Rattle.core_state.specs.views.Views.{Works, places_of, joined_retired, slots_of, open_reading}
 use Rattle.core_state.specs.steps.Slots.{NeedsReserve, with_free, reserving, after_reserve}
-use Rattle.core_state.specs.parts.FrontParts.{IsOddBy}
 use Rattle.core_state.specs.Invariant.{HoldsNow}
 use Rattle.core_frames.specs.Laws.{answer_of}
-use Rattle.core_frames.proofs.chart.Plain.{searches_are_answered, gone_within}
+use Rattle.core_frames.proofs.chart.Plain.{searches_are_answered, gone_within, updates_before}
 use Rattle.prcu_marks.proofs.MarkPlaces.{gone_at-below}
 use Rattle.core_frames.proofs.chart.Here.{follow_here}
+use Rattle.core_frames.proofs.frames.FrontFrame.{front_counts, odd_by}
 use Rattle.core_frames.proofs.views.SeatFacts.{works_there, places_apart}
 use Rattle.core_frames.proofs.Counting.{empty_is_full}
 use Rattle.core_acts.specs.declared.act.Act.{Act}
-use Rattle.core_acts.specs.declared.act.Act.TheVariants.{LoadClock, LeaveByStamp, BeginWait, LoadRetiredLife, Reserve, Seize, Lock as TakeLock, LinkLeaf, Bypass, LinkCopy, LeaveByCount, LeaveByRow, ReplaceValue, LookAtFront}
+use Rattle.core_acts.specs.declared.act.Act.TheVariants.{LoadClock, LeaveByStamp, BeginWait, LoadRetiredLife, Reserve, Seize, Lock as TakeLock, SearchLoad, LinkLeaf, Bypass, LinkCopy, LeaveByCount, LeaveByRow, ReplaceValue, LookAtFront}
 use Rattle.core_acts.specs.Acts.{field_of, noted, Asks}
-use Rattle.core_acts.specs.Laws.{said, done}
+use Rattle.core_acts.specs.Laws.{said, done, marks}
 use Rattle.core_acts.proofs.Acting.{section_is}
-use Rattle.seat_table.specs.Gains.{GivesAnswer, LeavesAnswer, AreGone, FindsFull, WasNoOwn, IsOthers, IsCounted, LooksAgain, KnowsValue, Gains}
+use Rattle.seat_table.specs.Gains.{GivesAnswer, LeavesAnswer, FindsAnswer, AreGone, FindsFull, WasNoOwn, IsOthers, IsCounted, IsListedNow, LooksAgain, KnowsValue, Gains}
 use Rattle.seat_table.proofs.Facts.{is_apart}
 use Rattle.seat_table.proofs.Records.{value_now, value_taken}
 
 module _ (k : Shape) (m : Memory) (vs : List View) (h : List Mark) (i : HoldsNow k m vs h) (id : ℕ) (v : View)
     (at : get_elem? vs id ≡ some v) where
   -- what the open section found, the dictionary said
-  gives : (section : Section) → v.section ≡ Some section → GivesAnswer h section
+  pub gives : (section : Section) → v.section ≡ Some section → GivesAnswer h section
   gives section inside =
       record {
         absent = λ slot b no_list state. subst (λ z. WasSaid (updates_of h) section.key section.from
@@ -82,20 +83,11 @@ module _ (k : Shape) (m : Memory) (vs : List View) (h : List Mark) (i : HoldsNow
 
   -- what its turn found counts the updates, until its update is made
   commit_counts : (commit : Commit) → v.commit ≡ Some commit → commit.stored ≡ false → commit.found ≡ 2 * length (updates_of h)
-  commit_counts commit mine unmade = ⊎_elim
-      (λ even. let none : None ≡ Some commit = sym (even.1 id v at) ∙ mine in absurd (cc))
-      (λ (odd : IsOddBy m vs (length (updates_of h))). dite (ℕ_discrete id odd.id)
-      (λ same.
-      let one : v ≡ odd.view = at_one vs odd.id v odd.view (subst (λ z. get_elem? vs z ≡ some v) same at) odd.there in
-      let e : Some odd.commit ≡ Some commit = sym odd.has ∙ ap (λ (z : View). z.commit) (sym one) ∙ mine in
-      let t : odd.commit ≡ commit = cc in
-      let all : commit.found + cond commit.stored 2 0 ≡ 2 * length (updates_of h) =
-      subst (λ (z : Commit). z.found + cond z.stored 2 0 ≡ 2 * length (updates_of h)) t odd.updates in
+  commit_counts commit mine unmade =
+      let all : commit.found + cond commit.stored 2 0 ≡ 2 * length (updates_of h) = (odd_by m vs h id v at i.front commit mine).1 in
       let none : commit.found + cond false 2 0 ≡ 2 * length (updates_of h) =
       subst (λ b. commit.found + cond b 2 0 ≡ 2 * length (updates_of h)) unmade all in
-      omega arith)
-      (λ other. let none : None ≡ Some commit = sym (odd.alone id v other at) ∙ mine in absurd (cc)))
-      i.front.turned
+      omega arith
 
   -- leaving adds no update
   gives_later : (section : Section) (mark : Mark) → updates_of (mark ∷ []) ≡ [] → GivesAnswer h section
@@ -163,26 +155,28 @@ module _ (k : Shape) (m : Memory) (vs : List View) (h : List Mark) (i : HoldsNow
         cc;
   }
 
-  -- a later look of a listing that found the same even number
+  -- a look of a listing whose number is what was found
   looks_again : LooksAgain v h (m Front)
   looks_again = record {
+    own = λ commit mine. (odd_by m vs h id v at i.front commit mine).0;
     same = λ section listing inside lists even found.
-        let is = i.listings.listings id v at section listing inside lists in
-        let even_front : IsEven listing.front = subst IsEven found even in
-        let now = is.now even_front found in
-        let front : m Front ≡ 2 * length (updates_of h) =
-        ⊎_elim (λ e. e.0) (λ (odd : IsOddBy m vs (length (updates_of h))). absurd (odd_not odd even)) i.front.turned in
-        let since = is.since even_front in
-        record { front = sym found ∙ front; since = omega arith; facts = now.facts; gaps = now.gaps };
+        let count = (front_counts m vs h i.front).1 even in
+        listed section listing inside lists (omega arith);
+    held = λ section listing commit inside lists mine unmade found.
+        let odd = (odd_by m vs h id v at i.front commit mine).0 in
+        let count = commit_counts commit mine unmade in
+        listed section listing inside lists (omega arith);
   }
     where
-      odd_not : IsOddBy m vs (length (updates_of h)) → IsEven (m Front) → ⊥
-      odd_not odd even = by_stored odd.commit.stored odd.commit.found refl odd.updates odd.word even
-        where
-          by_stored : (stored : Bool) (found : ℕ) → stored ≡ stored → found + cond stored 2 0 ≡ 2 * length (updates_of h)
-              → m Front ≡ found + 1 → IsEven (m Front) → ⊥
-          by_stored true found e updates word even = absurd (omega arith)
-          by_stored false found e updates word even = absurd (omega arith)
+      listed : (section : Section) (listing : Listing) → v.section ≡ Some section → section.listing ≡ Some listing
+          → 2 * length (updates_of h) ≤ listing.front → IsListedNow h section listing
+      listed section listing inside lists fewer =
+          let is = i.listings.listings id v at section listing inside lists in
+          let now = is.now fewer in
+          let most = is.most in
+          let from = (i.seats.sections id v at section inside).from in
+          let before = updates_before h section.entered in
+          record { front = omega arith; since = omega arith; facts = now.facts; gaps = now.gaps }
 
   -- the retired slots are the table's, and were unlinked before
   are_gone : (w : View) (low high : ℕ) → w.seen ≡ h ++ Began v.allowance.place v.counts.waits low high ∷ [] → AreGone k v w
@@ -226,19 +220,29 @@ module _ (k : Shape) (m : Memory) (vs : List View) (h : List Mark) (i : HoldsNow
       → w.seen ≡ h ++ LeftMark v.allowance.place count ∷ [] → LeavesAnswer v w
   leaves section inside w count is seen = left_gives w section inside (seen ∙ ap (λ c. h ++ LeftMark v.allowance.place c ∷ []) is)
 
+  -- what the open section of a view has found by a step
+  abbrev FindsBy : View → List Mark → Type 0
+  FindsBy w marks = (section : Section) → w.section ≡ Some section → GivesAnswer (h ++ marks) section
+
+  -- a load leaves no mark
+  finds : (w : View) → FindsBy w [] → FindsAnswer w h
+  finds w by = record { answer = λ section inside. subst (λ z. GivesAnswer z section) (append-nil h) (by section inside) }
+
   -- by the act, what is gained
-  pub gains : (a : Act) → Works v → Asks k v a → Gains k v a h (said v a (m (field_of v.allowance.place a)))
-      (done v a h (m (field_of v.allowance.place a)))
-  gains LoadClock works asks = record { each = (i.seats.owned id v at).joined }
-  gains LeaveByStamp works (has, needs) = leaves needs.0 needs.1 _ _ (ap (λ (s : Section). s.count) (section_is v needs.0 needs.1)) refl
-  gains (BeginWait low high) works asks = are_gone _ low high refl
-  gains (LoadRetiredLife slot) works asks = is_apart k m vs h i id v at slot
-  gains (Reserve expected) works (has, needs) = finds_full expected works needs
-  gains (Seize slot) works (has, needs) = was_no_own slot has
-  gains (TakeLock slot) works (has, needs) = is_others slot has works
-  gains (LinkLeaf slot b leaf key value) works (has, (commit, r, lock, held, generation, tag, needs, key_is)) =
+  pub gains : (a : Act) → Works v → Asks k v a
+      → FindsBy (done v a h (m (field_of v.allowance.place a))) (marks v a (m (field_of v.allowance.place a)))
+      → Gains k v a h (said v a (m (field_of v.allowance.place a))) (done v a h (m (field_of v.allowance.place a)))
+  gains LoadClock works asks by = record { each = (i.seats.owned id v at).joined }
+  gains LeaveByStamp works (has, needs) by = leaves needs.0 needs.1 _ _ (ap (λ (s : Section). s.count) (section_is v needs.0 needs.1)) refl
+  gains (BeginWait low high) works asks by = are_gone _ low high refl
+  gains (LoadRetiredLife slot) works asks by = is_apart k m vs h i id v at slot
+  gains (Reserve expected) works (has, needs) by = finds_full expected works needs
+  gains (Seize slot) works (has, needs) by = was_no_own slot has
+  gains (TakeLock slot) works (has, needs) by = is_others slot has works
+  gains (SearchLoad slot p) works asks by = finds _ by
+  gains (LinkLeaf slot b leaf key value) works (has, (commit, r, lock, held, generation, tag, needs, key_is)) by =
       counted _ commit _ refl refl needs.has_commit.commit_is needs.has_commit.unmade
-  gains (Bypass parent b node child key) works (has, (commit, r, left, right, needs, key_is)) = record {
+  gains (Bypass parent b node child key) works (has, (commit, r, left, right, needs, key_is)) by = record {
     counted = counted _ commit _ refl refl needs.has_commit.commit_is needs.has_commit.unmade;
     was = subst (λ x. KnowsValue v h node x) key_is (value_taken (record {
       who = record { k = k; m = m; vs = vs; h = h; id = id; v = v; inv = i; there = at; works = works };
@@ -254,7 +258,7 @@ module _ (k : Shape) (m : Memory) (vs : List View) (h : List Mark) (i : HoldsNow
       marked = needs.marked;
     }));
   }
-  gains (LinkCopy parent b node copy old old_parent key next_key) works (has, (commit, r, held, left, right, value, needs, key_is)) =
+  gains (LinkCopy parent b node copy old old_parent key next_key) works (has, (commit, r, held, left, right, value, needs, key_is)) by =
       record {
         counted = counted _ commit _ refl refl needs.has_commit.commit_is needs.has_commit.unmade;
         was = subst (λ x. KnowsValue v h node x) key_is (value_taken (record {
@@ -273,7 +277,7 @@ module _ (k : Shape) (m : Memory) (vs : List View) (h : List Mark) (i : HoldsNow
         next = subst (λ x. IsNextKey (map_of (updates_of h)) x next_key) key_is
             (copy_next k m vs h id v i at works commit r held parent b node copy old old_parent left right next_key value needs);
       }
-  gains (ReplaceValue slot key value) works (has, (commit, r, generation, needs, key_is)) = record {
+  gains (ReplaceValue slot key value) works (has, (commit, r, generation, needs, key_is)) by = record {
     counted = counted _ commit _ refl refl needs.has_commit.commit_is needs.has_commit.unmade;
     was = λ old known. subst (λ x. map_now h x ≡ Some old) key_is
         (value_now k m vs h i id v at slot r old (i.front.settled id v at commit needs.has_commit.commit_is needs.has_commit.unmade)
@@ -285,9 +289,9 @@ module _ (k : Shape) (m : Memory) (vs : List View) (h : List Mark) (i : HoldsNow
           life = needs.life_now;
         }) known);
   }
-  gains (LeaveByCount class side) works (has, needs) =
+  gains (LeaveByCount class side) works (has, needs) by =
       leaves needs.0 needs.1.section_is _ _ (ap (λ (s : Section). s.count) (section_is v needs.0 needs.1.section_is)) refl
-  gains (LeaveByRow class) works (has, needs) = leaves needs.0 needs.1.section_is _ _ (ap (λ (s : Section). s.count)
+  gains (LeaveByRow class) works (has, needs) by = leaves needs.0 needs.1.section_is _ _ (ap (λ (s : Section). s.count)
       (section_is v needs.0 needs.1.section_is)) refl
-  gains LookAtFront works asks = looks_again
-  gains _ works asks = tt
+  gains LookAtFront works asks by = looks_again
+  gains _ works asks by = tt

@@ -1,6 +1,6 @@
 -- What a call takes from the rule after a step.
 -- Source: docs/TREE_CALLS.md, "What a step sees".
-use Rattle.std.specs.Prelude.{◌≡◌, ◌≢◌, ℕ, ◌+◌, ◌-◌, ◌*◌, ◌<◌, ◌≤◌, ◌⊎◌, false, List, length, map, Some, None, []}
+use Rattle.std.specs.Prelude.{◌≡◌, ◌≢◌, ℕ, ◌+◌, ◌-◌, ◌*◌, ◌/◌, ◌<◌, ◌≤◌, ◌⊎◌, false, List, length, map, Some, None, []}
 use Rattle.std.specs.FinMap as finite
 use mathlib.Core.List.{IsPrefix}
 use Rattle.prcu_marks.specs.declared.mark.Mark.{Mark}
@@ -34,7 +34,7 @@ use Rattle.core_state.specs.parts.TreeParts.{map_now}
 use Rattle.core_state.specs.steps.Slots.{IsInHand, IsSpare, IsRetiredAt}
 use Rattle.core_state.specs.views.Known.{known_in, known_under, lock_of}
 use Rattle.core_acts.specs.declared.act.Act.{Act}
-use Rattle.core_acts.specs.declared.act.Act.TheVariants.{LoadClock, LeaveByStamp, BeginWait, LoadRetiredLife, Reserve, Seize, Lock as TakeLock, LinkLeaf, Bypass, LinkCopy, LeaveByCount, LeaveByRow, ReplaceValue, LookAtFront}
+use Rattle.core_acts.specs.declared.act.Act.TheVariants.{LoadClock, LeaveByStamp, BeginWait, LoadRetiredLife, Reserve, Seize, Lock as TakeLock, SearchLoad, LinkLeaf, Bypass, LinkCopy, LeaveByCount, LeaveByRow, ReplaceValue, LookAtFront}
 use Rattle.prcu_marks.specs.Accesses.{said_by}
 use Rattle.core_acts.specs.Acts.{field_of, access_of}
 use Rattle.core_state.specs.views.Views.{Works, places_of, slots_of}
@@ -120,6 +120,11 @@ pub record GivesAnswer (seen : List Mark) (section : Section) : Type 0 where
 pub record LeavesAnswer (v w : View) : Type 0 where
   pub answer : (section : Section) → v.section ≡ Some section → GivesAnswer w.seen section
 
+-- After a load of a search: what the search has found by then, the dictionary said at some front since the section was entered. The marks
+-- are all that there were at the load.
+pub record FindsAnswer (w : View) (h : List Mark) : Type 0 where
+  pub answer : (section : Section) → w.section ≡ Some section → GivesAnswer h section
+
 -- After a wait was begun: the retired slots are the table's, and were unlinked before the latest mark.
 pub record AreGone (k : Shape) (v w : View) : Type 0 where
   pub each : (r : Retired) → IsIn v.hands.retired r → (r.slot < slot_count k) × (r.unlinked + 1 < length w.seen)
@@ -163,17 +168,22 @@ pub record Moves (v w : View) (h : List Mark) (node key next_key : ℕ) : Type 0
   pub was : KnowsValue v h node key
   pub next : IsNextKey (map_of (updates_of h)) key next_key
 
--- What a listing found is so of the dictionary now, after half as many updates as the front says; the section saw fewer or as many.
+-- What a listing found is so of the dictionary now, after half as many updates as its number says, rounded down; the section saw fewer or
+-- as many.
 pub record IsListedNow (h : List Mark) (section : Section) (listing : Listing) : Type 0 where
-  pub front : listing.front ≡ 2 * length (updates_of h)
+  pub front : listing.front / 2 ≡ length (updates_of h)
   pub since : section.from ≤ length (updates_of h)
   pub facts : Each listing.facts (λ (f : Fact). map_now h f.key ≡ Some f.value)
   pub gaps : Each listing.gaps (λ (gap : Gap). (y : ℕ) → IsBetween gap y → map_now h y ≡ None)
 
--- after a later look that found the even number which the first one found
+-- After a look at the front: it finds the number to which the seat's open commit made it. After a later look that found what the first one
+-- found: where that is even, or where the seat's commit is open and its update unmade.
 pub record LooksAgain (v : View) (h : List Mark) (found : ℕ) : Type 0 where
+  pub own : (commit : Commit) → v.commit ≡ Some commit → found ≡ commit.found + 1
   pub same : (section : Section) (listing : Listing) → v.section ≡ Some section → section.listing ≡ Some listing → IsEven found
       → found ≡ listing.front → IsListedNow h section listing
+  pub held : (section : Section) (listing : Listing) (commit : Commit) → v.section ≡ Some section → section.listing ≡ Some listing
+      → v.commit ≡ Some commit → commit.stored ≡ false → found ≡ listing.front → IsListedNow h section listing
 
 -- When the seat was last joined with another, the marks of each one's places were those that it had seen itself.
 pub record HaveMet (v : View) (h : List Mark) : Type 0 where
@@ -188,6 +198,7 @@ Gains k v (LoadRetiredLife slot) h found w = IsApart v slot
 Gains k v (Reserve expected) h found w = FindsFull k v found w
 Gains k v (Seize slot) h found w = WasNoOwn v slot found
 Gains k v (TakeLock slot) h found w = IsOthers v slot found
+Gains k v (SearchLoad slot p) h found w = FindsAnswer w h
 Gains k v (LinkLeaf slot b leaf key value) h found w = IsCounted v w
 Gains k v (Bypass parent b node child key) h found w = Changes v w h node key
 Gains k v (LinkCopy parent b node copy old old_parent key next_key) h found w = Moves v w h node key next_key

@@ -1,5 +1,5 @@
 -- What carries a listing's walk over a step, and what is past a linked slot.
-use Rattle.std.proofs.Common.{◌≡◌, ◌≢◌, ℕ, ◌+◌, ◌<◌, ◌≤◌, ◌^◌, suc, true, false, refl, sym, ap, ◌∙◌, subst, arith, ◌⊎◌, inl, inr, ⊎_elim}
+use Rattle.std.proofs.Common.{◌≡◌, ◌≢◌, ℕ, ◌<◌, ◌≤◌, ◌^◌, suc, true, refl, sym, ap, ◌∙◌, subst, arith, ◌⊎◌, inl, inr, ⊎_elim}
 use Rattle.std.specs.Prelude.{Option, Some, None}
 use Rattle.prcu_marks.specs.declared.mark.Side.{Side}
 use Rattle.prcu_marks.specs.declared.mark.Side.TheVariants.{Left, Right}
@@ -8,7 +8,7 @@ use Rattle.core_state.specs.declared.view.Gap.{Gap}
 use Rattle.core_state.specs.memory.Memory.{Memory}
 use Rattle.core_state.specs.steps.Loads.{narrowed}
 use Rattle.core_state.specs.tree.Nodes.{next}
-use Rattle.core_state.specs.tree.Chart.{Chart, IsShaped, HoldsMap, IsInRange, IsBelow}
+use Rattle.core_state.specs.tree.Chart.{Chart, IsShaped, HoldsMap, IsInRange}
 use Rattle.core_state.specs.parts.ListingParts.{IsBetween, HasBounds, GoesOn, here, past}
 use Rattle.core_frames.proofs.chart.Endings.{ended_is, answer-none}
 use Rattle.core_frames.proofs.chart.Ranges.{bool_cases, after-node, next-left, next-right}

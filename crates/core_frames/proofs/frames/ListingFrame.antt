@@ -1,12 +1,11 @@
--- The parts on listings read nodes, the front, where slots were unlinked, the updates, and the listings of views. A step that leaves
--- nodes and the front keeps the listings of other views; of its own it says what holds.
-use Rattle.std.proofs.Common.{◌≡◌, ◌≢◌, ℕ, ◌≤◌, false, List, set, Some, None, sym, ap, subst, ◌∙◌, ⊎_elim, inl, inr}
+-- The parts on listings read nodes, where slots were unlinked, the updates, and the listings of views. A step that leaves nodes keeps the
+-- listings of other views; of its own it says what holds.
+use Rattle.std.proofs.Common.{◌≡◌, ℕ, ◌+◌, ◌*◌, ◌≤◌, List, length, set, Some, None, sym, ap, subst, ◌∙◌, ⊎_elim, inl, inr}
 use Rattle.std.specs.FinMap as finite
 use mathlib.Core.Option.{some}
 use lib.ListN.{get_elem?}
 use Rattle.prcu_marks.specs.declared.mark.Mark.{Mark}
 use Rattle.prcu_model.specs.Dictionary.{map_of}
-use Rattle.core_state.specs.declared.words.Field.TheVariants.{Front, Key, Link}
 use Rattle.core_state.specs.declared.view.Fact.{Fact}
 use Rattle.core_state.specs.declared.view.Gap.{Gap}
 use Rattle.core_state.specs.declared.view.Listing.{Listing}
@@ -25,7 +24,7 @@ use Rattle.core_frames.proofs.marks.MarkFacts.{QuietMarks}
 use Rattle.core_frames.proofs.views.Same.{SameNodes}
 use Rattle.core_frames.proofs.frames.ReaderFrame.{held_back_same}
 
-module _ (m m' : Memory) (nodes : SameNodes m m') (front : m' Front ≡ m Front) (g : Chart) (h h' : List Mark)
+module _ (m m' : Memory) (nodes : SameNodes m m') (g : Chart) (h h' : List Mark)
     (quiet : QuietMarks h h') where
   map_kept : map_now h' ≡ map_now h
   map_kept = ap (λ us x. finite.get (map_of us) x) quiet.updates
@@ -51,9 +50,9 @@ module _ (m m' : Memory) (nodes : SameNodes m m') (front : m' Front ≡ m Front)
   pub listing_same : (section : Section) (listing : Listing) → IsListing m g h section listing → IsListing m' g h' section listing
   listing_same section listing i = record {
     since = i.since;
-    most = subst (λ x. listing.front ≤ x) (sym front) i.most;
+    most = subst (λ us. listing.front ≤ 2 * length us + 1) (sym quiet.updates) i.most;
     visits = λ j t at. visit_same section.entered t (i.visits j t at);
-    now = λ even e. (let r = i.now even (sym front ∙ e) in record {
+    now = λ fewer. (let r = i.now (subst (λ us. 2 * length us ≤ listing.front) quiet.updates fewer) in record {
       facts = subst (λ map. Each listing.facts (λ (f : Fact). map f.key ≡ Some f.value)) (sym map_kept) r.facts;
       gaps = subst (λ map. Each listing.gaps (λ (gap : Gap). (y : ℕ) → IsBetween gap y → map y ≡ None)) (sym map_kept) r.gaps;
       visits = λ j t at. stands_same section.entered t (r.visits j t at);

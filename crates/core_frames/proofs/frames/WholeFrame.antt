@@ -197,7 +197,7 @@ quiet_law k m m' vs h id v w i there works words same waiters =
     (count_frame k.tickets m m' (slot_count k) i.chart vs id v w h h there slots (λ n. (words n).clock) (λ n. (words n).free)
     (λ n. numbers_of (same n)) (quiet_same h) i.counts)
     (front_frame m m' vs id v w h h there front (λ n. (same n).commit) (λ e. (λ n. (same n).moving) ∙ e) (quiet_same h) i.front)
-    (listing_frame_still m m' slots.nodes front i.chart h h (quiet_same h) vs id v w there (λ n. (same n).section) i.listings)
+    (listing_frame_still m m' slots.nodes i.chart h h (quiet_same h) vs id v w there (λ n. (same n).section) i.listings)
 
 -- what a view has to do with the words of its waiter: its place, its section, its wait, and what it loaded and announced for its next
 -- section
@@ -238,4 +238,4 @@ all_seen k m vs h id v i there works latest looks =
     (waiters_stay k m m vs h id v w i there refl refl refl)
     (count_frame k.tickets m m (slot_count k) i.chart vs id v w h h there slots refl refl refl (quiet_same h) i.counts)
     (front_frame m m vs id v w h h there refl refl (λ e. e) (quiet_same h) i.front)
-    (listing_frame_still m m slots.nodes refl i.chart h h (quiet_same h) vs id v w there refl i.listings)
+    (listing_frame_still m m slots.nodes i.chart h h (quiet_same h) vs id v w there refl i.listings)

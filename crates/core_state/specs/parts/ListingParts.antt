@@ -1,11 +1,12 @@
 -- The invariant on listings.
 -- Source: docs/TREE_INVARIANT.md, "The invariant of the tree".
-use Rattle.std.specs.Prelude.{◌≡◌, ◌≢◌, ◌⊎◌, ℕ, ◌+◌, ◌*◌, ◌^◌, ◌<◌, ◌≤◌, true, false, List, Option, Some, None}
+use Rattle.std.specs.Prelude.{◌≡◌, ◌≢◌, ◌⊎◌, ℕ, ◌+◌, ◌*◌, ◌^◌, ◌<◌, ◌≤◌, true, false, List, length, Option, Some, None}
 use mathlib.Core.Option.{some}
 use lib.ListN.{get_elem?}
 use Rattle.prcu_marks.specs.declared.mark.Mark.{Mark}
 use Rattle.prcu_marks.specs.declared.mark.Side.{Side}
-use Rattle.core_state.specs.declared.words.Field.TheVariants.{Front, Key, Value, Link}
+use Rattle.prcu_marks.specs.Marks.{updates_of}
+use Rattle.core_state.specs.declared.words.Field.TheVariants.{Key, Value, Link}
 use Rattle.core_state.specs.declared.view.Fact.{Fact}
 use Rattle.core_state.specs.declared.view.Gap.{Gap}
 use Rattle.core_state.specs.declared.view.Listing.{Listing}
@@ -66,12 +67,13 @@ pub record IsVisit (m : Memory) (g : Chart) (h : List Mark) (entered : ℕ) (t :
   pub key : (key : ℕ) → t.key ≡ Some key → m (Key t.slot) ≡ key
   pub here : (g.linked t.slot ≡ true) ⊎ IsHeldBack g h entered t.slot
 
--- A listing's front isn't above the front word, and where it is even not before what was seen at its entry.
+-- The number with which a listing began is at most one more than twice the updates, and where it is even not before what was seen at its
+-- entry. While no more updates were made than that number says, what the listing found is so now.
 pub record IsListing (m : Memory) (g : Chart) (h : List Mark) (section : Section) (listing : Listing) : Type 0 where
   pub since : IsEven listing.front → 2 * section.from ≤ listing.front
-  pub most : listing.front ≤ m Front
+  pub most : listing.front ≤ 2 * length (updates_of h) + 1
   pub visits : Each listing.visits (IsVisit m g h section.entered)
-  pub now : IsEven listing.front → m Front ≡ listing.front → ListsNow m g h section.entered listing
+  pub now : 2 * length (updates_of h) ≤ listing.front → ListsNow m g h section.entered listing
 
 pub record ListingParts (m : Memory) (g : Chart) (vs : List View) (h : List Mark) : Type 0 where
   pub listings : Each vs (λ v. (section : Section) (listing : Listing) → v.section ≡ Some section → section.listing ≡ Some listing

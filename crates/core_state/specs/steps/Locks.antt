@@ -1,4 +1,4 @@
--- The steps of locks and of the front: K13, K14, K18, K19, K23 and K24.
+-- The steps of locks and of the front: K13, K14, K18, K19, K23, K24 and K39.
 -- Source: docs/TREE_INVARIANT.md, "The steps of the tree".
 use Rattle.std.specs.Prelude.{◌≡◌, ◌≢◌, ℕ, ◌+◌, ◌%◌, ◌<◌, ◌==◌, true, false, if◌then◌else◌, [], ◌∷◌, length, Option, Some, None}
 use Rattle.prcu_marks.specs.declared.mark.Side.{Side}
@@ -75,3 +75,8 @@ NeedsCloseCommit v front = (found : ℕ) × (v.commit ≡ Some (record { found =
 
 abbrev pub after_close_commit : View → ℕ → View
 after_close_commit v front = record (with_front v front) { commit = None }
+
+-- K39: the front is given back as it was found, by who made it odd and hasn't made the store. Afterwards the view has no commit, as after
+-- K24.
+abbrev pub NeedsGiveFrontBack : View → ℕ → Type 0
+NeedsGiveFrontBack v front = v.commit ≡ Some (record { found = front; stored = false })

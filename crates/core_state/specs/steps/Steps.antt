@@ -14,7 +14,7 @@ use Rattle.core_state.specs.declared.shape.Waiter.TheVariants.{Eer, Domain, Deer
 use Rattle.core_state.specs.declared.words.Field.{Field}
 use Rattle.core_state.specs.declared.words.Field.TheVariants.{Clock, Front, Free, Announced, Stamp, Gate, Count, Row, State, Lock, Life, Value, Link, Tag}
 use Rattle.core_state.specs.declared.words.Kind.{Kind}
-use Rattle.core_state.specs.declared.words.Kind.TheVariants.{K3, K4, K5, K6, K7, K8, K9, K10, K11, K12, K13, K14, K15, K16, K17, K18, K19, K20, K21, K22, K23, K24, K25, K26, K27, K28, K29, K30, K31, K32, K33, K34, K35, K36, K37, K38}
+use Rattle.core_state.specs.declared.words.Kind.TheVariants.{K3, K4, K5, K6, K7, K8, K9, K10, K11, K12, K13, K14, K15, K16, K17, K18, K19, K20, K21, K22, K23, K24, K25, K26, K27, K28, K29, K30, K31, K32, K33, K34, K35, K36, K37, K38, K39}
 use Rattle.core_state.specs.declared.view.Clocked.{Clocked}
 use Rattle.core_state.specs.declared.view.Held.{Held}
 use Rattle.core_state.specs.declared.view.HeldLock.{HeldLock}
@@ -31,7 +31,7 @@ use Rattle.core_state.specs.steps.Seating.{stepped}
 use Rattle.core_state.specs.steps.Sections.{after_clock_load, NeedsAnnounce, after_announce, NeedsEnterByStamp, after_enter_by_stamp, NeedsEnterByRow, leaving, NeedsLeaveByStamp, NeedsLeaveByRow, NeedsGateLoad, after_gate_load, NeedsEnterByCount, after_enter_by_count, NeedsLeaveByCount}
 use Rattle.core_state.specs.steps.Waits.{NeedsBegin, after_begin, NeedsLook, after_look, look_marks, NeedsGateTurn, turned_gate, after_gate_turn}
 use Rattle.core_state.specs.steps.Slots.{NeedsOwnLife, after_own_life, NeedsKeptAsSpare, after_kept_as_spare, IsRetiredAt, after_retired_life, NeedsReserve, after_reserve, NeedsSeize, after_seize, NeedsFill, after_fill, NeedsRaiseInHand, after_raise_in_hand, NeedsRaiseRetired, after_raise_to_spare, after_raise_retired, NeedsFreeInHand, after_free_in_hand, NeedsFreeRetired, after_free_retired, NeedsCountFree, after_count_free}
-use Rattle.core_state.specs.steps.Locks.{NeedsLock, after_lock, NeedsUnlock, after_unlock, NeedsLockedLoad, after_locked_load, NeedsOpenCommit, after_open_commit, NeedsRaiseTag, after_raise_tag, NeedsCloseCommit, after_close_commit}
+use Rattle.core_state.specs.steps.Locks.{NeedsLock, after_lock, NeedsUnlock, after_unlock, NeedsLockedLoad, after_locked_load, NeedsOpenCommit, after_open_commit, NeedsRaiseTag, after_raise_tag, NeedsCloseCommit, after_close_commit, NeedsGiveFrontBack}
 use Rattle.core_state.specs.steps.Loads.{NeedsSearchLoad, after_search_load, NeedsFrontLook, after_front_look, NeedsListLoad, after_list_load}
 use Rattle.core_state.specs.steps.Links.{NeedsLeafLink, after_leaf_link, NeedsBypass, after_bypass, NeedsMark, after_mark, NeedsReplace, after_replace}
 use Rattle.core_state.specs.steps.Moves.{NeedsCopyLink, after_copy_link, NeedsUnlinkOld, after_unlink_old}
@@ -109,6 +109,7 @@ pub data IsStep (k : Shape) (h : List Mark) (v : View) : Kind → Field → ℕ 
   step23 : {n slot tag : ℕ} {b : Side} (lock : HeldLock) → NeedsRaiseTag v lock slot b tag
       → IsStep k h v K23 (Tag slot b) n (tag + 1) (after_raise_tag v slot b tag) []
   step24 : {n front : ℕ} → NeedsCloseCommit v front → IsStep k h v K24 Front n front (after_close_commit v front) []
+  step39 : {n front : ℕ} → NeedsGiveFrontBack v front → IsStep k h v K39 Front n front (after_close_commit v front) []
   -- a load in a section
   step17 : {n slot : ℕ} {field : Field} {section : Section} → NeedsSearchLoad v section slot field
       → IsStep k h v K17 field n n (after_search_load v section field n) []
@@ -163,6 +164,7 @@ is_store K33 = true
 is_store K34 = true
 is_store K36 = true
 is_store K38 = true
+is_store K39 = true
 is_store _ = false
 
 -- A step as a seat makes it: it is laid on in the trail, with the number found, or stored where the kind stores.

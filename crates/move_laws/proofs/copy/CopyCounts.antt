@@ -1,5 +1,5 @@
 -- The link of a copy: the parts on counts and on the front.
-use Rattle.std.proofs.Common.{◌≡◌, ◌≢◌, ℕ, ◌+◌, ◌-◌, ◌<◌, ◌==◌, ◌⊎◌, not, ◌&&◌, Bool, true, false, [], ◌∷◌, ◌++◌, length, refl, sym, ap, ◌∙◌, ⊎_elim, inl, inr, arith}
+use Rattle.std.proofs.Common.{◌≡◌, ◌≢◌, ℕ, ◌+◌, ◌-◌, ◌<◌, ◌==◌, ◌⊎◌, not, ◌&&◌, true, false, [], ◌∷◌, ◌++◌, length, refl, sym, ap, ◌∙◌, ⊎_elim, inl, inr, arith}
 use Rattle.std.specs.FinMap as finite
 use Rattle.std.proofs.lemmas.Bool.{cases_eq}
 use Rattle.prcu_model.specs.Dictionary.{map_of}
@@ -161,7 +161,7 @@ module _ (z : CopyStep) where
       (cases_eq s z.d))
       (cases_eq s c))
 
-  updates_longer : length (updates_of hs) ≡ length (updates_of h) + 1
+  pub updates_longer : length (updates_of hs) ≡ length (updates_of h) + 1
   updates_longer = delete_longer h v.allowance.place z.r.key z.d
 
   pairs_less : finite.len (map_of (updates_of hs)) ≡ finite.len (map_of (updates_of h)) - 1

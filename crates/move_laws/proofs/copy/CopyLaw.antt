@@ -28,7 +28,7 @@ use Rattle.core_frames.specs.Laws.{IsKept, Keeps}
 use Rattle.list_laws.proofs.Lists.{at_end}
 use Rattle.core_frames.proofs.chart.Plain.{entered_before}
 use Rattle.core_frames.proofs.marks.UpdateMarks.{delete_reuse, delete_gone_here, delete_gone_other, delete_last_other}
-use Rattle.move_laws.proofs.copy.CopyCounts.{copy_counts, copy_front}
+use Rattle.move_laws.proofs.copy.CopyCounts.{copy_counts, copy_front, updates_longer}
 use Rattle.tree_laws.proofs.links.LinkLocks.{locks_after, emptied_still, link_back}
 use Rattle.move_laws.proofs.copy.CopyMoves.{move_now, pending_still, pending_now, copy_map_after, copy_moves}
 use Rattle.move_laws.proofs.copy.CopyNeeds.{CopyStep, update_of, copy_link, old_key, old_low, old_young, copied, deletion, copy_step, copy_relinks}
@@ -37,7 +37,7 @@ use Rattle.move_laws.proofs.copy.CopyShape.{was_old}
 use Rattle.move_laws.proofs.copy.CopySlots.{copy_slots}
 use Rattle.tree_laws.proofs.links.LinkServed.{LinkReads}
 use Rattle.tree_laws.proofs.links.LinkKept.{link_kept}
-use Rattle.tree_laws.proofs.links.LinkSteps.{LinkStep, not_gone, listings_of_commit}
+use Rattle.tree_laws.proofs.links.LinkSteps.{LinkStep, not_gone, listings_past}
 use Rattle.core_frames.proofs.chart.Plain.{told_now}
 use Rattle.tree_laws.proofs.updates.Deletion.{node_key, some_node}
 use Rattle.tree_laws.proofs.links.LinkSlots.{slots_after}
@@ -150,7 +150,7 @@ module _ (z : CopyStep) where
     moves = copy_moves z;
     reads = reads;
     front = copy_front z;
-    listings = listings_of_commit step z.commit z.needs.has_commit;
+    listings = listings_past step (updates_longer z);
     grace = grace;
   })
 

@@ -1,5 +1,5 @@
 -- The unlinking of an old successor after its move's wait keeps the invariant.
-use Rattle.std.proofs.Common.{◌≡◌, ◌≢◌, ℕ, ◌<◌, ◌≤◌, ◌==◌, cond, Bool, true, false, List, [], ◌∷◌, ◌++◌, length, set, Some, refl, sym, ap, subst, ◌∙◌, inl, inr, arith, append-nil}
+use Rattle.std.proofs.Common.{◌≡◌, ◌≢◌, ℕ, ◌<◌, ◌≤◌, ◌==◌, cond, true, false, List, [], ◌∷◌, ◌++◌, length, set, Some, refl, sym, ap, subst, ◌∙◌, inl, inr, arith, append-nil}
 use Rattle.std.specs.FinMap as finite
 use mathlib.Core.Option.{some}
 use lib.ListN.{get_elem?}
@@ -28,14 +28,14 @@ use Rattle.core_frames.proofs.frames.PlainFrames.{same_for_more}
 use Rattle.core_frames.specs.Laws.{IsKept}
 use Rattle.list_laws.proofs.Lists.{in_second}
 use Rattle.tree_laws.proofs.stores.Stores.{link_at, stores_link}
-use Rattle.tree_laws.proofs.locks.Holders.{linked_stays, move_holder}
+use Rattle.tree_laws.proofs.locks.Holders.{move_holder}
 use Rattle.tree_laws.proofs.locks.Locked.{under_lock}
 use Rattle.core_frames.proofs.frames.Stepper.{Stepper}
 use Rattle.tree_laws.proofs.links.LinkSteps.{listings_by, held, held_gone}
 use Rattle.core_frames.proofs.frames.FrontFrame.{front_by}
 use Rattle.tree_laws.proofs.bypass.Cutting.{Cut, cut_step, cut_kept}
 use Rattle.tree_laws.proofs.bypass.CutCounts.{counts_without_old}
-use Rattle.move_laws.proofs.unlink.Unlinking.{Unlinks, unlinked, right_below, splice, unlinked_map}
+use Rattle.move_laws.proofs.unlink.Unlinking.{Unlinks, unlinked, splice, unlinked_map}
 use Rattle.move_laws.proofs.unlink.UnlinkListings.{lists_unlinked}
 use Rattle.core_frames.proofs.marks.PlainMarks.{plain_one}
 use Rattle.core_frames.proofs.marks.UpdateMarks.{reuse_unlinked, marks_unlinked, unlinked_snoc}
@@ -176,6 +176,6 @@ module _ (who : Stepper) (move : Move) (lock : HeldLock) (child : ℕ) (b : Side
       (subst (λ us. HoldsMap new (unlinked g q b u child) (λ y. finite.get (map_of us) y)) (sym same_updates)
       (unlinked_map m new n g q b u child i.tree.shape unlinks (map_now h) i.tree.map))
       (front_by m new vs id v w h hs there refl refl (λ e. refl) same_updates i.front)
-      (listings_by (cut_step cut)
-      (λ entered early listing even same lists. lists_unlinked m new n g q b u child i.tree.shape unlinks h i.tree.map copied entered
+      (listings_by (cut_step cut) same_updates
+      (λ entered early listing lists. lists_unlinked m new n g q b u child i.tree.shape unlinks h i.tree.map copied entered
       (held (cut_step cut) entered) (held_gone (cut_step cut) entered early unlinks.replaces.node) listing lists))

@@ -16,8 +16,8 @@ use Rattle.core_state.specs.parts.TreeParts.{map_now}
 use Rattle.core_frames.proofs.chart.Plain.{entered_before}
 use Rattle.rotate_laws.proofs.chart.Turns.{not_top, not_sub, rank_else, low_else, high_else, link_off, x_not_p, y_not_p, at_y}
 use Rattle.core_frames.proofs.chart.Goings.{carry_going, unlinked_going}
-use Rattle.rotate_laws.proofs.rotate.RotateMarks.{two_map}
-use Rattle.tree_laws.proofs.stores.StoreListings.{listings_after}
+use Rattle.rotate_laws.proofs.rotate.RotateMarks.{two_map, two_updates}
+use Rattle.tree_laws.proofs.stores.StoreListings.{listings_kept}
 use Rattle.rotate_laws.proofs.rotate.RotateNeeds.{RotateStep, x_on, y_on, x_some, y_some, outside, turn, turns, new, to, w, us, hs, not_same}
 use Rattle.rotate_laws.proofs.rotate.RotateReaders.{Stay, stay_of, stays_on, gone_not_new, held, held_x, held_y, here_after}
 
@@ -122,7 +122,7 @@ module _ (z : RotateStep) where
         }
 
   pub rotate_listings : ListingParts later (to z) (us z) (hs z)
-  rotate_listings = listings_after m later g (to z) vs id (w z) h (hs z) (outside z) refl (λ s. refl)
-      (λ j u section s e is. here_after z section.entered (entered_before k m vs h i j u section e is) s)
-      (λ j u section listing e is even same lists. rotate_lists section.entered (entered_before k m vs h i j u section e is) listing lists)
-      i.listings
+  rotate_listings = listings_kept m later g (to z) vs id (w z) h (hs z) (outside z) (λ s. refl)
+      (λ j u section s e is. here_after z section.entered (entered_before k m vs h i j u section e is) s) i.listings
+      (two_updates v.allowance.place h x y (not_same z))
+      (λ j u section listing e is. rotate_lists section.entered (entered_before k m vs h i j u section e is) listing)

@@ -19,7 +19,7 @@ use Rattle.core_frames.specs.Laws.{IsKept}
 use Rattle.tree_laws.proofs.stores.Stores.{stores_link}
 use Rattle.core_frames.proofs.marks.UpdateMarks.{delete_plain, delete_now, delete_reuse, delete_marks}
 use Rattle.core_frames.proofs.frames.Stepper.{Stepper}
-use Rattle.tree_laws.proofs.links.LinkSteps.{listings_of_commit}
+use Rattle.tree_laws.proofs.links.LinkSteps.{listings_past}
 use Rattle.tree_laws.proofs.stores.StoreFront.{front_made}
 use Rattle.tree_laws.proofs.updates.Deletion.{Deletion, settled, parent_alive, link_is, node_marked, node_field, left_is, right_is, some_node, node_lock, node_young, node_key, single, has_key}
 use Rattle.tree_laws.proofs.bypass.Cutting.{Cut, cut_step, cut_kept}
@@ -148,4 +148,4 @@ module _ (who : Stepper) (commit : Commit) (r : Reading) (p : ℕ) (b : Side) (d
       (bypass_map m new n g p b d c i.tree.shape bypass (map_now h) i.tree.map))
       (front_made m new vs id v w there h hs refl i.front commit needs.has_commit refl (delete_longer h v.allowance.place r.key d)
       (delete_legal h v.allowance.place r.key d (has_key deletion) i.front.legal))
-      (listings_of_commit (cut_step cut) commit needs.has_commit)
+      (listings_past (cut_step cut) (delete_longer h v.allowance.place r.key d))

@@ -1,11 +1,11 @@
 -- A step that leaves the chart: the parts on readers and on listings.
-use Rattle.std.proofs.Common.{◌≡◌, ◌≢◌, ℕ, ◌<◌, ◌≤◌, true, List, set, Some, None, sym, ap, subst, ◌∙◌, ⊎_elim, inl, inr, arith, ◌++◌, false}
+use Rattle.std.proofs.Common.{◌≡◌, ◌≢◌, ℕ, ◌+◌, ◌*◌, ◌<◌, ◌≤◌, true, List, length, set, Some, None, sym, ap, subst, ◌∙◌, ⊎_elim, inl, inr, arith, ◌++◌, false}
 use mathlib.Core.Option.{some}
 use lib.ListN.{get_elem?}
 use Rattle.prcu_marks.specs.declared.mark.Side.TheVariants.{Left, Right}
 use Rattle.prcu_marks.specs.Marks.{updates_of, gone_at}
 use Rattle.prcu_model.specs.Dictionary.{WasSaid}
-use Rattle.core_state.specs.declared.words.Field.TheVariants.{Front, Life, Key, Link}
+use Rattle.core_state.specs.declared.words.Field.TheVariants.{Life, Key, Link}
 use Rattle.core_state.specs.declared.view.Fact.{Fact}
 use Rattle.core_state.specs.declared.view.Gap.{Gap}
 use Rattle.core_state.specs.declared.view.Listing.{Listing}
@@ -171,16 +171,15 @@ module _ (P : ℕ → Type 0) (z : ChartStep P) where
       → section.listing ≡ Some listing → IsListing m' g hs section listing
   listing_stays j u section listing e inside lists =
       let i = z.who.inv.listings.listings j u e section listing inside lists in
-      let front = z.beside Front tt in
       record {
         since = i.since;
-        most = subst (λ x. listing.front ≤ x) (sym front) i.most;
+        most = subst (λ us. listing.front ≤ 2 * length us + 1) (sym z.updates) i.most;
         visits = λ n t at. (let r = i.visits n t at in record {
           node = r.node;
           key = λ key q. z.contents.key t.slot (kind t r) ∙ r.key key q;
           here = ⊎_elim (λ l. inl l) (λ q. inr (held_on j u section e inside t.slot q)) r.here;
         });
-        now = λ even y. (let r = i.now even (sym front ∙ y) in record {
+        now = λ fewer. (let r = i.now (subst (λ us. 2 * length us ≤ listing.front) z.updates fewer) in record {
           facts = subst (λ map. Each listing.facts (λ (f : Fact). map f.key ≡ Some f.value)) (sym (map_stays P z)) r.facts;
           gaps = subst (λ map. Each listing.gaps (λ (gap : Gap). (y : ℕ) → IsBetween gap y → map y ≡ None)) (sym (map_stays P z)) r.gaps;
           visits = λ n t at. going_stays j u section e inside t (r.visits n t at);

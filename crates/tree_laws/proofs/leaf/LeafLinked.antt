@@ -16,7 +16,7 @@ use Rattle.tree_laws.proofs.chart.Leaves.{same_at}
 use Rattle.tree_laws.proofs.leaf.LeafLocks.{leaf_lock, leaf_locks, leaf_slots}
 use Rattle.tree_laws.proofs.leaf.LeafNeeds.{LeafLink, leafed, settled, some_leaf, links, key_absent, still_linked, spare_apart, copy_apart, leaf_step}
 use Rattle.tree_laws.proofs.leaf.LeafTree.{leaf_counts, leaf_map_after, leaf_moves}
-use Rattle.tree_laws.proofs.links.LinkSteps.{LinkStep, listings_of_commit, range_stays, side_stays, empty_stays}
+use Rattle.tree_laws.proofs.links.LinkSteps.{LinkStep, listings_past, range_stays, side_stays, empty_stays}
 use Rattle.tree_laws.proofs.locks.LockSteps.{note_side, emptied_after}
 use Rattle.tree_laws.proofs.notes.Notes.{note_option-else, note_moving-else}
 use Rattle.tree_laws.proofs.updates.PutMarks.{put_update, put_legal, put_count}
@@ -67,7 +67,7 @@ module _ (z : LeafLink) where
     reads = reads;
     front = front_made m new vs id v w there h hs refl i.front commit z.needs.has_commit refl
         (put_count h v.allowance.place r.key value (key_absent z)) (put_legal h v.allowance.place r.key value (key_absent z) i.front.legal);
-    listings = listings_of_commit step commit z.needs.has_commit;
+    listings = listings_past step (put_count h v.allowance.place r.key value (key_absent z));
     grace = grace_same v.allowance.place h hs step.plain vs id v w there refl step.same.places (settled z)
         (reuse_done h (put_update h v.allowance.place r.key value) i.grace.reuse)
         (gone_done h (put_update h v.allowance.place r.key value)) (last_done h (put_update h v.allowance.place r.key value)) refl i.grace;

@@ -1,6 +1,6 @@
 -- A step that stores one link and changes the chart at few slots: what each such step says, and the parts on marks, seats and waiters
 -- after it.
-use Rattle.std.proofs.Common.{◌≡◌, ◌≢◌, ℕ, ◌<◌, ◌≤◌, true, false, List, length, set, Option, Some, None, refl, sym, ap, subst, ◌∙◌, ◌⊎◌, inl, inr, ⊎_elim, arith, ◌∷◌, ◌++◌, []}
+use Rattle.std.proofs.Common.{◌≡◌, ◌≢◌, ℕ, ◌+◌, ◌<◌, ◌≤◌, true, false, List, length, set, Option, Some, None, refl, sym, ap, subst, ◌∙◌, ◌⊎◌, inl, inr, ⊎_elim, arith, ◌∷◌, ◌++◌, []}
 use Rattle.std.proofs.lemmas.Bool.{cases_eq}
 use Rattle.prcu_marks.specs.declared.mark.Mark.{Mark}
 use Rattle.prcu_marks.specs.declared.mark.Side.{Side}
@@ -28,8 +28,7 @@ use Rattle.core_frames.proofs.marks.PlainMarks.{PlainMarks}
 use Rattle.core_frames.proofs.views.Roles.{gone_off}
 use Rattle.tree_laws.proofs.chart.ChartChanges.{ChangesChart, in_after, was_empty}
 use Rattle.core_frames.proofs.frames.Stepper.{Stepper}
-use Rattle.tree_laws.proofs.stores.StoreFront.{odd_front}
-use Rattle.tree_laws.proofs.stores.StoreListings.{listings_after}
+use Rattle.tree_laws.proofs.stores.StoreListings.{listings_kept, listings_behind}
 use Rattle.tree_laws.proofs.stores.Stores.{link_stores}
 use Rattle.core_state.specs.views.Known.{known_in, known_under}
 use Rattle.core_state.specs.declared.words.Field.{Field}
@@ -159,17 +158,17 @@ module _ (z : LinkStep) where
         (λ e. absurd (let off = unlinked_off s gone.0 gone.1 in let on = z.changes.parent in cc (ap g.linked e))) content;
   }
 
-  -- the parts on listings, by what becomes of those that nothing was made since
-  pub listings_by : ((entered : ℕ) → entered < length h → (listing : Listing) → IsEven listing.front → m Front ≡ listing.front
-      → ListsNow m g h entered listing → ListsNow (words_after z) to hs entered listing)
+  -- the parts on listings: without an update, by what becomes of what they have found
+  pub listings_by : updates_of hs ≡ updates_of h
+      → ((entered : ℕ) → entered < length h → (listing : Listing) → ListsNow m g h entered listing
+      → ListsNow (words_after z) to hs entered listing)
       → ListingParts (words_after z) to (views_after z) hs
-  listings_by now =
-      listings_after m (words_after z) g to vs id w h hs (z.same.section ∙ z.outside) refl (λ s. refl)
-      (λ j u section s e is. here_after section.entered (entered_before k m vs h i j u section e is) s)
-      (λ j u section listing e is even same lists.
-      now section.entered (entered_before k m vs h i j u section e is) listing even same lists) i.listings
+  listings_by updates now =
+      listings_kept m (words_after z) g to vs id w h hs (z.same.section ∙ z.outside) (λ s. refl)
+      (λ j u section s e is. here_after section.entered (entered_before k m vs h i j u section e is) s) i.listings updates
+      (λ j u section listing e is. now section.entered (entered_before k m vs h i j u section e is) listing)
 
-  -- while the view's commit is under way the front is odd, and nothing holds of listings
-  pub listings_of_commit : (commit : Commit) → HasCommit v commit → ListingParts (words_after z) to (views_after z) hs
-  listings_of_commit commit has = listings_by (λ entered early listing even same _. absurd
-      (odd_front m m vs id v v there h h refl i.front commit has (subst IsEven (sym same) even)))
+  -- and with one
+  pub listings_past : length (updates_of hs) ≡ length (updates_of h) + 1 → ListingParts (words_after z) to (views_after z) hs
+  listings_past = listings_behind m (words_after z) g to vs id w h hs (z.same.section ∙ z.outside) (λ s. refl)
+      (λ j u section s e is. here_after section.entered (entered_before k m vs h i j u section e is) s) i.listings

@@ -232,7 +232,7 @@ module _ (k : Shape) (m : Memory) (vs : List View) (h : List Mark) (id : ℕ) (v
             older = λ s is. inr (section, inside, sym same.entered ∙ ap (λ (z : Section). z.entered) (is_new s is));
           }) i.readers;
           front = front_frame m m vs id v w h h there refl refl (λ e. e) quiet i.front;
-          listings = listing_frame m m nodes refl i.chart h h quiet vs id w
+          listings = listing_frame m m nodes i.chart h h quiet vs id w
               (λ s l is lists. subst (λ (z : Section). IsListing m i.chart h z l) (is_new s is)
               (listing l (ap (λ (z : Section). z.listing) (is_new s is) ∙ lists))) i.listings;
           grace = grace_frame vs id v w h h there (λ s is. inr (

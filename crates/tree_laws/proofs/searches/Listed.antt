@@ -107,7 +107,7 @@ module _ (k : Shape) (m : Memory) (vs : List View) (h : List Mark) (i : HoldsNow
           key = λ key e. absurd (let q : None ≡ Some key = e in cc);
           here = inl (shape.below 0 c Right shape.root link nz).linked;
         })) was.visits;
-    now = λ even same. (let n = was.now even same in record {
+    now = λ fewer. (let n = was.now fewer in record {
       facts = n.facts;
       gaps = each_append IsBare (gaps_by_link no_bounds c) listing.gaps (one_gap no_bounds c (λ z. root_gap (link ∙ z))) n.gaps;
       visits = each_append (StandsNow m g h section.entered) (visits_by_link no_bounds c) listing.visits
@@ -197,7 +197,7 @@ module _ (k : Shape) (m : Memory) (vs : List View) (h : List Mark) (i : HoldsNow
         (by_visits (λ (t : Visit). visits_by t t.key field (m field)) slot listing.visits) listing.visits
         (each_by (IsVisit m g h section.entered) (λ (t : Visit). visits_by t t.key field (m field)) slot listing.visits
         (λ t has e. visits_found t (was.visits has.0 t has.1) t.key field refl (loadable_at t e))) was.visits;
-    now = λ even same. (let n = was.now even same in record {
+    now = λ fewer. (let n = was.now fewer in record {
       facts = each_append IsNow (by_visits (λ (t : Visit). facts_by t.key field (m field)) slot listing.visits) listing.facts
           (each_by IsNow (λ (t : Visit). facts_by t.key field (m field)) slot listing.visits
           (λ t has e. facts_found t (was.visits has.0 t has.1) (n.visits has.0 t has.1) t.key field refl (loadable_at t e))) n.facts;

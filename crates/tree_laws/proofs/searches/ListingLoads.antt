@@ -1,5 +1,5 @@
 -- A load of the front in a section keeps the invariant: K37. With it a listing begins.
-use Rattle.std.proofs.Common.{◌≡◌, ℕ, ◌+◌, ◌*◌, Bool, true, false, cond, List, [], ◌++◌, length, set, Option, Some, None, refl, sym, ap, subst, ⊎_elim, arith, append-nil}
+use Rattle.std.proofs.Common.{◌≡◌, ℕ, ◌+◌, ◌*◌, ◌≤◌, Bool, true, false, cond, List, [], ◌++◌, length, set, Option, Some, None, refl, sym, ap, subst, ⊎_elim, arith, append-nil}
 use mathlib.Core.Option.{some}
 use lib.ListN.{get_elem?}
 use Rattle.atomic_table.proofs.Lists.{set_here}
@@ -21,7 +21,7 @@ use Rattle.core_state.specs.views.Views.{Works, open_reading, readings_of}
 use Rattle.core_state.specs.steps.Loads.{new_listing, looked, NeedsFrontLook, after_front_look}
 use Rattle.core_state.specs.parts.ReaderParts.{IsServed}
 use Rattle.core_state.specs.parts.ListingParts.{IsBetween, StandsNow, IsVisit, IsListing}
-use Rattle.core_state.specs.parts.FrontParts.{IsOddBy}
+use Rattle.core_frames.proofs.frames.FrontFrame.{front_counts}
 use Rattle.core_state.specs.parts.TreeParts.{map_now}
 use Rattle.core_state.specs.steps.Steps.{IsStep, step37}
 use Rattle.core_state.specs.Invariant.{HoldsNow}
@@ -43,22 +43,16 @@ module _ (k : Shape) (m : Memory) (vs : List View) (h : List Mark) (id : ℕ) (v
   inside : v.section ≡ Some section
   inside = needs.section_is
 
-  -- an even front counts the updates
-  even_front : IsEven (m Front) → m Front ≡ 2 * length (updates_of h)
-  even_front even = ⊎_elim (λ (x : (m Front ≡ 2 * length (updates_of h)) × Each vs (λ (u : View). u.commit ≡ None)). x.0)
-      (λ (x : IsOddBy m vs (length (updates_of h))). absurd (odd x x.commit.stored refl)) i.front.turned
-    where
-      odd : (x : IsOddBy m vs (length (updates_of h))) (b : Bool) → x.commit.stored ≡ b → ⊥
-      odd x true e = let word = x.word in let count = x.updates in let f = ap (λ z. x.commit.found + cond z 2 0) e in absurd (omega arith)
-      odd x false e = let word = x.word in let count = x.updates in let f = ap (λ z. x.commit.found + cond z 2 0) e in absurd (omega arith)
+  counts : (m Front ≤ 2 * length (updates_of h) + 1) × (IsEven (m Front) → m Front ≡ 2 * length (updates_of h))
+  counts = front_counts m vs h i.front
 
   listing_is : (o : Option Listing) → section.listing ≡ o → (l : Listing) → looked (m Front) o ≡ Some l → IsListing m i.chart h new l
   listing_is None none l is = let same : new_listing (m Front) ≡ l = cc in subst (IsListing m i.chart h new) same (record {
-    since = λ even. (let e = even_front even in let from = (i.seats.sections id v there section inside).from in
+    since = λ even. (let e = counts.1 even in let from = (i.seats.sections id v there section inside).from in
         let before = updates_before h section.entered in omega arith);
-    most = omega arith;
+    most = counts.0;
     visits = each_none (IsVisit m i.chart h section.entered);
-    now = λ even e. record {
+    now = λ fewer. record {
       facts = each_none (λ (f : Fact). map_now h f.key ≡ Some f.value);
       gaps = each_none (λ (gap : Gap). (y : ℕ) → IsBetween gap y → map_now h y ≡ None);
       visits = each_none (StandsNow m i.chart h section.entered);

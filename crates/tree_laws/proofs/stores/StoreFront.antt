@@ -14,7 +14,8 @@ use Rattle.core_state.specs.declared.view.View.{View}
 use Rattle.core_state.specs.memory.Lists.{IsEven}
 use Rattle.core_state.specs.memory.Memory.{Memory}
 use Rattle.core_state.specs.steps.Links.{HasCommit}
-use Rattle.core_state.specs.parts.FrontParts.{IsOddBy, FrontParts}
+use Rattle.core_state.specs.parts.FrontParts.{FrontParts}
+use Rattle.core_frames.proofs.frames.FrontFrame.{odd_by}
 use Rattle.list_laws.specs.Counts.{Each}
 use Rattle.list_laws.proofs.Lists.{at_below, each_set}
 
@@ -24,32 +25,11 @@ module _ (m m' : Memory) (vs : List View) (id : ℕ) (v w : View) (there : get_e
   pub turned_by : (commit : Commit) → HasCommit v commit
       → (m Front ≡ commit.found + 1) × (commit.found ≡ 2 * length (updates_of h))
       × ((j : ℕ) (u : View) → j ≢ id → get_elem? vs j ≡ some u → u.commit ≡ None)
-  turned_by commit has = ⊎_elim none one t.turned
-    where
-      none : (m Front ≡ 2 * length (updates_of h)) × Each vs (λ (u : View). u.commit ≡ None)
-          → (m Front ≡ commit.found + 1) × (commit.found ≡ 2 * length (updates_of h))
-          × ((j : ℕ) (u : View) → j ≢ id → get_elem? vs j ≡ some u → u.commit ≡ None)
-      none i = absurd (let q : None ≡ Some commit = sym (i.1 id v there) ∙ has.commit_is in cc)
-
-      one : IsOddBy m vs (length (updates_of h)) → (m Front ≡ commit.found + 1) × (commit.found ≡ 2 * length (updates_of h))
-          × ((j : ℕ) (u : View) → j ≢ id → get_elem? vs j ≡ some u → u.commit ≡ None)
-      one i =
-          let me : id ≡ i.id = dite (ℕ_discrete id i.id) (λ q. q)
-          (λ ne. absurd (let q : None ≡ Some commit = sym (i.alone id v ne there) ∙ has.commit_is in cc)) in
-          let same : i.view ≡ v = some-injective i.view v (sym i.there ∙ subst (λ z. get_elem? vs z ≡ some v) me there) in
-          let is : Some i.commit ≡ Some commit = sym i.has ∙ ap (λ (z : View). z.commit) same ∙ has.commit_is in
-          let it : i.commit ≡ commit = cc in
-          let found : i.commit.found ≡ commit.found = ap (λ (z : Commit). z.found) it in
-          let count : i.commit.found + cond i.commit.stored 2 0 ≡ commit.found + 0 =
-          ap (λ (z : Commit). z.found + cond z.stored 2 0) it ∙ ap (λ b. commit.found + cond b 2 0) has.unmade in (
-            (let a = i.word in omega arith),
-            (let a = i.updates in omega arith),
-            λ j u ne e. i.alone j u (λ z. ne (z ∙ sym me)) e,
-          )
-
-  -- the front is odd
-  pub odd_front : (commit : Commit) → HasCommit v commit → IsEven (m' Front) → ⊥
-  odd_front commit has even = let r = turned_by commit has in let a = r.0 in let b = r.1 in absurd (omega arith)
+  turned_by commit has =
+      let r = odd_by m vs h id v there t commit has.commit_is in
+      let count : commit.found + cond commit.stored 2 0 ≡ 2 * length (updates_of h) = r.1 in
+      let unmade : commit.found + cond commit.stored 2 0 ≡ commit.found + 0 = ap (λ b. commit.found + cond b 2 0) has.unmade in
+      (r.0, omega arith, r.2)
 
   -- the update was made
   pub front_made : (commit : Commit) → HasCommit v commit → w.commit ≡ Some (record commit { stored = true })

@@ -50,8 +50,8 @@ use Rattle.tree_laws.proofs.stores.StoreSlots.{slots_stored}
 use Rattle.tree_laws.proofs.stores.StoreReaders.{StoresRead, readers_after, aged_same}
 use Rattle.tree_laws.proofs.stores.StoreMoves.{moves_stored, pending_still}
 use Rattle.tree_laws.proofs.stores.StoreCounts.{counts_made}
-use Rattle.tree_laws.proofs.stores.StoreFront.{odd_front, front_made}
-use Rattle.tree_laws.proofs.stores.StoreListings.{listings_after}
+use Rattle.tree_laws.proofs.stores.StoreFront.{front_made}
+use Rattle.tree_laws.proofs.stores.StoreListings.{listings_behind}
 use Rattle.core_frames.proofs.views.Fields.{stored_here}
 use Rattle.core_frames.proofs.chart.Plain.{clocked_before}
 use Rattle.core_frames.proofs.frames.PlainFrames.{seat_frame_plain, waiter_frame_plain, mark_frame_plain, SameForMore, grace_same, same_for_more}
@@ -329,10 +329,8 @@ module _ (k : Shape) (m : Memory) (vs : List View) (h : List Mark) (i : HoldsNow
         (λ s l. l) i.readers.ages) i.locks.readings i.readers;
     front = front_made m m' vs id v w there h h' (stores.within.beside Front tt) i.front commit needs.has_commit refl one_longer
         (subst IsLegal (sym more_updates) (legal_more (updates_of h) update i.front.legal there_now));
-    listings = listings_after m m' g g vs id w h h' outside (stores.within.beside Front tt) stores.key
-        (λ j z section s e is y. ⊎_elim (λ (l : g.linked s ≡ true). inl l) (λ q. inr (held section.entered s q)) y)
-        (λ j z section listing e is even same lists. absurd
-        (odd_front m m vs id v w there h h' refl i.front commit needs.has_commit (subst IsEven (sym same) even))) i.listings;
+    listings = listings_behind m m' g g vs id w h h' outside stores.key
+        (λ j z section s e is y. ⊎_elim (λ (l : g.linked s ≡ true). inl l) (λ q. inr (held section.entered s q)) y) i.listings one_longer;
     grace = grace_same v.allowance.place h h' plain vs id v w there refl
         (record { place = refl; places = refl; joined = refl; met = refl }) moving_none (reuse_done h update i.grace.reuse)
         (gone_done h update) (last_done h update) refl i.grace;

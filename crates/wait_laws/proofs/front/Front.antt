@@ -1,58 +1,33 @@
--- The steps on the front keep the invariant: K19 and K24.
-use Rattle.std.proofs.Common.{◌≡◌, ℕ, ◌+◌, ◌*◌, ◌≤◌, ◌⊎◌, ◌==◌, Bool, true, false, cond, List, length, set, Some, None, refl, sym, ap, subst, ◌∙◌, ⊎_elim, inl, inr, arith, ◌≢◌, eqb-true}
-use mathlib.Core.Logic.{dite}
+-- The steps on the front keep the invariant: K19, K24 and K39.
+use Rattle.std.proofs.Common.{◌≡◌, ℕ, ◌+◌, ◌*◌, ◌⊎◌, ◌==◌, Bool, true, false, cond, List, length, set, Some, None, refl, sym, ◌∙◌, ⊎_elim, inl, inr, arith, eqb-true}
 use mathlib.Core.Option.{some}
-use native.Mathlib.Decide.{ℕ_discrete}
 use lib.ListN.{get_elem?}
 use Rattle.atomic_table.proofs.Lists.{set_here, set_else}
 use Rattle.prcu_marks.specs.declared.mark.Mark.{Mark}
 use Rattle.prcu_marks.specs.Marks.{updates_of}
 use Rattle.core_state.specs.declared.shape.Shape.{Shape}
 use Rattle.core_state.specs.declared.words.Field.TheVariants.{Front}
-use Rattle.core_state.specs.declared.view.Listing.{Listing}
-use Rattle.core_state.specs.declared.view.Section.{Section}
 use Rattle.prcu_marks.specs.declared.commit.Commit.{Commit}
 use Rattle.core_state.specs.declared.view.View.{View}
 use Rattle.list_laws.specs.Counts.{Each}
-use Rattle.core_state.specs.memory.Lists.{IsEven}
 use Rattle.core_state.specs.memory.Memory.{Memory, stored}
 use Rattle.core_state.specs.views.Views.{Works}
-use Rattle.core_state.specs.steps.Locks.{NeedsOpenCommit, with_front, NeedsCloseCommit, after_close_commit, after_open_commit}
+use Rattle.core_state.specs.steps.Locks.{NeedsOpenCommit, with_front, NeedsCloseCommit, after_close_commit, after_open_commit, NeedsGiveFrontBack}
 use Rattle.prcu_marks.specs.Commits.{updates_by}
 use Rattle.core_state.specs.parts.FrontParts.{IsOddBy, FrontParts}
-use Rattle.core_state.specs.parts.ListingParts.{IsListing, ListingParts}
 use Rattle.core_state.specs.Invariant.{HoldsNow}
-use Rattle.list_laws.proofs.Lists.{at_below, at_one, each_set, each_change}
+use Rattle.list_laws.proofs.Lists.{at_below, each_set}
 use Rattle.core_frames.specs.Laws.{IsKept, Keeps}
-use Rattle.core_state.specs.declared.words.Kind.TheVariants.{K19, K24}
+use Rattle.core_state.specs.declared.words.Kind.TheVariants.{K19, K24, K39}
 use Rattle.core_frames.proofs.Keeping.{KeepsFound, keeps_found, loaded_quiet, no_mark, kept}
 use Rattle.wait_laws.proofs.front.Numbers.{seen_law, number_law}
 use Rattle.core_frames.proofs.views.Same.{slots_stay}
-use Rattle.core_state.specs.steps.Steps.{step19, step24}
+use Rattle.core_state.specs.steps.Steps.{step19, step24, step39}
 use Rattle.core_frames.proofs.frames.CountFrame.{numbers_stay, numbers_of}
+use Rattle.core_frames.proofs.frames.FrontFrame.{odd_by}
 
 module _ (k : Shape) (m : Memory) (vs : List View) (h : List Mark) (id : ℕ) (v : View) (i : HoldsNow k m vs h)
     (there : get_elem? vs id ≡ some v) (works : Works v) where
-  -- a listing under another front, which no listing has seen as an even one
-  other_front : (n : ℕ) (section : Section) (listing : Listing) → m Front ≤ n → (IsEven listing.front → n ≡ listing.front → ⊥)
-      → IsListing m i.chart h section listing → IsListing (stored m Front n) i.chart h section listing
-  other_front n section listing le never t = record {
-    since = t.since;
-    most = (let a = t.most in omega arith);
-    visits = λ j visit at. (let r = t.visits j visit at in record { node = r.node; key = r.key; here = r.here });
-    now = λ even e. absurd (never even e);
-  }
-
-  front_listings : (n : ℕ) (w : View) → w.section ≡ v.section → m Front ≤ n → ((front : ℕ) → front ≤ m Front → IsEven front → n ≡ front → ⊥)
-      → ListingParts (stored m Front n) i.chart (set vs id w) h
-  front_listings n w section le never = record {
-    listings = each_change (λ (u : View). (s : Section) (l : Listing) → u.section ≡ Some s → s.listing ≡ Some l → IsListing m i.chart h s l)
-        (λ (u : View). (s : Section) (l : Listing) → u.section ≡ Some s → s.listing ≡ Some l
-        → IsListing (stored m Front n) i.chart h s l) vs id v w there
-        (λ t s l is lists. (let r = t s l (sym section ∙ is) lists in other_front n s l le (never l.front r.most) r))
-        (λ u t s l is lists. (let r = t s l is lists in other_front n s l le (never l.front r.most) r)) i.listings.listings;
-  }
-
   -- K19: the front is made odd
   abbrev odd_view : ℕ → View
   odd_view expected = record (with_front v (expected + 1)) { commit = Some (record { found = expected; stored = false }) }
@@ -96,49 +71,31 @@ module _ (k : Shape) (m : Memory) (vs : List View) (h : List Mark) (id : ℕ) (v
       (slots_stay m m' refl) refl refl (inr refl) (i.slots.few id v there).one
       (numbers_stay m m' (numbers_of v) (numbers_of v) refl refl refl)
       (turned19 expected needs is)
-      (front_listings (expected + 1) w refl (omega arith) (λ front le even e. let odd = needs.even in omega arith))
 
-  -- K24: the front is made even again
-  -- it is odd by the view
-  odd24 : (front : ℕ) → (needs : NeedsCloseCommit v front)
-      → (m Front ≡ needs.0 + 1) × (needs.0 + 2 ≡ 2 * length (updates_of h))
-      × ((j : ℕ) (u : View) → j ≢ id → get_elem? vs j ≡ some u → u.commit ≡ None)
-  odd24 front needs =
-      ⊎_elim
-      (λ (t : (m Front ≡ 2 * length (updates_of h)) × Each vs (λ (u : View). u.commit ≡ None)). absurd
-      (let q : None ≡ Some (record { found = needs.0; stored = true }) = sym (t.1 id v there) ∙ needs.1 in cc))
-      (λ (t : IsOddBy m vs (length (updates_of h))).
-      dite (ℕ_discrete t.id id)
-      (λ here. let view : t.view ≡ v = at_one vs id t.view v (subst (λ n. get_elem? vs n ≡ some t.view) here t.there) there in
-      let commit : Some t.commit ≡ Some (record { found = needs.0; stored = true }) =
-      sym t.has ∙ ap (λ (u : View). u.commit) view ∙ needs.1 in
-      let same : t.commit ≡ record { found = needs.0; stored = true } = cc in (
-        t.word ∙ ap (λ (x : Commit). x.found + 1) same,
-        sym (ap updates_by same) ∙ t.updates,
-        λ j u ne e. t.alone j u (λ f. ne (f ∙ here)) e,
-      ))
-      (λ ne. absurd (let q : None ≡ Some (record { found = needs.0; stored = true }) =
-      sym (t.alone id v (λ e. ne (sym e)) there) ∙ needs.1 in cc)))
-      i.front.turned
-
-  law24 : (front : ℕ) → NeedsCloseCommit v front → HoldsNow k (stored m Front front) (set vs id (after_close_commit v front)) h
-  law24 front needs =
+  -- the front is made even again, as twice the number of updates
+  even_again : (front : ℕ) (commit : Commit) → v.commit ≡ Some commit → updates_by commit ≡ front
+      → HoldsNow k (stored m Front front) (set vs id (after_close_commit v front)) h
+  even_again front commit mine is =
       let m' : Memory = stored m Front front in
       let w : View = after_close_commit v front in
-      let odd = odd24 front needs in
-      let word = odd.0 in
-      let updates = odd.1 in
-      let left = needs.2 in
+      let odd = odd_by m vs h id v there i.front commit mine in
       number_law k m m' vs h id v i there works v.allowance.tickets v.hands.reserved v.hands.owes None w.latest v.seen
       (slots_stay m m' refl) refl refl (inr refl) (i.slots.few id v there).one
       (numbers_stay m m' (numbers_of v) (numbers_of v) refl refl refl)
       (record {
-        turned = inl ((omega arith), each_set (λ j u. u.commit ≡ None) vs id w refl (λ j u ne e. odd.2 j u ne e));
+        turned = inl (sym is ∙ odd.1, each_set (λ j u. u.commit ≡ None) vs id w refl (λ j u ne e. odd.2 j u ne e));
         settled = each_set (λ j u. (x : Commit) → u.commit ≡ Some x → x.stored ≡ false → u.moving ≡ None) vs id w
             (λ x none unmade. absurd (let q : None ≡ Some x = none in cc)) (λ j u ne e. i.front.settled j u e);
         legal = i.front.legal;
       })
-      (front_listings front w refl (omega arith) (λ other le even e. omega arith))
+
+  -- K24: after the update
+  law24 : (front : ℕ) → NeedsCloseCommit v front → HoldsNow k (stored m Front front) (set vs id (after_close_commit v front)) h
+  law24 front needs = even_again front (record { found = needs.0; stored = true }) needs.1 (sym needs.2)
+
+  -- K39: without an update
+  law39 : (front : ℕ) → NeedsGiveFrontBack v front → HoldsNow k (stored m Front front) (set vs id (after_close_commit v front)) h
+  law39 front needs = even_again front (record { found = front; stored = false }) needs (omega arith)
 
   -- an exchange of the front, by its test
   turns_odd : (expected n : ℕ) (hit : Bool) → m Front ≡ n → NeedsOpenCommit v expected → (n == expected) ≡ hit
@@ -165,3 +122,12 @@ keeps24 = keeps_found K24 kept_found
         let m' : Memory = stored m Front front in
         let us : List View = set vs id (after_close_commit v front) in
         no_mark k m m' h us (kept k m m' h us h (slots_stay m m' refl) (law24 k m vs h id v i there works front needs))
+
+pub keeps39 : Keeps K39
+keeps39 = keeps_found K39 kept_found
+  where
+    kept_found : KeepsFound K39
+    kept_found k m vs h id v field found left w marks i there works fits e (step39 {n = n} {front = front} needs) =
+        let m' : Memory = stored m Front front in
+        let us : List View = set vs id (after_close_commit v front) in
+        no_mark k m m' h us (kept k m m' h us h (slots_stay m m' refl) (law39 k m vs h id v i there works front needs))

@@ -12,7 +12,6 @@ use Rattle.core_state.specs.declared.view.View.{View}
 use Rattle.core_state.specs.memory.Memory.{Memory, slot_count}
 use Rattle.core_state.specs.views.Views.{Works}
 use Rattle.core_state.specs.parts.FrontParts.{FrontParts}
-use Rattle.core_state.specs.parts.ListingParts.{ListingParts}
 use Rattle.core_state.specs.Invariant.{HoldsNow}
 use Rattle.core_frames.proofs.marks.MarkFacts.{quiet_same}
 use Rattle.core_frames.proofs.views.Same.{SameSlots, same_slots, reader_words}
@@ -33,18 +32,18 @@ module _ (k : Shape) (m m' : Memory) (vs : List View) (h : List Mark) (id : ℕ)
     seen = seen;
   }
 
-  -- Where counts, front and listings are right, the invariant is kept.
+  -- Where counts and front are right, the invariant is kept.
   pub number_law : SameSlots m m' → m' Clock ≡ m Clock → reader_words m' ≡ reader_words m → (seen ≡ h) ⊎ (seen ≡ v.seen)
       → (reserved ≡ true → v.hands.hand ≡ None)
-      → NumbersStep m m' (numbers_of v) (numbers_of w) → FrontParts m' (set vs id w) h → ListingParts m' i.chart (set vs id w) h
-      → HoldsNow k m' (set vs id w) h
-  number_law slots clock words known one numbers front listings =
+      → NumbersStep m m' (numbers_of v) (numbers_of w) → FrontParts m' (set vs id w) h → HoldsNow k m' (set vs id w) h
+  number_law slots clock words known one numbers front =
       whole k m' i.chart (set vs id w) h i.table (slot_half k m vs h id v w i there m' h slots (quiet_same h) refl (λ _. one))
       (seat_half k m vs h id v w i there works refl (⊎_elim (λ e. inl e) (λ e. inr (refl, e)) known)
       (wait_still k m vs h id v w i there refl refl))
       (waiters_stay k m m' vs h id v w i there clock words refl)
       (counts_still k.tickets m m' (slot_count k) i.chart vs id v w h h there
-      (sums_same m m' (slot_count k) slots.nodes slots.state) refl numbers i.counts) front listings
+      (sums_same m m' (slot_count k) slots.nodes slots.state) refl numbers i.counts) front
+      (listing_frame_still m m' slots.nodes i.chart h h (quiet_same h) vs id v w there refl i.listings)
 
   -- Where the front and the commit are as they were, only the counts have to be right.
   pub free_law : SameSlots m m' → m' Clock ≡ m Clock → m' Front ≡ m Front → reader_words m' ≡ reader_words m → commit ≡ v.commit
@@ -52,7 +51,6 @@ module _ (k : Shape) (m m' : Memory) (vs : List View) (h : List Mark) (id : ℕ)
       → HoldsNow k m' (set vs id w) h
   free_law slots clock front words same known one numbers =
       number_law slots clock words known one numbers (front_frame m m' vs id v w h h there front same (λ e. e) (quiet_same h) i.front)
-      (listing_frame_still m m' slots.nodes front i.chart h h (quiet_same h) vs id v w there refl i.listings)
 
 -- only the latest numbers and what was seen change, and no word
 pub seen_law : (k : Shape) (m : Memory) (vs : List View) (h : List Mark) (id : ℕ) (v : View) (i : HoldsNow k m vs h)

@@ -77,7 +77,7 @@ module _ (k : Shape) (m : Memory) (vs : List View) (h : List Mark) (id : ℕ) (v
         pending = refl;
       }) i.counts)
       (front_frame m to vs id v w' h h there refl refl (λ e. e) quiet i.front)
-      (listing_frame_still m to nodes refl i.chart h h quiet vs id v w' there refl i.listings)
+      (listing_frame_still m to nodes i.chart h h quiet vs id v w' there refl i.listings)
 
 module _ (k : Shape) (m : Memory) (vs : List View) (h : List Mark) (id : ℕ) (v : View) (i : HoldsNow k m vs h)
     (there : get_elem? vs id ≡ some v) (works : Works v) (slot : ℕ) (small : slot < slot_count k) where

@@ -146,5 +146,5 @@ module _ (k : Shape) (m m' : Memory) (vs : List View) (h : List Mark) (id : ℕ)
             (i.readers.records id v there j r e);
         older = λ s is. inl (let e = ap (λ (z : Section). z.entered) (is_new s is) in omega arith);
       }) i.readers)
-      (listing_frame m m' slots.nodes (λ n. (words n).front) i.chart h (h ++ mark ∷ []) quiet vs id w
+      (listing_frame m m' slots.nodes i.chart h (h ++ mark ∷ []) quiet vs id w
       (λ s listing is lists. absurd (let e = ap (λ (z : Section). z.listing) (is_new s is) ∙ lists in cc)) i.listings)

@@ -99,5 +99,5 @@ module _ (k : Shape) (m m' : Memory) (vs : List View) (h : List Mark) (id : ℕ)
         records = λ j r e. left_records j r e;
         older = λ s none. none_now _ s none;
       }) i.readers)
-      (listing_frame m m' slots.nodes (λ n. (words n).front) i.chart h (h ++ mark ∷ []) quiet vs id w
+      (listing_frame m m' slots.nodes i.chart h (h ++ mark ∷ []) quiet vs id w
       (λ s listing none lists. none_now _ s none) i.listings)

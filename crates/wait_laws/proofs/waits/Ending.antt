@@ -369,4 +369,4 @@ module _ (k : Shape) (m : Memory) (vs : List View) (h : List Mark) (id : ℕ) (v
       whole k m i.chart (set vs id w) h' i.table slots_end
       (record { marks = marks_end; seats = seats_end; grace = graces_end }) waiters_end counts_end
       (front_frame m m vs id v w h h' there refl refl (λ e. ap (waited_move last) e) quiet i.front)
-      (listing_frame_still m m (same_slots m).nodes refl i.chart h h' quiet vs id v w there refl i.listings)
+      (listing_frame_still m m (same_slots m).nodes i.chart h h' quiet vs id v w there refl i.listings)

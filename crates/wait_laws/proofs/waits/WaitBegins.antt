@@ -158,7 +158,7 @@ module _ (k : Shape) (m : Memory) (vs : List View) (h : List Mark) (id : ℕ) (v
         pending = refl;
       }) i.counts)
       (front_frame m new vs id v w h hs there refl refl (λ e. e) quiet i.front)
-      (listing_frame_still m new slots.nodes refl i.chart h hs quiet vs id v w there refl i.listings)
+      (listing_frame_still m new slots.nodes i.chart h hs quiet vs id v w there refl i.listings)
 
 pub keeps7 : Keeps K7
 keeps7 = keeps_found K7 kept_found

@@ -87,4 +87,4 @@ module _ (k : Shape) (m m' : Memory) (vs : List View) (h : List Mark) (id : ℕ)
         pending = refl;
       }) i.counts)
       (front_frame m m' vs id v w h h there front refl (λ e. e) (quiet_same h) i.front)
-      (listing_frame_still m m' slots.nodes front i.chart h h (quiet_same h) vs id v w there refl i.listings)
+      (listing_frame_still m m' slots.nodes i.chart h h (quiet_same h) vs id v w there refl i.listings)
