@@ -1,4 +1,5 @@
 pub mod Lookups
+pub mod Holds
 pub mod Hops
 pub mod Gone
 pub mod Going

@@ -6,6 +6,7 @@ mod answer;
 mod commit;
 mod delete;
 mod descent;
+mod hold;
 mod insert;
 mod lives;
 mod lookup;

@@ -1,15 +1,15 @@
 //! Lookups, in a section and without a lock.
-ghost use Rattle.std.specs.Prelude.{◌≡◌, [], None, IfOk, IfErr};
+ghost use Rattle.std.specs.Prelude.{◌≡◌, IfOk, IfErr};
 ghost use Rattle.seat_table.specs.Rounds.{HasMade};
 ghost use Rattle.seat_table.specs.Seats.{IsQuietSeat};
 ghost use Rattle.citrus_tree.specs.Lookups.{Looked, Gets, told_of};
 
 use crate::answer::answered;
-use crate::descent::{Descent, descend};
+use crate::hold::{hold, release};
 use patience::Patience;
 use prcu_marks::Gate;
 use prcu_model::{Reply, Told};
-use seat_table::{CitrusTable, Part, Seat, WaitPart, steps};
+use seat_table::{CitrusTable, Seat, WaitPart};
 
 // What the dictionary gave the key at some time of a section that is entered and left.
 fn look_up<P: Patience, W: WaitPart, G: Gate>(
@@ -20,24 +20,17 @@ fn look_up<P: Patience, W: WaitPart, G: Gate>(
     key: u64,
 ) -> Result<Option<u64>, P::Tired>
     requires table { seat.old.table ≡ table.now }
-    requires outside { seat.old.view.section ≡ None }
-    requires unlocked { seat.old.view.locks ≡ [] }
+    requires quiet { IsQuietSeat seat.old }
     ensures seat { (seat.new.table ≡ seat.old.table) × (seat.new.listed ≡ seat.old.listed) }
     ensures looked { IfOk result (λ answer. Looked seat.old.view key answer seat.new.view) }
     ensures tired { IfErr result (λ _. HasMade (P.least patience.now) seat.new.view) }
 {
-    match descend(patience, table, seat, gate, key)? {
-        Descent::Found { slot, .. } => {
-            // Without a lock: a node that is unlinked by now keeps its value, and that was the key's at a front of this section.
-            // docs/TREE.md#why-a-get-beside-a-delete-is-right
-            let value = steps::search_load(table, seat, slot, Part::Value);
-            W::leave(table, seat);
+    match hold(patience, table, seat, gate, key)? {
+        Some(value) => {
+            release(table, seat);
             Ok(Some(value))
         }
-        Descent::Ended { .. } => {
-            W::leave(table, seat);
-            Ok(None)
-        }
+        None => Ok(None),
     }
 }
 

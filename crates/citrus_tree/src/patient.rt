@@ -10,6 +10,7 @@ ghost use Rattle.citrus_tree.specs.Gone.{KeepsSlots, KeepsWait};
 
 use crate::answer::Called;
 pub use crate::delete::{Removed, del, remove};
+pub use crate::hold::{hold, release};
 pub use crate::insert::put;
 pub use crate::lookup::get;
 pub use crate::replace::set;

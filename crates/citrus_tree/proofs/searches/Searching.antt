@@ -30,14 +30,15 @@ use Rattle.core_frames.proofs.views.Fields.{side_self}
 use Rattle.core_acts.specs.declared.act.Act.TheVariants.{SearchLoad}
 use Rattle.core_acts.specs.declared.act.Part.{Part}
 use Rattle.core_acts.specs.declared.act.Part.TheVariants as part
-use Rattle.core_acts.specs.Acts.{in_slot, noted}
+use Rattle.core_acts.specs.Acts.{in_slot, noted, section_of}
 use Rattle.core_points.proofs.TargetWords.{part_loadable}
 use Rattle.core_acts.proofs.Acting.{part_word, section_is as opened}
-use Rattle.seat_table.specs.Gains.{IsSlot}
+use Rattle.seat_table.specs.Gains.{Sees, IsSlot}
 use Rattle.seat_table.specs.Told.{IsAsked, Told}
 use Rattle.seat_table.specs.Sections.{is_entry, is_exit, HasEntered, HasLeft}
 use Rattle.seat_table.proofs.Sections.{made_none, made_more, made_both}
 use Rattle.citrus_tree.specs.Going.{Sought}
+use Rattle.citrus_tree.specs.Holds.{IsHolding}
 use Rattle.citrus_tree.specs.Hops.{Records}
 use Rattle.citrus_tree.specs.Lookups.{is_load, is_of_lookup, state_parent, IsSearching, Looked}
 use Rattle.tree_laws.proofs.searches.Readings.{in_more}
@@ -195,6 +196,25 @@ module _ (k : Shape) (v : View) (key : ℕ) where
       moved (Found s p b None) (Found s p b (Some n)) s part.Value n w x i t
       (record (noting_load i.reading (Value s) n) { state = Found s p b (Some n) })
       (value_moves i.reading s p b n i.state_is) i.key_is refl i.here i.above
+
+  -- The value was loaded: the dictionary gave it by then, and the section stays open.
+  pub held : (s p : ℕ) (b : Side) (n : ℕ) (w x : View) → IsSearching v key (Found s p b None) w → Told k w (SearchLoad s part.Value) n x
+      → IsHolding v key n x
+  held s p b n w x i t =
+      let j = valued s p b n w x i t in
+      let e = j.entered in
+      let u : View = noted w (SearchLoad s part.Value) n in
+      let goes : x ≡ after_search_load u (section_of u) (Value s) n = t.goes in
+      record {
+        slot = s;
+        parent = p;
+        side = b;
+        found = j;
+        marks = t.marks;
+        sees = subst (λ z. Sees z t.marks) (sym goes) (record { works = t.sees.works; begins = t.sees.begins; own = t.sees.own });
+        said = subst (λ (z : ℕ × ℕ). WasSaid (updates_of t.marks) z.0 z.1 (Some n)) (λ l. (e.key_is l, e.from_is l))
+            ((t.gains.answer _ j.inside).present s p n b e.no_list j.state_is);
+      }
 
   -- a section is open
   pub in_section : (state : SearchState) (w : View) → IsSearching v key state w → (section : Section) × (w.section ≡ Some section)

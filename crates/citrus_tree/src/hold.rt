@@ -1,0 +1,58 @@
+//! Lookups whose section stays open, and its end.
+ghost use Rattle.std.specs.Prelude.{◌≡◌, Some, IfOk, IfErr};
+ghost use Rattle.core_state.specs.declared.view.Section.{Section};
+ghost use Rattle.seat_table.specs.Rounds.{HasMade};
+ghost use Rattle.seat_table.specs.Seats.{IsQuietSeat};
+ghost use Rattle.seat_table.specs.Sections.{HasLeft, IsQuietReader};
+ghost use Rattle.citrus_tree.specs.Holds.{HoldsOrNot, LeavesQuiet, Releases};
+
+use crate::descent::{Descent, descend};
+use patience::Patience;
+use prcu_marks::Gate;
+use seat_table::{CitrusTable, Part, Seat, WaitPart, steps};
+
+/// The key's value, in a section with the key that stays open until `release`: a wait whose keys have this one among them, and that begins
+/// meanwhile, is over only after that. Where the key is absent the section is left, as a get leaves it. It takes no lock and waits for
+/// nobody's step.
+// A call would hand its answer through memory.
+#[inline(always)]
+pub fn hold<P: Patience, W: WaitPart, G: Gate>(
+    patience: &P,
+    table: &CitrusTable<W>,
+    seat: &mut Seat<W>,
+    gate: &G,
+    key: u64,
+) -> Result<Option<u64>, P::Tired>
+    requires table { seat.old.table ≡ table.now }
+    requires quiet { IsQuietSeat seat.old }
+    ensures seat { (seat.new.table ≡ seat.old.table) × (seat.new.listed ≡ seat.old.listed) }
+    ensures held { IfOk result (λ answer. HoldsOrNot seat.old.view key answer seat.new.view) }
+    ensures quiet { IfOk result (λ answer. LeavesQuiet answer seat.new) }
+    ensures tired { IfErr result (λ _. HasMade (P.least patience.now) seat.new.view) }
+{
+    match descend(patience, table, seat, gate, key)? {
+        Descent::Found { slot, .. } => {
+            // Without a lock: a node that is unlinked by now keeps its value, and that was the key's at a front of this section.
+            // docs/TREE.md#why-a-get-beside-a-delete-is-right
+            let value = steps::search_load(table, seat, slot, Part::Value);
+            Ok(Some(value))
+        }
+        Descent::Ended { .. } => {
+            W::leave(table, seat);
+            Ok(None)
+        }
+    }
+}
+
+/// Leaves the open section. What a `hold` found in it was the key's value at a front of the section.
+pub fn release<W: WaitPart>(table: &CitrusTable<W>, seat: &mut Seat<W>)
+    requires table { seat.old.table ≡ table.now }
+    requires inside { (section : Section) × (seat.old.view.section ≡ Some section) }
+    requires quiet { IsQuietReader seat.old }
+    ensures seat { (seat.new.table ≡ seat.old.table) × (seat.new.listed ≡ seat.old.listed) }
+    ensures left { HasLeft seat.old.view seat.new.view }
+    ensures released { Releases seat.old.view seat.new.view }
+    ensures quiet { IsQuietSeat seat.new }
+{
+    W::leave(table, seat);
+}
