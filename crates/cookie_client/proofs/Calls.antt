@@ -26,17 +26,14 @@ use Rattle.cookie_client.specs.Clients.{CookieClientAt, HasCalled, ChainsMeetFro
 pub call_keeps : (k : Shape) (op : Op) (told : Told) (s t : SeatAt) → IsToldThenLifts k s.view op told t.view → KeepsSlots s t → KeepsCookies s t
 call_keeps k op told s t is slots =
     let answers = told_answers k s.view t.view op told is in record {
-      place = answers.place;
-      seen = answers.since;
-      waits = slots.waits;
-      wait = slots.wait;
+      latest = record { place = answers.place; seen = answers.since; waits = slots.waits; wait = slots.wait };
       retired = λ same. let later = slots.retired same in stay_retired s.view t.view later.0 later.1;
       listed = slots.listed;
     }
 
 pub good_stays : (k : Shape) (cookie : Option CookieAt) (s t : SeatAt) → KeepsCookies s t → IsGood k s cookie → IsGood k t cookie
 good_stays k None s t keeps good = tt
-good_stays k (Some c) s t keeps good = let still = cookies_stay k c s t keeps good.1 good.2 in (good.0, still.0, still.1)
+good_stays k (Some c) s t keeps good = let still = cookies_stay k c s t keeps good.1 good.2 in (good.0, still.0, still.1, good.3)
 
 -- what is done about the cookie before a call, the call, and what is done about the cookie after it
 pub made_call : (shape : Shape) (table : TableAt) (cookie left held : Option CookieAt) (s ready mid t : SeatAt) (op : Op) (told : Told)

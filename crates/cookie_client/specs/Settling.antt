@@ -14,13 +14,13 @@ use Rattle.seat_table.specs.Sections.{HasBegun}
 use Rattle.tree_points.specs.Progress.{HasGone}
 use Rattle.grace_cookie.specs.declared.answers.Ask.{Ask}
 use Rattle.grace_cookie.specs.declared.answers.Ask.TheVariants.{Over, NotYet, GivenUp}
-use Rattle.grace_cookie.specs.Cookies.{CookieAt, IsOf, HasKept}
+use Rattle.grace_cookie.specs.Cookies.{CookieAt, everybody, IsOf, HasKept}
 use Rattle.grace_cookie.specs.Asking.{IsSameCookie, Asked, HasGivenBack}
 
--- The cookie that is held, if any, wasn't found over yet, and it is of this seat.
+-- The cookie that is held, if any, is for everybody and wasn't found over yet, and it is of this seat.
 abbrev pub IsGood : Shape → SeatAt → Option CookieAt → Type 0
 IsGood k s None = Unit {0}
-IsGood k s (Some c) = (c.over ≡ false) × IsOf k c s.view × HasKept c s
+IsGood k s (Some c) = (c.over ≡ false) × IsOf k c s.view × HasKept c s × (c.keys ≡ everybody)
 
 -- By the answer about a cookie: when it is over its slots go back, and none is held; where it was given up none is held; else it is held
 -- still.

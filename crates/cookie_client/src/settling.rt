@@ -6,6 +6,7 @@ ghost use Rattle.cookie_client.specs.Rooms.{AsksUntilNone, MakesRoom};
 
 use crossbeam_utils::Backoff;
 use grace_cookie::{Ask, Cookie, ask, give_back, start};
+use key_interval::Keys;
 use prcu_model::Op;
 use seat_table::{CitrusTable, Seat, WaitPart};
 use std::sync::Wait;
@@ -133,5 +134,5 @@ fn start_if_many<W: WaitPart>(
     if seat.retired().len() < seat.room() / 2 {
         return None;
     }
-    Some(start(table, seat))
+    Some(start(table, seat, Keys::all()))
 }

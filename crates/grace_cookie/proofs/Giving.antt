@@ -8,7 +8,7 @@ use Rattle.list_laws.specs.Counts.{times}
 use Rattle.list_laws.proofs.Lists.{times_here, times_other, all_times, all_from_times}
 use Rattle.seat_table.specs.Seats.{SeatAt, unlisted}
 use Rattle.node_slots.specs.Reclaiming.{IsReady, AreReady, GivesBack, first_slots, without_slots}
-use Rattle.grace_cookie.specs.Cookies.{CookieAt, IsLatest, IsKept, AreKept, AreUnraised}
+use Rattle.grace_cookie.specs.Cookies.{CookieAt, everybody, IsLatest, IsKept, AreKept, AreUnraised}
 use Rattle.grace_cookie.specs.Asking.{GivesSome}
 
 unlisted_behind : (s : ℕ) (xs ys : List ℕ) → times s xs ≡ 0 → unlisted s (xs ++ ys) ≡ xs ++ unlisted s ys
@@ -42,8 +42,8 @@ module _ (c : CookieAt) (s : SeatAt) (kept : AreKept c s) where
   pub some_first : 1 ≤ c.slots → 1 ≤ length (first_slots c.slots s.listed)
   some_first some = let long = ap length first_is in let many = kept.many in omega arith
 
-  pub all_ready : c.over ≡ true → AreUnraised s.view (take c.slots s.listed) → AreReady s.view (first_slots c.slots s.listed)
-  all_ready over unraised = subst (AreReady s.view) (sym first_is) (record { each = all_from_times (IsReady s.view) kept.slots one })
+  pub all_ready : c.keys ≡ everybody → c.over ≡ true → AreUnraised s.view (take c.slots s.listed) → AreReady s.view (first_slots c.slots s.listed)
+  all_ready all over unraised = subst (AreReady s.view) (sym first_is) (record { each = all_from_times (IsReady s.view) kept.slots one })
     where
       one : (slot : ℕ) → 1 ≤ times slot kept.slots → IsReady s.view slot
       one slot there =
@@ -55,7 +55,7 @@ module _ (c : CookieAt) (s : SeatAt) (kept : AreKept c s) where
             r = here.r;
             at = here.at;
             unraised = low here.i here.r here.at;
-            waited = here.waited over;
+            waited = here.waited all over;
           }
 
   pub gives_some : (answer : ℕ) (t : SeatAt) → 1 ≤ c.slots → IsLatest c s.view → answer ≡ c.slots

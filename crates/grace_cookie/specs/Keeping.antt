@@ -20,16 +20,23 @@ pub record KeepsRetired (v w : View) : Type 0 where
       → (now : Retired) × (get_elem? w.hands.retired i ≡ some now) × StaysRetired r now
 
 -- The place is the same, it has begun no fewer waits, and the seat has seen as much. Where it has begun no further wait, the latest one is
--- as
--- it was, the retired slots stay, and further slots are listed behind.
+-- as it was.
+pub record KeepsLatest (v w : View) : Type 0 where
+  pub place : w.allowance.place ≡ v.allowance.place
+  pub seen : IsPrefix v.seen w.seen
+  pub waits : v.counts.waits ≤ w.counts.waits
+  pub wait : w.counts.waits ≡ v.counts.waits → w.wait ≡ v.wait
+
+-- The same, and where the place has begun no further wait the retired slots stay, and further slots are listed behind.
 pub record KeepsCookies (s t : SeatAt) : Type 0 where
-  pub place : t.view.allowance.place ≡ s.view.allowance.place
-  pub seen : IsPrefix s.view.seen t.view.seen
-  pub waits : s.view.counts.waits ≤ t.view.counts.waits
-  pub wait : t.view.counts.waits ≡ s.view.counts.waits → t.view.wait ≡ s.view.wait
+  pub latest : KeepsLatest s.view t.view
   pub retired : t.view.counts.waits ≡ s.view.counts.waits → KeepsRetired s.view t.view
   pub listed : t.view.counts.waits ≡ s.view.counts.waits → (later : List ℕ) × (t.listed ≡ s.listed ++ later)
 
--- After such a call a cookie is of the seat still, and what was retired at its start is kept.
+-- After a call that keeps the latest wait a cookie is of the seat still.
+abbrev pub WaitsStay : Type 0
+WaitsStay = (k : Shape) (c : CookieAt) (v w : View) → KeepsLatest v w → IsOf k c v → IsOf k c w
+
+-- Where it keeps the slots too, what was retired at the cookie's start is kept.
 abbrev pub CookiesStay : Type 0
 CookiesStay = (k : Shape) (c : CookieAt) (s t : SeatAt) → KeepsCookies s t → IsOf k c s.view → HasKept c s → IsOf k c t.view × HasKept c t

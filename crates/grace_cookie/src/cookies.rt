@@ -2,18 +2,18 @@
 ghost use Rattle.std.specs.Prelude.{◌≡◌, ◌≤◌, ℕ, true, false, [], length, None, take};
 ghost use Rattle.list_laws.specs.Counts.{times};
 ghost use Rattle.seat_table.specs.Gains.{IsInformed};
-ghost use Rattle.seat_table.specs.Onward.{LooksAt, IsOnward};
+ghost use Rattle.seat_table.specs.Onward.{LooksAt, IsOnward, IsWithin};
 ghost use Rattle.seat_table.specs.Seats.{AreListed, IsQuietSeat, shape_of};
 ghost use Rattle.seat_table.specs.Sections.{HasBegun};
-ghost use Rattle.grace_cookie.specs.Cookies.{IsOf, HasKept, IsLatest, AreUnraised};
-ghost use Rattle.grace_cookie.specs.Asking.{IsSameCookie, Asked, HasGivenBack};
+ghost use Rattle.grace_cookie.specs.Cookies.{IsOf, HasKept, IsLatest, AreUnraised, everybody};
+ghost use Rattle.grace_cookie.specs.Asking.{IsSameCookie, Asked, LeavesAlone, HasGivenBack};
 
 use crate::answers::Ask;
 use key_interval::Keys;
 use seat_table::{CitrusTable, Grace, Poll, Seat, WaitPart};
 use std::marker::Model;
 
-/// A wait for everybody that was begun, and is asked about while its seat goes on with other calls.
+/// A wait that was begun, and is asked about while its seat goes on with other calls.
 #[derive(Drop)]
 pub struct Cookie<W> {
     grace: Grace<W>,
@@ -23,15 +23,28 @@ pub struct Cookie<W> {
 }
 
 impl<W> Model for Cookie<W> {
-    ghost use Rattle.std.specs.Prelude.{◌≡◌};
     ghost use Rattle.seat_table.specs.Waits.{reached};
-    ghost use Rattle.grace_cookie.specs.Cookies.{CookieAt, everybody};
+    ghost use Rattle.grace_cookie.specs.Cookies.{CookieAt};
 
     ghost Value = { CookieAt };
 
-    ghost view = { λ c. record { count = c.count; slots = c.slots; over = c.over; clock = c.grace.clock; reached = reached c.grace } };
+    ghost view = { λ c. record {
+      keys = c.grace.keys;
+      count = c.count;
+      slots = c.slots;
+      over = c.over;
+      clock = c.grace.clock;
+      reached = reached c.grace;
+    } };
+}
 
-    ghost invariant = { λ c. c.grace.keys ≡ everybody };
+impl<W> Cookie<W> {
+    /// The number of its wait: how many its place had begun before.
+    pub fn number(&self) -> u64
+        ensures { result ≡ self.now.count }
+    {
+        self.count
+    }
 }
 
 // How many slots are retired.
@@ -47,15 +60,17 @@ fn count_retired<W: WaitPart>(table: &CitrusTable<W>, seat: &Seat<W>) -> u32
     seat.retired().len() as u32
 }
 
-/// Begins a wait for everybody, and keeps how many slots are retired now. It is asked about by `ask`; when it is over, `give_back` gives
-/// these slots back. A cookie that was started before is given up, and so is this one where the place begins a later wait.
-pub fn start<W: WaitPart>(table: &CitrusTable<W>, seat: &mut Seat<W>) -> Cookie<W>
+/// Begins a wait for the readers with one of these keys, and keeps how many slots are retired now. It is asked about by `ask`; when it is
+/// over, and was for everybody, `give_back` gives these slots back. A cookie that was started before is given up, and so is this one where
+/// the place begins a later wait.
+pub fn start<W: WaitPart>(table: &CitrusTable<W>, seat: &mut Seat<W>, keys: Keys) -> Cookie<W>
     requires table { seat.old.table ≡ table.now }
     requires outside { seat.old.view.section ≡ None }
     requires ticket { 1 ≤ seat.old.view.allowance.tickets }
     requires listed { AreListed seat.old }
     ensures seat { (seat.new.table ≡ seat.old.table) × (seat.new.listed ≡ seat.old.listed) }
-    ensures begun { HasBegun seat.old.view 0 18446744073709551615 seat.new.view }
+    ensures begun { HasBegun seat.old.view keys.low keys.high seat.new.view }
+    ensures keys { result.keys ≡ keys }
     ensures count { result.count ≡ seat.old.view.counts.waits }
     ensures slots { result.slots ≡ length seat.old.view.hands.retired }
     ensures going { result.over ≡ false }
@@ -66,7 +81,6 @@ pub fn start<W: WaitPart>(table: &CitrusTable<W>, seat: &mut Seat<W>) -> Cookie<
     let count = seat.waits();
     // Before the wait begins: a slot that is retired later may have readers that it isn't for. docs/TREE_CALLS.md#cookies
     let slots = count_retired(table, seat);
-    let keys = Keys::all();
     let grace = W::begin(table, seat, keys);
     Cookie {
         grace,
@@ -85,7 +99,8 @@ pub fn ask<W: WaitPart>(table: &CitrusTable<W>, seat: &mut Seat<W>, cookie: &mut
     ensures seat { (seat.new.table ≡ seat.old.table) × (seat.new.listed ≡ seat.old.listed) }
     ensures cookie { IsSameCookie cookie.old cookie.new }
     ensures asked { Asked (shape_of W.WAY table.now) cookie.old seat.old.view result cookie.new seat.new.view }
-    ensures onward { LooksAt (IsOnward cookie.old.reached) seat.old.view seat.new.view }
+    ensures given_up { LeavesAlone result seat.old seat.new }
+    ensures onward { IsWithin cookie.old.keys cookie.old.reached.class → LooksAt (IsOnward cookie.old.reached) seat.old.view seat.new.view }
     ensures of { IsOf (shape_of W.WAY table.now) cookie.new seat.new.view }
     ensures kept { HasKept cookie.old seat.old → HasKept cookie.new seat.new }
     ensures quiet { IsQuietSeat seat.old → IsQuietSeat seat.new }
@@ -106,13 +121,14 @@ pub fn ask<W: WaitPart>(table: &CitrusTable<W>, seat: &mut Seat<W>, cookie: &mut
     }
 }
 
-/// Gives the slots back that were retired when the cookie was started, each with the next generation, and answers their number. Where the
-/// place has no spare the first of them becomes its spare. The answer is 0, and nothing is changed, exactly where the place has begun a
-/// later wait or none was retired then. Where it isn't 0 the seat is informed of each slot that went back: no slot is used again that an
-/// open reader may meet. It begins no wait and waits for nobody.
+/// Gives the slots back that were retired when the cookie was started, each with the next generation, and answers their number. A wait for
+/// fewer keys lets none go: a reader with any key may stand in one. Where the place has no spare the first of them becomes its spare. The
+/// answer is 0, and nothing is changed, exactly where the place has begun a later wait or none was retired then. Where it isn't 0 the seat
+/// is informed of each slot that went back: no slot is used again that an open reader may meet. It begins no wait and waits for nobody.
 pub fn give_back<W: WaitPart>(table: &CitrusTable<W>, seat: &mut Seat<W>, cookie: Cookie<W>) -> u32
     requires table { seat.old.table ≡ table.now }
     requires of { IsOf (shape_of W.WAY table.now) cookie seat.old.view }
+    requires everybody { cookie.keys ≡ everybody }
     requires over { cookie.over ≡ true }
     requires kept { HasKept cookie seat.old }
     requires unraised { IsLatest cookie seat.old.view → AreUnraised seat.old.view (take cookie.slots seat.old.listed) }

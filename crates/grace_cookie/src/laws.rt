@@ -1,7 +1,12 @@
-//! How a cookie stays good beside other calls of its seat. The function has no body; its promise is the law.
-ghost use Rattle.grace_cookie.specs.Keeping.{CookiesStay};
+//! How a cookie stays good beside other calls of its seat. The functions have no bodies; their promises are the laws.
+ghost use Rattle.grace_cookie.specs.Keeping.{WaitsStay, CookiesStay};
 
-/// A cookie stays good over each call that keeps what `KeepsCookies` says.
+/// A cookie may be asked about after each call that keeps what `KeepsLatest` says.
+pub fn waits_stay()
+    ensures { WaitsStay }
+{}
+
+/// And what was retired at its start may go back by it where the call keeps what `KeepsCookies` says.
 pub fn cookies_stay()
     ensures { CookiesStay }
 {}

@@ -1,5 +1,5 @@
-//! Cookies: a wait for everybody that is begun now and asked about later, so that a writer gives its retired slots back without ever
-//! standing still for readers.
+//! Cookies: a wait that is begun now and asked about later. By one for everybody a writer gives its retired slots back without ever standing
+//! still for readers.
 #![tactic(auto)]
 
 mod answers;

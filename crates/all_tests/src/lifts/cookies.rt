@@ -7,6 +7,7 @@ use super::{NO_SALT, assert_there, put_new};
 use crate::same::assert_same;
 use eer_wait::Eer;
 use grace_cookie::{Ask, ask, give_back, start};
+use key_interval::Keys;
 use patience::Steadfast;
 use seat_table::{CitrusTable, Seat, WaitPart};
 use std::process::Abort;
@@ -71,7 +72,7 @@ fn slots_of_lifts_go_back_once_the_cookie_is_over(rt: HostRuntime) -> Result<(),
     let before = lift_beside(&rt, &table, &mut writer, 2, false);
     assert!(rt; writer.tickets() > 0);
     Eer::enter(&table, &mut reader, 7);
-    let mut cookie = start(&table, &mut writer);
+    let mut cookie = start(&table, &mut writer, Keys::all());
     let beside = lift_beside(&rt, &table, &mut writer, 3, false);
     let Ask::NotYet { why: _ } = ask(&table, &mut writer, &mut cookie) else {
         panic!(rt; "the reader is inside");
@@ -95,7 +96,7 @@ fn a_lift_that_stands_still_gives_the_cookie_up(rt: HostRuntime) -> Result<(), F
     put_path(&rt, &table, &mut seat);
     let before = lift_beside(&rt, &table, &mut seat, 8, false);
     assert!(rt; seat.tickets() > 0);
-    let mut cookie = start(&table, &mut seat);
+    let mut cookie = start(&table, &mut seat, Keys::all());
     // The place has room for 16.
     let after = lift_beside(&rt, &table, &mut seat, 1, true);
     let Ask::GivenUp { latest } = ask(&table, &mut seat, &mut cookie) else {

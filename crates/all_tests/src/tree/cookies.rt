@@ -34,7 +34,7 @@ fn slots_go_back_once_the_cookie_is_over(rt: HostRuntime) -> Result<(), Fail> {
     let mut writer = run(&rt, &table, writer, "a slot is retired", &calls);
     assert!(rt; writer.tickets() > 0);
     Eer::enter(&table, &mut reader, 7);
-    let mut cookie = start(&table, &mut writer);
+    let mut cookie = start(&table, &mut writer, Keys::all());
     let Ask::NotYet { why } = ask(&table, &mut writer, &mut cookie) else {
         panic!(rt; "the reader is inside");
     };
@@ -70,11 +70,35 @@ fn slots_go_back_once_the_cookie_is_over(rt: HostRuntime) -> Result<(), Fail> {
 #[test]
 fn a_later_wait_gives_the_cookie_up(rt: HostRuntime) -> Result<(), Fail> {
     let (table, mut seat) = CitrusTable::<Eer>::new(rt.alloc(), 1, 1, 4)?;
-    let mut cookie = start(&table, &mut seat);
+    let mut cookie = start(&table, &mut seat, Keys::all());
     wait_for_readers(&rt, &table, &mut seat, Keys::all());
     let Ask::GivenUp { latest } = ask(&table, &mut seat, &mut cookie) else {
         panic!(rt; "a later wait was begun");
     };
     assert_same(&rt, latest, 1, "the wait");
+    Ok(())
+}
+
+#[test]
+fn a_cookie_for_some_keys_waits_for_their_readers_alone(rt: HostRuntime) -> Result<(), Fail> {
+    let (table, seat) = CitrusTable::<Eer>::new(rt.alloc(), 1, 2, 8)?;
+    let (mut writer, mut reader) = seat.split(&table, 1, 4);
+    let keys = Keys::between(4, 9);
+    Eer::enter(&table, &mut reader, 10);
+    let mut beside = start(&table, &mut writer, keys);
+    let Ask::Over = ask(&table, &mut writer, &mut beside) else {
+        panic!(rt; "the reader has another key");
+    };
+    Eer::leave(&table, &mut reader);
+    Eer::enter(&table, &mut reader, 9);
+    assert!(rt; writer.tickets() > 0);
+    let mut cookie = start(&table, &mut writer, keys);
+    let Ask::NotYet { why: _ } = ask(&table, &mut writer, &mut cookie) else {
+        panic!(rt; "the reader is inside");
+    };
+    Eer::leave(&table, &mut reader);
+    let Ask::Over = ask(&table, &mut writer, &mut cookie) else {
+        panic!(rt; "the reader has left");
+    };
     Ok(())
 }

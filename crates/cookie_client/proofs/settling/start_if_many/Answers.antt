@@ -1,4 +1,6 @@
-use Rattle.std.proofs.Common.{length, ap, sym, ◌∙◌, arith}
+use Rattle.std.proofs.Common.{length, ap, sym, subst, ◌∙◌, arith}
+use Rattle.key_interval.specs.Keys.{Interval}
+use Rattle.seat_table.specs.Sections.{HasBegun}
 use Rattle.node_slots.proofs.Listed.{listed_length}
 use Rattle.cookie_client.proofs.Leaving.{none_started_few, one_started}
 use Rattle.cookie_client.proofs.settling.start_if_many.Goals as goal
@@ -19,7 +21,8 @@ returns-clause-starts g c =
     let long = listed_length c.args.seat.now c.requires.quiet.listed in
     one_started c.args.held c.args.seat.now c.start.result c.start.new.seat (sym c.is_some.ensures ∙ c.if-is_some.false) (record {
       many = omega arith;
-      begun = c.start.ensures.begun;
+      begun = subst (λ (keys : Interval). HasBegun c.args.seat.now.view keys.low keys.high c.start.new.seat.view) c.all.ensures
+          c.start.ensures.begun;
       listed = c.start.ensures.seat.1;
       count = c.start.ensures.count;
       slots = c.start.ensures.slots;

@@ -12,7 +12,7 @@ give_back-requires-clause-ready g c =
     (ap (λ (z : CookieAt). z.count) c.cookie.view_is) c.if-waits-cookie.false in
     subst (λ n. AreReady c.args.seat.now.view (first_slots n c.args.seat.now.listed))
     (sym (ap (λ (z : CookieAt). z.slots) c.cookie.view_is))
-    (all_ready c.args.cookie c.args.seat.now (c.requires.kept.kept latest) c.requires.over (c.requires.unraised latest))
+    (all_ready c.args.cookie c.args.seat.now (c.requires.kept.kept latest) c.requires.everybody c.requires.over (c.requires.unraised latest))
 
 pub returns-clause-back : goal.returns-clause-back
 returns-clause-back g c =

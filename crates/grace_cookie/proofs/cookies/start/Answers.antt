@@ -1,8 +1,6 @@
 use Rattle.std.proofs.Common.{◌∙◌, refl, subst, ap, length, ℕ, ◌≤◌, sym, List, ◌≡◌}
 use Rattle.core_frames.proofs.views.RetiredLists.{slots_in}
-use Rattle.key_interval.specs.Keys.{Interval}
 use Rattle.list_laws.specs.Counts.{times}
-use Rattle.seat_table.specs.Sections.{HasBegun}
 use Rattle.seat_table.specs.Seats.{shape_of}
 use Rattle.node_slots.proofs.Listed.{listed_length}
 use Rattle.grace_cookie.proofs.Starting.{started_of, started_kept}
@@ -13,21 +11,15 @@ returns-clause-slots g c = c.count_retired-slots.ensures.many ∙ listed_length 
 
 pub returns-clause-of : goal.returns-clause-of
 returns-clause-of g c =
-    let begun = subst (λ
-    (keys : Interval). HasBegun c.args.seat.now.view keys.low keys.high c.begin-grace.new.seat.view) c.all-keys.ensures
-    c.begin-grace.ensures.begun in
-    started_of c.args.seat.now.view c.begin-grace.new.seat.view begun
+    started_of c.args.seat.now.view c.begin-grace.new.seat.view c.args.keys c.begin-grace.ensures.begun
     (shape_of g.W.WaitWords.WAY c.args.table.now) c.begin-grace.result c.waits-count.result c.count_retired-slots.result
-    c.waits-count.ensures (c.begin-grace.ensures.keys ∙ c.all-keys.ensures) c.begin-grace.ensures.latest
+    c.waits-count.ensures c.begin-grace.ensures.keys c.begin-grace.ensures.latest
 
 pub returns-clause-kept : goal.returns-clause-kept
 returns-clause-kept g c =
-    let begun = subst (λ
-    (keys : Interval). HasBegun c.args.seat.now.view keys.low keys.high c.begin-grace.new.seat.view) c.all-keys.ensures
-    c.begin-grace.ensures.begun in
     let listed = sym c.begin-grace.ensures.seat.1 in
     let same = subst (λ (l : List ℕ). (t : ℕ) → times t l
     ≡ times t (slots_in c.args.seat.now.view.hands.retired)) listed c.requires.listed.each in
     let once = subst (λ (l : List ℕ). (t : ℕ) → times t l ≤ 1) listed c.count_retired-slots.ensures.apart in
-    started_kept c.args.seat.now.view c.begin-grace.new.seat.view begun _ c.begin-grace.new.seat refl same once
-    (c.count_retired-slots.ensures.many ∙ ap length listed) refl
+    started_kept c.args.seat.now.view c.begin-grace.new.seat.view c.args.keys c.begin-grace.ensures.begun _ c.begin-grace.new.seat refl same
+    once (c.count_retired-slots.ensures.many ∙ ap length listed) refl

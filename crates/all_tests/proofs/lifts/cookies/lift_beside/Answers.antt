@@ -6,10 +6,12 @@ returns-clause-keeps g c =
     let lifted = c.in-Ok.ensures in
     let slots = lifted.slots in
     record {
-      place = lifted.updates.gone.same;
-      seen = lifted.updates.gone.begins;
-      waits = slots.waits;
-      wait = slots.wait;
+      latest = record {
+        place = lifted.updates.gone.same;
+        seen = lifted.updates.gone.begins;
+        waits = slots.waits;
+        wait = slots.wait;
+      };
       retired = λ same. let later = slots.retired same in stay_retired c.args.seat.now.view c.lift.new.seat.view later.0 later.1;
       listed = slots.listed;
     }

@@ -1,5 +1,6 @@
+use Rattle.std.proofs.Common.{◌∙◌}
 use Rattle.seat_table.specs.Seats.{shape_of}
-use Rattle.grace_cookie.proofs.Keeping.{cookies_stay}
+use Rattle.grace_cookie.proofs.Keeping.{cookies_stay, same_keys}
 use Rattle.grace_cookie.proofs.Quiet.{quiet_unraised}
 use Rattle.all_tests.proofs.lifts.cookies.slots_of_lifts_go_back_once_the_cookie_is_over.Goals as goal
 
@@ -19,3 +20,8 @@ give_back-given-requires-clause-kept g c =
 pub give_back-given-requires-clause-unraised : goal.give_back-given-requires-clause-unraised
 give_back-given-requires-clause-unraised g c = λ _. quiet_unraised c.ask-2.new.seat.view
     (c.ask-2.ensures.quiet (c.ask.ensures.quiet c.lift_beside-beside.ensures.quiet)).view _
+
+pub give_back-given-requires-clause-everybody : goal.give_back-given-requires-clause-everybody
+give_back-given-requires-clause-everybody g c =
+    same_keys c.ask.new.cookie c.ask-2.new.cookie c.ask-2.ensures.cookie
+    ∙ same_keys c.start-cookie.result c.ask.new.cookie c.ask.ensures.cookie ∙ c.start-cookie.ensures.keys ∙ c.all.ensures
