@@ -4,5 +4,4 @@ mod notes;
 mod quiet;
 mod seats;
 mod stress;
-mod values;
 mod waits;
