@@ -8,10 +8,13 @@
 
 ghost use Rattle.std.specs.Prelude.{◌≡◌, None};
 ghost use Rattle.tree_handles.specs.declared.status.Status.TheVariants.{Done};
+ghost use Rattle.tree_handles.specs.Begun.{Begins, Polls};
 ghost use Rattle.tree_handles.specs.Calls.{Gets, Inserts, Replaces, Upserts, Removes};
 ghost use Rattle.tree_handles.specs.Holding.{Makes};
+ghost use Rattle.tree_handles.specs.Holds.{HoldsValue, Enters, LeavesSection, Waits};
 ghost use Rattle.tree_handles.specs.Lists.{ListsOut, Firsts};
 ghost use Rattle.tree_handles.specs.Opening.{Opens, Shares, Reopens, HasLeft};
+ghost use Rattle.tree_handles.specs.Tidying.{Tidies};
 ghost use Rattle.citrus_c.specs.Numbers.{Says};
 
 use std::alloc::Global;
@@ -174,4 +177,81 @@ pub extern "C" fn citrus_first(
     ensures closed { handle.old.held ≡ None → (key.new ≡ key.old) × (value.new ≡ value.old) }
 {
     handle.first(alloc, low, key, value).code()
+}
+
+/// [`Handle::hold`].
+#[unsafe(no_mangle)]
+pub extern "C" fn citrus_hold(alloc: Global, handle: &mut Handle, key: u64, value: &mut u64) -> i32
+    ensures held { Says result (λ status. Makes (λ c d. HoldsValue c key value.old status value.new d)
+        handle.old.held status handle.new.held) }
+    ensures closed { handle.old.held ≡ None → value.new ≡ value.old }
+{
+    handle.hold(alloc, key, value).code()
+}
+
+/// [`Handle::enter`].
+#[unsafe(no_mangle)]
+pub extern "C" fn citrus_enter(alloc: Global, handle: &mut Handle, key: u64) -> i32
+    ensures entered { Says result (λ status. Makes (λ c d. Enters c key status d) handle.old.held status handle.new.held) }
+{
+    handle.enter(alloc, key).code()
+}
+
+/// [`Handle::release`].
+#[unsafe(no_mangle)]
+pub extern "C" fn citrus_release(alloc: Global, handle: &mut Handle) -> i32
+    ensures released { Says result (λ status. Makes (λ c d. LeavesSection c status d) handle.old.held status handle.new.held) }
+{
+    handle.release(alloc).code()
+}
+
+/// [`Handle::wait`].
+#[unsafe(no_mangle)]
+pub extern "C" fn citrus_wait(alloc: Global, handle: &mut Handle, low: u64, high: u64) -> i32
+    ensures waited { Says result (λ status. Makes (λ c d. Waits c (record { low = low; high = high }) status d)
+        handle.old.held status handle.new.held) }
+{
+    handle.wait(alloc, low, high).code()
+}
+
+/// [`Handle::begin`].
+#[unsafe(no_mangle)]
+pub extern "C" fn citrus_begin(
+    alloc: Global,
+    handle: &mut Handle,
+    low: u64,
+    high: u64,
+    cookie: &mut u64,
+) -> i32
+    ensures begun { Says result (λ status. Makes (λ c d. Begins c (record { low = low; high = high }) cookie.old status cookie.new d)
+        handle.old.held status handle.new.held) }
+    ensures closed { handle.old.held ≡ None → cookie.new ≡ cookie.old }
+{
+    handle.begin(alloc, low, high, cookie).code()
+}
+
+/// [`Handle::poll`].
+#[unsafe(no_mangle)]
+pub extern "C" fn citrus_poll(alloc: Global, handle: &mut Handle, cookie: u64) -> i32
+    ensures polled { Says result (λ status. Makes (λ c d. Polls c cookie status d) handle.old.held status handle.new.held) }
+{
+    handle.poll(alloc, cookie).code()
+}
+
+/// [`Handle::tidy`].
+#[unsafe(no_mangle)]
+pub extern "C" fn citrus_tidy(
+    alloc: Global,
+    handle: &mut Handle,
+    low: u64,
+    high: u64,
+    turns: u32,
+    made: &mut u32,
+    next: &mut u64,
+) -> i32
+    ensures tidied { Says result (λ status. Makes (λ c d. Tidies c (record { low = low; high = high }) turns next.old status
+        (record { made = made.new; next = next.new }) d) handle.old.held status handle.new.held) }
+    ensures closed { handle.old.held ≡ None → (made.new ≡ 0) × (next.new ≡ next.old) }
+{
+    handle.tidy(alloc, low, high, turns, made, next).code()
 }

@@ -16,6 +16,7 @@ use Rattle.seat_table.specs.contracts.seat.Seat.TheInside as Inside
 use Rattle.seat_table.proofs.rule.Nothing.TheSendSync as nothing
 use Rattle.seat_table.proofs.seat.Seat.TheSendSync as seat
 use Rattle.seat_table.proofs.table.CitrusTable.TheSendSync as table
+use Rattle.grace_cookie.proofs.cookies.Cookie.TheSendSync as cookie
 use Rattle.tree_handles.specs.contracts.shared.Left as Left
 use Rattle.tree_handles.specs.contracts.shared.Shared as Shared
 use Rattle.tree_handles.specs.contracts.caller.Caller as Caller
@@ -51,7 +52,7 @@ module _ (W : RattleType) (p : Part.Ghosts W.Denot) (w : Words.Ghosts W.Denot) w
       ) depth 20
 
   caller_send : IsSend (Caller.the_row W p w)
-  caller_send = let y = shared_sync in search (sendable, heap.Arc-send, shared.the_send, seat.the_send) depth 20
+  caller_send = let y = shared_sync in search (sendable, heap.Arc-send, shared.the_send, seat.the_send, cookie.the_send) depth 30
 
 pub caller : IsSend AnyCaller.the_row
 caller = search (sendable, caller_send) depth 20

@@ -1,6 +1,11 @@
 pub mod AsBox
+pub mod Chains
+pub mod Cookies
 pub mod Crossing
 pub mod Filling
 pub mod Finding
+pub mod Inside
+pub mod Tidied
+pub mod TidyMarks
 pub mod Values
 pub mod Writing

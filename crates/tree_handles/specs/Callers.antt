@@ -1,31 +1,49 @@
 -- What a handle leads to.
 -- Source: docs/TREE_CALLS.md, "The tree's table".
-use Rattle.std.specs.Prelude.{◌≡◌, ℕ, ◌+◌, ◌-◌, ◌*◌, ◌≤◌, Bool, false}
+use Rattle.std.specs.Prelude.{◌≡◌, ℕ, ◌+◌, ◌-◌, ◌*◌, ◌≤◌, Bool, false, Option, Some, None}
 use Rattle.std.specs.FinMap as finite
 use Rattle.prcu_marks.specs.Bounds.{most_tickets}
 use Rattle.prcu_marks.specs.Marks.{updates_of}
 use Rattle.prcu_model.specs.Dictionary.{map_of}
+use Rattle.core_state.specs.declared.view.Section.{Section}
 use Rattle.core_state.specs.steps.Seating.{first_of, second_of}
 use Rattle.seat_table.specs.Fresh.{fresh_seat}
 use Rattle.seat_table.specs.Seats.{SeatAt, TableAt, IsQuietSeat}
+use Rattle.seat_table.specs.Sections.{IsQuietReader}
+use Rattle.grace_cookie.specs.Cookies.{CookieAt}
 
--- what a clause sees of a caller: the number of its waiter, its table, its seat, and whether a call of it gave up
+-- what a clause sees of a caller: the number of its waiter, its table, its seat, whether a call of it gave up, and the cookie of the wait
+-- that it may ask about
 pub record CallerAt : Type 0 where
   pub way : ℕ
   pub table : TableAt
   pub seat : SeatAt
   pub lost : Bool
+  pub cookie : Option CookieAt
 
 -- Both are callers of one index.
 pub record AreOfOneIndex (c d : CallerAt) : Type 0 where
   pub way : d.way ≡ c.way
   pub table : d.table ≡ c.table
 
+-- The second is the first one later on: a caller of the same index, with the same cookie.
+pub record IsSameCaller (c d : CallerAt) : Type 0 where
+  pub way : d.way ≡ c.way
+  pub table : d.table ≡ c.table
+  pub cookie : d.cookie ≡ c.cookie
+
 -- The caller may go on: it isn't lost, and its seat is one of its table, and quiet.
 pub record MayGoOn (c : CallerAt) : Type 0 where
   pub kept : c.lost ≡ false
   pub seat : c.seat.table ≡ c.table
   pub quiet : IsQuietSeat c.seat
+
+-- The caller is in a section, and could go on but for that.
+pub record IsInside (c : CallerAt) : Type 0 where
+  pub kept : c.lost ≡ false
+  pub seat : c.seat.table ≡ c.table
+  pub quiet : IsQuietReader c.seat
+  pub inside : (section : Section) × (c.seat.view.section ≡ Some section)
 
 -- how many pairs always fit: the slots, less what each place but one may keep from it, its room for retired slots and four
 abbrev pub pairs_that_fit : TableAt → ℕ
@@ -35,23 +53,26 @@ pairs_that_fit table = table.slots - (table.room + 4) * (table.places - 1)
 pub record IsFilled (c : CallerAt) : Type 0 where
   pub pairs : pairs_that_fit c.table ≤ finite.len (map_of (updates_of c.seat.view.seen))
 
--- The first caller of a new index with this waiter, in which so many pairs always fit, for so many handles, with all tickets. A place may
--- hold back 64 retired slots.
+-- The first caller of a new index with this waiter, in which so many pairs always fit, and 68 more, for so many handles, with all tickets. A
+-- place may hold back 64 retired slots.
 pub record IsFresh (way pairs handles : ℕ) (c : CallerAt) : Type 0 where
   pub way_is : c.way ≡ way
-  pub pairs_are : pairs_that_fit c.table ≡ pairs
+  pub pairs_are : pairs_that_fit c.table ≡ pairs + 68
   pub handles_are : c.table.places ≡ handles
   pub room_is : c.table.room ≡ 64
   pub tickets_are : c.table.tickets ≡ most_tickets
   pub seat_is : c.seat ≡ fresh_seat way c.table
+  pub cookie_is : c.cookie ≡ None
   pub may : MayGoOn c
 
 -- A caller became two. The second has the last of the unused handles, so many, and so many of the tickets, and has seen what the first has.
+-- It has no cookie.
 pub record IsShared (c : CallerAt) (handles tickets : ℕ) (d other : CallerAt) : Type 0 where
-  pub first_index : AreOfOneIndex c d
+  pub first_index : IsSameCaller c d
   pub second_index : AreOfOneIndex c other
   pub first : d.seat.view ≡ first_of handles tickets c.seat.view
   pub second : other.seat.view ≡ second_of handles tickets c.seat.view
+  pub cookie : other.cookie ≡ None
   pub first_may : MayGoOn d
   pub second_may : MayGoOn other
 
@@ -59,4 +80,5 @@ pub record IsShared (c : CallerAt) (handles tickets : ℕ) (d other : CallerAt) 
 -- tells of the seats there: whose it was isn't told, nor what it has.
 pub record IsReopened (c other : CallerAt) : Type 0 where
   pub index : AreOfOneIndex c other
+  pub cookie : other.cookie ≡ None
   pub may : MayGoOn other

@@ -14,9 +14,9 @@ use Rattle.citrus_tree.specs.Clients.{IsTold}
 use Rattle.citrus_tree.specs.Gone.{KeepsWait}
 use Rattle.citrus_tree.specs.Replies.{TellsValue}
 use Rattle.tree_lift.specs.Lifts.{LeavesNoUpdate}
-use Rattle.tree_handles.specs.Callers.{CallerAt, AreOfOneIndex, IsFilled, MayGoOn}
+use Rattle.tree_handles.specs.Callers.{CallerAt, AreOfOneIndex, IsSameCaller, IsFilled, IsInside, MayGoOn}
 use Rattle.tree_handles.specs.declared.status.Status.{Status}
-use Rattle.tree_handles.specs.declared.status.Status.TheVariants.{Done, Unchanged, Full, Moved, New, Spent, Lost}
+use Rattle.tree_handles.specs.declared.status.Status.TheVariants.{Done, Unchanged, Full, Moved, New, Spent, Lost, Holds}
 
 -- how many steps a seat has made at least with which a call gives up
 abbrev pub patient_steps : ℕ
@@ -64,7 +64,7 @@ ComesBehind op told s d = GoesOn s d ⊎ ((key : ℕ) × HasAdded key op told ×
 
 -- The caller, which had four tickets or more, made the operation, and was told this by the tree's call.
 pub record IsCalled (c : CallerAt) (op : Op) (told : Told) (d : CallerAt) : Type 0 where
-  pub index : AreOfOneIndex c d
+  pub index : IsSameCaller c d
   pub before : MayGoOn c
   pub enough : 4 ≤ c.seat.view.allowance.tickets
   pub answered : SeatAt
@@ -75,11 +75,11 @@ pub record IsCalled (c : CallerAt) (op : Op) (told : Told) (d : CallerAt) : Type
 abbrev pub IsAnswered : CallerAt → Op → Reply → CallerAt → Type 0
 IsAnswered c op answer d = (told : Told) × (told.reply ≡ answer) × IsCalled c op told d
 
--- Fewer than four tickets are left, and nothing has changed.
-pub record IsSpent (c d : CallerAt) : Type 0 where
+-- Fewer tickets are left than the call needs, and nothing has changed.
+pub record IsSpent (needed : ℕ) (c d : CallerAt) : Type 0 where
   pub same : d ≡ c
   pub may : MayGoOn c
-  pub few : c.seat.view.allowance.tickets < 4
+  pub few : c.seat.view.allowance.tickets < needed
 
 -- The call gave up in its midst, when its seat had made that many steps; or an earlier one had, and then nothing has changed.
 pub record IsLost (c d : CallerAt) : Type 0 where
@@ -88,11 +88,25 @@ pub record IsLost (c d : CallerAt) : Type 0 where
   pub tired : c.lost ≡ false → HasMade patient_steps d.seat.view
   pub earlier : c.lost ≡ true → d ≡ c
 
--- why a call wasn't made, or didn't come to its end
+-- The caller is in a section, and nothing has changed.
+pub record StaysInside (c d : CallerAt) : Type 0 where
+  pub same : d ≡ c
+  pub inside : IsInside c
+
+-- why a call that needs no ticket wasn't made, or didn't come to its end
+abbrev pub IsStoppedBy : Status → CallerAt → CallerAt → Type 0
+IsStoppedBy Lost c d = IsLost c d
+IsStoppedBy Holds c d = StaysInside c d
+IsStoppedBy _ c d = ⊥
+
+-- the same of a call that needs so many tickets
+abbrev pub IsHinderedBy : ℕ → Status → CallerAt → CallerAt → Type 0
+IsHinderedBy needed Spent c d = IsSpent needed c d
+IsHinderedBy needed status c d = IsStoppedBy status c d
+
+-- the same of a get or an update, which need four
 abbrev pub CausedBy : Status → CallerAt → CallerAt → Type 0
-CausedBy Spent c d = IsSpent c d
-CausedBy Lost c d = IsLost c d
-CausedBy _ c d = ⊥
+CausedBy status c d = IsHinderedBy 4 status c d
 
 -- What a get answers. `was` is what stood where the value is told.
 abbrev pub Gets : CallerAt → ℕ → ℕ → Status → ℕ → CallerAt → Type 0
@@ -142,5 +156,6 @@ Upserts c key value was New old d = (a : CallerAt) × MissesOnceMore c key value
 Upserts c key value was Full old d = (a : CallerAt) × MissesOnceMore c key value a × IsAnswered a (Put key value) reply.Full d × IsFilled d
     × (old ≡ was)
 Upserts c key value was Moved old d = (rounds : ℕ) × (rounds ≡ 1000) × Misses c key value rounds d × (old ≡ was)
+Upserts c key value was Holds old d = StaysInside c d × (old ≡ was)
 Upserts c key value was status old d = (a : CallerAt) × (MissesSome c key value a ⊎ MissesOnceMore c key value a) × CausedBy status a d
     × (old ≡ was)

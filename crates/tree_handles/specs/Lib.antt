@@ -2,7 +2,11 @@ pub mod Callers
 pub mod Waiters
 pub mod Statuses
 pub mod Calls
+pub mod Chains
+pub mod Holds
+pub mod Begun
 pub mod Lists
+pub mod Tidying
 pub mod Opening
 pub mod Handles
 pub mod Holding

@@ -5,20 +5,20 @@ use Rattle.key_interval.specs.Keys.{Interval}
 use Rattle.prcu_marks.specs.Marks.{updates_of}
 use Rattle.exact_list.specs.declared.listing.Listed.{Listed}
 use Rattle.exact_list.specs.declared.listing.Listed.TheVariants as listed
-use Rattle.exact_list.specs.Answers.{Paged, Holds, IsRecent, IsBetweenFronts, HasStood, HasGivenUp, EndAs}
+use Rattle.exact_list.specs.Answers.{Paged, Holds as HoldsPairs, IsRecent, IsBetweenFronts, HasStood, HasGivenUp, EndAs}
 use Rattle.exact_list.specs.Pairs.{ArePairs, had_at}
 use Rattle.exact_list.specs.Pairs as found
 use Rattle.exact_list.specs.Tries.{Try, HasTried}
-use Rattle.tree_handles.specs.Callers.{CallerAt, AreOfOneIndex, MayGoOn}
-use Rattle.tree_handles.specs.Calls.{IsLost}
+use Rattle.tree_handles.specs.Callers.{CallerAt, IsSameCaller, MayGoOn}
+use Rattle.tree_handles.specs.Calls.{IsStoppedBy}
 use Rattle.tree_handles.specs.declared.lists.Pair.{Pair}
 use Rattle.tree_handles.specs.declared.status.Status.{Status}
-use Rattle.tree_handles.specs.declared.status.Status.TheVariants.{Done, Unchanged, More, Moved, BadArgument, NoMemory, Lost}
+use Rattle.tree_handles.specs.declared.status.Status.TheVariants.{Done, Unchanged, More, Moved, BadArgument, NoMemory}
 
 -- The caller looked for pairs from this key on: in tries that ended so, each a section with looks at the front. It may go on, and no ticket
 -- was taken.
 pub record Looks (c : CallerAt) (low : ℕ) (end : List Try → Type 0) (d : CallerAt) : Type 0 where
-  pub index : AreOfOneIndex c d
+  pub index : IsSameCaller c d
   pub before : MayGoOn c
   pub after : MayGoOn d
   pub tickets : d.seat.view.allowance.tickets ≡ c.seat.view.allowance.tickets
@@ -29,13 +29,8 @@ pub record Looks (c : CallerAt) (low : ℕ) (end : List Try → Type 0) (d : Cal
 -- The caller listed these keys on the page, in at most a thousand tries.
 pub record Lists (c : CallerAt) (keys : Interval) (page : Paged) (answer : Listed) (d : CallerAt) : Type 0 where
   pub looks : Looks c keys.low (EndAs answer 1000) d
-  pub holds : Holds answer keys d.seat.view.seen page
+  pub holds : HoldsPairs answer keys d.seat.view.seen page
   pub recent : IsRecent answer c.seat.view.seen d.seat.view.seen
-
--- a list fails by a loss alone
-abbrev pub IsLostBy : Status → CallerAt → CallerAt → Type 0
-IsLostBy Lost c d = IsLost c d
-IsLostBy _ c d = ⊥
 
 -- what a list writes
 pub record Output : Type 0 where
@@ -80,7 +75,7 @@ ListsOut c keys was More out d = (front : ℕ) × (page : Paged) × Lists c keys
 ListsOut c keys was Moved out d = (first last : ℕ) × (page : Paged) × Lists c keys page (listed.Moved first last) d × IsUnwritten was out
 ListsOut c keys was BadArgument out d = IsBadList keys (length was.pairs) × IsLeft c d × IsUnwritten was out
 ListsOut c keys was NoMemory out d = IsGoodList keys (length was.pairs) × IsLeft c d × IsUnwritten was out
-ListsOut c keys was status out d = IsLostBy status c d × IsUnwritten was out
+ListsOut c keys was status out d = IsStoppedBy status c d × IsUnwritten was out
 
 -- The dictionary had this pair after some number of updates, and none with a key from the low one on below its. Both looks at the front of
 -- the last try found that number.
@@ -108,4 +103,4 @@ Firsts c low was Done out d = FindsFirst c low out.0 out.1 d
 Firsts c low was Unchanged out d = FindsNone c low d × (out ≡ was)
 Firsts c low was Moved out d = FindsNothing c low d × (out ≡ was)
 Firsts c low was NoMemory out d = IsLeft c d × (out ≡ was)
-Firsts c low was status out d = IsLostBy status c d × (out ≡ was)
+Firsts c low was status out d = IsStoppedBy status c d × (out ≡ was)

@@ -2,14 +2,15 @@
 -- Source: docs/EMBEDDING.md, "Statuses".
 use Rattle.std.specs.Prelude.{◌≡◌, ℕ, ◌+◌, ◌<◌, ◌≤◌, true, Option, Some, None}
 use Rattle.tree_handles.specs.Callers.{CallerAt, IsFresh, IsShared, IsReopened}
+use Rattle.tree_handles.specs.Calls.{StaysInside}
 use Rattle.tree_handles.specs.Lists.{IsLeft}
 use Rattle.tree_handles.specs.declared.status.Status.{Status}
-use Rattle.tree_handles.specs.declared.status.Status.TheVariants.{Done, Unchanged, BadArgument, NoMemory, Lost}
+use Rattle.tree_handles.specs.declared.status.Status.TheVariants.{Done, Unchanged, BadArgument, NoMemory, Lost, Holds}
 
 -- An index can be made for so many pairs and handles, with this waiter. The most pairs are those for which there are slots enough, 2,097,152,
--- beside what 63 handles may keep back, each its room and four.
+-- beside what 64 handles may keep back, each its room and four.
 pub record CanOpen (pairs handles way : ℕ) : Type 0 where
-  pub pairs_are : (1 ≤ pairs) × (pairs ≤ 2092868)
+  pub pairs_are : (1 ≤ pairs) × (pairs ≤ 2092800)
   pub handles_are : (1 ≤ handles) × (handles ≤ 64)
   pub way_is : way ≤ 2
 
@@ -31,6 +32,7 @@ Shares c handles tickets was Done d other = (e : CallerAt) × (other ≡ Some e)
 Shares c handles tickets was BadArgument d other = (CanShare c handles tickets → ⊥) × IsLeft c d × (other ≡ was)
 Shares c handles tickets was NoMemory d other = CanShare c handles tickets × IsLeft c d × (other ≡ was)
 Shares c handles tickets was Lost d other = (c.lost ≡ true) × (d ≡ c) × (other ≡ was)
+Shares c handles tickets was Holds d other = StaysInside c d × (other ≡ was)
 Shares c handles tickets was _ d other = ⊥
 
 -- why there is no other caller: nothing was found that a closed one left, or memory is short
@@ -44,6 +46,7 @@ abbrev pub Reopens : CallerAt → Option CallerAt → Status → CallerAt → Op
 Reopens c was Done d other = (e : CallerAt) × (was ≡ None) × (other ≡ Some e) × IsReopened c e × IsLeft c d
 Reopens c was BadArgument d other = (e : CallerAt) × (was ≡ Some e) × (other ≡ was) × IsLeft c d
 Reopens c was Lost d other = (c.lost ≡ true) × (d ≡ c) × (other ≡ was)
+Reopens c was Holds d other = StaysInside c d × (other ≡ was)
 Reopens c was status d other = FailsToReopen status × (was ≡ None) × (other ≡ was) × IsLeft c d
 
 -- How many more handles can be shared from it, and how many tickets it has.

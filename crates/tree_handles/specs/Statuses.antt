@@ -2,7 +2,7 @@
 -- Source: docs/EMBEDDING.md, "Statuses".
 use Rattle.std.specs.Prelude.{ℤ, pos, negsuc}
 use Rattle.tree_handles.specs.declared.status.Status.{Status}
-use Rattle.tree_handles.specs.declared.status.Status.TheVariants.{Done, Unchanged, Full, More, Moved, New, Closed, BadArgument, NoMemory, Spent, Lost}
+use Rattle.tree_handles.specs.declared.status.Status.TheVariants.{Done, Unchanged, Full, More, Moved, New, Closed, BadArgument, NoMemory, Spent, Lost, Holds}
 
 abbrev pub code_of : Status → ℤ
 code_of Done = pos 0
@@ -16,3 +16,4 @@ code_of BadArgument = negsuc 1
 code_of NoMemory = negsuc 2
 code_of Spent = negsuc 3
 code_of Lost = negsuc 4
+code_of Holds = negsuc 5

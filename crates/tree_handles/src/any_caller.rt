@@ -1,11 +1,15 @@
 //! What a handle leads to, whatever its waiter.
-ghost use Rattle.std.specs.Prelude.{◌≡◌, ◌≤◌, ◌<◌, ◌+◌, false, IfOk, IfErr, IfNone, IfSome};
+ghost use Rattle.std.specs.Prelude.{◌≡◌, ◌≤◌, ◌<◌, ◌+◌, false, MatchBool, IfOk, IfErr, IfNone, IfSome};
+ghost use Rattle.tree_handles.specs.Begun.{HasStarted, Polls};
 ghost use Rattle.tree_handles.specs.Callers.{MayGoOn, IsFresh, IsShared, IsReopened};
-ghost use Rattle.tree_handles.specs.Calls.{IsCalled, TakesOut, CausedBy};
-ghost use Rattle.tree_handles.specs.Lists.{Lists, IsLostBy};
+ghost use Rattle.tree_handles.specs.Calls.{IsCalled, IsLost, TakesOut, CausedBy, IsHinderedBy, IsStoppedBy};
+ghost use Rattle.tree_handles.specs.Holds.{HasHeld, HasOutwaited, IsEntered, LeavesSection};
+ghost use Rattle.tree_handles.specs.Lists.{Lists};
 ghost use Rattle.tree_handles.specs.Opening.{FailsToReopen};
+ghost use Rattle.tree_handles.specs.Tidying.{GivesBack, HasNoneBack, LiftsWay};
 
 use crate::caller::Caller;
+use crate::spinning::GaveUp;
 use crate::status::Status;
 use d_wait::Domain;
 use deer_wait::Deer;
@@ -15,6 +19,7 @@ use key_interval::Keys;
 use prcu_model::{NoMemory, Op, Told};
 use std::alloc::Global;
 use std::marker::Model;
+use tree_lift::Lifted;
 
 /// A caller, by its waiter.
 #[derive(Drop)]
@@ -47,7 +52,7 @@ impl AnyCaller {
         handles: u32,
         waiter: u32,
     ) -> Result<AnyCaller, NoMemory>
-        requires pairs { (1 ≤ pairs) × (pairs ≤ 2092868) }
+        requires pairs { (1 ≤ pairs) × (pairs ≤ 2092800) }
         requires handles { (1 ≤ handles) × (handles ≤ 64) }
         requires waiter { waiter ≤ 2 }
         ensures { IfOk result (λ caller. IsFresh waiter pairs handles caller) }
@@ -87,15 +92,15 @@ impl AnyCaller {
         }
     }
 
-    /// Whether a call of it gave up.
-    pub(crate) fn is_lost(&self) -> bool
-        ensures lost { result ≡ self.now.lost }
-        ensures may { result ≡ false → MayGoOn self.now }
+    /// Why it can't make a call, where it can't: a call of it gave up, or it is in a section.
+    pub(crate) fn stopped(&self) -> Option<Status>
+        ensures none { IfNone result (MayGoOn self.now) }
+        ensures some { IfSome result (λ status. IsStoppedBy status self.now self.now) }
     {
         match &self.caller {
-            ByWaiter::Eer(caller) => caller.is_lost(),
-            ByWaiter::Domain(caller) => caller.is_lost(),
-            ByWaiter::Deer(caller) => caller.is_lost(),
+            ByWaiter::Eer(caller) => caller.stopped(),
+            ByWaiter::Domain(caller) => caller.stopped(),
+            ByWaiter::Deer(caller) => caller.stopped(),
         }
     }
 
@@ -127,7 +132,7 @@ impl AnyCaller {
     pub(crate) fn list(&mut self, keys: Keys, page: &mut Page) -> Result<Listed, Status>
         ensures capacity { IfOk result (λ _. page.new.capacity ≡ page.old.capacity) }
         ensures listed { IfOk result (λ listed. Lists self.old keys page.new listed self.new) }
-        ensures cause { IfErr result (λ status. IsLostBy status self.old self.new) }
+        ensures cause { IfErr result (λ status. IsStoppedBy status self.old self.new) }
     {
         match &mut self.caller {
             ByWaiter::Eer(caller) => caller.list(keys, page),
@@ -136,10 +141,108 @@ impl AnyCaller {
         }
     }
 
+    /// Finds the key's value in a section with the key, which stays open where the key is present. It takes no ticket.
+    pub(crate) fn hold(&mut self, key: u64) -> Result<Option<u64>, Status>
+        ensures held { IfOk result (λ value. HasHeld self.old key value self.new) }
+        ensures cause { IfErr result (λ status. IsStoppedBy status self.old self.new) }
+    {
+        match &mut self.caller {
+            ByWaiter::Eer(caller) => caller.hold(key),
+            ByWaiter::Domain(caller) => caller.hold(key),
+            ByWaiter::Deer(caller) => caller.hold(key),
+        }
+    }
+
+    /// Enters a section with the key.
+    pub(crate) fn enter(&mut self, key: u64) -> Result<(), Status>
+        ensures entered { IfOk result (λ _. IsEntered self.old key self.new) }
+        ensures cause { IfErr result (λ status. IsStoppedBy status self.old self.new) }
+    {
+        match &mut self.caller {
+            ByWaiter::Eer(caller) => caller.enter(key),
+            ByWaiter::Domain(caller) => caller.enter(key),
+            ByWaiter::Deer(caller) => caller.enter(key),
+        }
+    }
+
+    /// Leaves the open section, if there is one.
+    pub(crate) fn release(&mut self) -> Status
+        ensures { LeavesSection self.old result self.new }
+    {
+        match &mut self.caller {
+            ByWaiter::Eer(caller) => caller.release(),
+            ByWaiter::Domain(caller) => caller.release(),
+            ByWaiter::Deer(caller) => caller.release(),
+        }
+    }
+
+    /// Waits until the sections with one of these keys have been left that were entered before. It uses one ticket.
+    pub(crate) fn wait(&mut self, keys: Keys) -> Result<(), Status>
+        ensures waited { IfOk result (λ _. HasOutwaited self.old keys self.new) }
+        ensures cause { IfErr result (λ status. IsHinderedBy 1 status self.old self.new) }
+    {
+        match &mut self.caller {
+            ByWaiter::Eer(caller) => caller.wait(keys),
+            ByWaiter::Domain(caller) => caller.wait(keys),
+            ByWaiter::Deer(caller) => caller.wait(keys),
+        }
+    }
+
+    /// Begins a wait for the sections with one of these keys, and tells its number. It uses one ticket, and waits for nobody.
+    pub(crate) fn begin(&mut self, keys: Keys) -> Result<u64, Status>
+        ensures begun { IfOk result (λ number. HasStarted self.old keys number self.new) }
+        ensures cause { IfErr result (λ status. IsHinderedBy 1 status self.old self.new) }
+    {
+        match &mut self.caller {
+            ByWaiter::Eer(caller) => caller.begin(keys),
+            ByWaiter::Domain(caller) => caller.begin(keys),
+            ByWaiter::Deer(caller) => caller.begin(keys),
+        }
+    }
+
+    /// Asks whether the begun wait with this number is over. It waits for nobody.
+    pub(crate) fn poll(&mut self, number: u64) -> Status
+        ensures { Polls self.old number result self.new }
+    {
+        match &mut self.caller {
+            ByWaiter::Eer(caller) => caller.poll(number),
+            ByWaiter::Domain(caller) => caller.poll(number),
+            ByWaiter::Deer(caller) => caller.poll(number),
+        }
+    }
+
+    /// Lets nodes on the way to the key change places, in so many attempts at most, and as there are tickets for.
+    pub(crate) fn lift_way(&mut self, key: u64, most: u32) -> Result<Lifted, GaveUp>
+        requires may { MayGoOn self.old }
+        ensures lifted { IfOk result (λ lifted. LiftsWay self.old key most lifted self.new) }
+        ensures lost { IfErr result (λ _. IsLost self.old self.new) }
+    {
+        match &mut self.caller {
+            ByWaiter::Eer(caller) => caller.lift_way(key, most),
+            ByWaiter::Domain(caller) => caller.lift_way(key, most),
+            ByWaiter::Deer(caller) => caller.lift_way(key, most),
+        }
+    }
+
+    /// Gives the retired slots back, where there are any, after a wait for all open sections. `false`, and nothing was done, where there are
+    /// none.
+    pub(crate) fn give_all_back(&mut self) -> Result<bool, GaveUp>
+        requires may { MayGoOn self.old }
+        requires ticket { 1 ≤ self.old.seat.view.allowance.tickets }
+        ensures back { IfOk result (λ some. MatchBool some (GivesBack self.old self.new) (HasNoneBack self.old self.new)) }
+        ensures lost { IfErr result (λ _. IsLost self.old self.new) }
+    {
+        match &mut self.caller {
+            ByWaiter::Eer(caller) => caller.give_all_back(),
+            ByWaiter::Domain(caller) => caller.give_all_back(),
+            ByWaiter::Deer(caller) => caller.give_all_back(),
+        }
+    }
+
     /// A second caller on the same table, which gets so many of the unused handles and tickets; or none, where the table has as many owners
     /// as can be counted, and then nothing has changed.
     pub(crate) fn share(&mut self, handles: u32, tickets: u64) -> Option<AnyCaller>
-        requires may { self.old.lost ≡ false }
+        requires may { MayGoOn self.old }
         requires handles { (1 ≤ handles) × (handles < self.old.seat.view.allowance.places) }
         requires tickets { tickets ≤ self.old.seat.view.allowance.tickets }
         ensures none { IfNone result (self.new ≡ self.old) }

@@ -1,32 +1,40 @@
 //! What a handle leads to, by its waiter: a seat, and what it shares with the other callers of the index.
-ghost use Rattle.std.specs.Prelude.{◌≡◌, ◌≤◌, ◌<◌, ◌+◌, false, IfOk, IfErr, IfNone, IfSome};
+ghost use Rattle.std.specs.Prelude.{◌≡◌, ◌≤◌, ◌<◌, ◌+◌, false, true, MatchBool, IfOk, IfErr, IfNone, IfSome};
 ghost use Rattle.seat_table.specs.Seats.{IsQuietSeat};
 ghost use Rattle.core_state.specs.steps.Seating.{first_of, second_of};
 ghost use Rattle.seat_table.specs.Gains.{IsInformed};
-ghost use Rattle.tree_handles.specs.Callers.{AreOfOneIndex, MayGoOn, IsFresh, IsShared, IsReopened};
+ghost use Rattle.tree_handles.specs.Begun.{HasStarted, Polls};
+ghost use Rattle.tree_handles.specs.Callers.{IsSameCaller, MayGoOn, IsFresh, IsShared, IsReopened};
 ghost use Rattle.tree_handles.specs.Opening.{FailsToReopen};
-ghost use Rattle.tree_handles.specs.Calls.{ComesBehind, IsCalled, TakesOut, CausedBy};
-ghost use Rattle.tree_handles.specs.Lists.{Lists, IsLostBy};
+ghost use Rattle.tree_handles.specs.Calls.{ComesBehind, IsCalled, IsLost, TakesOut, CausedBy, IsHinderedBy, IsStoppedBy};
+ghost use Rattle.tree_handles.specs.Holds.{HasHeld, HasOutwaited, IsEntered, LeavesSection};
+ghost use Rattle.tree_handles.specs.Lists.{Lists};
+ghost use Rattle.tree_handles.specs.Tidying.{GivesBack, HasNoneBack, LiftsWay};
 
 use crate::shared::Shared;
 use crate::spinning::{GaveUp, Spinning};
 use crate::status::Status;
+use crate::tidying::attempts_for;
 use citrus_tree::Called;
-use citrus_tree::patient::{call, remove};
+use citrus_tree::patient::{call, hold, release, remove};
 use core::mem::replace_with;
 use exact_list::patient::list;
 use exact_list::{Listed, Page};
+use grace_cookie::{Ask, Cookie, ask, start};
 use key_interval::Keys;
 use prcu_marks::OpenGate;
 use prcu_model::{NoMemory, Op, Reply, Told};
-use seat_table::{CitrusTable, Seat, WaitPart};
+use seat_table::{CitrusTable, Seat, WaitPart, wait_in_grace};
 use std::alloc::Global;
 use std::marker::Model;
 use std::sync::Arc;
-use tree_lift::{Aim, is_deep, is_far_too_deep, lift};
+use tree_lift::{Aim, Lifted, give_all_back, is_deep, is_far_too_deep, lift};
 
 /// How many tickets a call may use.
-const TICKETS: u64 = 4;
+pub(crate) const TICKETS: u64 = 4;
+
+/// How many tickets a wait uses.
+const WAIT_TICKETS: u64 = 1;
 
 /// How often a lift tries to turn a node.
 const ATTEMPTS: u32 = 4;
@@ -50,33 +58,48 @@ pub(crate) const KEPT_BACK: u32 = LIBRARY_ROOM + IN_HAND;
 /// How many times a list is tried.
 pub(crate) const TRIES: u32 = 1_000;
 
-/// A seat, and its table, which it shares. It is lost where a call gave up in its midst: the seat may hold locks, or stand in a section.
+/// A seat, and its table, which it shares. It may be in a section. It is lost where a call gave up in its midst: then the seat may hold locks
+/// too. It has the cookie of the wait that was begun last to be asked about, until it is told that it is over.
 pub(crate) struct Caller<W: WaitPart> {
     shared: Arc<Shared<W>, Global>,
     seat: Seat<W>,
     lost: bool,
+    cookie: Option<Cookie<W>>,
 }
 
 impl<W: WaitPart> Model for Caller<W> {
     ghost use Rattle.std.specs.Prelude.{◌≡◌, false};
     ghost use Rattle.std.specs.Arc.{arc_value};
-    ghost use Rattle.seat_table.specs.Seats.{IsQuietSeat};
+    ghost use Rattle.seat_table.specs.Seats.{shape_of};
+    ghost use Rattle.seat_table.specs.Sections.{IsQuietReader};
+    ghost use Rattle.tree_handles.specs.Begun.{HasCookie};
     ghost use Rattle.tree_handles.specs.Callers.{CallerAt};
 
     ghost Value = { CallerAt };
 
-    ghost view = { λ c. record { way = W.WAY; table = arc_value c.shared; seat = c.seat; lost = c.lost } };
+    ghost view = { λ c. record { way = W.WAY; table = arc_value c.shared; seat = c.seat; lost = c.lost; cookie = c.cookie } };
 
-    ghost invariant = { λ c. (c.seat.table ≡ arc_value c.shared) × (c.lost ≡ false → IsQuietSeat c.seat) };
+    ghost invariant = { λ c. (c.seat.table ≡ arc_value c.shared) × (c.lost ≡ false → IsQuietReader c.seat)
+        × (c.lost ≡ false → HasCookie (shape_of W.WAY (arc_value c.shared)) c.cookie c.seat.view) };
 }
 
 impl<W: WaitPart> Drop for Caller<W> {
-    /// The seat is left to other callers, unless it may hold locks, or stand in a section.
+    /// An open section is left, and the seat is left to other callers, unless it may hold locks.
     fn drop(self) {
-        let Self { shared, seat, lost } = self;
+        let Self {
+            shared,
+            mut seat,
+            lost,
+            cookie: _,
+        } = self;
         if lost {
             return;
         }
+        if seat.section().is_none() {
+            shared.leave(seat);
+            return;
+        }
+        release(shared.table(), &mut seat);
         shared.leave(seat);
     }
 }
@@ -103,14 +126,16 @@ fn divide<W: WaitPart>(seat: Seat<W>, gift: Gift<W>) -> (Seat<W>, Seat<W>)
 }
 
 impl<W: WaitPart> Caller<W> {
-    /// The first caller on a new table in which so many pairs always fit, for so many handles, with all tickets.
+    /// The first caller on a new table in which so many pairs always fit, and 68 more, for so many handles, with all tickets.
     pub(crate) fn new(alloc: Global, pairs: u32, handles: u32) -> Result<Caller<W>, NoMemory>
         requires way { W.WAY ≤ 2 }
-        requires pairs { (1 ≤ pairs) × (pairs ≤ 2092868) }
+        requires pairs { (1 ≤ pairs) × (pairs ≤ 2092800) }
         requires handles { (1 ≤ handles) × (handles ≤ 64) }
         ensures { IfOk result (λ caller. IsFresh W.WAY pairs handles caller) }
     {
-        let slots = pairs + KEPT_BACK * (handles - 1);
+        // For the first handle too: where so many pairs are there, a turn finds slots free, or gets those that its handle kept back. Without
+        // them keys that come in order, each in the place of one that goes, would make the tree a path.
+        let slots = pairs + KEPT_BACK * handles;
         let (table, seat) = CitrusTable::<W>::with_room(
             alloc,
             slots,
@@ -123,6 +148,7 @@ impl<W: WaitPart> Caller<W> {
                 shared,
                 seat,
                 lost: false,
+                cookie: None,
             }),
             Err(_) => Err(NoMemory),
         }
@@ -142,23 +168,29 @@ impl<W: WaitPart> Caller<W> {
         self.seat.tickets()
     }
 
-    /// Whether a call of it gave up.
-    pub(crate) fn is_lost(&self) -> bool
-        ensures lost { result ≡ self.now.lost }
-        ensures may { result ≡ false → MayGoOn self.now }
-    {
-        self.lost
-    }
-
-    // Why the caller can't make an operation, where it can't.
-    fn hindrance(&self) -> Option<Status>
-        ensures none { IfNone result (MayGoOn self.now × (4 ≤ self.now.seat.view.allowance.tickets)) }
-        ensures some { IfSome result (λ status. CausedBy status self.now self.now) }
+    /// Why it can't make a call, where it can't: a call of it gave up, or it is in a section.
+    pub(crate) fn stopped(&self) -> Option<Status>
+        ensures none { IfNone result (MayGoOn self.now) }
+        ensures some { IfSome result (λ status. IsStoppedBy status self.now self.now) }
     {
         if self.lost {
             return Some(Status::Lost);
         }
-        if self.seat.tickets() < TICKETS {
+        if self.seat.section().is_some() {
+            return Some(Status::Holds);
+        }
+        None
+    }
+
+    // Why the caller can't make a call that needs so many tickets, where it can't.
+    fn hindrance(&self, needed: u64) -> Option<Status>
+        ensures none { IfNone result (MayGoOn self.now × (needed ≤ self.now.seat.view.allowance.tickets)) }
+        ensures some { IfSome result (λ status. IsHinderedBy needed status self.now self.now) }
+    {
+        if let Some(status) = self.stopped() {
+            return Some(status);
+        }
+        if self.seat.tickets() < needed {
             return Some(Status::Spent);
         }
         None
@@ -169,7 +201,7 @@ impl<W: WaitPart> Caller<W> {
         ensures called { IfOk result (λ told. IsCalled self.old op told self.new) }
         ensures cause { IfErr result (λ status. CausedBy status self.old self.new) }
     {
-        if let Some(status) = self.hindrance() {
+        if let Some(status) = self.hindrance(TICKETS) {
             return Err(status);
         }
         let table = self.shared.table();
@@ -190,7 +222,7 @@ impl<W: WaitPart> Caller<W> {
     fn lift_behind(&mut self, op: Op, called: Called)
         requires may { MayGoOn self.old }
         requires informed { IsInformed self.old.seat.view }
-        ensures index { AreOfOneIndex self.old self.new }
+        ensures index { IsSameCaller self.old self.new }
         ensures behind { ComesBehind op called.told self.old.seat self.new }
     {
         let Op::Put { key, value: _ } = op else {
@@ -221,7 +253,7 @@ impl<W: WaitPart> Caller<W> {
         ensures taken { IfOk result (λ value. TakesOut self.old key value self.new) }
         ensures cause { IfErr result (λ status. CausedBy status self.old self.new) }
     {
-        if let Some(status) = self.hindrance() {
+        if let Some(status) = self.hindrance(TICKETS) {
             return Err(status);
         }
         let table = self.shared.table();
@@ -238,10 +270,10 @@ impl<W: WaitPart> Caller<W> {
     pub(crate) fn list(&mut self, keys: Keys, page: &mut Page) -> Result<Listed, Status>
         ensures capacity { IfOk result (λ _. page.new.capacity ≡ page.old.capacity) }
         ensures listed { IfOk result (λ listed. Lists self.old keys page.new listed self.new) }
-        ensures cause { IfErr result (λ status. IsLostBy status self.old self.new) }
+        ensures cause { IfErr result (λ status. IsStoppedBy status self.old self.new) }
     {
-        if self.is_lost() {
-            return Err(Status::Lost);
+        if let Some(status) = self.stopped() {
+            return Err(status);
         }
         let table = self.shared.table();
         match list(&Spinning, table, &mut self.seat, keys, page, TRIES) {
@@ -253,10 +285,154 @@ impl<W: WaitPart> Caller<W> {
         }
     }
 
+    /// Finds the key's value in a section with the key, which stays open where the key is present. It takes no ticket.
+    pub(crate) fn hold(&mut self, key: u64) -> Result<Option<u64>, Status>
+        ensures held { IfOk result (λ value. HasHeld self.old key value self.new) }
+        ensures cause { IfErr result (λ status. IsStoppedBy status self.old self.new) }
+    {
+        if let Some(status) = self.stopped() {
+            return Err(status);
+        }
+        let table = self.shared.table();
+        match hold(&Spinning, table, &mut self.seat, &OpenGate, key) {
+            Ok(value) => Ok(value),
+            Err(GaveUp) => {
+                self.lost = true;
+                Err(Status::Lost)
+            }
+        }
+    }
+
+    /// Enters a section with the key.
+    pub(crate) fn enter(&mut self, key: u64) -> Result<(), Status>
+        ensures entered { IfOk result (λ _. IsEntered self.old key self.new) }
+        ensures cause { IfErr result (λ status. IsStoppedBy status self.old self.new) }
+    {
+        if let Some(status) = self.stopped() {
+            return Err(status);
+        }
+        W::enter(self.shared.table(), &mut self.seat, key);
+        Ok(())
+    }
+
+    /// Leaves the open section, if there is one.
+    pub(crate) fn release(&mut self) -> Status
+        ensures { LeavesSection self.old result self.new }
+    {
+        match self.stopped() {
+            None => Status::Unchanged,
+            Some(Status::Holds) => {
+                release(self.shared.table(), &mut self.seat);
+                Status::Done
+            }
+            Some(status) => status,
+        }
+    }
+
+    /// Waits until the sections with one of these keys have been left that were entered before. It uses one ticket.
+    pub(crate) fn wait(&mut self, keys: Keys) -> Result<(), Status>
+        ensures waited { IfOk result (λ _. HasOutwaited self.old keys self.new) }
+        ensures cause { IfErr result (λ status. IsHinderedBy 1 status self.old self.new) }
+    {
+        if let Some(status) = self.hindrance(WAIT_TICKETS) {
+            return Err(status);
+        }
+        let table = self.shared.table();
+        match wait_in_grace(&Spinning, table, &mut self.seat, &OpenGate, keys) {
+            Ok(()) => Ok(()),
+            Err(GaveUp) => {
+                self.lost = true;
+                Err(Status::Lost)
+            }
+        }
+    }
+
+    /// Begins a wait for the sections with one of these keys, and tells its number. It uses one ticket, and waits for nobody.
+    pub(crate) fn begin(&mut self, keys: Keys) -> Result<u64, Status>
+        ensures begun { IfOk result (λ number. HasStarted self.old keys number self.new) }
+        ensures cause { IfErr result (λ status. IsHinderedBy 1 status self.old self.new) }
+    {
+        if let Some(status) = self.hindrance(WAIT_TICKETS) {
+            return Err(status);
+        }
+        let cookie = start(self.shared.table(), &mut self.seat, keys);
+        let number = cookie.number();
+        self.cookie = Some(cookie);
+        Ok(number)
+    }
+
+    /// Asks whether the begun wait with this number is over. It waits for nobody.
+    pub(crate) fn poll(&mut self, number: u64) -> Status
+        ensures { Polls self.old number result self.new }
+    {
+        if let Some(status) = self.stopped() {
+            return status;
+        }
+        let Some(mut cookie) = self.cookie.take() else {
+            return Status::Moved;
+        };
+        if cookie.number() != number {
+            self.cookie = Some(cookie);
+            return Status::Moved;
+        }
+        match ask(self.shared.table(), &mut self.seat, &mut cookie) {
+            Ask::Over => Status::Done,
+            Ask::NotYet { why: _ } => {
+                self.cookie = Some(cookie);
+                Status::Unchanged
+            }
+            Ask::GivenUp { latest: _ } => {
+                self.cookie = Some(cookie);
+                Status::Moved
+            }
+        }
+    }
+
+    /// Lets nodes on the way to the key change places, in so many attempts at most, and as there are tickets for. Where the place has no room
+    /// for the slots that are retired it waits for readers.
+    pub(crate) fn lift_way(&mut self, key: u64, most: u32) -> Result<Lifted, GaveUp>
+        requires may { MayGoOn self.old }
+        ensures lifted { IfOk result (λ lifted. LiftsWay self.old key most lifted self.new) }
+        ensures lost { IfErr result (λ _. IsLost self.old self.new) }
+    {
+        let table = self.shared.table();
+        let aim = Aim {
+            key,
+            salt: self.shared.salt(),
+            attempts: attempts_for(most, self.seat.tickets()),
+            hard: true,
+        };
+        match lift(&Spinning, table, &mut self.seat, aim) {
+            Ok(lifted) => Ok(lifted),
+            Err(GaveUp) => {
+                self.lost = true;
+                Err(GaveUp)
+            }
+        }
+    }
+
+    /// Gives the retired slots back, where there are any, after a wait for all open sections. `false`, and nothing was done, where there are
+    /// none.
+    pub(crate) fn give_all_back(&mut self) -> Result<bool, GaveUp>
+        requires may { MayGoOn self.old }
+        requires ticket { 1 ≤ self.old.seat.view.allowance.tickets }
+        ensures back { IfOk result (λ some. MatchBool some (GivesBack self.old self.new) (HasNoneBack self.old self.new)) }
+        ensures lost { IfErr result (λ _. IsLost self.old self.new) }
+    {
+        let table = self.shared.table();
+        match give_all_back(&Spinning, table, &mut self.seat) {
+            Ok(some) => Ok(some),
+            Err(GaveUp) => {
+                self.lost = true;
+                Err(GaveUp)
+            }
+        }
+    }
+
     /// A second caller on the same table, which gets so many of the unused handles and tickets; or none, where the table has as many owners
     /// as can be counted, and then nothing has changed.
     pub(crate) fn share(&mut self, handles: u32, tickets: u64) -> Option<Caller<W>>
-        requires may { self.old.lost ≡ false }
+        requires may { MayGoOn self.old }
         requires handles { (1 ≤ handles) × (handles < self.old.seat.view.allowance.places) }
         requires tickets { tickets ≤ self.old.seat.view.allowance.tickets }
         ensures none { IfNone result (self.new ≡ self.old) }
@@ -275,6 +451,7 @@ impl<W: WaitPart> Caller<W> {
             shared,
             seat,
             lost: false,
+            cookie: None,
         })
     }
 
@@ -291,6 +468,7 @@ impl<W: WaitPart> Caller<W> {
                 shared,
                 seat,
                 lost: false,
+                cookie: None,
             }),
             None => Err(Status::Unchanged),
         }

@@ -1,10 +1,13 @@
 //! The calls of a handle: each takes the caller out, makes its call, and puts it back.
 ghost use Rattle.std.specs.Prelude.{◌≡◌, None};
 ghost use Rattle.tree_handles.specs.declared.status.Status.TheVariants.{Done};
+ghost use Rattle.tree_handles.specs.Begun.{Begins, Polls};
 ghost use Rattle.tree_handles.specs.Calls.{Gets, Inserts, Replaces, Upserts, Removes};
 ghost use Rattle.tree_handles.specs.Holding.{Makes};
+ghost use Rattle.tree_handles.specs.Holds.{HoldsValue, Enters, LeavesSection, Waits};
 ghost use Rattle.tree_handles.specs.Lists.{ListsOut, Firsts};
 ghost use Rattle.tree_handles.specs.Opening.{Shares, Reopens, HasLeft};
+ghost use Rattle.tree_handles.specs.Tidying.{Tidies};
 
 use crate::handle::Handle;
 use crate::lists::Pair;
@@ -13,8 +16,8 @@ use crate::{reopening, sharing};
 use std::alloc::Global;
 
 impl Handle {
-    /// Closes the handle. What it had, places and tickets, waits in the index for [`Handle::reopen`], unless the handle is lost. The index
-    /// is freed with the last of its handles. A closed handle stays so.
+    /// Closes the handle. A section that it is in is left. What it had, places and tickets, waits in the index for [`Handle::reopen`], unless
+    /// the handle is lost. The index is freed with the last of its handles. A closed handle stays so.
     pub fn close(&mut self, alloc: Global)
         ensures closed { self.new.held ≡ None }
     {
@@ -24,8 +27,8 @@ impl Handle {
     /// Makes `other` a second handle of the index, with so many of this one's unused handles (itself among them) and tickets. What it was
     /// open on before is closed.
     ///
-    /// `Done`; `Closed`; `BadArgument` where this one hasn't so many, or no handle is asked for; `NoMemory`; `Lost`. But at `Done` both are
-    /// as they were.
+    /// `Done`; `Closed`; `Lost`; `Holds`; `BadArgument` where this one hasn't so many, or no handle is asked for; `NoMemory`. But at `Done`
+    /// both are as they were.
     pub fn share(&mut self, alloc: Global, handles: u32, tickets: u64, other: &mut Handle) -> Status
         ensures shared { Makes (λ c d. Shares c handles tickets other.old.held result d other.new.held) self.old.held result self.new.held }
         ensures closed { self.old.held ≡ None → other.new.held ≡ other.old.held }
@@ -41,8 +44,8 @@ impl Handle {
     /// Makes `other`, which is closed, a handle of the index, with the places and tickets that a handle had which was closed. Whose they
     /// were isn't told.
     ///
-    /// `Done`; `Unchanged` where none wait; `Closed`; `BadArgument` where `other` is open; `NoMemory`; `Lost`. But at `Done` both are as
-    /// they were.
+    /// `Done`; `Unchanged` where none wait; `Closed`; `Lost`; `Holds`; `BadArgument` where `other` is open; `NoMemory`. But at `Done` both are
+    /// as they were.
     pub fn reopen(&mut self, alloc: Global, other: &mut Handle) -> Status
         ensures reopened { Makes (λ c d. Reopens c other.old.held result d other.new.held) self.old.held result self.new.held }
         ensures closed { self.old.held ≡ None → other.new.held ≡ other.old.held }
@@ -73,7 +76,7 @@ impl Handle {
 
     /// Tells the key's value.
     ///
-    /// `Done`; `Unchanged` where the key is absent; `Closed`; `Spent`; `Lost`. Only at `Done` the value is written.
+    /// `Done`; `Unchanged` where the key is absent; `Closed`; `Lost`; `Holds`; `Spent`. Only at `Done` the value is written.
     pub fn get(&mut self, alloc: Global, key: u64, value: &mut u64) -> Status
         ensures got { Makes (λ c d. Gets c key value.old result value.new d) self.old.held result self.new.held }
         ensures closed { self.old.held ≡ None → value.new ≡ value.old }
@@ -89,7 +92,7 @@ impl Handle {
     /// Adds the pair, where the key is absent.
     ///
     /// `Done`; `Unchanged` where the key is present; `Full` where no slot is free, and then at least as many pairs are there as were asked
-    /// for at the open; `Closed`; `Spent`; `Lost`.
+    /// for at the open; `Closed`; `Lost`; `Holds`; `Spent`.
     pub fn insert(&mut self, alloc: Global, key: u64, value: u64) -> Status
         ensures inserted { Makes (λ c d. Inserts c key value result d) self.old.held result self.new.held }
     {
@@ -103,7 +106,7 @@ impl Handle {
 
     /// Gives the key another value, where it is present, and tells the one before.
     ///
-    /// `Done`; `Unchanged` where the key is absent; `Closed`; `Spent`; `Lost`. Only at `Done` the old value is written.
+    /// `Done`; `Unchanged` where the key is absent; `Closed`; `Lost`; `Holds`; `Spent`. Only at `Done` the old value is written.
     pub fn replace(&mut self, alloc: Global, key: u64, value: u64, old: &mut u64) -> Status
         ensures replaced { Makes (λ c d. Replaces c key value old.old result old.new d) self.old.held result self.new.held }
         ensures closed { self.old.held ≡ None → old.new ≡ old.old }
@@ -119,7 +122,7 @@ impl Handle {
     /// Gives the key this value, whether or not it is present: a replace, else an insert, until one of the two makes an update.
     ///
     /// `Done` where a value was replaced, which is told; `New` where the pair was added; `Full` as of an insert; `Moved` where others put the
-    /// key in and took it out in each of 1,000 rounds; `Closed`; `Spent`; `Lost`. Only at `Done` the old value is written.
+    /// key in and took it out in each of 1,000 rounds; `Closed`; `Lost`; `Holds`; `Spent`. Only at `Done` the old value is written.
     pub fn upsert(&mut self, alloc: Global, key: u64, value: u64, old: &mut u64) -> Status
         ensures upserted { Makes (λ c d. Upserts c key value old.old result old.new d) self.old.held result self.new.held }
         ensures closed { self.old.held ≡ None → old.new ≡ old.old }
@@ -134,7 +137,7 @@ impl Handle {
 
     /// Takes the pair out, where the key is present, and tells its value.
     ///
-    /// `Done`; `Unchanged` where the key is absent; `Closed`; `Spent`; `Lost`. Only at `Done` the old value is written.
+    /// `Done`; `Unchanged` where the key is absent; `Closed`; `Lost`; `Holds`; `Spent`. Only at `Done` the old value is written.
     pub fn remove(&mut self, alloc: Global, key: u64, old: &mut u64) -> Status
         ensures removed { Makes (λ c d. Removes c key old.old result old.new d) self.old.held result self.new.held }
         ensures closed { self.old.held ≡ None → old.new ≡ old.old }
@@ -151,7 +154,7 @@ impl Handle {
     /// there is room for (1 to 1,048,576).
     ///
     /// `Done`; `More` where there are more, and then `next` is the key after those listed; `Moved` where updates were made in each of 1,000
-    /// tries; `Closed`; `BadArgument` where `low` is above `high` or the room is out of range; `NoMemory`; `Lost`. `count` is always
+    /// tries; `Closed`; `Lost`; `Holds`; `BadArgument` where `low` is above `high` or the room is out of range; `NoMemory`. `count` is always
     /// written, and is 0 but at `Done` and `More`; the pairs only at these, `next` only at `More`.
     pub fn list(
         &mut self,
@@ -178,8 +181,8 @@ impl Handle {
 
     /// Tells the pair with the least key at or above `low`, as it was at one moment of the call.
     ///
-    /// `Done`; `Unchanged` where there is none; `Moved` where updates were made in each of 1,000 tries; `Closed`; `NoMemory`; `Lost`. Only
-    /// at `Done` the pair is written.
+    /// `Done`; `Unchanged` where there is none; `Moved` where updates were made in each of 1,000 tries; `Closed`; `Lost`; `Holds`;
+    /// `NoMemory`. Only at `Done` the pair is written.
     pub fn first(&mut self, alloc: Global, low: u64, key: &mut u64, value: &mut u64) -> Status
         ensures found { Makes (λ c d. Firsts c low (key.old, value.old) result (key.new, value.new) d)
             self.old.held result self.new.held }
@@ -189,6 +192,134 @@ impl Handle {
             return Status::Closed;
         };
         let status = caller.first_out(alloc, low, key, value);
+        *self = Handle::of(caller);
+        status
+    }
+
+    /// Tells the key's value, and stays in a section with the key until [`Handle::release`]: a wait of another handle with this key among its
+    /// keys, begun meanwhile, is over only after that. A handle that is in a section makes no call but [`Handle::release`],
+    /// [`Handle::left`] and [`Handle::close`]; the others answer `Holds`. It uses no ticket.
+    ///
+    /// Nothing tests that the thread makes no update and no wait by another handle meanwhile. It may wait for itself then, since a remove near
+    /// the key waits for its section.
+    ///
+    /// `Done`; `Unchanged` where the key is absent, and then no section is open; `Closed`; `Lost`; `Holds`. Only at `Done` the value is
+    /// written.
+    pub fn hold(&mut self, alloc: Global, key: u64, value: &mut u64) -> Status
+        ensures held { Makes (λ c d. HoldsValue c key value.old result value.new d) self.old.held result self.new.held }
+        ensures closed { self.old.held ≡ None → value.new ≡ value.old }
+    {
+        let Some(mut caller) = self.take(alloc) else {
+            return Status::Closed;
+        };
+        let status = caller.hold_value(key, value);
+        *self = Handle::of(caller);
+        status
+    }
+
+    /// Enters a section with the key, and looks nothing up. Else it is as [`Handle::hold`] at `Done`.
+    ///
+    /// `Done`; `Closed`; `Lost`; `Holds`.
+    pub fn enter(&mut self, alloc: Global, key: u64) -> Status
+        ensures entered { Makes (λ c d. Enters c key result d) self.old.held result self.new.held }
+    {
+        let Some(mut caller) = self.take(alloc) else {
+            return Status::Closed;
+        };
+        let status = caller.enter_with(key);
+        *self = Handle::of(caller);
+        status
+    }
+
+    /// Leaves the section of a hold or an enter.
+    ///
+    /// `Done`; `Unchanged` where it is in none; `Closed`; `Lost`.
+    pub fn release(&mut self, alloc: Global) -> Status
+        ensures released { Makes (λ c d. LeavesSection c result d) self.old.held result self.new.held }
+    {
+        let Some(mut caller) = self.take(alloc) else {
+            return Status::Closed;
+        };
+        let status = caller.release();
+        *self = Handle::of(caller);
+        status
+    }
+
+    /// Waits until each section with a key from `low` to `high` has been left that was entered before. It uses one ticket.
+    ///
+    /// `Done`; `Closed`; `Lost`; `Holds`; `BadArgument` where `low` is above `high`; `Spent` where no ticket is left.
+    pub fn wait(&mut self, alloc: Global, low: u64, high: u64) -> Status
+        ensures waited { Makes (λ c d. Waits c (record { low = low; high = high }) result d) self.old.held result self.new.held }
+    {
+        let Some(mut caller) = self.take(alloc) else {
+            return Status::Closed;
+        };
+        let status = caller.wait_for(low, high);
+        *self = Handle::of(caller);
+        status
+    }
+
+    /// Begins a wait for each section with a key from `low` to `high` that is open, tells its cookie, and comes back at once: [`Handle::poll`]
+    /// asks whether it is over. It uses one ticket. A handle has the cookie of its latest begin alone.
+    ///
+    /// `Done`; `Closed`; `Lost`; `Holds`; `BadArgument` where `low` is above `high`; `Spent` where no ticket is left. Only at `Done` the cookie
+    /// is written.
+    pub fn begin(&mut self, alloc: Global, low: u64, high: u64, cookie: &mut u64) -> Status
+        ensures begun { Makes (λ c d. Begins c (record { low = low; high = high }) cookie.old result cookie.new d)
+            self.old.held result self.new.held }
+        ensures closed { self.old.held ≡ None → cookie.new ≡ cookie.old }
+    {
+        let Some(mut caller) = self.take(alloc) else {
+            return Status::Closed;
+        };
+        let status = caller.begin_for(low, high, cookie);
+        *self = Handle::of(caller);
+        status
+    }
+
+    /// Asks whether the wait of the cookie is over: each section with one of its keys that was open at the begin has been left. It asks where
+    /// the last question found a reader, and waits for nobody.
+    ///
+    /// `Done`, once for each cookie; `Unchanged` where a reader is found; `Moved` where the handle has no such cookie, or has begun a later
+    /// wait since, as its updates and their lifts may too; `Closed`; `Lost`; `Holds`. A cookie is good at the handle that began it alone.
+    pub fn poll(&mut self, alloc: Global, cookie: u64) -> Status
+        ensures polled { Makes (λ c d. Polls c cookie result d) self.old.held result self.new.held }
+    {
+        let Some(mut caller) = self.take(alloc) else {
+            return Status::Closed;
+        };
+        let status = caller.poll(cookie);
+        *self = Handle::of(caller);
+        status
+    }
+
+    /// Makes the tree shallow on the ways to the keys from `low` to `high`: lists the first 256 of them, and lets nodes on the way to each
+    /// change places with a child, in order, until so many turns were tried (1 or more), with those that came to nothing. No pair changes. A
+    /// turn that others changed meanwhile, or that found a lock taken, comes to nothing. It uses at most three tickets for each turn that was
+    /// tried and for each key, and waits for all readers where the handle keeps back 63 slots, two for each turn.
+    ///
+    /// `Done` where no way to a key of the range needs a turn any more; `More` where turns or tickets are short, or there are more keys, and
+    /// `Full` where no slot is free for a turn: then `next` is the key to go on with; `Moved` where updates were made in each of 1,000 tries
+    /// of the list; `Closed`; `BadArgument` where `low` is above `high` or `turns` is 0; `NoMemory`; `Spent`; `Lost`. `made` is always
+    /// written, and is 0 but at `Done`, `More` and `Full`, where it is how many turns were made; `next` only at `More` and `Full`.
+    pub fn tidy(
+        &mut self,
+        alloc: Global,
+        low: u64,
+        high: u64,
+        turns: u32,
+        made: &mut u32,
+        next: &mut u64,
+    ) -> Status
+        ensures tidied { Makes (λ c d. Tidies c (record { low = low; high = high }) turns next.old result
+            (record { made = made.new; next = next.new }) d) self.old.held result self.new.held }
+        ensures closed { self.old.held ≡ None → (made.new ≡ 0) × (next.new ≡ next.old) }
+    {
+        let Some(mut caller) = self.take(alloc) else {
+            *made = 0;
+            return Status::Closed;
+        };
+        let status = caller.tidy_out(alloc, low, high, turns, made, next);
         *self = Handle::of(caller);
         status
     }

@@ -5,9 +5,12 @@
 #![tactic(auto)]
 
 mod any_caller;
+mod begun;
 mod caller;
 mod calls;
 mod handle;
+mod holds;
+pub mod laws;
 mod lists;
 mod opening;
 mod parts;
@@ -16,6 +19,7 @@ mod shared;
 mod sharing;
 mod spinning;
 mod status;
+mod tidying;
 mod updates;
 
 pub use handle::Handle;

@@ -48,8 +48,8 @@ impl AnyCaller {
             (record { pairs = pairs.new; count = count.new; next = next.new }) self.new }
     {
         *count = 0;
-        if self.is_lost() {
-            return Status::Lost;
+        if let Some(status) = self.stopped() {
+            return status;
         }
         let Some(keys) = Keys::new(low, high) else {
             return Status::BadArgument;
@@ -90,8 +90,8 @@ impl AnyCaller {
     ) -> Status
         ensures { Firsts self.old low (key.old, value.old) result (key.new, value.new) self.new }
     {
-        if self.is_lost() {
-            return Status::Lost;
+        if let Some(status) = self.stopped() {
+            return status;
         }
         let keys = Keys::new(low, u64::MAX).unwrap();
         let Ok(mut page) = Page::new(alloc, 1) else {

@@ -14,15 +14,15 @@ const MOST_SLOTS: u32 = 2_097_152;
 const MOST_HANDLES: u32 = 64;
 
 /// For how many pairs it is opened at most: so many fit with every number of handles.
-const MOST_PAIRS: u32 = MOST_SLOTS - KEPT_BACK * (MOST_HANDLES - 1);
+const MOST_PAIRS: u32 = MOST_SLOTS - KEPT_BACK * MOST_HANDLES;
 
 /// The number of the last waiter.
 const LAST_WAITER: u32 = 2;
 
 impl Handle {
-    /// Opens the handle on a new index in which so many pairs always fit (1 to 2,092,868), for so many handles (1 to 64), with a waiter: 0
+    /// Opens the handle on a new index in which so many pairs always fit (1 to 2,092,800), for so many handles (1 to 64), with a waiter: 0
     /// looks at each reader, 1 counts readers by class, 2 looks at readers by class. The handle has all 2^57 tickets. What it was open on
-    /// before is closed. The index has a slot for each pair, and 68 for each handle beside the first, which may keep back so many.
+    /// before is closed. The index has a slot for each pair, and 68 for each handle, which may keep back so many.
     ///
     /// `Done`; `BadArgument` where a number is out of range; `NoMemory`. But at `Done` the handle is as it was.
     pub fn open(&mut self, alloc: Global, pairs: u32, handles: u32, waiter: u32) -> Status

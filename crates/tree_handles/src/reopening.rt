@@ -10,8 +10,8 @@ use std::alloc::Global;
 pub(crate) fn reopen(alloc: Global, caller: &AnyCaller, other: &mut Handle) -> Status
     ensures { Reopens caller.now other.old.held result caller.now other.new.held }
 {
-    if caller.is_lost() {
-        return Status::Lost;
+    if let Some(status) = caller.stopped() {
+        return status;
     }
     if let Some(open) = other.take(alloc) {
         *other = Handle::of(open);

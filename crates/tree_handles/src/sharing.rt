@@ -1,6 +1,6 @@
 //! A handle becomes two.
 ghost use Rattle.std.specs.Prelude.{◌≡◌, ◌≤◌, ◌<◌, false, IfNone, IfSome};
-ghost use Rattle.tree_handles.specs.Callers.{IsShared};
+ghost use Rattle.tree_handles.specs.Callers.{IsShared, MayGoOn};
 ghost use Rattle.tree_handles.specs.Opening.{Shares};
 
 use crate::any_caller::AnyCaller;
@@ -19,7 +19,7 @@ struct Portion {
 
 // The caller moves into new memory, and the second one takes its place. So where no memory is there, nothing has changed yet.
 fn move_out(caller: AnyCaller, portion: Portion) -> (AnyCaller, Option<Box<AnyCaller>>)
-    requires may { caller.lost ≡ false }
+    requires may { MayGoOn caller }
     requires handles { (1 ≤ portion.handles) × (portion.handles < caller.seat.view.allowance.places) }
     requires tickets { portion.tickets ≤ caller.seat.view.allowance.tickets }
     ensures none { IfNone result.1 (result.0 ≡ caller) }
@@ -45,8 +45,8 @@ pub(crate) fn share(
 ) -> (Box<AnyCaller>, Status)
     ensures { Shares caller.value handles tickets other.old.held result.1 result.0.value other.new.held }
 {
-    if caller.is_lost() {
-        return (caller, Status::Lost);
+    if let Some(status) = caller.stopped() {
+        return (caller, status);
     }
     if handles == 0 || handles > caller.unused() || tickets > caller.tickets() {
         return (caller, Status::BadArgument);

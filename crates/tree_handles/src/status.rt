@@ -7,13 +7,14 @@ ghost use Rattle.tree_handles.specs.Statuses.{code_of};
 pub enum Status {
     /// The call did what it says.
     Done,
-    /// The key is absent, or present at an insert, or no place waits for a reopen: nothing has changed.
+    /// The key is absent, or present at an insert, no place waits for a reopen, or no section is open for a release: nothing
+    /// has changed. Or a poll found a reader.
     Unchanged,
     /// No slot is free: nothing has changed.
     Full,
     /// A list has more pairs than there is room for.
     More,
-    /// Others made updates in each try.
+    /// Others made updates in each try, or the wait of a poll's cookie isn't the handle's latest any more.
     Moved,
     /// An upsert added the pair.
     New,
@@ -23,10 +24,12 @@ pub enum Status {
     BadArgument,
     /// No memory: nothing has changed.
     NoMemory,
-    /// Fewer than four tickets are left.
+    /// Fewer tickets are left than the call needs: four of a get or an update, one of a wait.
     Spent,
     /// This call or an earlier one of the handle gave up in its midst.
     Lost,
+    /// The handle is in a section, of a hold or an enter: nothing has changed.
+    Holds,
 }
 
 impl Status {
@@ -46,6 +49,7 @@ impl Status {
             Status::NoMemory => -3,
             Status::Spent => -4,
             Status::Lost => -5,
+            Status::Holds => -6,
         }
     }
 }

@@ -20,7 +20,7 @@ use Rattle.tree_points.specs.Progress.{HasGone}
 use Rattle.tree_points.proofs.Ends.{none_raised}
 use Rattle.tree_points.proofs.Gone.{gone_on, gone_same}
 use Rattle.citrus_tree.specs.Going.{Goes}
-use Rattle.citrus_tree.specs.Gone.{IsOfTry, retired_marks}
+use Rattle.citrus_tree.specs.Gone.{IsOfTry, KeepsWait, retired_marks}
 use Rattle.core_state.specs.views.Views.{unraised_among}
 use Rattle.citrus_tree.proofs.Leavings.{goes_on}
 use Rattle.citrus_tree.proofs.KeepingSlots.{slots_goes, slots_more, slots_on, slots_reclaimed, slots_self}
@@ -86,6 +86,28 @@ proceeds_goes key hard s t ms goes each listed informed = record {
   unwaited = λ no. goes.waits;
   informed = informed;
 }
+
+pub same_left : (s t : SeatAt) → t ≡ s → (key : ℕ) → LeavesNoUpdate s.view key t.view
+same_left s t same key = subst (λ (u : SeatAt). LeavesNoUpdate s.view key u.view) (sym same) (left_none key gone_same)
+
+pub same_wait : (s t : SeatAt) → t ≡ s → KeepsWait s.view t.view
+same_wait s t same = subst (λ (u : SeatAt). KeepsWait s.view u.view) (sym same) (inl (none_yet s.view))
+
+-- No slot is listed, so none is retired.
+pub none_listed : (listed : List ℕ) (rs : List Retired) → listed ≡ [] → length listed ≡ length rs → rs ≡ []
+none_listed listed [] none long = refl
+none_listed listed (r ∷ rs) none long = absurd (let empty = ap (length {A = ℕ}) none in omega (arith, long, empty))
+
+-- All retired slots were given back.
+module _ (k : Shape) (s t : SeatAt) (back : HasReclaimed k s.view s.listed t.view) where
+  pub back_left : (key : ℕ) → LeavesNoUpdate s.view key t.view
+  back_left key = left_reclaimed key back
+
+  pub back_wait : KeepsWait s.view t.view
+  back_wait = inr (reclaimed_first back)
+
+  pub back_tickets : s.view.allowance.tickets ≤ t.view.allowance.tickets + 1
+  back_tickets = let e = ap (λ (z : View). z.allowance.tickets) back.rest in omega arith
 
 proceeds_reclaimed : (k : Shape) (key : ℕ) (hard : Bool) (s t : SeatAt) → Reclaims k hard s t → (IsInformed s.view → IsInformed t.view)
     → Proceeds key hard s t
@@ -443,37 +465,41 @@ one_at_most false = omega arith
 
 -- all attempts were made
 pub spent_lift : (k : Shape) (aim : Aim) (turns i : ℕ) (v w : View) → HasTried k aim turns i v w → i ≡ aim.attempts
-    → HasLifted k aim (record { turns = turns; stop = Spent }) v w
+    → HasLifted k aim (record { turns = turns; tried = aim.attempts; stop = Spent }) v w
 spent_lift k aim turns i v w has all = record {
   tried = has.tried;
   were = has.were;
+  many = has.many ∙ all;
   few = (let many = has.many in omega arith);
   turns = has.turned;
   spent = λ e. has.many ∙ all;
 }
 
 -- What a lift comes to, where an attempt ended it, and where all attempts were made.
-pub record HasEnded (k : Shape) (aim : Aim) (turns : ℕ) (stop : Stop) (s t : SeatAt) : Type 0 where
+pub record HasEnded (k : Shape) (aim : Aim) (turns i : ℕ) (stop : Stop) (s t : SeatAt) : Type 0 where
   pub proceeds : Proceeds aim.key aim.hard s t
-  pub lifted : HasLifted k aim (record { turns = turns; stop = stop }) s.view t.view
+  pub lifted : HasLifted k aim (record { turns = turns; tried = i; stop = stop }) s.view t.view
   pub ends : EndsBy k aim stop t.view
   pub tickets : s.view.allowance.tickets ≤ t.view.allowance.tickets + 3 * aim.attempts
+  pub spares : s.view.allowance.tickets ≤ t.view.allowance.tickets + 3 * i + 3
   pub quiet : IsQuietSeat t
 
 pub ended_lift : (k : Shape) (aim : Aim) (turns i : ℕ) (stop : Stop) (s t u : SeatAt) → Proceeds aim.key aim.hard s t
     → HasTried k aim turns i s.view t.view → s.view.allowance.tickets ≤ t.view.allowance.tickets + 3 * i → i < aim.attempts
-    → HasAttempted k aim t (EndedBy stop) u → HasEnded k aim turns stop s u
+    → HasAttempted k aim t (EndedBy stop) u → HasEnded k aim turns i stop s u
 ended_lift k aim turns i stop s t u proceeds tried tickets more made =
     let still = tried_still k aim turns i s.view t.view u.view tried made.attempts.0 in record {
       proceeds = proceeds_on aim.key aim.hard s t u proceeds made.proceeds;
       lifted = record {
         tried = still.tried;
         were = still.were;
+        many = still.many;
         few = (let many = still.many in omega arith);
         turns = still.turned;
         spent = λ e. absurd (made.attempts.2 e);
       };
       ends = made.attempts.1;
       tickets = (let last = made.tickets in omega arith);
+      spares = (let last = made.tickets in omega arith);
       quiet = made.quiet;
     }

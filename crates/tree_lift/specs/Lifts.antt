@@ -86,10 +86,12 @@ pub record HasAttempted (k : Shape) (aim : Aim) (s : SeatAt) (answer : Attempt) 
   pub tickets : s.view.allowance.tickets ≤ t.view.allowance.tickets + 3
   pub quiet : IsQuietSeat t
 
--- At most so many turns were tried as it was asked for, one after another, and as many were made as it tells. Where it is spent it tried all.
+-- At most so many turns were tried as it was asked for, one after another, and as many were tried and made as it tells. Where it is spent it
+-- tried all.
 pub record HasLifted (k : Shape) (aim : Aim) (lifted : Lifted) (v w : View) : Type 0 where
   pub tried : List TurnTried
   pub were : WereTried k aim.key aim.salt v tried w
+  pub many : length tried ≡ lifted.tried
   pub few : length tried ≤ aim.attempts
   pub turns : made_among tried ≡ lifted.turns
   pub spent : lifted.stop ≡ Spent → length tried ≡ aim.attempts

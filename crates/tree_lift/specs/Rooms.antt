@@ -23,6 +23,11 @@ abbrev pub MakesRoom : Shape → Bool → SeatAt → Bool → SeatAt → Type 0
 MakesRoom k hard s true t = ((t ≡ s) × (length s.view.hands.retired + 1 < k.room)) ⊎ Reclaims k hard s t
 MakesRoom k hard s false t = (t ≡ s) × (hard ≡ false) × (k.room ≤ length s.view.hands.retired + 1)
 
+-- Whether the place had retired slots: all were given back, by one wait for everybody. Where it had none nothing was done.
+abbrev pub GivesAllBack : Shape → SeatAt → Bool → SeatAt → Type 0
+GivesAllBack k s true t = HasReclaimed k s.view s.listed t.view × (t.listed ≡ [])
+GivesAllBack k s false t = (t ≡ s) × (s.view.hands.retired ≡ [])
+
 -- Whether the place has a spare: it had, or it has one for a ticket. Where it hasn't no slot was free, and the dictionary is as large as
 -- Full asks for. Nothing else changed.
 pub record SeesToSpare (k : Shape) (s : SeatAt) (some : Bool) (t : SeatAt) : Type 0 where

@@ -8,4 +8,5 @@ mod room;
 mod rule;
 
 pub use lifting::{Aim, Lifted, Stop, lift};
+pub use room::give_all_back;
 pub use rule::{is_deep, is_far_too_deep, most_depth, rises_above};

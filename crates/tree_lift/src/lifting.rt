@@ -45,6 +45,8 @@ pub enum Stop {
 pub struct Lifted {
     /// How many nodes changed places with a child.
     pub turns: u32,
+    /// How many turns were tried, with those that came to nothing.
+    pub tried: u32,
     pub stop: Stop,
 }
 
@@ -74,11 +76,12 @@ pub fn lift<P: Patience, W: WaitPart>(
     ensures updates { IfOk result (λ _. LeavesNoUpdate seat.old.view aim.key seat.new.view) }
     ensures turns { IfOk result (λ answer. HasLifted (shape_of W.WAY table.now) aim answer seat.old.view seat.new.view) }
     ensures ends { IfOk result (λ answer. EndsBy (shape_of W.WAY table.now) aim answer.stop seat.new.view) }
-    ensures few { IfOk result (λ answer. answer.turns ≤ aim.attempts) }
+    ensures few { IfOk result (λ answer. (answer.turns ≤ answer.tried) × (answer.tried ≤ aim.attempts)) }
     ensures wait { IfOk result (λ _. KeepsWait seat.old.view seat.new.view) }
     ensures unwaited { IfOk result (λ _. aim.hard ≡ false → seat.new.view.counts.waits ≡ seat.old.view.counts.waits) }
     ensures slots { IfOk result (λ _. KeepsSlots seat.old seat.new) }
     ensures tickets { IfOk result (λ _. seat.old.view.allowance.tickets ≤ seat.new.view.allowance.tickets + 3 * aim.attempts) }
+    ensures spares { IfOk result (λ answer. seat.old.view.allowance.tickets ≤ seat.new.view.allowance.tickets + 3 * answer.tried + 3) }
     ensures allowance { IfOk result (λ _. KeepsAllowance seat.old.view seat.new.view) }
     ensures quiet { IfOk result (λ _. IsQuietSeat seat.new) }
     ensures informed { IfOk result (λ _. IsInformed seat.old.view → IsInformed seat.new.view) }
@@ -88,11 +91,18 @@ pub fn lift<P: Patience, W: WaitPart>(
     for i in 0..aim.attempts {
         match make_attempt(patience, table, seat, aim)? {
             Attempt::Tried { turned } => turns += u32::from(turned),
-            Attempt::Ended { stop } => return Ok(Lifted { turns, stop }),
+            Attempt::Ended { stop } => {
+                return Ok(Lifted {
+                    turns,
+                    tried: i,
+                    stop,
+                });
+            }
         }
     }
     Ok(Lifted {
         turns,
+        tried: aim.attempts,
         stop: Stop::Spent,
     })
 }

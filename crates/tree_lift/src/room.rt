@@ -1,9 +1,12 @@
 //! What a turn needs of the place: room among the retired slots, a spare, and a slot in hand.
-ghost use Rattle.std.specs.Prelude.{◌≡◌, ◌≤◌, IfOk, IfErr};
+ghost use Rattle.std.specs.Prelude.{◌≡◌, ℕ, ◌≤◌, ◌+◌, IfOk, IfErr};
 ghost use Rattle.seat_table.specs.Gains.{IsInformed};
 ghost use Rattle.seat_table.specs.Rounds.{HasMade};
 ghost use Rattle.seat_table.specs.Seats.{IsQuietSeat, shape_of};
-ghost use Rattle.tree_lift.specs.Rooms.{MakesRoom, SeesToSpare, TakesSlots};
+ghost use Rattle.tree_points.specs.Progress.{KeepsAllowance};
+ghost use Rattle.citrus_tree.specs.Gone.{KeepsWait};
+ghost use Rattle.tree_lift.specs.Lifts.{LeavesNoUpdate};
+ghost use Rattle.tree_lift.specs.Rooms.{GivesAllBack, MakesRoom, SeesToSpare, TakesSlots};
 
 use node_slots::Taken;
 use node_slots::patient::{reclaim, take};
@@ -31,6 +34,33 @@ pub(crate) fn make_room<P: Patience, W: WaitPart>(
         return Ok(true);
     }
     if !hard {
+        return Ok(false);
+    }
+    reclaim(patience, table, seat)?;
+    Ok(true)
+}
+
+/// Gives all retired slots back, where the place has any, after a wait for all open sections: for a lift that ended since no slot was free.
+/// `false`, and nothing was done, where it has none. It spends a ticket.
+pub fn give_all_back<P: Patience, W: WaitPart>(
+    patience: &P,
+    table: &CitrusTable<W>,
+    seat: &mut Seat<W>,
+) -> Result<bool, P::Tired>
+    requires table { seat.old.table ≡ table.now }
+    requires quiet { IsQuietSeat seat.old }
+    requires ticket { 1 ≤ seat.old.view.allowance.tickets }
+    ensures table { seat.new.table ≡ seat.old.table }
+    ensures back { IfOk result (λ some. GivesAllBack (shape_of W.WAY table.now) seat.old some seat.new) }
+    ensures updates { IfOk result (λ _. (key : ℕ) → LeavesNoUpdate seat.old.view key seat.new.view) }
+    ensures wait { IfOk result (λ _. KeepsWait seat.old.view seat.new.view) }
+    ensures tickets { IfOk result (λ _. seat.old.view.allowance.tickets ≤ seat.new.view.allowance.tickets + 1) }
+    ensures allowance { IfOk result (λ _. KeepsAllowance seat.old.view seat.new.view) }
+    ensures quiet { IfOk result (λ _. IsQuietSeat seat.new) }
+    ensures informed { IfOk result (λ _. IsInformed seat.old.view → IsInformed seat.new.view) }
+    ensures tired { IfErr result (λ _. HasMade (P.least patience.now) seat.new.view) }
+{
+    if seat.retired().is_empty() {
         return Ok(false);
     }
     reclaim(patience, table, seat)?;

@@ -131,7 +131,16 @@ returns-in-Ended-clause-informed g c =
 
 pub returns-in-Ended-clause-few : goal.returns-in-Ended-clause-few
 returns-in-Ended-clause-few g c =
-    let few = c.loop-i.invariant.few in let more = c.loop-i-test.true in omega arith
+    let few = c.loop-i.invariant.few in let more = c.loop-i-test.true in (few, omega arith)
+
+pub returns-in-Ended-clause-spares : goal.returns-in-Ended-clause-spares
+returns-in-Ended-clause-spares g c =
+    let k = shape_of g.W.WaitWords.WAY c.args.table.now in
+    let inv = c.loop-i.invariant in
+    let ended = ended_lift k c.args.aim c.loop-i.turns c.loop-i.i c.in-Ended.stop c.args.seat.now c.loop-i.seat c.make_attempt.new.seat
+    inv.proceeds inv.tried inv.tickets c.loop-i-test.true
+    (subst (λ a. HasAttempted k c.args.aim c.loop-i.seat a c.make_attempt.new.seat) c.in-Ended.is c.in_ok-turned.ensures.attempted) in
+    ended.spares
 
 pub returns-clause-updates : goal.returns-clause-updates
 returns-clause-updates g c =
@@ -175,7 +184,11 @@ returns-clause-informed g c =
 
 pub returns-clause-few : goal.returns-clause-few
 returns-clause-few g c =
-    let few = c.loop-i.invariant.few in let inside = c.loop-i.auto.i-end in omega arith
+    let few = c.loop-i.invariant.few in let inside = c.loop-i.auto.i-end in (omega arith, omega arith)
+
+pub returns-clause-spares : goal.returns-clause-spares
+returns-clause-spares g c =
+    let left = c.loop-i.invariant.tickets in let inside = c.loop-i.auto.i-end in omega arith
 
 pub returns-clause-tickets : goal.returns-clause-tickets
 returns-clause-tickets g c =

@@ -1,4 +1,5 @@
 use Rattle.std.proofs.Common.{rules, refl, inl}
+use Rattle.tree_handles.proofs.Cookies.{cookie_called}
 use Rattle.tree_handles.proofs.caller.Caller.take_out.Goals as goal
 
 -- the seat as the removal left it, and nothing behind
@@ -15,3 +16,8 @@ returns-in-Ok-clause-taken g c = (
   },
   search rules,
 )
+
+-- the cookie is good still
+pub invariant_of-self : goal.invariant_of-self
+invariant_of-self g c = let e = c.in-Ok.ensures in
+    (search rules, search rules, λ kept. cookie_called e.slots e.wait e.allowance (c.self.invariant.2 kept))

@@ -1,0 +1,11 @@
+use Rattle.std.proofs.Common.{rules}
+use Rattle.tree_handles.proofs.Cookies.{cookie_shared}
+use Rattle.tree_handles.proofs.caller.Caller.share.Goals as goal
+
+-- the cookie is good still
+pub invariant_of-self : goal.invariant_of-self
+invariant_of-self g c = (
+  search rules,
+  search rules,
+  λ kept. cookie_shared c.args.handles c.args.tickets (search rules) (c.self.invariant.2 kept),
+)

@@ -1,0 +1,5 @@
+use Rattle.tree_handles.proofs.Chains.{calls_meet}
+use Rattle.tree_handles.proofs.laws.calls_meet_fronts.Goals as goal
+
+pub returns : goal.returns
+returns c = calls_meet

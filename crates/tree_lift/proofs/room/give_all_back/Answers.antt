@@ -1,0 +1,51 @@
+use Rattle.std.proofs.Common.{refl, sym, ◌∙◌}
+use Rattle.seat_table.specs.Seats.{shape_of}
+use Rattle.node_slots.proofs.Listed.{listed_length}
+use Rattle.citrus_tree.proofs.puts.Filling.{empty_is}
+use Rattle.tree_lift.proofs.Attempts.{back_left, back_tickets, back_wait, may_reclaim_room, none_listed, reclaimed_quiet, same_left, same_wait}
+use Rattle.tree_lift.proofs.room.give_all_back.Goals as goal
+
+pub returns-then-is_empty-clause-back : goal.returns-then-is_empty-clause-back
+returns-then-is_empty-clause-back g c = (
+  refl,
+  none_listed c.args.seat.now.listed c.args.seat.now.view.hands.retired
+      (sym c.retired.ensures ∙ empty_is c.retired.result.now (sym c.is_empty.ensures ∙ c.if-is_empty.true))
+      (listed_length c.args.seat.now c.requires.quiet.listed),
+)
+
+pub reclaim-requires-clause-outside : goal.reclaim-requires-clause-outside
+reclaim-requires-clause-outside g c = c.requires.quiet.view.section
+
+pub reclaim-requires-clause-unlocked : goal.reclaim-requires-clause-unlocked
+reclaim-requires-clause-unlocked g c = c.requires.quiet.view.locks
+
+pub reclaim-requires-clause-settled : goal.reclaim-requires-clause-settled
+reclaim-requires-clause-settled g c = c.requires.quiet.view.moving
+
+pub reclaim-requires-clause-paid : goal.reclaim-requires-clause-paid
+reclaim-requires-clause-paid g c = c.requires.quiet.view.owes
+
+pub reclaim-requires-clause-listed : goal.reclaim-requires-clause-listed
+reclaim-requires-clause-listed g c = c.requires.quiet.listed
+
+pub reclaim-requires-clause-unraised : goal.reclaim-requires-clause-unraised
+reclaim-requires-clause-unraised g c = (may_reclaim_room c.args.seat.now c.requires.quiet c.requires.ticket).unraised
+
+pub returns-clause-updates : goal.returns-clause-updates
+returns-clause-updates g c = back_left (shape_of g.W.WaitWords.WAY c.args.table.now) c.args.seat.now c.reclaim.new.seat c.in_ok-reclaim.ensures.view
+
+pub returns-clause-wait : goal.returns-clause-wait
+returns-clause-wait g c = back_wait (shape_of g.W.WaitWords.WAY c.args.table.now) c.args.seat.now c.reclaim.new.seat c.in_ok-reclaim.ensures.view
+
+pub returns-clause-tickets : goal.returns-clause-tickets
+returns-clause-tickets g c =
+    back_tickets (shape_of g.W.WaitWords.WAY c.args.table.now) c.args.seat.now c.reclaim.new.seat c.in_ok-reclaim.ensures.view
+
+pub returns-clause-allowance : goal.returns-clause-allowance
+returns-clause-allowance g c =
+    (back_left (shape_of g.W.WaitWords.WAY c.args.table.now) c.args.seat.now c.reclaim.new.seat c.in_ok-reclaim.ensures.view 0).gone.allowance
+
+pub returns-clause-quiet : goal.returns-clause-quiet
+returns-clause-quiet g c = reclaimed_quiet
+    (shape_of g.W.WaitWords.WAY c.args.table.now) c.args.seat.now c.reclaim.new.seat c.args.seat.now.listed c.in_ok-reclaim.ensures.view
+    c.in_ok-reclaim.ensures.listed c.requires.quiet
