@@ -1,5 +1,5 @@
 #!/usr/bin/env bash
-# Installs the C library: `install.sh PREFIX` puts PREFIX/lib/libcitrus.a there, PREFIX/include/citrus.h and citrus.hpp, and
+# Installs the C library: `install.sh PREFIX` puts PREFIX/lib/libcitrus.a there, the headers of `include` in PREFIX/include, and
 # PREFIX/lib/pkgconfig/citrus.pc. The archive is whole: the proved library, with the toolchain's heap functions, which call malloc, realloc and
 # free, in one object that shows the functions of citrus.h alone. It asks for nothing but the C library, so who links it needs no toolchain.
 #
@@ -49,7 +49,7 @@ merge "$archive" "$heap"
 mkdir -p "$1/lib/pkgconfig" "$1/include"
 prefix=$(cd "$1" && pwd)
 install -m 644 "$room/libcitrus.a" "$prefix/lib/"
-install -m 644 "$here/include/citrus.h" "$here/include/citrus.hpp" "$prefix/include/"
+install -m 644 "$here"/include/* "$prefix/include/"
 cat >"$prefix/lib/pkgconfig/citrus.pc" <<END
 prefix=$prefix
 libdir=\${prefix}/lib

@@ -53,8 +53,14 @@ compile_c() { gcc -std=gnu11 "${strict[@]}" "$here/tests/$1.c" "${@:2}" -L"$pref
 compile_cpp() { g++ -std=c++17 "${strict[@]}" "$here/tests/$1.cpp" -L"$prefix/lib" -lcitrus -o "$room/$1_cpp"; }
 
 compile_all() {
-    compile_c answers && compile_c misuse && compile_c own_keys && compile_c moments && compile_c reopened &&
-        compile_c memory -Wl,--wrap=malloc,--wrap=realloc,--wrap=free && compile_cpp answers && compile_cpp order
+    compile_c answers && compile_c misuse && compile_c own_keys && compile_c moments && compile_c reopened && compile_c tidy &&
+        compile_c memory -Wl,--wrap=malloc,--wrap=realloc,--wrap=free && compile_cpp answers && compile_cpp order &&
+        compile_c holds && compile_c begun && compile_c objects && compile_c prcu && compile_cpp map && compile_debug
+}
+
+# A program of two files.
+compile_debug() {
+    gcc -std=gnu11 "${strict[@]}" -DOTHER_FILE -c "$here/tests/debug.c" -o "$room/other_file.o" && compile_c debug "$room/other_file.o"
 }
 
 # The headers alone, in the oldest languages that they are for, with a static handle that is closed from the start and is closed again.
@@ -62,7 +68,10 @@ headers_stand_alone() {
     local words='static citrus_handle kept = CITRUS_CLOSED_HANDLE; void hand_on(void); void hand_on(void) { kept = citrus_closed_handle(); }'
     printf '#include <citrus.h>\n%s\n' "$words" | gcc -std=c99 -pedantic -Wall -Wextra -Werror "-I$prefix/include" -c -o "$room/alone.o" -xc - &&
         printf '#include <citrus.hpp>\n%s\n' "$words" |
-        g++ -std=c++17 -pedantic -Wall -Wextra -Werror "-I$prefix/include" -c -o "$room/alone.o" -xc++ -
+        g++ -std=c++17 -pedantic -Wall -Wextra -Werror "-I$prefix/include" -c -o "$room/alone.o" -xc++ - &&
+        printf '#include <prcu.h>\n' | gcc -std=c99 -pedantic -Wall -Wextra -Werror -DCITRUS_DEBUG "-I$prefix/include" -c -o "$room/alone.o" -xc - &&
+        printf '#include <citrus_map.hpp>\n#include <prcu.h>\ntemplate class citrus::map<int>;\n' |
+        g++ -std=c++17 -pedantic -Wall -Wextra -Werror -DCITRUS_DEBUG "-I$prefix/include" -c -o "$room/alone.o" -xc++ -
 }
 
 # A page shows the program as it is compiled here: `shows PAGE PROGRAM`.
@@ -72,6 +81,9 @@ shows() { python3 "$here/tests/page_has.py" "$top/$1" "$here/$2"; }
 first_program() {
     shows docs/EMBEDDING.md "$1" && "${@:3}" "$here/$1" "-I$prefix/include" "-L$prefix/lib" -lcitrus -o "$room/first" && [ "$("$room/first")" = "$2" ]
 }
+
+# A program that isn't on a page: `example TEXT WORDS..` compiles it, and it writes the text.
+example() { "${@:2}" "-I$prefix/include" -L"$prefix/lib" -lcitrus -o "$room/example" && [ "$("$room/example")" = "$1" ]; }
 
 with_pkg_config() {
     local words
@@ -91,7 +103,8 @@ rust_program() {
 
 in_rust() { CITRUS_LIB_DIR=$prefix/lib CARGO_TARGET_DIR=$room/rust timeout 100 "$@"; }
 
-# An order of all calls of threads that share their keys, which the tool's check holds to be an account: `ordered WAITER THREADS OPERATIONS KEYS SEED`.
+# An order of all calls of threads that share their keys, which the tool's check holds to be an account: `ordered WAITER THREADS OPERATIONS
+# KEYS SEED [tidy]`.
 ordered() {
     "$room/order_cpp" "$@" >"$room/account" && [ "$("$checker" check <"$room/account")" = yes ]
 }
@@ -109,8 +122,43 @@ orders() {
             case_is "one order explains all replies, $threads threads, waiter $waiter" ordered $waiter $threads 4000 $((threads / 2 + 1)) 1
             case_is "one order explains all replies, $threads threads, 500 keys, waiter $waiter" ordered $waiter $threads 4000 500 2
         done
+        case_is "one order explains all replies, 8 threads, a tidy behind each put, waiter $waiter" ordered $waiter 8 4000 20 3 tidy
     done
     case_is 'a changed reply is refused' a_changed_reply_is_refused
+}
+
+# AddressSanitizer says what is read after it was freed. It watches the tests alone, since the library is compiled without its marks.
+sanitized=(-g -fsanitize=address -fno-omit-frame-pointer)
+
+# Whether programs can be made with it, and run here.
+has_sanitizer() {
+    printf 'int main(void) { return 0; }\n' | gcc "${sanitized[@]}" -o "$room/tried" -xc - 2>/dev/null && "$room/tried" 2>/dev/null
+}
+
+# The cases of prcu.c wait in a section's thread for keys that it hasn't, which CITRUS_DEBUG refuses.
+compile_sanitized() {
+    local name
+    for name in freed objects; do
+        gcc -std=gnu11 "${strict[@]}" "${sanitized[@]}" -DCITRUS_DEBUG "$here/tests/$name.c" -L"$prefix/lib" -lcitrus -o "$room/${name}_sanitized" || return
+    done
+    gcc -std=gnu11 "${strict[@]}" "${sanitized[@]}" "$here/tests/prcu.c" -L"$prefix/lib" -lcitrus -o "$room/prcu_sanitized" || return
+    g++ -std=c++17 "${strict[@]}" "${sanitized[@]}" -DCITRUS_DEBUG "$here/tests/map.cpp" -L"$prefix/lib" -lcitrus -o "$room/map_sanitized"
+}
+
+under_a_sanitizer() { ASAN_OPTIONS=detect_leaks=0 timeout 100 "$room/$1_sanitized" "${@:2}"; }
+
+# Whether the sanitizer tells that something freed is read.
+is_told_of() { ! under_a_sanitizer "$@" >"$room/report" 2>&1 && grep -q heap-use-after-free "$room/report"; }
+
+values_under_a_sanitizer() {
+    case_is 'the tests compile with AddressSanitizer' compile_sanitized
+    [ -x "$room/map_sanitized" ] || return
+    case_is 'a hold, and a wait before the free: nothing freed is read' under_a_sanitizer freed hold wait
+    case_is 'AddressSanitizer tells of a free without a wait' is_told_of freed hold none
+    case_is 'AddressSanitizer tells of a get in place of a hold' is_told_of freed get wait
+    case_is 'objects under AddressSanitizer' under_a_sanitizer objects 3000
+    case_is 'predicate RCU alone under AddressSanitizer' under_a_sanitizer prcu
+    case_is 'the C++ map under AddressSanitizer' under_a_sanitizer map
 }
 
 # The Rust crate's own tests, counted as cargo counts them.
@@ -132,6 +180,44 @@ rust_tests() {
     fi
 }
 
+# The crate's cache, an example.
+rust_cache() {
+    [ "$(cd "$here/citrus_map" && in_rust cargo run --offline --quiet --example cache)" = '5 swept; 3 has Some(6) letters, 4 has None' ]
+}
+
+# What takes a nightly toolchain of Rust, which isn't fetched: `in_nightly FOLDER WORDS..` runs cargo's words in a folder.
+in_nightly() { (cd "$1" && RUSTUP_AUTO_INSTALL=0 in_rust cargo +nightly "${@:2}"); }
+
+# What mustn't compile is refused for the reason that stands there. A stable toolchain doesn't look at the codes.
+refusals_have_their_codes() { in_nightly "$here/citrus_map" test --offline --quiet --doc; }
+
+# The tests of Map under AddressSanitizer: no value is read after it was dropped, and none is left over. `sanitized FOLDER [TEST]`.
+sanitized() {
+    local host
+    host=$(rustc -vV | sed -n 's/^host: //p')
+    RUSTFLAGS=-Zsanitizer=address in_nightly "$1" test --offline --quiet --target "$host" --test map "${@:2}"
+}
+
+# It does report a crate whose removals don't wait before they give a value back.
+sanitizer_reports_a_wait_left_out() {
+    local line='self.handle.wait(node.key()..=node.key())'
+    cp -r "$here/citrus_map" "$room/unwaited" && grep -qF "$line" "$room/unwaited/src/map.rs" &&
+        sed -i "s/$line/Ok::<(), Error>(())/" "$room/unwaited/src/map.rs" &&
+        ! sanitized "$room/unwaited" threads_read_what_is_there >"$room/unwaited_told" 2>&1 &&
+        grep -q 'AddressSanitizer: heap-use-after-free' "$room/unwaited_told"
+}
+
+rust_maps() {
+    case_is 'the cache in Rust' rust_cache
+    if RUSTUP_AUTO_INSTALL=0 cargo +nightly --version >/dev/null 2>&1; then
+        case_is "what mustn't compile in Rust is refused for its reason" refusals_have_their_codes
+        case_is 'values of a Rust map under AddressSanitizer' sanitized "$here/citrus_map"
+        case_is 'AddressSanitizer reports a wait left out' sanitizer_reports_a_wait_left_out
+    else
+        echo 'left out: Rust under AddressSanitizer, since cargo has no nightly toolchain'
+    fi
+}
+
 # What it says of proofs that are made first is told at once.
 "$here/install.sh" "$prefix" "$@"
 case_is 'the library is built and installed' [ -e "$prefix/lib/pkgconfig/citrus.pc" ]
@@ -140,11 +226,18 @@ case_is 'the headers stand alone' headers_stand_alone
 case_is "the page's program in C" first_program c/first.c '5 has 50' gcc -Wall -Wextra -Werror
 case_is 'README shows the program in C' shows README.md c/first.c
 case_is "the page's program in C++" first_program cpp/first.cpp '5 has 50' g++ -std=c++17 -Wall -Wextra -Werror -pthread
+case_is 'the cache in C' example '5: five' gcc -Wall -Wextra -Werror "$here/c/cache.c"
+case_is 'the cache in C++' example '5: five' g++ -std=c++17 -Wall -Wextra -Werror -pthread "$here/cpp/cache.cpp"
 if hash pkg-config 2>/dev/null; then case_is "the page's program by pkg-config" with_pkg_config; else echo 'left out: pkg-config'; fi
 case_is 'the tests compile' compile_all
 [ -x "$room/order_cpp" ] || end
-for program in answers misuse memory moments own_keys reopened answers_cpp; do cases_of "$room/$program"; done
+for program in answers misuse memory moments own_keys reopened tidy answers_cpp; do cases_of "$room/$program"; done
+for program in holds begun objects prcu debug map_cpp; do cases_of "$room/$program"; done
+if has_sanitizer; then values_under_a_sanitizer; else echo 'left out: AddressSanitizer'; fi
 if [ -x "$checker" ]; then orders; else echo "left out: one order of all calls, since $checker isn't built"; fi
 for crate in citrus_map server; do [ ! -e "$here/$crate/Cargo.toml" ] || rust_tests "$crate"; done
-[ ! -e "$here/citrus_map/Cargo.toml" ] || case_is "the page's program in Rust" rust_program
+if [ -e "$here/citrus_map/Cargo.toml" ]; then
+    case_is "the page's program in Rust" rust_program
+    rust_maps
+fi
 end

@@ -18,9 +18,11 @@
  *   - one call at a time with one handle. It may go from thread to thread, by a lock, or by a thread's start or join;
  *   - the pointers of one call aren't null and don't overlap, and each leads to memory of its type that lives as long as the call;
  *   - no call from a signal handler, nor from the child of a fork of a program with threads;
- *   - malloc, realloc and free are of one allocator.
+ *   - malloc, realloc and free are of one allocator;
+ *   - a thread that is in a section (citrus_hold, citrus_enter) makes no update, tidy or wait by another handle of the index. CITRUS_DEBUG,
+ *     defined before this header is included, tests it: see citrus_debug.h.
  *
- * What is written: *value, *old, *key and *next only where the status says so; *count of citrus_list always. */
+ * What is written: *value, *old, *key, *next and *cookie only where the status says so; *count of citrus_list and *made always. */
 #ifndef CITRUS_H
 #define CITRUS_H
 
@@ -43,7 +45,7 @@ static inline citrus_handle citrus_closed_handle(void) {
     return closed;
 }
 
-#define CITRUS_MAX_PAIRS 2092868u
+#define CITRUS_MAX_PAIRS 2092800u
 #define CITRUS_MAX_HANDLES 64u
 #define CITRUS_MAX_ROOM 1048576u
 /* 2^57: what the first handle of an index has. At a million updates a second, 16 tickets each, they last 280 years. */
@@ -55,27 +57,29 @@ static inline citrus_handle citrus_closed_handle(void) {
 enum { CITRUS_EER = 0, CITRUS_DOMAIN = 1, CITRUS_DEER = 2 };
 
 /* What a call answers. Those below 0 say that the call did nothing, but for CITRUS_LOST, and for the tickets that an upsert's rounds used
- * before it was CITRUS_SPENT. Of several causes the first is told: CLOSED, LOST, BAD_ARGUMENT, SPENT, NO_MEMORY. */
+ * before it was CITRUS_SPENT. Of several causes the first is told: CLOSED, LOST, HOLDS, BAD_ARGUMENT, SPENT, NO_MEMORY. */
 enum {
     CITRUS_DONE = 0,
     CITRUS_UNCHANGED = 1,     /* insert: the key is there already; get, replace, remove: it is absent; first: there is no such pair;
-                                 reopen: no closed handle left a place */
+                                 reopen: no closed handle left a place; release: the handle is in no section; poll: a reader is left */
     CITRUS_FULL = 2,          /* the key is absent, and there is no free slot for it: as many pairs as were asked for are there, or more */
-    CITRUS_MORE = 3,          /* list: there are more pairs than room */
-    CITRUS_MOVED = 4,         /* others updated the index in each of 1,000 tries; nothing was changed. A later call may get through */
+    CITRUS_MORE = 3,          /* list: there are more pairs than room; tidy: the range isn't done */
+    CITRUS_MOVED = 4,         /* others updated the index in each of 1,000 tries; nothing was changed. A later call may get through;
+                                 poll: the wait is no longer the handle's latest, or its end was told */
     CITRUS_NEW = 5,           /* upsert: the pair was added */
     CITRUS_CLOSED = -1,       /* the handle is closed */
     CITRUS_BAD_ARGUMENT = -2, /* a number is out of its range; reopen: the other handle is open */
-    CITRUS_NO_MEMORY = -3,    /* malloc gave none; open, share, reopen, list and first alone take memory */
-    CITRUS_SPENT = -4,        /* the handle has fewer than 4 tickets: lists and shares are left to it */
-    CITRUS_LOST = -5          /* a call with this handle gave up after 2^64 - 1 rounds of waiting: the handle can only be closed */
+    CITRUS_NO_MEMORY = -3,    /* malloc gave none; open, share, reopen, list, first and tidy alone take memory */
+    CITRUS_SPENT = -4,        /* the handle has fewer than 4 tickets (get, updates, tidy), or none (wait, begin): lists, holds and shares are left */
+    CITRUS_LOST = -5,         /* a call with this handle gave up after 2^64 - 1 rounds of waiting: the handle can only be closed */
+    CITRUS_HOLDS = -6         /* the handle is in a section: release, left and close alone are left to it */
 };
 
 typedef struct { uint64_t key, value; } citrus_pair;
 
 /* Opens a new, empty index. At DONE, what the handle was open on before is closed.
- *   pairs    1 to CITRUS_MAX_PAIRS: so many always fit. Up to 68 more fit for each handle beside the first: as many slots are there for it,
- *            which a thread may have taken out of the index and not yet given back
+ *   pairs    1 to CITRUS_MAX_PAIRS: so many always fit. Up to 68 more fit for each handle: as many slots are there for it, which its thread
+ *            may have taken out of the index and not yet given back
  *   handles  1 to CITRUS_MAX_HANDLES: how many there can be at once. Each has a place, and a closed one leaves it to a reopen
  *   waiter   CITRUS_EER, CITRUS_DOMAIN or CITRUS_DEER
  * It takes all memory of the index, and twice as much until it comes back; only a list, a first, a share or a reopen takes more later. Its
@@ -106,21 +110,20 @@ void citrus_close(citrus_handle *handle);
  * LOST, where `handle` is. `handle` is as it was, and at all but DONE `other` too. */
 int32_t citrus_reopen(citrus_handle *handle, citrus_handle *other);
 
-/* Tells the key's value.
+/* Tells the key's value. Where values are pointers, take citrus_hold.
  * It takes no lock and waits for nobody: a few stores, and a load or two for each level of the tree. It needs 4 tickets and uses none.
  * DONE, and *value; UNCHANGED where the key is absent; CLOSED; SPENT; LOST. */
 int32_t citrus_get(citrus_handle *handle, uint64_t key, uint64_t *value);
 
 /* The updates. Each searches as a get does, locks the few nodes that it changes, and begins again where another thread changed them first.
  * Where another thread holds one of these locks it spins, since the library can't yield the processor: take no more threads that update
- * than there are processors. It waits for readers only as said below. It needs 4 tickets and uses 4 at most, an insert that turns nodes up
- * to 12 more; and so does each replace and insert of an upsert. */
+ * than there are processors. It waits for readers, who are inside a call or a section, only as said below. It needs 4 tickets and uses 4
+ * at most, an insert that turns nodes up to 12 more; and so does each replace and insert of an upsert. */
 
-/* Adds the pair, where the key is absent. Where no slot is free it first waits for all readers inside a call, to give back slots of its
- * own.
+/* Adds the pair, where the key is absent. Where no slot is free it first waits for all readers, to give back slots of its own.
  * Where it went deep to add the pair, and has 12 tickets left, it then turns nodes on the way, in four attempts at most, so that the tree
  * stays shallow in whatever order keys come. A turn locks three nodes, and is given up where one of them is locked. It waits for all readers
- * inside a call only where the way is more than twice as deep as it is to be, and the handle keeps back 63 slots or more.
+ * only where the way is more than twice as deep as it is to be, and the handle keeps back 63 slots or more.
  * DONE, and after a loss at a turn too: then the next call is LOST; UNCHANGED where the key is there; FULL; CLOSED; SPENT; LOST. */
 int32_t citrus_insert(citrus_handle *handle, uint64_t key, uint64_t value);
 
@@ -133,9 +136,9 @@ int32_t citrus_replace(citrus_handle *handle, uint64_t key, uint64_t value, uint
  * in and took it out in each of 1,000 rounds; CLOSED; SPENT; LOST. */
 int32_t citrus_upsert(citrus_handle *handle, uint64_t key, uint64_t value, uint64_t *old);
 
-/* Takes the pair out, where the key is present. Where its node has two children it waits for the readers inside a call whose key lies above
- * this key and up to the next one; and where the handle keeps back 63 slots, a slot or two of each remove and two of each turn of an insert,
- * it first waits for all threads that are inside a call, a list too.
+/* Takes the pair out, where the key is present. Where its node has two children it waits for the readers whose key lies above this key and
+ * up to the next one; and where the handle keeps back 63 slots, a slot or two of each remove and two of each turn of an insert, it first
+ * waits for all readers, a list too.
  * DONE, and the value in *old; UNCHANGED where the key is absent; CLOSED; SPENT; LOST. */
 int32_t citrus_remove(citrus_handle *handle, uint64_t key, uint64_t *old);
 
@@ -150,7 +153,82 @@ int32_t citrus_list(citrus_handle *handle, uint64_t low, uint64_t high, citrus_p
  * DONE, and *key and *value; UNCHANGED where there is none; MOVED; CLOSED; NO_MEMORY; LOST. */
 int32_t citrus_first(citrus_handle *handle, uint64_t low, uint64_t *key, uint64_t *value);
 
+/* Makes the tree shallow on the ways to the keys from low to high, without a change of any pair: for an index that was filled and is only
+ * read from then on, since else inserts turn nodes where they went deep. It lists the first 256 of these keys and turns nodes on the way to
+ * each, in order, until so many turns (1 or more) were tried; those that others' locks or changes brought to nothing count too. So it goes
+ * down at most 256 ways and one for each turn. A whole index takes one call after another, each from *next of the one before, while the
+ * answer is MORE:
+ *
+ *     uint64_t low = 0;
+ *     uint32_t made = 0;
+ *     while (citrus_tidy(&mine, low, UINT64_MAX, 1000, &made, &low) == CITRUS_MORE) continue;
+ *
+ * A turn locks three nodes, and waits for nobody; but where the handle keeps back 63 slots, two for each turn, it first waits for all
+ * readers. It needs 4 tickets, and uses at most 3 for each turn that was tried and for each key.
+ * *made is how many turns were made: 0 but at DONE, MORE and FULL. *next is written at MORE and FULL alone.
+ * DONE, where no way to a key of the range needs a turn any more; MORE where it isn't through, and *next is the key to go on with: so many
+ * turns were tried, tickets are short, there are more keys, or no slot was free for a turn and the handle gave slots back that it kept, behind
+ * a wait for all readers; FULL where no slot is free and it keeps none, and *next; MOVED, as of a list; CLOSED; HOLDS; BAD_ARGUMENT where low
+ * is above high, or turns is 0; SPENT; NO_MEMORY; LOST. */
+int32_t citrus_tidy(citrus_handle *handle, uint64_t low, uint64_t high, uint32_t turns, uint32_t *made, uint64_t *next);
+
+/* Values that are pointers.
+ *
+ * What citrus_get tells may be out of date when it comes. Where values are pointers to objects of yours, look them up by citrus_hold: the
+ * object stays until citrus_release, since whoever takes it out waits before it frees it:
+ *
+ *     if (citrus_hold(&mine, key, &value) == CITRUS_DONE) {
+ *         read((struct object *)(uintptr_t)value);
+ *         citrus_release(&mine);
+ *     }
+ *
+ *     if (citrus_remove(&mine, key, &value) == CITRUS_DONE && citrus_wait(&mine, key, key) == CITRUS_DONE)
+ *         free((struct object *)(uintptr_t)value);
+ *
+ * So it is with the old value of a replace or an upsert. Who would rather not wait there begins a wait and asks later: citrus_begin,
+ * citrus_poll. What a caller owes for this, which nothing tests:
+ *   - an object that was taken out is freed by whoever was told it, once, and not before a wait for its key is over that was begun after
+ *     the call which told it. It isn't put in again;
+ *   - an object stands under one key, or each of its keys is waited for;
+ *   - what a hold told is followed up to the release alone, and what a get, a list or a first told isn't followed at all. */
+
+/* Finds the key's value, and stays in a section with the key: each wait for the key waits for it. A handle is in one section at a time, so a
+ * program that needs two values at once takes two handles. Hold for as short as you would hold a lock: waits for the key wait for you, and
+ * some removes and inserts do so with the locks of a few nodes; no lookup and no list does. So a thread that holds makes no update and no
+ * wait by another handle of the index: what it waits for may be itself, or wait for it.
+ * It costs what a get costs, takes no memory, needs no ticket, and waits for nobody.
+ * DONE, and *value; UNCHANGED where the key is absent, and then the handle is in no section; CLOSED; HOLDS; LOST. */
+int32_t citrus_hold(citrus_handle *handle, uint64_t key, uint64_t *value);
+
+/* Enters a section with the key without a search, for something else than the index: see prcu.h. A few steps, and no ticket.
+ * DONE; CLOSED; HOLDS; LOST. */
+int32_t citrus_enter(citrus_handle *handle, uint64_t key);
+
+/* Leaves the section. It costs a step. Whatever closes the handle does the same.
+ * DONE; UNCHANGED where the handle is in none; CLOSED; LOST. */
+int32_t citrus_release(citrus_handle *handle);
+
+/* Waits until each section with a key from low to high, both among them, that any handle entered before has been left. To free many
+ * objects after one wait take a range with all their keys, or 0 to UINT64_MAX: it waits for more readers then.
+ * It spins, and ends only when they have all left. It uses a ticket.
+ * DONE; CLOSED; HOLDS; BAD_ARGUMENT where low is above high; SPENT; LOST. */
+int32_t citrus_wait(citrus_handle *handle, uint64_t low, uint64_t high);
+
+/* Begins such a wait, and tells a cookie by which to ask for its end. A handle has one wait under way: a later begin or wait takes its place,
+ * and so does a remove or an insert that waits. So who begins many gives them a handle of their own. It uses a ticket.
+ * DONE, and *cookie; CLOSED; HOLDS; BAD_ARGUMENT where low is above high; SPENT; LOST. */
+int32_t citrus_begin(citrus_handle *handle, uint64_t low, uint64_t high, uint64_t *cookie);
+
+/* Asks whether the wait is over. It looks for the readers that are left, from where the last poll stopped, and waits for nobody.
+ * DONE where it is over, which is told once; UNCHANGED where a reader is left; MOVED where its end was told, or another wait of the handle
+ * took its place: then begin again; CLOSED; HOLDS; LOST. */
+int32_t citrus_poll(citrus_handle *handle, uint64_t cookie);
+
 #ifdef __cplusplus
 }
+#endif
+
+#ifdef CITRUS_DEBUG
+#include "citrus_debug.h"
 #endif
 #endif

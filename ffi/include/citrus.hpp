@@ -6,6 +6,8 @@
 //     citrus::handle other = mine.share();        // for the second thread
 //     mine.insert(5, 50);
 //     std::optional<uint64_t> value = mine.get(5);
+//
+// Where values are objects of yours take citrus_map.hpp, or see `hold`.
 #ifndef CITRUS_HPP
 #define CITRUS_HPP
 
@@ -27,7 +29,8 @@ enum class fault : int32_t {
     bad_argument = CITRUS_BAD_ARGUMENT,
     no_memory = CITRUS_NO_MEMORY,
     spent = CITRUS_SPENT,
-    lost = CITRUS_LOST
+    lost = CITRUS_LOST,
+    holds = CITRUS_HOLDS
 };
 
 inline const char *text_of(fault why) noexcept {
@@ -37,7 +40,8 @@ inline const char *text_of(fault why) noexcept {
     case fault::closed: return "citrus: the handle is closed";
     case fault::bad_argument: return "citrus: an argument is out of its range";
     case fault::no_memory: return "citrus: there is no memory";
-    case fault::spent: return "citrus: the handle has fewer than 4 tickets";
+    case fault::spent: return "citrus: the handle has too few tickets";
+    case fault::holds: return "citrus: the handle is in a section";
     default: return "citrus: the handle is lost, since a call gave up waiting";
     }
 }
@@ -58,11 +62,59 @@ struct page {
     std::optional<uint64_t> next;
 };
 
+// What a tidy came to: the turns that it made, and the key to go on with where it isn't through.
+struct tidied {
+    uint32_t made;
+    std::optional<uint64_t> next;
+};
+
 // What a handle can give away.
 struct supply {
     uint32_t handles;
     uint64_t tickets;
 };
+
+// A section of a handle, with the value that was found in it. It is left when this ends, if not before. The handle stays where it is
+// meanwhile, and isn't closed.
+class section {
+public:
+    section() noexcept = default;
+
+    section(section &&other) noexcept : handle_(std::exchange(other.handle_, nullptr)), value_(other.value_) {}
+
+    section &operator=(section &&other) noexcept {
+        if (this != &other) {
+            leave();
+            handle_ = std::exchange(other.handle_, nullptr);
+            value_ = other.value_;
+        }
+        return *this;
+    }
+
+    section(const section &) = delete;
+    section &operator=(const section &) = delete;
+
+    ~section() { leave(); }
+
+    // Whether the handle is in it still. Not from the start, where a hold found no value.
+    explicit operator bool() const noexcept { return handle_ != nullptr; }
+
+    uint64_t value() const noexcept { return value_; }
+
+    void leave() noexcept {
+        if (handle_) citrus_release(std::exchange(handle_, nullptr));
+    }
+
+private:
+    friend class handle;
+    section(citrus_handle *handle, uint64_t value) noexcept : handle_(handle), value_(value) {}
+
+    citrus_handle *handle_ = nullptr;
+    uint64_t value_ = 0;
+};
+
+// What became of a wait that was begun: each of its readers has left, some are left, or another wait of the handle took its place.
+enum class progress { over, not_yet, displaced };
 
 // A handle of an index, for one thread at a time. The index lives as long as one of its handles. Each call writes the handle, so each has
 // lines of memory of its own: threads whose handles share one would be half as fast.
@@ -123,7 +175,7 @@ public:
         return has;
     }
 
-    // The calls below throw closed, spent or lost; `list` and `first` no_memory in place of spent.
+    // The calls below throw closed, holds, spent or lost; `list` and `first` no_memory in place of spent.
 
     // The key's value, where it is present.
     std::optional<uint64_t> get(uint64_t key) {
@@ -174,6 +226,48 @@ public:
         citrus_pair found{};
         if (!is_done(citrus_first(&at_, low, &found.key, &found.value))) return std::nullopt;
         return found;
+    }
+
+    // Makes the tree shallow on the ways to the first keys from low to high, by so many turns at most, and changes no pair. Throws
+    // bad_argument (low above high; no turns), full, moved or no_memory.
+    tidied tidy(uint64_t low, uint64_t high, uint32_t turns = 1000) {
+        tidied came{};
+        uint64_t next = 0;
+        const int32_t status = citrus_tidy(&at_, low, high, turns, &came.made, &next);
+        if (status == CITRUS_MORE) came.next = next;
+        else refuse_unless_done(status);
+        return came;
+    }
+
+    // The key's value in a section, in which what it leads to stays; an empty section where the key is absent. Beside a section of a thread's
+    // handle that thread makes no update and no wait by another handle of the index. Never throws spent.
+    [[nodiscard]] section hold(uint64_t key) {
+        uint64_t value = 0;
+        if (!is_done(citrus_hold(&at_, key, &value))) return {};
+        return {&at_, value};
+    }
+
+    // A section with the key, without a search. Never throws spent.
+    [[nodiscard]] section enter(uint64_t key) {
+        refuse_unless_done(citrus_enter(&at_, key));
+        return {&at_, 0};
+    }
+
+    // Waits for each section with a key from low to high that was entered before. Throws bad_argument where low is above high.
+    void wait(uint64_t low, uint64_t high) { refuse_unless_done(citrus_wait(&at_, low, high)); }
+
+    // Begins such a wait: the cookie to ask by. Throws bad_argument.
+    uint64_t begin(uint64_t low, uint64_t high) {
+        uint64_t cookie = 0;
+        refuse_unless_done(citrus_begin(&at_, low, high, &cookie));
+        return cookie;
+    }
+
+    // What became of it; `over` is told once. Never throws spent.
+    progress poll(uint64_t cookie) {
+        const int32_t status = citrus_poll(&at_, cookie);
+        if (status == CITRUS_MOVED) return progress::displaced;
+        return is_done(status) ? progress::over : progress::not_yet;
     }
 
 private:

@@ -40,6 +40,24 @@ static void answers(uint32_t waiter) {
     WANT(index.get(2).value_or(0), 20);
 }
 
+static void tidies(uint32_t waiter) {
+    citrus::handle index(1010, 1, static_cast<citrus::waiter>(waiter));
+    for (uint64_t key = 0; key < 1000; key++) index.insert(key, 10 * key);
+    std::optional<uint64_t> next = 0;
+    uint32_t made = 0;
+    while (next) {
+        const citrus::tidied came = index.tidy(*next, UINT64_MAX);
+        made += came.made;
+        next = came.next;
+    }
+    WANT(made > 0, true);
+    WANT(index.tidy(0, 255).made, 0);
+    WANT(index.tidy(0, 255).next.has_value(), false);
+    WANT(index.list(0, 999).pairs.size(), 1000);
+    WANT(is_refused(citrus::fault::bad_argument, [&] { index.tidy(1, 0); }), true);
+    WANT(is_refused(citrus::fault::bad_argument, [&] { index.tidy(0, 1, 0); }), true);
+}
+
 static void pages(uint32_t waiter) {
     citrus::handle index(10, 1, static_cast<citrus::waiter>(waiter));
     for (uint64_t key = 1; key <= 5; key++) index.insert(key, 10 * key);
@@ -56,14 +74,48 @@ static void pages(uint32_t waiter) {
     WANT(is_refused(citrus::fault::bad_argument, [&] { index.list(1, 2, CITRUS_MAX_ROOM + size_t{1}); }), true);
 }
 
+static void sections(uint32_t waiter) {
+    citrus::handle index(10, 2, static_cast<citrus::waiter>(waiter)), other = index.share();
+    index.insert(1, 10);
+    WANT(bool(index.hold(2)), false);
+    {
+        citrus::section held = index.hold(1);
+        WANT(bool(held), true);
+        WANT(held.value(), 10);
+        WANT(is_refused(citrus::fault::holds, [&] { index.get(1); }), true);
+        WANT(is_refused(citrus::fault::holds, [&] { static_cast<void>(index.hold(1)); }), true);
+        WANT(is_refused(citrus::fault::holds, [&] { index.wait(0, 9); }), true);
+        citrus::section moved = std::move(held);
+        WANT(bool(held), false);
+        WANT(moved.value(), 10);
+        WANT(is_refused(citrus::fault::holds, [&] { index.get(1); }), true);
+        const uint64_t cookie = other.begin(1, 1);
+        WANT(other.poll(cookie) == citrus::progress::not_yet, true);
+        moved.leave();
+        WANT(bool(moved), false);
+        WANT(index.get(1).value_or(0), 10);
+        citrus::progress told = citrus::progress::not_yet;
+        while (told == citrus::progress::not_yet) told = other.poll(cookie);
+        WANT(told == citrus::progress::over, true);
+        WANT(other.poll(cookie) == citrus::progress::displaced, true);
+        moved = index.enter(5);
+        WANT(is_refused(citrus::fault::holds, [&] { index.begin(0, 9); }), true);
+    }
+    index.wait(0, UINT64_MAX);
+    WANT(is_refused(citrus::fault::bad_argument, [&] { index.wait(2, 1); }), true);
+    WANT(is_refused(citrus::fault::bad_argument, [&] { index.begin(2, 1); }), true);
+    WANT(is_refused(citrus::fault::closed, [] { citrus::handle().wait(0, 1); }), true);
+    WANT(is_refused(citrus::fault::closed, [] { citrus::handle().poll(0); }), true);
+}
+
 static void refusals() {
     WANT(is_refused(citrus::fault::bad_argument, [] { citrus::handle(0, 1); }), true);
     WANT(is_refused(citrus::fault::bad_argument, [] { citrus::handle(1, 65); }), true);
     WANT(is_refused(citrus::fault::bad_argument, [] { citrus::handle(1, 1, citrus::waiter{3}); }), true);
     citrus::handle full(1, 1), index(1, 2);
-    full.insert(1, 10);
-    WANT(is_refused(citrus::fault::full, [&] { full.insert(2, 20); }), true);
-    WANT(is_refused(citrus::fault::full, [&] { full.upsert(2, 20); }), true);
+    for (uint64_t key = 0; key < 1 + 68; key++) full.insert(key, 10);
+    WANT(is_refused(citrus::fault::full, [&] { full.insert(100, 20); }), true);
+    WANT(is_refused(citrus::fault::full, [&] { full.upsert(100, 20); }), true);
     citrus::handle poor = index.share(1, 3);
     WANT(is_refused(citrus::fault::spent, [&] { poor.get(1); }), true);
     WANT(is_refused(citrus::fault::bad_argument, [&] { index.share(); }), true);
@@ -159,7 +211,12 @@ static void keys_in_order_make_no_path() {
     WANT(load_seconds(1) < 20 * scattered + 0.5, true);
 }
 
-static const waiter_case waiter_cases[] = {{"C++: answers", answers}, {"C++: pages", pages}};
+static const waiter_case waiter_cases[] = {
+    {"C++: answers", answers},
+    {"C++: pages", pages},
+    {"C++: tidies", tidies},
+    {"C++: sections", sections},
+};
 
 static const plain_case plain_cases[] = {
     {"C++: refusals", refusals},

@@ -24,6 +24,27 @@ static inline void member_wants(struct member *member, const char *what, uint64_
                (int64_t)wanted);
 }
 
+/* Whether nodes are turned behind each put, however deep it went. */
+static int tidies_behind_puts;
+
+/* Turns nodes on the way to a key that was just put in, in four attempts at most. Others' updates may come in each try of its list, other
+ * turns before its own, and the index may be full. */
+static inline void tidy_behind(struct member *member, uint64_t key) {
+    uint32_t made = 0;
+    uint64_t next = key;
+    const int32_t status = citrus_tidy(&member->handle, key, key, 4, &made, &next);
+    const int is_fine = status == CITRUS_MORE || status == CITRUS_FULL || status == CITRUS_MOVED;
+    member_wants(member, "a tidy of", key, is_fine ? CITRUS_DONE : status, CITRUS_DONE);
+    member_wants(member, "the next key of a tidy of", key, next, key);
+    member_wants(member, "whether a tidy made more turns than it may, of", key, made > 4, 0);
+}
+
+/* The status of an insert or an upsert, behind which the way to the key is tidied where it says that the pair was added. */
+static inline int32_t tidied(struct member *member, uint64_t key, int32_t status, int32_t added) {
+    if (tidies_behind_puts && status == added) tidy_behind(member, key);
+    return status;
+}
+
 /* Runs the work in so many threads on a new index, each with a handle from which one handle less than `each` can be shared. They are to
  * share all of these. */
 static inline void run_crew(uint32_t threads, uint32_t each, uint32_t pairs, uint32_t waiter, void *(*work)(void *), void *shared) {

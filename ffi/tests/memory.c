@@ -69,6 +69,15 @@ static int32_t first_of_it(void) {
     return status;
 }
 
+static int32_t tidy_it(void) {
+    uint32_t made = 9;
+    uint64_t next = UNTOUCHED;
+    const int32_t status = citrus_tidy(&index_here, 0, 9, 10, &made, &next);
+    WANT(made <= (status == CITRUS_DONE), 1);
+    WANT(next, UNTOUCHED);
+    return status;
+}
+
 static void each_allocation_fails(uint32_t waiter) {
     const int64_t before = held;
     uint64_t told = 0;
@@ -82,6 +91,7 @@ static void each_allocation_fails(uint32_t waiter) {
     until_failure = INT64_MAX;
     fail_each(list_it, 1);
     fail_each(first_of_it, 0);
+    fail_each(tidy_it, 1);
     fail_each(share_it, 1);
     WANT(citrus_left(&index_here, &handles, &told), CITRUS_DONE);
     WANT(handles, 2);
@@ -97,8 +107,8 @@ static void each_allocation_fails(uint32_t waiter) {
     WANT(held, before);
 }
 
-static void updates_take_no_memory(uint32_t waiter) {
-    uint64_t told = 0;
+static void updates_and_sections_take_no_memory(uint32_t waiter) {
+    uint64_t told = 0, cookie = 0;
     WANT(citrus_open(&index_here, 100, 1, waiter), CITRUS_DONE);
     until_failure = 0;
     for (uint64_t i = 0; i < 1000; i++) {
@@ -107,6 +117,11 @@ static void updates_take_no_memory(uint32_t waiter) {
         WANT(citrus_remove(&index_here, i % 90, &told), CITRUS_DONE);
         WANT(citrus_upsert(&index_here, i % 90, i, &told), CITRUS_NEW);
         WANT(citrus_get(&index_here, i % 90, &told), CITRUS_DONE);
+        WANT(citrus_hold(&index_here, i % 90, &told), CITRUS_DONE);
+        WANT(citrus_release(&index_here), CITRUS_DONE);
+        WANT(citrus_wait(&index_here, 0, UINT64_MAX), CITRUS_DONE);
+        WANT(citrus_begin(&index_here, 0, i, &cookie), CITRUS_DONE);
+        while (citrus_poll(&index_here, cookie) == CITRUS_UNCHANGED) {}
         if (i >= 5) WANT(citrus_remove(&index_here, (i - 5) % 90, &told), CITRUS_DONE);
     }
     WANT(until_failure, 0);
@@ -177,7 +192,7 @@ static void handles_are_closed_beside_updates(uint32_t waiter) {
 
 static const struct waiter_case waiter_cases[] = {
     {"each allocation fails in turn", each_allocation_fails},
-    {"updates take no memory", updates_take_no_memory},
+    {"updates and sections take no memory", updates_and_sections_take_no_memory},
     {"handles are closed beside updates", handles_are_closed_beside_updates},
 };
 

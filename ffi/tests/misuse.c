@@ -5,7 +5,7 @@
 static void a_closed_handle_at_each_call(void) {
     citrus_handle closed = CITRUS_CLOSED_HANDLE, other = CITRUS_CLOSED_HANDLE;
     uint64_t told = UNTOUCHED, key = UNTOUCHED;
-    uint32_t handles = 77;
+    uint32_t handles = 77, made = 9;
     size_t count = 9;
     citrus_pair pair = {UNTOUCHED, UNTOUCHED};
     WANT(citrus_share(&closed, 1, 4, &other), CITRUS_CLOSED);
@@ -18,11 +18,20 @@ static void a_closed_handle_at_each_call(void) {
     WANT(citrus_remove(&closed, 1, &told), CITRUS_CLOSED);
     WANT(citrus_list(&closed, 0, 9, &pair, 1, &count, &key), CITRUS_CLOSED);
     WANT(citrus_first(&closed, 0, &key, &told), CITRUS_CLOSED);
+    WANT(citrus_tidy(&closed, 0, 9, 1, &made, &key), CITRUS_CLOSED);
+    WANT(citrus_hold(&closed, 1, &told), CITRUS_CLOSED);
+    WANT(citrus_enter(&closed, 1), CITRUS_CLOSED);
+    WANT(citrus_release(&closed), CITRUS_CLOSED);
+    WANT(citrus_wait(&closed, 0, 9), CITRUS_CLOSED);
+    WANT(citrus_wait(&closed, 9, 0), CITRUS_CLOSED);
+    WANT(citrus_begin(&closed, 0, 9, &told), CITRUS_CLOSED);
+    WANT(citrus_poll(&closed, 0), CITRUS_CLOSED);
     WANT(told, UNTOUCHED);
     WANT(key, UNTOUCHED);
     WANT(pair.key, UNTOUCHED);
     WANT(handles, 77);
     WANT(count, 0);
+    WANT(made, 0);
     WANT(closed.at == NULL && other.at == NULL, 1);
 }
 

@@ -41,7 +41,7 @@ static void write_or_look(struct member *me, uint64_t first_keys, void (*write)(
     struct stage *stage = me->shared;
     if (me->number == 0) {
         for (uint64_t key = 0; key < first_keys; key++)
-            member_wants(me, "an insert of", key, citrus_insert(&me->handle, key, 0), CITRUS_DONE);
+            member_wants(me, "an insert of", key, tidied(me, key, citrus_insert(&me->handle, key, 0), CITRUS_DONE), CITRUS_DONE);
         pthread_barrier_wait(&stage->begin);
         write(me);
         stage->is_over = 1;
@@ -71,7 +71,8 @@ static void a_list_is_of_one_moment(uint32_t waiter) { run_stage(waiter, raise_o
 static void walk(struct member *me) {
     uint64_t old = 0;
     for (uint64_t step = 1; step <= STEPS; step++) {
-        member_wants(me, "an insert of", step, citrus_insert(&me->handle, step % KEYS, step), CITRUS_DONE);
+        const int32_t put = citrus_insert(&me->handle, step % KEYS, step);
+        member_wants(me, "an insert of", step, tidied(me, step % KEYS, put, CITRUS_DONE), CITRUS_DONE);
         member_wants(me, "a remove of", step - 1, citrus_remove(&me->handle, (step - 1) % KEYS, &old), CITRUS_DONE);
         member_wants(me, "the value at the remove of", step - 1, old, step - 1);
     }
@@ -142,9 +143,17 @@ static void *update_or_be_overtaken(void *member) {
 
 static void lists_and_firsts_are_overtaken(uint32_t waiter) { run_stage(waiter, update_or_be_overtaken); }
 
+/* With a tidy behind each put, lists and firsts stand beside turns of the nodes that they read. */
+static void there_is_a_first_beside_turns(uint32_t waiter) {
+    tidies_behind_puts = 1;
+    there_is_a_first_at_each_moment(waiter);
+    tidies_behind_puts = 0;
+}
+
 static const struct waiter_case cases[] = {
     {"a list is of one moment", a_list_is_of_one_moment},
     {"there is a first at each moment", there_is_a_first_at_each_moment},
+    {"there is a first at each moment, with a tidy behind each put", there_is_a_first_beside_turns},
     {"lists and firsts are overtaken", lists_and_firsts_are_overtaken},
 };
 

@@ -1,6 +1,7 @@
 // Threads that all update the same keys, and one order of all their calls that explains each reply. The order is written as an account,
 // behind the scripts that the threads made, as the tool's `check` reads it: so whether it explains the replies is for `check` to say.
-// Usage: order WAITER THREADS OPERATIONS KEYS SEED, and WAITER is 0, 1 or 2. Status 1 where no order was found.
+// Usage: order WAITER THREADS OPERATIONS KEYS SEED [tidy], and WAITER is 0, 1 or 2. With `tidy` nodes on the way to its key are turned behind
+// each put. Status 1 where no order was found.
 //
 // A call takes effect at a moment between its begin and its end (Herlihy and Wing, "Linearizability", 1990), and each key has such an order
 // for itself. One is looked for event by event, with all that may have taken effect so far (Lowe, "Testing for linearizability", 2017).
@@ -48,6 +49,7 @@ struct Call {
 struct Settings {
     uint32_t waiter, threads;
     uint64_t operations, keys, seed;
+    bool tidies;
 };
 
 static std::atomic<uint64_t> stamps{0};
@@ -59,17 +61,24 @@ static uint64_t draw(uint64_t &state) {
     return state;
 }
 
+// What a hold tells is judged as what a get tells: its reply is known before the section is left.
 static Call call_of(citrus::handle &index, uint64_t which, uint64_t key, uint64_t value) {
     Call call{};
+    citrus::section held;
     call.key = key;
     call.value = value;
     call.begin = ++stamps;
     switch (which) {
     case 0:
-    case 1:
         call.kind = Kind::Get;
         call.found = index.get(key);
         call.is_found = call.found.has_value();
+        break;
+    case 1:
+        call.kind = Kind::Get;
+        held = index.hold(key);
+        call.is_found = bool(held);
+        if (held) call.found = held.value();
         break;
     case 2:
         call.kind = Kind::Put;
@@ -94,6 +103,16 @@ static Call call_of(citrus::handle &index, uint64_t which, uint64_t key, uint64_
     return call;
 }
 
+// Turns nodes on the way to the key, in four attempts at most. That others' updates come in each try of its list, or that no slot is free, is
+// no fault.
+static void tidy(citrus::handle &index, uint64_t key) {
+    try {
+        index.tidy(key, key, 4);
+    } catch (const citrus::error &refusal) {
+        if (refusal.why() != citrus::fault::moved && refusal.why() != citrus::fault::full) throw;
+    }
+}
+
 // The calls of one thread. No value is given twice.
 static std::vector<Call> script_of(citrus::handle &index, uint32_t number, const Settings &settings) {
     std::vector<Call> calls;
@@ -103,6 +122,7 @@ static std::vector<Call> script_of(citrus::handle &index, uint32_t number, const
         const uint64_t which = draw(state) % 6, key = draw(state) % settings.keys;
         calls.push_back(call_of(index, which, key, settings.threads * i + number));
         calls.back().script = number;
+        if (settings.tidies && calls.back().kind == Kind::Put && calls.back().is_update()) tidy(index, key);
     }
     return calls;
 }
@@ -312,12 +332,13 @@ static void print_account(const std::vector<std::vector<Call>> &scripts, const s
 }
 
 int main(int count, char **words) {
-    if (count != 6) {
-        fprintf(stderr, "usage: order WAITER THREADS OPERATIONS KEYS SEED\n");
+    const bool tidies = count == 7 && words[6] == std::string("tidy");
+    if (count != 6 && !tidies) {
+        fprintf(stderr, "usage: order WAITER THREADS OPERATIONS KEYS SEED [tidy]\n");
         return 2;
     }
     const auto number = [&](int at) { return strtoull(words[at], nullptr, 10); };
-    auto scripts = scripts_of(Settings{uint32_t(number(1)), uint32_t(number(2)), number(3), number(4), number(5)});
+    auto scripts = scripts_of(Settings{uint32_t(number(1)), uint32_t(number(2)), number(3), number(4), number(5), tidies});
     const auto history = history_of(scripts);
     if (!history) return 1;
     print_account(scripts, *history);

@@ -61,7 +61,8 @@ static void update(struct owner *owner, uint64_t at, uint64_t which) {
     uint64_t old = known;
     switch (which) {
     case 0:
-        member_wants(me, "an insert of", key, citrus_insert(&me->handle, key, value), known ? CITRUS_UNCHANGED : CITRUS_DONE);
+        member_wants(me, "an insert of", key, tidied(me, key, citrus_insert(&me->handle, key, value), CITRUS_DONE),
+                     known ? CITRUS_UNCHANGED : CITRUS_DONE);
         if (!known) owner->values[at] = value;
         break;
     case 1:
@@ -69,7 +70,8 @@ static void update(struct owner *owner, uint64_t at, uint64_t which) {
         if (known) owner->values[at] = value;
         break;
     case 2:
-        member_wants(me, "an upsert of", key, citrus_upsert(&me->handle, key, value, &old), known ? CITRUS_DONE : CITRUS_NEW);
+        member_wants(me, "an upsert of", key, tidied(me, key, citrus_upsert(&me->handle, key, value, &old), CITRUS_NEW),
+                     known ? CITRUS_DONE : CITRUS_NEW);
         owner->values[at] = value;
         break;
     default:
@@ -99,7 +101,8 @@ static void *work(void *member) {
 static void run_on(uint32_t threads, uint64_t keys, uint32_t waiter) {
     char of[100];
     run_crew(threads, 1, keys, waiter, work, &keys);
-    snprintf(of, sizeof of, "%" PRIu32 " threads, %" PRIu64 " keys, %s", threads, keys, waiter_names[waiter]);
+    snprintf(of, sizeof of, "%" PRIu32 " threads, %" PRIu64 " keys, %s%s", threads, keys, waiter_names[waiter],
+             tidies_behind_puts ? ", a tidy behind each put" : "");
     end_case("each thread is told what it knows of its own keys", of);
 }
 
@@ -111,5 +114,10 @@ int main(int count, char **words) {
             run_on(threads[i], 2000, waiter);
             run_on(threads[i], threads[i], waiter);
         }
+    tidies_behind_puts = 1;
+    for (uint32_t waiter = CITRUS_EER; waiter <= CITRUS_DEER; waiter++) {
+        run_on(4, 2000, waiter);
+        run_on(8, 16, waiter);
+    }
     return failed_cases != 0;
 }

@@ -13,6 +13,7 @@ static int is_late(time_t began) { return time(NULL) > began + PATIENCE_SECONDS;
 static void each_call_answers(citrus_handle *handle, int32_t status) {
     citrus_pair pair = {UNTOUCHED, UNTOUCHED};
     uint64_t told = UNTOUCHED, key = UNTOUCHED;
+    uint32_t made = 9;
     size_t count = 9;
     WANT(citrus_get(handle, FAR, &told), status);
     WANT(citrus_insert(handle, NEVER_THERE, 7), status);
@@ -21,11 +22,20 @@ static void each_call_answers(citrus_handle *handle, int32_t status) {
     WANT(citrus_upsert(handle, NEVER_THERE, 7, &told), status);
     WANT(citrus_remove(handle, FAR, &told), status);
     WANT(citrus_first(handle, 0, &key, &told), status);
+    WANT(citrus_hold(handle, FAR, &told), status);
+    WANT(citrus_enter(handle, FAR), status);
+    WANT(citrus_release(handle), status);
+    WANT(citrus_wait(handle, 0, UINT64_MAX), status);
+    WANT(citrus_wait(handle, 1, 0), status);
+    WANT(citrus_begin(handle, 0, UINT64_MAX, &told), status);
+    WANT(citrus_poll(handle, 0), status);
     WANT(citrus_list(handle, 0, KEYS, &pair, 1, &count, &key), status);
     WANT(count, 0);
     count = 9;
     WANT(citrus_list(handle, 1, 0, &pair, 0, &count, &key), status);
     WANT(count, 0);
+    WANT(citrus_tidy(handle, 1, 0, 0, &made, &key), status);
+    WANT(made, 0);
     WANT(told, UNTOUCHED);
     WANT(key, UNTOUCHED);
     WANT(pair.key, UNTOUCHED);
@@ -216,6 +226,27 @@ static void a_replace_is_lost(uint32_t waiter) { run_dispute(waiter, 1, replace_
 static void an_upsert_is_lost(uint32_t waiter) { run_dispute(waiter, 1, upsert_it); }
 static void an_insert_or_a_remove_is_lost(uint32_t waiter) { run_dispute(waiter, 0, insert_or_remove_it); }
 
+/* The section stays, so the wait gives up. Its handle is lost, and the one in the section goes on, as do waits for other keys. */
+static void a_wait_is_lost(uint32_t waiter) {
+    citrus_handle inside = CITRUS_CLOSED_HANDLE, waits = CITRUS_CLOSED_HANDLE, other = CITRUS_CLOSED_HANDLE;
+    uint64_t value = UNTOUCHED;
+    WANT(citrus_open(&inside, PAIRS, 3, waiter), CITRUS_DONE);
+    WANT(citrus_share(&inside, 1, 1000, &waits), CITRUS_DONE);
+    WANT(citrus_share(&inside, 1, 1000, &other), CITRUS_DONE);
+    WANT(citrus_insert(&inside, FAR, 10), CITRUS_DONE);
+    WANT(citrus_hold(&inside, FAR, &value), CITRUS_DONE);
+    WANT(citrus_wait(&waits, FAR, FAR), CITRUS_LOST);
+    each_call_answers(&waits, CITRUS_LOST);
+    WANT(citrus_wait(&other, FAR + 1, FAR + 1), CITRUS_DONE);
+    WANT(citrus_release(&inside), CITRUS_DONE);
+    WANT(citrus_wait(&other, FAR, FAR), CITRUS_DONE);
+    WANT(citrus_remove(&inside, FAR, &value), CITRUS_DONE);
+    WANT(value, 10);
+    citrus_close(&waits);
+    citrus_close(&other);
+    citrus_close(&inside);
+}
+
 /* One thread upserts a key that another one puts in and takes out, until an upsert is told MOVED or either is told LOST. */
 struct chase {
     pthread_barrier_t begin, end;
@@ -330,6 +361,7 @@ static const struct waiter_case cases[] = {
     {"a replace is lost, and its handle", a_replace_is_lost},
     {"an upsert is lost, and its handle", an_upsert_is_lost},
     {"an insert or a remove is lost, and its handle", an_insert_or_a_remove_is_lost},
+    {"a wait is lost, and its handle", a_wait_is_lost},
     {"an upsert is moved, and its handle goes on", an_upsert_is_moved},
 };
 

@@ -1,20 +1,42 @@
 use crate::handle::Handle;
 use crate::library::{citrus_open, citrus_share, status, RawHandle};
+use crate::sections::Sections;
 use crate::{Error, ALL_TICKETS, MAX_HANDLES, MAX_PAIRS};
 use std::fmt;
+use std::sync::atomic::{AtomicU64, Ordering::Relaxed};
 use std::sync::{Arc, Mutex, MutexGuard, PoisonError};
 
-/// The handles that nobody has.
-pub(crate) struct Pool(Mutex<Vec<RawHandle>>);
+/// A handle of the library, and its place among those of the index, from 0 on.
+pub(crate) struct Placed {
+    pub(crate) raw: RawHandle,
+    pub(crate) place: usize,
+}
+
+/// What all handles of an index share beside the library's index.
+pub(crate) struct Pool {
+    /// The handles that nobody has.
+    free: Mutex<Vec<Placed>>,
+    /// The threads that are in sections of the index.
+    pub(crate) sections: Sections,
+    /// No two indexes of the process have the same number.
+    pub(crate) number: u64,
+}
 
 impl Pool {
-    fn free(&self) -> MutexGuard<'_, Vec<RawHandle>> {
-        self.0.lock().unwrap_or_else(PoisonError::into_inner)
+    fn new(handles: Vec<RawHandle>) -> Pool {
+        static NEXT: AtomicU64 = AtomicU64::new(0);
+        let sections = Sections::new(handles.len());
+        let free = handles.into_iter().enumerate().map(|(place, raw)| Placed { raw, place }).collect();
+        Pool { free: Mutex::new(free), sections, number: NEXT.fetch_add(1, Relaxed) }
+    }
+
+    fn free(&self) -> MutexGuard<'_, Vec<Placed>> {
+        self.free.lock().unwrap_or_else(PoisonError::into_inner)
     }
 
     /// Takes a handle back. There is room for it, since it was here before.
-    pub(crate) fn put_back(&self, raw: RawHandle) {
-        self.free().push(raw);
+    pub(crate) fn put_back(&self, placed: Placed) {
+        self.free().push(placed);
     }
 }
 
@@ -69,6 +91,11 @@ impl Builder {
     /// # Errors
     /// [`Error::Pairs`] and [`Error::Handles`] where a number is out of range, [`Error::NoMemory`].
     pub fn build(self) -> Result<Index, Error> {
+        self.build_with(ALL_TICKETS)
+    }
+
+    /// The same with so many tickets in all, which its handles share.
+    pub(crate) fn build_with(self, tickets: u64) -> Result<Index, Error> {
         let Builder { pairs, handles, waiter } = self;
         if !(1..=MAX_PAIRS).contains(&pairs) {
             return Err(Error::Pairs);
@@ -83,11 +110,11 @@ impl Builder {
         for _ in 1..handles {
             let mut other = RawHandle::CLOSED;
             // SAFETY: both handles are our own, `first` open as the last call left it and `other` closed.
-            done(unsafe { citrus_share(&mut first, 1, ALL_TICKETS / u64::from(handles), &mut other) })?;
+            done(unsafe { citrus_share(&mut first, 1, tickets / u64::from(handles), &mut other) })?;
             all.push(other);
         }
         all.push(first);
-        Ok(Index { pairs, handles, pool: Arc::new(Pool(Mutex::new(all))) })
+        Ok(Index { pairs, handles, pool: Arc::new(Pool::new(all)) })
     }
 }
 
@@ -113,8 +140,8 @@ pub struct Index {
 impl Index {
     /// A new index for 1 to [`MAX_PAIRS`] pairs, and 1 to [`MAX_HANDLES`] handles that may be out at one time.
     ///
-    /// So many pairs always fit: no insert finds the index full while it has fewer. Up to 68 more fit for each handle beside the first, as
-    /// long as the handles don't keep back what removals freed.
+    /// So many pairs always fit: no insert finds the index full while it has fewer. Up to 68 more fit for each handle, as long as
+    /// the handles don't keep back what removals freed.
     ///
     /// # Errors
     /// [`Error::Pairs`] and [`Error::Handles`] where a number is out of range, [`Error::NoMemory`].
@@ -154,8 +181,13 @@ impl Index {
     /// # Ok::<(), Error>(())
     /// ```
     pub fn handle(&self) -> Result<Handle, Error> {
-        let raw = self.pool.free().pop().ok_or(Error::NoHandle)?;
-        Ok(Handle::new(raw, Arc::clone(&self.pool)))
+        let placed = self.pool.free().pop().ok_or(Error::NoHandle)?;
+        Ok(Handle::new(placed, Arc::clone(&self.pool)))
+    }
+
+    /// How many handles there are, out or not.
+    pub(crate) fn handles(&self) -> usize {
+        self.handles as usize
     }
 
     /// How many handles could be taken at this moment.

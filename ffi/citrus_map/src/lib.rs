@@ -1,4 +1,6 @@
-//! A concurrent ordered map from `u64` to `u64` for programs that read far more often than they write. Lookups and lists take no lock.
+//! Concurrent ordered maps from `u64` for programs that read far more often than they write. Lookups and lists take no lock.
+//!
+//! An [`Index`] has values that are a `u64` each:
 //!
 //! ```
 //! use citrus_map::Index;
@@ -21,23 +23,50 @@
 //! # Ok::<(), citrus_map::Error>(())
 //! ```
 //!
-//! An [`Index`] has a pool of up to 64 handles. Each thread takes a [`Handle`] and makes its calls with that; the handle goes back to the
-//! pool when it is dropped.
+//! A [`Map`] has values of any type that threads may share. A reader has a `&` to the value itself, and who takes a value out has it once
+//! nobody reads it any more:
+//!
+//! ```
+//! use citrus_map::Map;
+//!
+//! let map = Map::new(10_000, 4)?;
+//! let mut handle = map.handle()?;
+//! handle.insert(7, vec![1, 2, 3])?;
+//! assert_eq!(handle.get(7)?.unwrap().len(), 3);
+//! assert_eq!(handle.remove(7)?, Some(vec![1, 2, 3]));
+//! # Ok::<(), citrus_map::Error>(())
+//! ```
+//!
+//! Each has a pool of up to 64 handles. Each thread takes a [`Handle`] or a [`MapHandle`] and makes its calls with that; the handle goes back
+//! to the pool when it is dropped.
+//!
+//! # While a value is read
+//! A [`Guard`] of a map, and a [`Section`] or [`Held`] of an index, is for a moment, as the guard of a lock. Updates wait for the readers near
+//! their key, sometimes for all, and keep locks meanwhile. So:
+//! - the handle that has a guard makes no other call: that doesn't compile;
+//! - its thread makes no update and no wait by another handle of the same map: these answer [`Error::Holds`] and do nothing. Lookups, lists and
+//!   guards by another handle are free;
+//! - what the thread waits for meanwhile, as another lock, a channel or another map's update, mustn't in its turn wait for an update of this
+//!   map. As with any lock, nothing tests this.
+//!
+//! A guard that is forgotten, as by [`std::mem::forget`], is there until its handle makes a call or is dropped. A thread to which a handle was
+//! sent after that isn't known to have a guard: an update by another handle may wait there for good.
 //!
 //! # What is proved
 //! The work is done by the static library `citrus` (`citrus.h`), the CITRUS search tree of Arbel and Attiya ("Concurrent updates with RCU:
 //! search tree as an example", PODC 2014) with predicate RCU. Its functions are proved, each to answer as a map of one thread does at a
-//! moment of the call. Nothing checks this crate against those proofs. It is some hundred lines of Rust that keep what the header asks of a
-//! caller, and tests.
+//! moment of the call. So is the law on which a [`Map`] rests, `outlives_its_holders` of the crate `held_values`: once a wait for a key is over
+//! that its remover began, who found the removed value has left its section. Nothing checks this crate against those proofs. It is some
+//! hundred lines of Rust that keep what the header asks of a caller, and tests; each `unsafe` says which clause or law carries it.
 //!
 //! # What it costs
-//! - All memory is taken when the index is made, but for lists, which take theirs by the call.
+//! - All memory is taken when the index is made, but for lists, which take theirs by the call, and a map's values, each in a box of its own.
 //! - The tree stays shallow in whatever order keys come: an insertion that went deep turns nodes on its way. How deep it is isn't proved, and
 //!   who chooses keys by the library's rule can make it a path.
 //! - A removal waits for lookups under way near its key, and every sixtieth or so of a handle for all lookups and lists under way.
 //!
 //! # Limits
-//! An index for 2,092,868 pairs, 64 handles, and 2^53 updates divided by the number of handles. No call from a signal handler, or from the
+//! An index for 2,092,800 pairs, 64 handles, and 2^53 updates divided by the number of handles. No call from a signal handler, or from the
 //! child of a `fork` of a program with threads.
 //!
 //! The crate needs Rust 1.63 and the library, which `build.rs` finds by pkg-config (`citrus.pc`) or in the folder `CITRUS_LIB_DIR`.
@@ -46,16 +75,26 @@
 #![deny(unsafe_op_in_unsafe_fn)]
 
 mod error;
+mod guards;
 mod handle;
 mod index;
 mod library;
+mod map;
+mod node;
+mod sections;
+#[cfg(test)]
+mod spent;
+mod waits;
 
 pub use error::Error;
+pub use guards::{Held, Section};
 pub use handle::{Handle, Page};
 pub use index::{Builder, Index, Waiter};
+pub use map::{Guard, Map, MapHandle, Refused, MOST_RETIRED};
+pub use waits::{Cookie, GracePeriod, Tidied};
 
 /// The greatest number of pairs that an index can be made for.
-pub const MAX_PAIRS: u32 = 2_092_868;
+pub const MAX_PAIRS: u32 = 2_092_800;
 /// The greatest number of handles of an index.
 pub const MAX_HANDLES: u32 = 64;
 /// The greatest number of pairs that one list tells.

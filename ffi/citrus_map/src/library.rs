@@ -41,6 +41,7 @@ pub(crate) mod status {
     pub(crate) const NO_MEMORY: i32 = -3;
     pub(crate) const SPENT: i32 = -4;
     pub(crate) const LOST: i32 = -5;
+    pub(crate) const HOLDS: i32 = -6;
 }
 
 // Each handle is closed or as the last call with it left it, and one call at a time is made with it. The pointers of one call are distinct,
@@ -64,4 +65,11 @@ extern "C" {
         next: *mut u64,
     ) -> i32;
     pub(crate) fn citrus_first(handle: *mut RawHandle, low: u64, key: *mut u64, value: *mut u64) -> i32;
+    pub(crate) fn citrus_hold(handle: *mut RawHandle, key: u64, value: *mut u64) -> i32;
+    pub(crate) fn citrus_enter(handle: *mut RawHandle, key: u64) -> i32;
+    pub(crate) fn citrus_release(handle: *mut RawHandle) -> i32;
+    pub(crate) fn citrus_wait(handle: *mut RawHandle, low: u64, high: u64) -> i32;
+    pub(crate) fn citrus_begin(handle: *mut RawHandle, low: u64, high: u64, cookie: *mut u64) -> i32;
+    pub(crate) fn citrus_poll(handle: *mut RawHandle, cookie: u64) -> i32;
+    pub(crate) fn citrus_tidy(handle: *mut RawHandle, low: u64, high: u64, turns: u32, made: *mut u32, next: *mut u64) -> i32;
 }

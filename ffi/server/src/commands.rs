@@ -243,10 +243,17 @@ mod tests {
         String::from_utf8_lossy(replies.bytes()).replace("\r\n", " ")
     }
 
+    fn new_handle(pairs: u32) -> Handle {
+        Index::new(pairs, 1).and_then(|index| index.handle()).expect("there is memory")
+    }
+
     fn check(pairs: u32, session: &[(&str, &str)]) {
-        let handle = Index::new(pairs, 1).and_then(|index| index.handle()).expect("there is memory");
+        check_at(&new_handle(pairs), session);
+    }
+
+    fn check_at(handle: &Handle, session: &[(&str, &str)]) {
         for (line, reply) in session {
-            assert_eq!(told(&handle, line).trim_end(), *reply, "{line}");
+            assert_eq!(told(handle, line).trim_end(), *reply, "{line}");
         }
     }
 
@@ -321,8 +328,13 @@ mod tests {
 
     #[test]
     fn a_full_index_has_an_error_of_its_own() {
-        check(
-            2,
+        let handle = new_handle(2);
+        // Beside those for its pairs it has 68 slots for what its handle may keep back.
+        for key in 100..100 + 68 {
+            assert_eq!(told(&handle, &format!("SET {key} 0")).trim_end(), "+OK");
+        }
+        check_at(
+            &handle,
             &[
                 ("SET 1 1", "+OK"),
                 ("SET 2 2", "+OK"),

@@ -1,0 +1,151 @@
+use crate::handle::{ends, Handle};
+use crate::library::*;
+use crate::Error;
+use std::ops::RangeBounds;
+
+/// A wait for readers that a handle began: see [`Handle::begin`].
+#[derive(Clone, Copy, Debug, PartialEq, Eq, Hash)]
+pub struct Cookie {
+    index: u64,
+    place: usize,
+    /// What the library calls it; none where there are no keys, and so no readers.
+    number: Option<u64>,
+}
+
+/// How far a wait for readers is.
+#[derive(Clone, Copy, Debug, PartialEq, Eq, Hash)]
+pub enum GracePeriod {
+    /// Each section with a key of the range that was entered before the begin has been left. It is told once.
+    Over,
+    /// A reader is left. Ask again.
+    UnderWay,
+    /// The handle's wait under way isn't that of the cookie: that it is over was told already, or another wait of the handle took its place,
+    /// or the cookie is another handle's.
+    Displaced,
+}
+
+/// What a [`tidy`](Handle::tidy) did.
+#[derive(Clone, Copy, Debug, PartialEq, Eq, Hash)]
+pub struct Tidied {
+    /// So many turns were made.
+    pub made: u32,
+    /// The key to go on with, where the range isn't finished.
+    pub next: Option<u64>,
+}
+
+/// Waits for readers.
+impl Handle {
+    /// Waits until each section with a key of the range that was entered before the call has been left: lookups, and those of
+    /// [`hold`](Handle::hold) and [`enter`](Handle::enter).
+    ///
+    /// # Errors
+    /// [`Error::Holds`], [`Error::Spent`], [`Error::Lost`]: then it isn't known that they have been left.
+    ///
+    /// ```
+    /// let index = citrus_map::Index::new(100, 1)?;
+    /// let handle = index.handle()?;
+    /// handle.wait(5..=5)?;
+    /// handle.wait(..)?;
+    /// # Ok::<(), citrus_map::Error>(())
+    /// ```
+    pub fn wait(&self, keys: impl RangeBounds<u64>) -> Result<(), Error> {
+        let (low, high) = match ends(&keys) {
+            Some(ends) => ends,
+            None => return Ok(()),
+        };
+        // SAFETY: as in `get`.
+        match self.call_that_waits(|raw| unsafe { citrus_wait(raw, low, high) })? {
+            status::DONE => Ok(()),
+            status => Err(self.error(status)),
+        }
+    }
+
+    /// Begins such a wait and comes back at once; [`poll`](Handle::poll) tells when it is over. A handle has one wait under way: any other
+    /// takes its place, and so do those that its removals and insertions make.
+    ///
+    /// # Errors
+    /// [`Error::Spent`] and [`Error::Lost`].
+    ///
+    /// ```
+    /// use citrus_map::GracePeriod;
+    ///
+    /// let index = citrus_map::Index::new(100, 1)?;
+    /// let handle = index.handle()?;
+    /// let cookie = handle.begin(0..10)?;
+    /// assert_eq!(handle.poll(cookie)?, GracePeriod::Over);
+    /// assert_eq!(handle.poll(cookie)?, GracePeriod::Displaced);
+    /// # Ok::<(), citrus_map::Error>(())
+    /// ```
+    pub fn begin(&self, keys: impl RangeBounds<u64>) -> Result<Cookie, Error> {
+        let cookie = |number| Cookie { index: self.index_number(), place: self.place(), number };
+        let (low, high) = match ends(&keys) {
+            Some(ends) => ends,
+            None => return Ok(cookie(None)),
+        };
+        let mut number = 0;
+        // SAFETY: as in `get`.
+        match self.call(|raw| unsafe { citrus_begin(raw, low, high, &mut number) }) {
+            status::DONE => Ok(cookie(Some(number))),
+            status => Err(self.error(status)),
+        }
+    }
+
+    /// Tells how far the wait of this cookie is. It waits for nobody. A range without keys has no readers: its wait is over whenever it is
+    /// asked for.
+    ///
+    /// # Errors
+    /// [`Error::Lost`] alone.
+    pub fn poll(&self, cookie: Cookie) -> Result<GracePeriod, Error> {
+        if (cookie.index, cookie.place) != (self.index_number(), self.place()) {
+            return Ok(GracePeriod::Displaced);
+        }
+        let number = match cookie.number {
+            Some(number) => number,
+            None => return Ok(GracePeriod::Over),
+        };
+        // SAFETY: as in `get`.
+        match self.call(|raw| unsafe { citrus_poll(raw, number) }) {
+            status::DONE => Ok(GracePeriod::Over),
+            status::UNCHANGED => Ok(GracePeriod::UnderWay),
+            status::MOVED => Ok(GracePeriod::Displaced),
+            status => Err(self.error(status)),
+        }
+    }
+
+    /// Makes the tree shallow above the keys of the range, for later lookups: it goes to the first 256 of them in order and turns nodes on the
+    /// way, until so many turns were tried. 0 turns are taken as 1. No pair changes. Insertions do the same on their own ways, so this is
+    /// for a tree that nobody puts to any more. A turn takes two slots that are free; an index with 68 pairs more than it was made for may have
+    /// none.
+    /// Where it isn't finished it tells the key to go on with:
+    ///
+    /// # Errors
+    /// [`Error::Full`] where no slot was free for a turn, and [`Error::Moved`] where updates came in each of 1,000 tries: it may have made
+    /// turns at the first, and made none at the second. [`Error::Holds`], [`Error::NoMemory`], [`Error::Spent`].
+    ///
+    /// ```
+    /// let index = citrus_map::Index::new(1_000, 1)?;
+    /// let handle = index.handle()?;
+    /// for key in 0..1_000 {
+    ///     handle.insert(key, key)?;
+    /// }
+    /// let mut from = Some(0);
+    /// while let Some(low) = from {
+    ///     from = handle.tidy(low.., 64)?.next;
+    /// }
+    /// assert_eq!(handle.range(..)?.len(), 1_000);
+    /// # Ok::<(), citrus_map::Error>(())
+    /// ```
+    pub fn tidy(&self, keys: impl RangeBounds<u64>, turns: u32) -> Result<Tidied, Error> {
+        let (low, high) = match ends(&keys) {
+            Some(ends) => ends,
+            None => return Ok(Tidied { made: 0, next: None }),
+        };
+        let (mut made, mut next) = (0, 0);
+        // SAFETY: as in `get`.
+        match self.call_that_waits(|raw| unsafe { citrus_tidy(raw, low, high, turns.max(1), &mut made, &mut next) })? {
+            status::DONE => Ok(Tidied { made, next: None }),
+            status::MORE => Ok(Tidied { made, next: Some(next) }),
+            status => Err(self.error(status)),
+        }
+    }
+}

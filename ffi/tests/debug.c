@@ -1,0 +1,169 @@
+/* What citrus.h does where CITRUS_DEBUG is defined: an update or a wait of a thread that is in a section by another handle aborts the program.
+ * With OTHER_FILE this is a second file of it, which holds. */
+#define CITRUS_DEBUG
+#include "cases.h"
+
+int32_t hold_in_other_file(citrus_handle *handle, uint64_t key);
+
+#ifdef OTHER_FILE
+
+int32_t hold_in_other_file(citrus_handle *handle, uint64_t key) {
+    uint64_t value = 0;
+    return citrus_hold(handle, key, &value);
+}
+
+#else
+
+#include <pthread.h>
+#include <signal.h>
+#include <stdlib.h>
+#include <sys/wait.h>
+#include <unistd.h>
+
+static citrus_handle first = CITRUS_CLOSED_HANDLE, second = CITRUS_CLOSED_HANDLE;
+static uint64_t told;
+
+static void open_both(uint32_t waiter) {
+    WANT(citrus_open(&first, 100, 3, waiter), CITRUS_DONE);
+    WANT(citrus_share(&first, 1, 1000, &second), CITRUS_DONE);
+    for (uint64_t key = 1; key <= 9; key++) WANT(citrus_insert(&first, key, 10 * key), CITRUS_DONE);
+}
+
+static void close_both(void) {
+    citrus_close(&first);
+    citrus_close(&second);
+}
+
+/* Whether this work aborts a program of one thread. What it says of that isn't shown. */
+static int aborts(void (*work)(void)) {
+    int status = 0;
+    fflush(stdout);
+    const pid_t child = fork();
+    if (child < 0) abort();
+    if (child == 0) {
+        if (!freopen("/dev/null", "w", stderr)) _exit(2);
+        work();
+        _exit(0);
+    }
+    return waitpid(child, &status, 0) == child && WIFSIGNALED(status) && WTERMSIG(status) == SIGABRT;
+}
+
+static void insert_by_other(void) { citrus_insert(&second, 100, 1); }
+static void replace_by_other(void) { citrus_replace(&second, 9, 1, &told); }
+static void upsert_by_other(void) { citrus_upsert(&second, 9, 1, &told); }
+static void remove_by_other(void) { citrus_remove(&second, 9, &told); }
+static void wait_by_other(void) { citrus_wait(&second, 9, 9); }
+
+static void tidy_by_other(void) {
+    uint32_t made = 0;
+    citrus_tidy(&second, 0, 9, 1, &made, &told);
+}
+
+static void (*const waiting_calls[])(void) = {insert_by_other, replace_by_other, upsert_by_other,
+                                              remove_by_other, wait_by_other,    tidy_by_other};
+
+static void what_may_wait_for_its_own_thread_aborts(uint32_t waiter) {
+    open_both(waiter);
+    for (size_t i = 0; i < COUNT_OF(waiting_calls); i++) {
+        WANT(aborts(waiting_calls[i]), 0);
+        WANT(citrus_hold(&first, 5, &told), CITRUS_DONE);
+        WANT(aborts(waiting_calls[i]), 1);
+        WANT(citrus_release(&first), CITRUS_DONE);
+        WANT(citrus_enter(&first, 5), CITRUS_DONE);
+        WANT(aborts(waiting_calls[i]), 1);
+        WANT(citrus_release(&first), CITRUS_DONE);
+        WANT(aborts(waiting_calls[i]), 0);
+    }
+    close_both();
+}
+
+static void what_waits_for_nobody_goes_on(uint32_t waiter) {
+    citrus_handle third = CITRUS_CLOSED_HANDLE;
+    citrus_pair pairs[9];
+    size_t count = 0;
+    uint64_t next = 0;
+    open_both(waiter);
+    WANT(citrus_hold(&first, 5, &told), CITRUS_DONE);
+    WANT(citrus_get(&second, 5, &told), CITRUS_DONE);
+    WANT(citrus_list(&second, 0, 9, pairs, 9, &count, &next), CITRUS_DONE);
+    WANT(citrus_reopen(&second, &third), CITRUS_UNCHANGED);
+    WANT(citrus_hold(&second, 6, &told), CITRUS_DONE);
+    WANT(citrus_insert(&first, 100, 1), CITRUS_HOLDS);
+    WANT(citrus_release(&second), CITRUS_DONE);
+    WANT(citrus_insert(&first, 100, 1), CITRUS_HOLDS);
+    WANT(citrus_insert(&third, 100, 1), CITRUS_CLOSED);
+    WANT(aborts(insert_by_other), 1);
+    WANT(citrus_release(&first), CITRUS_DONE);
+    WANT(citrus_release(&first), CITRUS_UNCHANGED);
+    WANT(citrus_insert(&second, 100, 1), CITRUS_DONE);
+    close_both();
+}
+
+static void what_closes_a_handle_ends_its_section(uint32_t waiter) {
+    open_both(waiter);
+    WANT(citrus_hold(&first, 5, &told), CITRUS_DONE);
+    citrus_close(&first);
+    WANT(citrus_replace(&second, 9, 1, &told), CITRUS_DONE);
+    WANT(citrus_reopen(&second, &first), CITRUS_DONE);
+    WANT(citrus_hold(&second, 5, &told), CITRUS_DONE);
+    WANT(citrus_share(&first, 1, 10, &second), CITRUS_DONE);
+    WANT(citrus_replace(&first, 9, 1, &told), CITRUS_DONE);
+    WANT(citrus_hold(&first, 5, &told), CITRUS_DONE);
+    WANT(citrus_open(&first, 5, 1, waiter), CITRUS_DONE);
+    WANT(citrus_replace(&second, 9, 1, &told), CITRUS_DONE);
+    close_both();
+}
+
+static void sections_of_all_files_are_seen(uint32_t waiter) {
+    open_both(waiter);
+    WANT(hold_in_other_file(&first, 5), CITRUS_DONE);
+    WANT(aborts(insert_by_other), 1);
+    WANT(citrus_release(&first), CITRUS_DONE);
+    WANT(hold_in_other_file(&first, 100), CITRUS_UNCHANGED);
+    WANT(aborts(insert_by_other), 0);
+    close_both();
+}
+
+static void *insert_in_other_thread(void *status) {
+    *(int32_t *)status = citrus_insert(&second, 3, 1);
+    return NULL;
+}
+
+static void *release_there(void *status) {
+    *(int32_t *)status = citrus_release(&first);
+    return NULL;
+}
+
+static void release_in_other_thread(void) {
+    int32_t status = 0;
+    pthread_t id;
+    if (pthread_create(&id, NULL, release_there, &status) == 0) pthread_join(id, NULL);
+}
+
+static void other_threads_have_sections_of_their_own(uint32_t waiter) {
+    int32_t status = CITRUS_LOST;
+    pthread_t id;
+    open_both(waiter);
+    WANT(citrus_hold(&first, 5, &told), CITRUS_DONE);
+    WANT(aborts(release_in_other_thread), 1);
+    if (pthread_create(&id, NULL, insert_in_other_thread, &status)) abort();
+    pthread_join(id, NULL);
+    WANT(status, CITRUS_UNCHANGED);
+    WANT(citrus_release(&first), CITRUS_DONE);
+    close_both();
+}
+
+static const struct waiter_case cases[] = {
+    {"CITRUS_DEBUG: what may wait for its own thread aborts", what_may_wait_for_its_own_thread_aborts},
+    {"CITRUS_DEBUG: what waits for nobody goes on", what_waits_for_nobody_goes_on},
+    {"CITRUS_DEBUG: what closes a handle ends its section", what_closes_a_handle_ends_its_section},
+    {"CITRUS_DEBUG: sections of all files are seen", sections_of_all_files_are_seen},
+    {"CITRUS_DEBUG: other threads have sections of their own", other_threads_have_sections_of_their_own},
+};
+
+int main(void) {
+    run_waiter_cases(cases, COUNT_OF(cases));
+    return failed_cases != 0;
+}
+
+#endif

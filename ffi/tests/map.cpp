@@ -1,0 +1,202 @@
+// The map of citrus_map.hpp: each answer, and four threads on one map. An object is counted, and tells whether it is there still.
+#include "cases.h"
+#include <chrono>
+#include <citrus_map.hpp>
+#include <functional>
+#include <random>
+#include <string>
+#include <thread>
+
+static std::atomic<long> there{0};
+
+struct object {
+    uint64_t key;
+    std::string text;
+
+    explicit object(uint64_t key) : key(key), text("the object of key " + std::to_string(key)) { there++; }
+    object(const object &) = delete;
+    object &operator=(const object &) = delete;
+    ~object() {
+        key = ~key;
+        there--;
+    }
+
+    bool is_of(uint64_t wanted) const { return key == wanted && text.size() > 18; }
+};
+
+using objects = citrus::map<object>;
+
+static std::unique_ptr<object> make(uint64_t key) { return std::make_unique<object>(key); }
+
+static bool is_refused(citrus::fault why, const std::function<void()> &work) {
+    try {
+        work();
+    } catch (const citrus::error &told) {
+        return told.why() == why;
+    }
+    return false;
+}
+
+static void answers(uint32_t waiter) {
+    objects mine(10, 1, static_cast<citrus::waiter>(waiter));
+    WANT(bool(mine.get(5)), false);
+    WANT(mine.get(5).get() == nullptr, true);
+    WANT(mine.insert(5, make(5)), true);
+    WANT(mine.get(5)->is_of(5), true);
+    WANT((*mine.get(5)).is_of(5), true);
+    WANT(mine.replace(5, make(5))->is_of(5), true);
+    WANT(mine.upsert(5, make(5))->is_of(5), true);
+    WANT(mine.upsert(6, make(6)) == nullptr, true);
+    WANT(mine.next_key().value_or(0), 5);
+    WANT(mine.next_key(6).value_or(0), 6);
+    WANT(mine.next_key(7).has_value(), false);
+    WANT(there, 2);
+    WANT(mine.remove(5)->is_of(5), true);
+    WANT(mine.remove(5) == nullptr, true);
+    WANT(mine.retire(6), true);
+    WANT(mine.retire(6), false);
+    mine.flush();
+    WANT(there, 0);
+}
+
+// What isn't taken stays with the caller.
+static void values_that_are_refused(uint32_t waiter) {
+    objects mine(1, 1, static_cast<citrus::waiter>(waiter));
+    std::unique_ptr<object> value = make(5), other = make(6), none;
+    WANT(mine.replace(5, std::move(value)) == nullptr, true);
+    WANT(value->is_of(5), true);
+    WANT(mine.insert(5, std::move(value)), true);
+    WANT(value == nullptr, true);
+    WANT(mine.insert(5, std::move(other)), false);
+    WANT(other->is_of(6), true);
+    for (uint64_t key = 100; key < 100 + 68; key++) WANT(mine.insert(key, make(key)), true);
+    WANT(is_refused(citrus::fault::full, [&] { mine.insert(6, std::move(other)); }), true);
+    WANT(is_refused(citrus::fault::full, [&] { mine.upsert(6, std::move(other)); }), true);
+    WANT(other->is_of(6), true);
+    WANT(is_refused(citrus::fault::bad_argument, [&] { mine.insert(7, std::move(none)); }), true);
+    WANT(is_refused(citrus::fault::bad_argument, [&] { mine.upsert(5, nullptr); }), true);
+    WANT(mine.get(5)->is_of(5), true);
+}
+
+static void a_held_value_refuses_other_calls(uint32_t waiter) {
+    objects mine(10, 2, static_cast<citrus::waiter>(waiter));
+    mine.insert(5, make(5));
+    citrus::held<object> held = mine.get(5);
+    std::unique_ptr<object> value = make(6);
+    WANT(is_refused(citrus::fault::holds, [&] { static_cast<void>(mine.get(5)); }), true);
+    WANT(is_refused(citrus::fault::holds, [&] { mine.insert(6, std::move(value)); }), true);
+    WANT(is_refused(citrus::fault::holds, [&] { mine.replace(5, std::move(value)); }), true);
+    WANT(is_refused(citrus::fault::holds, [&] { mine.upsert(5, std::move(value)); }), true);
+    WANT(is_refused(citrus::fault::holds, [&] { mine.remove(5); }), true);
+    WANT(is_refused(citrus::fault::holds, [&] { mine.retire(5); }), true);
+    WANT(is_refused(citrus::fault::holds, [&] { mine.next_key(); }), true);
+    WANT(is_refused(citrus::fault::holds, [&] { mine.share(); }), true);
+    WANT(value->is_of(6), true);
+    citrus::held<object> moved = std::move(held);
+    WANT(bool(held), false);
+    WANT(moved->is_of(5), true);
+    moved = citrus::held<object>();
+    WANT(mine.remove(5)->is_of(5), true);
+    mine.insert(7, std::move(value));
+    held = mine.get(7);
+    held.release();
+    WANT(bool(held), false);
+    WANT(mine.retire(7), true);
+}
+
+// Those that are retired are dropped by later calls, by a wait once there are many, and by the end of the map object; and none that is held.
+static void retired_values_are_dropped(uint32_t waiter) {
+    {
+        objects mine(300, 2, static_cast<citrus::waiter>(waiter)), other = mine.share();
+        std::atomic<bool> is_held{false}, is_right{false};
+        for (uint64_t key = 0; key < 200; key++) mine.insert(key, make(key));
+        for (uint64_t key = 0; key < 100; key++) WANT(mine.retire(key), true);
+        WANT(there < 200, true);
+        std::thread reader([&] {
+            const auto held = other.get(150);
+            is_held = true;
+            std::this_thread::sleep_for(std::chrono::milliseconds(10));
+            is_right = held && held->is_of(150);
+        });
+        while (!is_held) std::this_thread::yield();
+        for (uint64_t key = 120; key < 180; key++) WANT(mine.retire(key), true);
+        mine.flush();
+        reader.join();
+        WANT(is_right, true);
+        WANT(there, 40);
+        other.retire(190);
+    }
+    WANT(there, 0);
+}
+
+static void map_objects_are_shared_and_moved() {
+    {
+        objects first(100, 3), second = first.share(), third = first.share();
+        WANT(is_refused(citrus::fault::bad_argument, [&] { first.share(); }), true);
+        WANT(is_refused(citrus::fault::bad_argument, [&] { third.share(); }), true);
+        third.insert(1, make(1));
+        WANT(first.get(1)->is_of(1), true);
+        first = std::move(third);
+        first.insert(2, make(2));
+        WANT(second.get(2)->is_of(2), true);
+        third = second.share();
+        second = objects(10, 1);
+        WANT(bool(second.get(1)), false);
+        second.insert(1, make(1));
+        WANT(third.get(1)->is_of(1), true);
+        WANT(there, 3);
+    }
+    WANT(there, 0);
+}
+
+static void work(objects &mine, uint64_t seed, uint64_t keys, std::atomic<long> &read, std::atomic<long> &wrong) {
+    std::mt19937_64 draw(seed);
+    const auto wants = [&](const std::unique_ptr<object> &gone, uint64_t key) { wrong += gone && !gone->is_of(key); };
+    for (int i = 0; i < 5000; i++) {
+        const uint64_t key = draw() % keys;
+        switch (draw() % 8) {
+        case 0: mine.insert(key, make(key)); break;
+        case 1: wants(mine.replace(key, make(key)), key); break;
+        case 2: wants(mine.upsert(key, make(key)), key); break;
+        case 3: mine.retire(key); break;
+        case 4: wants(mine.remove(key), key); break;
+        default:
+            if (const auto held = mine.get(key)) {
+                wrong += !held->is_of(key);
+                read++;
+            }
+        }
+    }
+}
+
+static void threads_read_and_take_out(uint32_t waiter) {
+    for (const uint64_t keys : {4, 300}) {
+        std::atomic<long> read{0}, wrong{0};
+        {
+            objects first(300, 5, static_cast<citrus::waiter>(waiter));
+            std::vector<std::thread> threads;
+            for (uint64_t number = 1; number <= 4; number++)
+                threads.emplace_back([number, keys, &read, &wrong, mine = first.share()]() mutable { work(mine, number, keys, read, wrong); });
+            for (std::thread &thread : threads) thread.join();
+        }
+        WANT(wrong, 0);
+        WANT(read > 0, true);
+        WANT(there, 0);
+    }
+}
+
+static const waiter_case waiter_cases[] = {
+    {"C++ map: answers", answers},
+    {"C++ map: values that are refused", values_that_are_refused},
+    {"C++ map: a held value refuses other calls", a_held_value_refuses_other_calls},
+    {"C++ map: retired values are dropped", retired_values_are_dropped},
+    {"C++ map: threads read and take out", threads_read_and_take_out},
+};
+
+static const plain_case plain_cases[] = {{"C++ map: map objects are shared and moved", map_objects_are_shared_and_moved}};
+
+int main() {
+    run_waiter_cases(waiter_cases, COUNT_OF(waiter_cases));
+    run_plain_cases(plain_cases, COUNT_OF(plain_cases));
+    return failed_cases != 0;
+}
