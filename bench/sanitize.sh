@@ -6,7 +6,8 @@
 # What they can't see. The library is compiled without a sanitizer's marks, so ThreadSanitizer and AddressSanitizer watch the C side alone:
 # what the tests do with handles and with what they are told. helgrind takes each access of the library for a plain one unless the machine's
 # instruction has a lock prefix, so it can't tell an atomic load or store from a plain one; and valgrind runs one thread at a time. That the
-# library's words are never raced for is proved, and isn't shown here.
+# library's words are never raced for is proved, and isn't shown here. ThreadSanitizer doesn't see what orders the reads of an object and its
+# free, so it isn't shown objects.
 set -u
 top=$(cd "$(dirname "$0")/.." && pwd)
 out=$top/bench/out
@@ -36,9 +37,11 @@ try() {
 }
 
 if hash valgrind 2>/dev/null; then
-    for name in answers misuse own_keys moments; do build "$name" gcc; done
+    for name in answers misuse own_keys moments holds objects; do build "$name" gcc; done
     try 'misuse under memcheck' valgrind -q --leak-check=full --error-exitcode=9 "$out/misuse"
     try 'answers under memcheck' valgrind -q --leak-check=full --error-exitcode=9 "$out/answers"
+    try 'holds under memcheck' valgrind -q --leak-check=full --error-exitcode=9 --fair-sched=yes "$out/holds"
+    try 'objects under memcheck' valgrind -q --leak-check=full --error-exitcode=9 --fair-sched=yes "$out/objects" 300
     try 'own_keys under memcheck' valgrind -q --leak-check=full --error-exitcode=9 --fair-sched=yes "$out/own_keys" 300
     try 'own_keys under helgrind' valgrind -q --tool=helgrind --error-exitcode=9 --fair-sched=yes "$out/own_keys" 300
 else
@@ -46,7 +49,9 @@ else
 fi
 if hash clang 2>/dev/null; then
     for kind in address,undefined thread; do
-        for name in answers misuse own_keys moments; do
+        names=(answers misuse own_keys moments holds begun)
+        [ "$kind" = thread ] || names+=(objects prcu)
+        for name in "${names[@]}"; do
             if build "$name" clang "-fsanitize=$kind"; then try "$name under -fsanitize=$kind" "$out/$name"; else failed=$((failed + 1)); fi
         done
     done

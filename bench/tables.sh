@@ -48,6 +48,35 @@ waits() {
         END { print "| " last " |" ns times " |" }' "$1"
 }
 
+# Each row has what one and four threads take. Only waits depend on the places.
+sections() {
+    head_of what places 'first waiter' second third 'liburcu, memb' qsbr 'four threads: first' second third memb qsbr
+    awk -F, '/^#/ || /^series/ { next }
+        {
+            name = $1
+            places = name ~ / of 64$/ ? "64" : "few"
+            sub(/ waiter of .*/, "", name)
+            sub(/^liburcu /, "", name)
+            ns[name, $2, places, $3] = $4
+            if (!seen[$2]++) order[++count] = $2
+        }
+        function row(what, places, crew, s, c, cell) {
+            printf "| %s | %s |", what, places
+            for (c = 1; c <= 2; c++) for (s = 1; s <= 5; s++) {
+                cell = ns[series[s], what, places, crews[c]]
+                printf " %s |", cell == "" ? "-" : cell < 100 ? sprintf("%.1f", cell) : sprintf("%.0f", cell)
+            }
+            print ""
+        }
+        END {
+            split("first second third memb qsbr", series, " "); split("1 4", crews, " ")
+            for (i = 1; i <= count; i++) {
+                row(order[i], "few")
+                if (order[i] ~ /wait|poll/) row(order[i], "64")
+            }
+        }' "$1"
+}
+
 lists() {
     head_of 'pairs, of keys in the tree' 'at rest, ns a pair' 'beside a writer, ns a pair' 'lists that moved'
     awk -F, '/^#/ || /^pairs/ { next }
