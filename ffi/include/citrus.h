@@ -10,7 +10,8 @@
  *     citrus_close(&mine);
  *
  * The library's side of each call is proved. It tests what can be tested, a closed handle too, and answers with a status. Not proved, but
- * tested: that a close leaves to a reopen all that the handle had, that a reopen finds it and hands it on as it was, and that memory is freed.
+ * tested: that a close leaves its section, and to a reopen all that the handle had, that a reopen finds it and hands it on as it was, and that
+ * memory is freed.
  *
  * What a caller owes, which nothing can test:
  *   - a handle is CITRUS_CLOSED_HANDLE, or as the last call with it left it. It is moved and never copied: who hands it on sets the old one

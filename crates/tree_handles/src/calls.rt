@@ -300,8 +300,8 @@ impl Handle {
     ///
     /// `Done` where no way to a key of the range needs a turn any more; `More` where turns or tickets are short, or there are more keys, and
     /// `Full` where no slot is free for a turn: then `next` is the key to go on with; `Moved` where updates were made in each of 1,000 tries
-    /// of the list; `Closed`; `BadArgument` where `low` is above `high` or `turns` is 0; `NoMemory`; `Spent`; `Lost`. `made` is always
-    /// written, and is 0 but at `Done`, `More` and `Full`, where it is how many turns were made; `next` only at `More` and `Full`.
+    /// of the list; `Closed`; `Holds`; `BadArgument` where `low` is above `high` or `turns` is 0; `NoMemory`; `Spent`; `Lost`. `made` is
+    /// always written, and is 0 but at `Done`, `More` and `Full`, where it is how many turns were made; `next` only at `More` and `Full`.
     pub fn tidy(
         &mut self,
         alloc: Global,

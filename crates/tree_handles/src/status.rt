@@ -10,9 +10,9 @@ pub enum Status {
     /// The key is absent, or present at an insert, no place waits for a reopen, or no section is open for a release: nothing
     /// has changed. Or a poll found a reader.
     Unchanged,
-    /// No slot is free: nothing has changed.
+    /// No slot is free: no pair was added, or there was none for a tidy's next turn.
     Full,
-    /// A list has more pairs than there is room for.
+    /// A list has more pairs than there is room for, or a tidy isn't through.
     More,
     /// Others made updates in each try, or the wait of a poll's cookie isn't the handle's latest any more.
     Moved,
@@ -24,7 +24,7 @@ pub enum Status {
     BadArgument,
     /// No memory: nothing has changed.
     NoMemory,
-    /// Fewer tickets are left than the call needs: four of a get or an update, one of a wait.
+    /// Fewer tickets are left than the call needs: four of a get, an update or a tidy, one of a wait.
     Spent,
     /// This call or an earlier one of the handle gave up in its midst.
     Lost,
