@@ -19,7 +19,8 @@ use Rattle.exact_list.specs.Walked.{IsListing, HasLoaded, AreGaps}
 use Rattle.exact_list.specs.Ways.{NextIs, AreKept, HasCome}
 use Rattle.exact_list.proofs.Covering.{cover_none, cover_more, cover_gaps, cover_pair}
 use Rattle.exact_list.proofs.Loading.{still_listing, loaded_none, loaded_both}
-use Rattle.exact_list.proofs.Walking.{IsAtKey, at_last, may_begin, begins, may_value, values, may_go, goes_right}
+use Rattle.exact_list.proofs.Following.{may_begin, may_value, may_go}
+use Rattle.exact_list.proofs.Walking.{IsAtKey, at_last, begins, values, goes_right}
 
 -- What was gathered so far: the pairs of the keys from one on and below another.
 abbrev pub Gathered : View → View → ℕ → ℕ → List Pair → Type 0
@@ -85,7 +86,7 @@ ends {k} {v} {u} {low} {from} {pairs} {way} {r} next below z is done more fits =
       cover_gaps l.facts l.gaps low from below pairs z.cover more
           (λ y least less. (
             c.bounds,
-            c.ended refl,
+            c.leads.ended refl,
             (
               let low_is = c.low in
                   omega (arith, low_is, least),
@@ -121,7 +122,7 @@ module _ {k : Shape} {v u : View} {low from : ℕ} {pairs : List Pair} {p : Pass
   )
 
   pub may_value_met : Asks k u (ListLoad p.slot part.Value)
-  may_value_met = may_value k v u z.loaded p.slot p.key way z.at
+  may_value_met = may_value k v u z.loaded p.slot p.key z.at.bounds z.at.known
 
   module _ {w : View} {value : ℕ} (t : Told k u (ListLoad p.slot part.Value) value w) where
     pub has_value : (l : HasLoaded v w) × Cover l.after.facts l.after.gaps low p.key pairs × IsAtKey k l.after p.slot p.key way
@@ -140,7 +141,7 @@ module _ {k : Shape} {v u : View} {low from : ℕ} {pairs : List Pair} {p : Pass
         )
 
     pub may_go_right : Asks k w (ListLoad p.slot (part.Link Right))
-    may_go_right = may_go k v w has_value.0 p.slot p.key way has_value.2 Right
+    may_go_right = may_go k v w has_value.0 p.slot p.key has_value.2.bounds has_value.2.known Right
 
     pub walks_on : {x : View} {n : ℕ} (more : List Pair) → more ≡ pairs ++ (p.key, value) ∷ [] → low ≤ from
         → Told k w (ListLoad p.slot (part.Link Right)) n x → Walks k v x low (p.key + 1) n more way

@@ -1,5 +1,5 @@
 -- Loads of a listing, one after another.
-use Rattle.std.proofs.Common.{◌≡◌, ◌≢◌, ℕ, zero, suc, ◌<◌, ◌==◌, ◌⊎◌, Bool, true, false, cond, List, [], ◌∷◌, ◌++◌, Some, refl, sym, ap, subst, ◌∙◌, eq-eqb, ne_eqb}
+use Rattle.std.proofs.Common.{IfErr, IfOk, Result, Ok, Err, ◌≡◌, ◌≢◌, ℕ, zero, suc, ◌<◌, ◌==◌, ◌⊎◌, Bool, true, false, cond, List, [], ◌∷◌, ◌++◌, Some, refl, sym, ap, subst, ◌∙◌, eq-eqb, ne_eqb}
 use mathlib.Core.Option.{some-injective, some-ne-none}
 use Rattle.prcu_marks.specs.declared.mark.Side.TheVariants.{Right}
 use Rattle.core_state.specs.declared.shape.Shape.{Shape}
@@ -165,3 +165,14 @@ module _ (k : Shape) (v : View) where
       → IsIn m.after.visits t → IsSlot k t.slot
   slot_at u w s p n m told t has = told.stood.listed (record m.section { listing = Some m.after }) m.after t
       (ap (λ (z : View). z.section) m.others) refl has
+
+-- Whatever came of it, loads were made.
+pub loaded_anyway : {T E : Type 0} {v w : View} (P : HasLoaded v w → T → Type 0) (r : Result T E) → IfOk r (λ x. (l : HasLoaded v w) × P l x)
+    → IfErr r (λ _. HasLoaded v w) → HasLoaded v w
+loaded_anyway P (Ok x) ok err = ok.0
+loaded_anyway P (Err y) ok err = err
+
+-- what is so, is so where a call gives up
+pub if_err : {T E X : Type 0} (r : Result T E) → X → IfErr r (λ _. X)
+if_err (Ok x) is = tt
+if_err (Err y) is = is

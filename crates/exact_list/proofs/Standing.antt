@@ -1,5 +1,5 @@
 -- What a try tells whose second look found the number of the first, and how tries end.
-use Rattle.std.proofs.Common.{◌≡◌, ◌≢◌, ℕ, ◌+◌, ◌*◌, ◌/◌, ◌%◌, ◌==◌, ◌≤◌, true, false, List, [], ◌∷◌, ◌++◌, length, take, Some, None, refl, sym, ap, subst, ◌∙◌, inl, inr, arith, eq-eqb, append_assoc, length-append}
+use Rattle.std.proofs.Common.{◌≡◌, ◌≢◌, ℕ, ◌+◌, ◌*◌, ◌/◌, ◌%◌, ◌==◌, ◌≤◌, true, false, List, [], ◌∷◌, ◌++◌, length, take, Option, Some, None, refl, sym, ap, subst, ◌∙◌, inl, inr, arith, eq-eqb, append_assoc, length-append}
 use Rattle.std.specs.FinMap as finite
 use Rattle.std.proofs.Math.Seq.{take-append_seam}
 use mathlib.Core.List.{IsPrefix}
@@ -15,6 +15,7 @@ use Rattle.core_state.specs.declared.shape.Shape.{Shape}
 use Rattle.core_state.specs.declared.view.Fact.{Fact}
 use Rattle.core_state.specs.declared.view.Gap.{Gap}
 use Rattle.core_state.specs.declared.view.View.{View}
+use Rattle.prcu_marks.specs.declared.commit.Commit.{Commit}
 use Rattle.core_state.specs.memory.Lists.{IsEven, IsOdd}
 use Rattle.core_state.specs.parts.TreeParts.{map_now}
 use Rattle.key_interval.specs.Keys.{Interval}
@@ -30,6 +31,7 @@ use Rattle.exact_list.specs.declared.listing.Listed.TheVariants.{Whole, Part, Mo
 use Rattle.exact_list.specs.Pairs.{Pair, had_at, ArePairs, fact_of, Cover}
 use Rattle.exact_list.specs.Tries.{Try, HasMoved, HasTried}
 use Rattle.exact_list.specs.Answers.{Paged, IsWhole, IsPart, IsBetweenFronts, IsRecent, HasStood, EndAs}
+use Rattle.exact_list.specs.Alone.{HoldsUpTo}
 use Rattle.exact_list.specs.Walked.{HasLoaded, Gathers}
 use Rattle.exact_list.proofs.Covering.{covers_exact}
 use Rattle.exact_list.proofs.Trying.{InTry, first_try, looked_try, loaded_try, left_try, front_is}
@@ -42,9 +44,6 @@ had_now : (h seen : List Mark) (front : ℕ) → IsPrefix h seen → front ≡ l
     → had_at (updates_of seen) front key ≡ map_now h key
 had_now h seen front p is key = ap (λ us. finite.get (map_of us) key)
     ((λ i. take (is i) (updates_on h seen p i)) ∙ take-append_seam (updates_of h) (updates_of p.0))
-
-half_of : (n front : ℕ) → n ≡ 2 * front → n / 2 ≡ front
-half_of n front is = omega (arith, is)
 
 pub is_even : (n : ℕ) → (n % 2 == 1) ≡ false → IsEven n
 is_even n is = dite (ℕ_discrete (n % 2) 1) (λ odd. absurd (let e : true ≡ false = sym (eq-eqb (n % 2) 1 odd) ∙ is in cc))
@@ -93,24 +92,11 @@ module _ {k : Shape} {v : View} {key first n : ℕ} {d : View} (z : LooksTwice k
     ([], record { first = first; second = Some n }, refl, refl, refl),
   )
 
-  -- the second found the number of the first
-  module _ {front : ℕ} (same : n ≡ first) (even : (first % 2 == 1) ≡ false) (half : front ≡ first / 2) where
-    now : IsListedNow z.told.marks (record z.loads.section { listing = Some z.loads.after }) z.loads.after
-    now =
-        let is = front_is v key first z.first_seen z.loaded z.begins z.loads in
-        z.told.gains.same (record z.loads.section { listing = Some z.loads.after }) z.loads.after
-        (ap (λ (x : View). x.section) z.loads.others) refl (subst IsEven (sym same) (is_even first even)) (same ∙ sym is)
-
-    first_is : first ≡ 2 * length (updates_of z.told.marks)
-    first_is =
-        let is = front_is v key first z.first_seen z.loaded z.begins z.loads in
-        omega (arith, is, now.front, is_even first even)
-
+  -- what was found is so by all marks at the second look
+  module _ {front : ℕ} (now : IsListedNow z.told.marks (record z.loads.section { listing = Some z.loads.after }) z.loads.after)
+      (half : front ≡ first / 2) where
     count : front ≡ length (updates_of z.told.marks)
-    count = half ∙ half_of first (length (updates_of z.told.marks)) first_is
-
-    twice : first ≡ 2 * front
-    twice = first_is ∙ ap (λ x. 2 * x) (sym count)
+    count = half ∙ ap (λ x. x / 2) (sym (front_is v key first z.first_seen z.loaded z.begins z.loads)) ∙ now.front
 
     in_all : IsPrefix z.told.marks d.seen
     in_all = subst (λ x. IsPrefix x d.seen) (ap (λ (x : View). x.seen) z.told.goes)
@@ -122,7 +108,7 @@ module _ {k : Shape} {v : View} {key first n : ℕ} {d : View} (z : LooksTwice k
         let new = updates_below z.told.marks d.seen in_all in
         (omega (arith, old, count), omega (arith, new, count))
 
-    had : (y : ℕ) → had_at (updates_of d.seen) front y ≡ map_now z.told.marks y
+    pub had : (y : ℕ) → had_at (updates_of d.seen) front y ≡ map_now z.told.marks y
     had = had_now z.told.marks d.seen front in_all count
 
     exact : (low below : ℕ) (pairs : List Pair) → Cover z.loads.after.facts z.loads.after.gaps low below pairs
@@ -143,8 +129,33 @@ module _ {k : Shape} {v : View} {key first n : ℕ} {d : View} (z : LooksTwice k
       there = (g.3.0, had next ∙ now.facts g.3.1.0 (fact_of (next, g.3.0)) g.3.1.1);
     }
 
-    pub stood : HasStood front 1 (record { first = first; second = Some n } ∷ [])
-    stood = (omega arith, ([], each_none HasMoved, λ j. record { first = twice j; second = Some ((same ∙ twice) j) } ∷ []))
+    pub holds_up_to : (keys : Interval) (next : Option ℕ) (page : Paged) → length page.pairs ≤ page.capacity
+        → Gathers z.loads.after keys page next → HoldsUpTo front next keys d.seen page
+    holds_up_to keys None page fit cover = holds_whole keys page fit cover
+    holds_up_to keys (Some next) page fit g = holds_part keys next page g
+
+  listing_is : ◌≡◌ {A = ℕ} z.loads.after.front first
+  listing_is = front_is v key first z.first_seen z.loaded z.begins z.loads
+
+  -- the second found the number of the first, which is even
+  module _ (same : n ≡ first) (even : (first % 2 == 1) ≡ false) where
+    pub beside_none : IsListedNow z.told.marks (record z.loads.section { listing = Some z.loads.after }) z.loads.after
+    beside_none = z.told.gains.same (record z.loads.section { listing = Some z.loads.after }) z.loads.after
+        (ap (λ (x : View). x.section) z.loads.others) refl (subst IsEven (sym same) (is_even first even)) (same ∙ sym listing_is)
+
+    pub stood : {front : ℕ} → front ≡ first / 2 → HasStood front 1 (record { first = first; second = Some n } ∷ [])
+    stood {front} half =
+        let twice : first ≡ 2 * front = omega (arith, half, is_even first even) in
+        (omega arith, ([], each_none HasMoved, λ j. record { first = twice j; second = Some ((same ∙ twice) j) } ∷ []))
+
+  -- the front is odd by the view, and its update unmade
+  module _ (commit : Commit) (is_open : z.loaded.commit ≡ Some commit) (unmade : commit.stored ≡ false) where
+    pub second_own : n ≡ commit.found + 1
+    second_own = z.told.gains.own commit is_open
+
+    pub held : first ≡ commit.found + 1 → IsListedNow z.told.marks (record z.loads.section { listing = Some z.loads.after }) z.loads.after
+    held first_own = z.told.gains.held (record z.loads.section { listing = Some z.loads.after }) z.loads.after commit
+        (ap (λ (x : View). x.section) z.loads.others) refl is_open unmade (second_own ∙ sym first_own ∙ sym listing_is)
 
 -- a try whose first look found an odd number
 module _ (k : Shape) (v : View) (key first : ℕ) (a : View) (i : InTry v key (first ∷ []) a) (d : View) (left : HasLeft a d)

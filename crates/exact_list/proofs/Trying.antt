@@ -17,8 +17,10 @@ use Rattle.core_frames.proofs.views.SeatFacts.{works_there}
 use Rattle.core_acts.specs.declared.act.Act.TheVariants.{LookAtFront}
 use Rattle.core_acts.specs.Acts.{noted, Asks, section_of}
 use Rattle.core_acts.proofs.Acting.{section_is}
+use Rattle.seat_table.specs.Seats.{SeatAt, IsQuietSeat}
 use Rattle.seat_table.specs.Told.{Told}
 use Rattle.seat_table.specs.Sections.{Makes, is_entry, is_exit, HasEntered, HasLeft}
+use Rattle.seat_table.proofs.Seating.{still_quiet}
 use Rattle.seat_table.proofs.Sections.{made_none, made_more, made_both, seen_more, own_more}
 use Rattle.exact_list.specs.Tries.{Try, numbers_of, looks_of, looks_from, marks_from, is_load, is_look, is_of_list, HasTried}
 use Rattle.exact_list.specs.Walked.{IsListing, HasLoaded}
@@ -224,6 +226,17 @@ marks_from-append place section key (t ∷ ts) us =
     (marks_from-append place (section + 1) key ts us
     ∙ ap (λ n. marks_from place (section + 1) key ts ++ marks_from place n key us) next)
 
+pub tried_none : (v : View) (key : ℕ) → HasTried v key [] v
+tried_none v key =
+    let same : v.counts.sections ≡ v.counts.sections + 0 = omega arith in
+    record {
+      seen = ([], append-nil v.seen);
+      own = sym (append-nil (own_of v.allowance.place v.seen));
+      looks = sym (append-nil v.looks);
+      made = made_none is_of_list v.trail;
+      others = λ j. record v { counts = record v.counts { sections = same j } };
+    }
+
 pub tried_both : (a b c : View) (key : ℕ) (ts us : List Try) → HasTried a key ts b → HasTried b key us c → HasTried a key (ts ++ us) c
 tried_both a b c key ts us x y =
     let p = a.allowance.place in
@@ -262,3 +275,11 @@ tried_both a b c key ts us x y =
             seen = c.seen;
           });
     }
+
+-- tries leave a quiet seat quiet
+pub quiet_tried : (s t : SeatAt) (key : ℕ) (tries : List Try) → HasTried s.view key tries t.view → t.listed ≡ s.listed → IsQuietSeat s
+    → IsQuietSeat t
+quiet_tried s t key tries tried listed quiet =
+    let is = tried.others in
+    still_quiet s t (ap (λ (v : View). v.section) is) (ap (λ (v : View). v.locks) is) (ap (λ (v : View). v.hands) is)
+    (ap (λ (v : View). v.moving) is) (ap (λ (v : View). v.commit) is) listed quiet

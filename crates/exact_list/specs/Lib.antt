@@ -2,5 +2,8 @@ pub mod Pairs
 pub mod Laws
 pub mod Tries
 pub mod Answers
+pub mod Fronts
+pub mod Alone
 pub mod Walked
+pub mod Nearest
 pub mod Ways

@@ -1,18 +1,17 @@
 -- The way of a walk: where it has come to, and the slots to which it goes back.
 -- Source: docs/TREE_CALLS.md, "Lists of a key range".
-use Rattle.std.specs.Prelude.{◌≡◌, ◌≢◌, ℕ, ◌<◌, ◌≤◌, ◌⊎◌, true, false, List, [], ◌∷◌, ◌++◌, length, Option, Some, None}
+use Rattle.std.specs.Prelude.{◌≡◌, ℕ, ◌<◌, ◌≤◌, ◌⊎◌, true, false, List, [], ◌∷◌, ◌++◌, length, Option, Some, None}
 use Rattle.core_state.specs.declared.shape.Shape.{Shape}
 use Rattle.core_state.specs.declared.view.Gap.{Gap}
 use Rattle.core_state.specs.declared.view.Listing.{Listing}
 use Rattle.core_state.specs.declared.view.Visit.{Visit}
 use Rattle.core_state.specs.parts.ListingParts.{low_bound}
-use Rattle.list_laws.specs.Counts.{IsIn}
-use Rattle.seat_table.specs.Gains.{IsSlot}
 use Rattle.exact_list.specs.declared.way.TheConstants.{KEPT}
 use Rattle.exact_list.specs.declared.way.Next.{Next}
 use Rattle.exact_list.specs.declared.way.Next.TheVariants.{At, Done, Lost}
 use Rattle.exact_list.specs.declared.way.Passed.{Passed}
 use Rattle.exact_list.specs.declared.way.Way.{Way}
+use Rattle.exact_list.specs.Walked.{KnowsKey, Leads}
 
 -- One slot more on the way. Only where the way was full, it was cut, and the slot is the only one.
 abbrev pub HasPassed : Way → Passed → Way → Type 0
@@ -31,15 +30,10 @@ NextIs way from (At p) new = (way.passed.items ≡ new.passed.items ++ p ∷ [])
 NextIs way from Done new = (way.passed.items ≡ []) × (way.cut ≡ false)
 NextIs way from Lost new = (new.passed.items ≡ []) × (new.cut ≡ false) × IsLostAt way from
 
--- a slot of the table that isn't the root
-abbrev pub IsNode : Shape → ℕ → Type 0
-IsNode k s = (s ≢ 0) × IsSlot k s
-
 -- a slot where the walk has been, with the key that it found there, and this upper bound
 pub record IsKept (k : Shape) (visits : List Visit) (high : Option ℕ) (p : Passed) : Type 0 where
   pub low : Option ℕ
-  pub node : IsNode k p.slot
-  pub here : IsIn visits (record { slot = p.slot; key = Some p.key; bounds = record { low = low; high = high } })
+  pub known : KnowsKey k visits p.slot p.key (record { low = low; high = high })
 
 -- The walk was at each of these slots. The upper bound is the first number at the first, the key of the one before at each other, and the
 -- key of the last where the walk is now.
@@ -47,13 +41,12 @@ abbrev pub AreKept : Shape → List Visit → Option ℕ → List Passed → Opt
 AreKept k visits first [] high = high ≡ first
 AreKept k visits first (p ∷ ps) high = IsKept k visits first p × AreKept k visits (Some p.key) ps high
 
--- Where a walk for keys from one on has come to by its latest link: to a slot of the table, or to an end, which shows a gap. Where nothing
--- was given up of its way, the first slot has no upper bound.
+-- Where a walk for keys from one on has come to by its latest link. Where nothing was given up of its way, the first slot has no upper
+-- bound.
 pub record HasCome (k : Shape) (l : Listing) (from link : ℕ) (way : Way) : Type 0 where
   pub bounds : Gap
   pub low : low_bound bounds.low ≤ from
   pub first : Option ℕ
   pub whole : way.cut ≡ false → first ≡ None
   pub kept : AreKept k l.visits first way.passed.items bounds.high
-  pub here : link ≢ 0 → IsSlot k link × IsIn l.visits (record { slot = link; key = None; bounds = bounds })
-  pub ended : link ≡ 0 → IsIn l.gaps bounds
+  pub leads : Leads k l bounds link

@@ -39,6 +39,7 @@ fn attempt<P: Patience, W: WaitPart>(
     ensures capacity { IfOk result (λ _. page.new.capacity ≡ page.old.capacity) }
     ensures tried { IfOk result (λ answer. (t : Try) × HasTried seat.old.view keys.now.low (t ∷ []) seat.new.view
         × EndAs answer 1 (t ∷ [])) }
+    ensures left_off { IfErr result (λ _. (t : Try) × HasTried seat.old.view keys.now.low (t ∷ []) seat.new.view) }
     ensures holds { IfOk result (λ answer. Holds answer keys.now seat.new.view.seen page.new) }
     ensures recent { IfOk result (λ answer. IsRecent answer seat.old.view.seen seat.new.view.seen) }
     ensures tired { IfErr result (λ _. HasMade (P.least patience.now) seat.new.view) }
@@ -50,10 +51,11 @@ fn attempt<P: Patience, W: WaitPart>(
         W::leave(table, seat);
         return Ok(Listed::Moved { first, last: first });
     }
-    let next = gather(patience, table, seat, keys, page)?;
+    let gathered = gather(patience, table, seat, keys, page);
     // The same number again: no update came between, so what was found is so at that front. docs/TREE_CALLS.md#lists-of-a-key-range
     let last = steps::look_at_front(table, seat);
     W::leave(table, seat);
+    let next = gathered?;
     if last != first {
         page.clear();
         return Ok(Listed::Moved { first, last });
@@ -85,8 +87,8 @@ pub fn list<P: Patience, W: WaitPart>(
     requires quiet { IsQuietSeat seat.old }
     requires tries { 1 ≤ tries }
     ensures seat { (seat.new.table ≡ seat.old.table) × (seat.new.listed ≡ seat.old.listed) }
-    ensures quiet { IfOk result (λ _. IsQuietSeat seat.new) }
-    ensures tickets { IfOk result (λ _. seat.new.view.allowance.tickets ≡ seat.old.view.allowance.tickets) }
+    ensures quiet { IsQuietSeat seat.new }
+    ensures tickets { seat.new.view.allowance.tickets ≡ seat.old.view.allowance.tickets }
     ensures capacity { IfOk result (λ _. page.new.capacity ≡ page.old.capacity) }
     ensures tried { IfOk result (λ answer. (made : List Try) × HasTried seat.old.view keys.low made seat.new.view
         × EndAs answer tries made) }

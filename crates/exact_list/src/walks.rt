@@ -33,6 +33,7 @@ fn descend<P: Patience, W: WaitWords>(
     ensures seat { (seat.new.table ≡ seat.old.table) × (seat.new.listed ≡ seat.old.listed) }
     ensures ended { IfOk result (λ _. (loaded : HasLoaded seat.old.view seat.new.view)
         × HasCome (shape_of W.WAY table.now) loaded.after from 0 way.new) }
+    ensures left_off { IfErr result (λ _. HasLoaded seat.old.view seat.new.view) }
     ensures tired { IfErr result (λ _. HasMade (P.least patience.now) seat.new.view) }
 {
     for round in 0..u64::MAX {
@@ -67,6 +68,7 @@ pub(crate) fn gather<P: Patience, W: WaitWords>(
     ensures page { IfOk result (λ _. (page.new.capacity ≡ page.old.capacity) × (length page.new.pairs ≤ page.new.capacity)) }
     ensures gathered { IfOk result (λ answer. (loaded : HasLoaded seat.old.view seat.new.view)
         × Gathers loaded.after keys.now page.new answer) }
+    ensures left_off { IfErr result (λ _. HasLoaded seat.old.view seat.new.view) }
     ensures tired { IfErr result (λ _. HasMade (P.least patience.now) seat.new.view) }
 {
     let mut from = keys.low();

@@ -1,20 +1,29 @@
 use Rattle.std.proofs.Common.{rules, ◌≡◌, ℕ, List, ◌++◌, ◌∷◌, [], ap, subst, ◌∙◌}
 use Rattle.core_state.specs.declared.view.View.{View}
-use Rattle.seat_table.specs.Seats.{IsQuietSeat, SeatAt}
-use Rattle.seat_table.proofs.Seating.{still_quiet}
-use Rattle.exact_list.specs.Tries.{HasTried, Try}
 use Rattle.exact_list.specs.Answers.{EndAs}
-use Rattle.exact_list.proofs.Trying.{tried_both}
+use Rattle.exact_list.proofs.Trying.{tried_both, quiet_tried}
 use Rattle.exact_list.proofs.Standing.{ends_later, recent_later}
 use Rattle.exact_list.proofs.listing.list.Goals as goal
 
--- tries leave a quiet seat quiet
-quiet_tried : (s t : SeatAt) (key : ℕ) (tries : List Try) → HasTried s.view key tries t.view → t.listed ≡ s.listed → IsQuietSeat s
-    → IsQuietSeat t
-quiet_tried s t key tries tried listed quiet =
-    let is = tried.others in
-    still_quiet s t (ap (λ (v : View). v.section) is) (ap (λ (v : View). v.locks) is) (ap (λ (v : View). v.hands) is)
-    (ap (λ (v : View). v.moving) is) (ap (λ (v : View). v.commit) is) listed quiet
+pub returns-in_err-listed-clause-quiet : goal.returns-in_err-listed-clause-quiet
+returns-in_err-listed-clause-quiet g c = let t = c.in_err-listed.ensures.left_off in
+    quiet_tried c.args.seat.now c.attempt.new.seat c.args.keys.low (t.0 ∷ []) t.1 c.attempt.ensures.seat.1 c.requires.quiet
+
+pub returns-in_err-listed-clause-tickets : goal.returns-in_err-listed-clause-tickets
+returns-in_err-listed-clause-tickets g c = ap (λ (v : View). v.allowance.tickets) c.in_err-listed.ensures.left_off.1.others
+
+pub returns-in_err-listed-in-Moved-clause-quiet : goal.returns-in_err-listed-in-Moved-clause-quiet
+returns-in_err-listed-in-Moved-clause-quiet g c =
+    let i = c.loop-tried.invariant in
+    let t = c.in_err-listed-in-Moved.ensures.left_off in
+    let key = c.args.keys.low in
+    quiet_tried c.loop-tried.seat c.attempt-in-Moved.new.seat key (t.0 ∷ []) t.1 c.attempt-in-Moved.ensures.seat.1
+    (quiet_tried c.args.seat.now c.loop-tried.seat key i.tried.0 i.tried.1 i.listed c.requires.quiet)
+
+pub returns-in_err-listed-in-Moved-clause-tickets : goal.returns-in_err-listed-in-Moved-clause-tickets
+returns-in_err-listed-in-Moved-clause-tickets g c =
+    ap (λ (v : View). v.allowance.tickets) c.in_err-listed-in-Moved.ensures.left_off.1.others
+    ∙ ap (λ (v : View). v.allowance.tickets) c.loop-tried.invariant.tried.1.others
 
 pub attempt-requires-in-Moved-clause-outside : goal.attempt-requires-in-Moved-clause-outside
 attempt-requires-in-Moved-clause-outside g c =

@@ -1,7 +1,7 @@
 use Rattle.std.proofs.Common.{◌+◌, refl, sym, ap, subst, ◌∙◌, length, arith}
 use Rattle.seat_table.specs.Seats.{shape_of}
-use Rattle.exact_list.proofs.Loading.{still_listing}
-use Rattle.exact_list.proofs.Walking.{may_begin}
+use Rattle.exact_list.proofs.Loading.{still_listing, loaded_both, if_err}
+use Rattle.exact_list.proofs.Following.{may_begin}
 use Rattle.exact_list.proofs.Gathering.{Gathered, starts, descends, may_restart, restarts, ends, meets, ends_below, may_value_met, has_value, gathers_pair, may_go_right, walks_on}
 use Rattle.seat_table.proofs.Rounding.{makes_steps, told_steps}
 use Rattle.exact_list.proofs.walks.gather.Goals as goal
@@ -28,6 +28,10 @@ loop-round-init g c =
 pub descend-requires-clause-come : goal.descend-requires-clause-come
 descend-requires-clause-come g c =
     let w = c.loop-round.invariant.walks in (still_listing c.args.seat.now.view c.loop-round.seat.view w.loaded, w.come)
+
+pub returns-in_err-descend-clause-left_off : goal.returns-in_err-descend-clause-left_off
+returns-in_err-descend-clause-left_off g c = if_err c.from_residual.result (loaded_both
+    c.args.seat.now.view c.loop-round.seat.view c.descend.new.seat.view c.loop-round.invariant.walks.loaded c.in_err-descend.ensures.left_off).0
 
 pub returns-in-Done-clause-gathered : goal.returns-in-Done-clause-gathered
 returns-in-Done-clause-gathered g c =

@@ -1,0 +1,99 @@
+use Rattle.std.proofs.Common.{rules, [], ◌∷◌, refl, ap, ◌∙◌, arith}
+use Rattle.core_state.specs.declared.view.View.{View}
+use Rattle.seat_table.specs.Seats.{shape_of}
+use Rattle.seat_table.proofs.Rounding.{told_steps, makes_steps}
+use Rattle.exact_list.proofs.Loading.{loaded_anyway, if_err}
+use Rattle.exact_list.proofs.Trying.{first_try, loaded_try, may_look, begun_listing}
+use Rattle.exact_list.proofs.Holding.{lists_holding, may_give, alone, alone_recent, quiet_alone, alone_tickets, quiet_lost}
+use Rattle.exact_list.proofs.Nearing.{alone_nearest}
+use Rattle.exact_list.proofs.nearest.look_alone.Goals as goal
+
+pub enter-requires-clause-outside : goal.enter-requires-clause-outside
+enter-requires-clause-outside g c = ap (λ (v : View). v.section) c.in_ok-front.ensures.taken.others ∙ c.requires.quiet.view.section
+
+pub enter-requires-clause-unlocked : goal.enter-requires-clause-unlocked
+enter-requires-clause-unlocked g c = ap (λ (v : View). v.locks) c.in_ok-front.ensures.taken.others ∙ c.requires.quiet.view.locks
+
+pub seek_pair-sought-requires-clause-listing : goal.seek_pair-sought-requires-clause-listing
+seek_pair-sought-requires-clause-listing g c =
+    let k = shape_of g.W.WaitWords.WAY c.args.table.now in
+    let v = c.take_front.new.seat.view in
+    let i = first_try k v c.args.from c.args.from c.enter.new.seat.view c.look_at_front.result c.look_at_front.new.seat.view
+    refl c.enter.ensures.entered c.look_at_front.ensures.told in
+    begun_listing v c.args.from c.look_at_front.result c.look_at_front.new.seat.view i
+
+pub look_at_front-requires-2-clause-asks : goal.look_at_front-requires-2-clause-asks
+look_at_front-requires-2-clause-asks g c = λ told.
+    let k = shape_of g.W.WaitWords.WAY c.args.table.now in
+    let v = c.take_front.new.seat.view in
+    let first = c.look_at_front.result in
+    let a = c.look_at_front.new.seat.view in
+    let b = c.seek_pair-sought.new.seat.view in
+    let i = first_try k v c.args.from c.args.from c.enter.new.seat.view first a refl c.enter.ensures.entered
+    c.look_at_front.ensures.told in
+    may_look v c.args.from (first ∷ []) b (loaded_try v c.args.from (first ∷ []) a i b
+    (loaded_anyway _ c.seek_pair-sought.result c.seek_pair-sought.ensures.found c.seek_pair-sought.ensures.left_off)) k
+
+pub give_front_back-requires-clause-asks : goal.give_front_back-requires-clause-asks
+give_front_back-requires-clause-asks g c =
+    may_give (lists_holding c.requires.quiet.view.section c.in_ok-front.ensures.taken refl c.enter.ensures.entered
+    c.look_at_front.ensures.told
+    (loaded_anyway _ c.seek_pair-sought.result c.seek_pair-sought.ensures.found c.seek_pair-sought.ensures.left_off)
+    c.look_at_front-2.ensures.told c.leave.ensures.left)
+
+pub returns-in_err-front-clause-quiet : goal.returns-in_err-front-clause-quiet
+returns-in_err-front-clause-quiet g c = quiet_lost c.in_err-front.ensures.lost c.take_front.ensures.seat.1 c.requires.quiet
+
+pub returns-in_err-front-clause-tickets : goal.returns-in_err-front-clause-tickets
+returns-in_err-front-clause-tickets g c = ap (λ (v : View). v.allowance.tickets) c.in_err-front.ensures.lost.others
+
+pub returns-in_err-pair-clause-quiet : goal.returns-in_err-pair-clause-quiet
+returns-in_err-pair-clause-quiet g c =
+    let x = lists_holding c.requires.quiet.view.section c.in_ok-front.ensures.taken refl c.enter.ensures.entered
+    c.look_at_front.ensures.told c.in_err-pair.ensures.left_off c.look_at_front-2.ensures.told c.leave.ensures.left in
+    quiet_alone (alone x refl c.give_front_back.new.seat.view c.give_front_back.ensures.told) (search rules) c.requires.quiet
+
+pub returns-in_err-pair-clause-tickets : goal.returns-in_err-pair-clause-tickets
+returns-in_err-pair-clause-tickets g c =
+    let x = lists_holding c.requires.quiet.view.section c.in_ok-front.ensures.taken refl c.enter.ensures.entered
+    c.look_at_front.ensures.told c.in_err-pair.ensures.left_off c.look_at_front-2.ensures.told c.leave.ensures.left in
+    alone_tickets (alone x refl c.give_front_back.new.seat.view c.give_front_back.ensures.told)
+
+pub returns-in_err-pair-clause-tired : goal.returns-in_err-pair-clause-tired
+returns-in_err-pair-clause-tired g c =
+    let made = c.in_err-pair.ensures.tired in
+    let look = told_steps c.look_at_front-2.ensures.told in
+    let leave = makes_steps c.look_at_front-2.new.seat.view c.leave.new.seat.view c.leave.ensures.left.made in
+    let give = told_steps c.give_front_back.ensures.told in
+    if_err c.from_residual-in_err-pair.result (omega (arith, made, look, leave, give))
+
+pub returns-clause-quiet : goal.returns-clause-quiet
+returns-clause-quiet g c =
+    let x = lists_holding c.requires.quiet.view.section c.in_ok-front.ensures.taken refl c.enter.ensures.entered
+    c.look_at_front.ensures.told c.in_ok-pair.ensures.found.0 c.look_at_front-2.ensures.told c.leave.ensures.left in
+    quiet_alone (alone x c.front_of.ensures c.give_front_back.new.seat.view c.give_front_back.ensures.told) (search rules) c.requires.quiet
+
+pub returns-clause-tickets : goal.returns-clause-tickets
+returns-clause-tickets g c =
+    let x = lists_holding c.requires.quiet.view.section c.in_ok-front.ensures.taken refl c.enter.ensures.entered
+    c.look_at_front.ensures.told c.in_ok-pair.ensures.found.0 c.look_at_front-2.ensures.told c.leave.ensures.left in
+    alone_tickets (alone x c.front_of.ensures c.give_front_back.new.seat.view c.give_front_back.ensures.told)
+
+pub returns-clause-alone : goal.returns-clause-alone
+returns-clause-alone g c =
+    let x = lists_holding c.requires.quiet.view.section c.in_ok-front.ensures.taken refl c.enter.ensures.entered
+    c.look_at_front.ensures.told c.in_ok-pair.ensures.found.0 c.look_at_front-2.ensures.told c.leave.ensures.left in
+    alone x c.front_of.ensures c.give_front_back.new.seat.view c.give_front_back.ensures.told
+
+pub returns-clause-holds : goal.returns-clause-holds
+returns-clause-holds g c =
+    let x = lists_holding c.requires.quiet.view.section c.in_ok-front.ensures.taken refl c.enter.ensures.entered
+    c.look_at_front.ensures.told c.in_ok-pair.ensures.found.0 c.look_at_front-2.ensures.told c.leave.ensures.left in
+    alone_nearest x c.front_of.ensures c.give_front_back.new.seat.view c.give_front_back.ensures.told c.args.side c.args.from
+    c.in_ok-pair.pair c.in_ok-pair.ensures.found.1
+
+pub returns-clause-recent : goal.returns-clause-recent
+returns-clause-recent g c =
+    let x = lists_holding c.requires.quiet.view.section c.in_ok-front.ensures.taken refl c.enter.ensures.entered
+    c.look_at_front.ensures.told c.in_ok-pair.ensures.found.0 c.look_at_front-2.ensures.told c.leave.ensures.left in
+    alone_recent x c.front_of.ensures c.give_front_back.new.seat.view c.give_front_back.ensures.told

@@ -1,0 +1,98 @@
+//! Lists that always come: where others update in each try, the list goes on alone, under a front that it holds.
+ghost use Rattle.std.specs.Prelude.{◌≡◌, ◌≤◌, IfOk, IfErr};
+ghost use Rattle.seat_table.specs.Rounds.{HasMade};
+ghost use Rattle.seat_table.specs.Seats.{IsQuietSeat};
+ghost use Rattle.exact_list.specs.Alone.{HasListed, HasListedAlone, HoldsExactly};
+ghost use Rattle.exact_list.specs.Answers.{IsBetweenFronts};
+
+use crate::front::take_front;
+use crate::listing::{Listed, list};
+use crate::page::Page;
+use crate::walks::gather;
+use core_state::front_of;
+use key_interval::Keys;
+use patience::Patience;
+use seat_table::{CitrusTable, Seat, WaitPart, steps};
+
+/// A list that came: the page holds the pairs that the dictionary had in the range after so many updates.
+#[derive(Clone, Copy, Debug, PartialEq, Eq)]
+pub struct Exact {
+    /// How many updates.
+    pub front: u64,
+    /// The key after those on the page, where there were more pairs than it is for.
+    pub next: Option<u64>,
+}
+
+// A list that no update comes between: the front is held for one walk. Others' updates wait meanwhile, and it waits for those that
+// have the front before it. Where the patience ends, the front isn't held.
+fn list_alone<P: Patience, W: WaitPart>(
+    patience: &P,
+    table: &CitrusTable<W>,
+    seat: &mut Seat<W>,
+    keys: &Keys,
+    page: &mut Page,
+) -> Result<Exact, P::Tired>
+    requires table { seat.old.table ≡ table.now }
+    requires quiet { IsQuietSeat seat.old }
+    ensures seat { (seat.new.table ≡ seat.old.table) × (seat.new.listed ≡ seat.old.listed) }
+    ensures quiet { IsQuietSeat seat.new }
+    ensures tickets { seat.new.view.allowance.tickets ≡ seat.old.view.allowance.tickets }
+    ensures capacity { IfOk result (λ _. page.new.capacity ≡ page.old.capacity) }
+    ensures alone { IfOk result (λ answer. HasListedAlone seat.old.view keys.now.low answer.front seat.new.view) }
+    ensures holds { IfOk result (λ answer. HoldsExactly answer keys.now seat.new.view.seen page.new) }
+    ensures recent { IfOk result (λ answer. IsBetweenFronts answer.front seat.old.view.seen seat.new.view.seen) }
+    ensures tired { IfErr result (λ _. HasMade (P.least patience.now) seat.new.view) }
+{
+    page.clear();
+    let front = take_front(patience, table, seat)?;
+    // Not before: whoever waits for readers would wait as long as this one for the front.
+    W::enter(table, seat, keys.low());
+    steps::look_at_front(table, seat);
+    let gathered = gather(patience, table, seat, keys, page);
+    // Both looks find the front as this seat made it. The second shows that what was found is so.
+    steps::look_at_front(table, seat);
+    W::leave(table, seat);
+    steps::give_front_back(table, seat, front);
+    let next = gathered?;
+    Ok(Exact {
+        front: front_of(front),
+        next,
+    })
+}
+
+/// Lists the pairs with these keys on the page, keys ascending, as the dictionary had them after some number of updates: the front. It
+/// always comes. First it makes so many tries, as [`list`](crate::list): without a lock, and each beside others' updates. Where updates
+/// were made in all of them it takes the front, so that no update comes between, lists, and gives the front back.
+///
+/// Updates wait for it while it has the front: for one walk. It waits for the updates that have the front before it. Readers wait for
+/// nothing, and it waits for no reader. The front isn't before what the seat has seen. No memory is asked for, and no ticket is taken.
+pub fn list_always<P: Patience, W: WaitPart>(
+    patience: &P,
+    table: &CitrusTable<W>,
+    seat: &mut Seat<W>,
+    keys: Keys,
+    page: &mut Page,
+    tries: u32,
+) -> Result<Exact, P::Tired>
+    requires table { seat.old.table ≡ table.now }
+    requires quiet { IsQuietSeat seat.old }
+    requires tries { 1 ≤ tries }
+    ensures seat { (seat.new.table ≡ seat.old.table) × (seat.new.listed ≡ seat.old.listed) }
+    ensures quiet { IsQuietSeat seat.new }
+    ensures tickets { seat.new.view.allowance.tickets ≡ seat.old.view.allowance.tickets }
+    ensures capacity { IfOk result (λ _. page.new.capacity ≡ page.old.capacity) }
+    ensures came { IfOk result (λ answer. HasListed seat.old.view keys.low answer.front tries seat.new.view) }
+    ensures holds { IfOk result (λ answer. HoldsExactly answer keys seat.new.view.seen page.new) }
+    ensures recent { IfOk result (λ answer. IsBetweenFronts answer.front seat.old.view.seen seat.new.view.seen) }
+    ensures tired { IfErr result (λ _. HasMade (P.least patience.now) seat.new.view) }
+{
+    let listed = list(patience, table, seat, keys, page, tries)?;
+    match listed {
+        Listed::Whole { front } => Ok(Exact { front, next: None }),
+        Listed::Part { front, next } => Ok(Exact {
+            front,
+            next: Some(next),
+        }),
+        Listed::Moved { .. } => list_alone(patience, table, seat, &keys, page),
+    }
+}

@@ -1,0 +1,49 @@
+//! The front, taken for a while: no other seat makes an update meanwhile.
+ghost use Rattle.std.specs.Prelude.{◌≡◌, ◌%◌, ◌≤◌, None, IfOk, IfErr};
+ghost use Rattle.prcu_marks.specs.Bounds.{most_front};
+ghost use Rattle.seat_table.specs.Rounds.{HasMade};
+ghost use Rattle.exact_list.specs.Fronts.{LosesFront, TakesFront};
+
+use patience::Patience;
+use seat_table::{CitrusTable, Seat, WaitWords, steps};
+
+// The number itself, or the next one, whichever is even.
+fn even_from(number: u64) -> u64
+    ensures even { result % 2 ≡ 0 }
+{
+    if number % 2 == 0 {
+        number
+    } else {
+        number.wrapping_add(1)
+    }
+}
+
+/// Makes the front odd, and answers the even number that it was. It waits while another seat has it. From then on no other seat makes an
+/// update, until this one makes the front even again: by [`steps::close_commit`] after its own update, or without one by
+/// [`steps::give_front_back`].
+pub(crate) fn take_front<P: Patience, W: WaitWords>(
+    patience: &P,
+    table: &CitrusTable<W>,
+    seat: &mut Seat<W>,
+) -> Result<u64, P::Tired>
+    requires table { seat.old.table ≡ table.now }
+    requires settled { seat.old.view.moving ≡ None }
+    requires paid { seat.old.view.commit ≡ None }
+    ensures seat { (seat.new.table ≡ seat.old.table) × (seat.new.listed ≡ seat.old.listed) }
+    ensures few { IfOk result (λ answer. answer ≤ most_front) }
+    ensures taken { IfOk result (λ answer. TakesFront seat.old.view answer seat.new.view) }
+    ensures lost { IfErr result (λ _. LosesFront seat.old.view seat.new.view) }
+    ensures tired { IfErr result (λ _. HasMade (P.least patience.now) seat.new.view) }
+{
+    let mut pauses = patience.pauses();
+    let mut expected = even_from(seat.front_seen());
+    for round in 0..u64::MAX {
+        let found = steps::open_commit(table, seat, expected);
+        if found == expected {
+            return Ok(found);
+        }
+        expected = even_from(found);
+        patience.pause(&mut pauses)?;
+    }
+    Err(patience.tired())
+}
