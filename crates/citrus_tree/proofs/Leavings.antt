@@ -1,5 +1,5 @@
 -- What steps and searches leave of marks, and what they leave alone.
-use Rattle.std.proofs.Common.{◌≡◌, ℕ, ◌==◌, cond, Bool, true, false, List, [], ◌∷◌, ◌++◌, length, Option, refl, sym, ap, subst, ◌∙◌, append_assoc, append-nil, arith}
+use Rattle.std.proofs.Common.{◌≡◌, ℕ, ◌+◌, ◌==◌, cond, Bool, true, false, List, [], ◌∷◌, ◌++◌, length, Option, None, refl, sym, ap, subst, ◌∙◌, append_assoc, append-nil, arith}
 use mathlib.Core.List.{IsPrefix}
 use Rattle.prcu_marks.specs.declared.mark.Mark.{Mark}
 use Rattle.prcu_marks.specs.declared.mark.Mark.TheVariants.{Entered, Left as LeftMark}
@@ -11,10 +11,14 @@ use Rattle.prcu_model.specs.Dictionary.{WasSaid}
 use Rattle.prcu_model.proofs.ListFacts.{prefix_trans}
 use Rattle.std.proofs.Common.{eq-eqb}
 use Rattle.core_state.specs.declared.shape.Shape.{Shape}
+use Rattle.core_state.specs.declared.view.Reading.{Reading}
 use Rattle.core_state.specs.declared.view.View.{View}
+use Rattle.core_state.specs.declared.words.Kind.{Kind}
 use Rattle.core_frames.proofs.views.SeatFacts.{works_there}
 use Rattle.core_acts.specs.declared.act.Act.TheVariants as acts
 use Rattle.core_acts.specs.declared.act.Part.{Part}
+use Rattle.seat_table.specs.Gains.{Sees}
+use Rattle.seat_table.specs.Sections.{Makes}
 use Rattle.seat_table.specs.Told.{Told}
 use Rattle.tree_points.specs.Progress.{HasGone}
 use Rattle.tree_points.proofs.Gone.{allowed, further_by, gone_none, gone_on, gone_stays, gone_same}
@@ -74,40 +78,54 @@ pub goes_closed : {v w : View} → Closed v w → Goes v w []
 goes_closed e = with_rest (gone_none e.steps (allowed e.rest refl) (ap (λ (z : View). z.seen) e.rest)) _ e.rest
     (record { retired = refl; wait = refl; waits = refl })
 
-module _ {v w : View} {key : ℕ} {answer : Option ℕ} (l : Looked v key answer w) where
-  -- the marks of the section
-  abbrev pub section_marks : List Mark
-  section_marks = Entered v.allowance.place v.counts.sections key ∷ (LeftMark v.allowance.place v.counts.sections ∷ [])
-
-  to_end : IsPrefix l.before w.seen
-  to_end = subst (IsPrefix l.before) (sym l.seen)
-      (prefix_trans l.before (l.before ++ Entered v.allowance.place v.counts.sections key
+-- A section with the key was entered after these marks and left after those, with no mark of its place in between.
+module _ (v w : View) (key : ℕ) (before until : List Mark)
+    (within : IsPrefix (before ++ Entered v.allowance.place v.counts.sections key ∷ []) until)
+    (between : own_of v.allowance.place until ≡ own_of v.allowance.place before ++ Entered v.allowance.place v.counts.sections key ∷ [])
+    (seen : w.seen ≡ until ++ LeftMark v.allowance.place v.counts.sections ∷ []) where
+  to_end : IsPrefix before w.seen
+  to_end = subst (IsPrefix before) (sym seen)
+      (prefix_trans before (before ++ Entered v.allowance.place v.counts.sections key
       ∷ []) _ (Entered v.allowance.place v.counts.sections key ∷ [], refl)
-      (prefix_trans _ l.until _ l.within (LeftMark v.allowance.place v.counts.sections ∷ [], refl)))
+      (prefix_trans _ until _ within (LeftMark v.allowance.place v.counts.sections ∷ [], refl)))
 
-  own_looked : own_of v.allowance.place w.seen ≡ own_of v.allowance.place l.before
+  own_section : own_of v.allowance.place w.seen ≡ own_of v.allowance.place before
       ++ Entered v.allowance.place v.counts.sections key ∷ (LeftMark v.allowance.place v.counts.sections ∷ [])
-  own_looked =
+  own_section =
       let p : ℕ = v.allowance.place in
       let e : Mark = Entered p v.counts.sections key in
       let m : Mark = LeftMark p v.counts.sections in
-      let last : own_of p w.seen ≡ own_of p l.until ++ m ∷ [] =
-      ap (own_of p) l.seen ∙ own_of-append p l.until (m ∷ []) ∙ ap (λ b. own_of p l.until ++ cond b (m ∷ []) []) (eq-eqb p p refl) in
-      last ∙ ap (λ o. o ++ m ∷ []) l.between ∙ append_assoc (own_of p l.before) (e ∷ []) (m ∷ [])
+      let last : own_of p w.seen ≡ own_of p until ++ m ∷ [] =
+      ap (own_of p) seen ∙ own_of-append p until (m ∷ []) ∙ ap (λ b. own_of p until ++ cond b (m ∷ []) []) (eq-eqb p p refl) in
+      last ∙ ap (λ o. o ++ m ∷ []) between ∙ append_assoc (own_of p before) (e ∷ []) (m ∷ [])
 
-  pub goes_looked : Goes v w (Entered v.allowance.place v.counts.sections key ∷ (LeftMark v.allowance.place v.counts.sections ∷ []))
-  goes_looked =
+  -- it left these two, and changed nothing else
+  pub goes_section : {which : Kind → Bool} {r : Reading} → Sees v before → Makes which v.trail w.trail
+      → w ≡ record v {
+        enter = w.enter;
+        section = None;
+        records = r ∷ v.records;
+        counts = record v.counts { sections = v.counts.sections + 1 };
+        trail = w.trail;
+        seen = w.seen;
+      }
+      → Goes v w (Entered v.allowance.place v.counts.sections key ∷ (LeftMark v.allowance.place v.counts.sections ∷ []))
+  goes_section sees made others =
       let p : ℕ = v.allowance.place in
-      let before : own_of p v.seen ≡ own_of p l.before = l.sees.own p (works_there v l.sees.works) in
+      let same : own_of p v.seen ≡ own_of p before = sees.own p (works_there v sees.works) in
       with_rest
       (record {
-        steps = further_by v w _ l.made.trail refl;
-        same = ap (λ (z : View). z.allowance.place) l.others;
-        allowance = allowed l.others refl;
-        begins = prefix_trans v.seen l.before w.seen l.sees.begins to_end;
-        own = own_looked ∙ ap (λ o. o ++ Entered p v.counts.sections key ∷ (LeftMark p v.counts.sections ∷ [])) (sym before);
+        steps = further_by v w _ made.trail refl;
+        same = ap (λ (z : View). z.allowance.place) others;
+        allowance = allowed others refl;
+        begins = prefix_trans v.seen before w.seen sees.begins to_end;
+        own = own_section ∙ ap (λ o. o ++ Entered p v.counts.sections key ∷ (LeftMark p v.counts.sections ∷ [])) (sym same);
       })
-      _ l.others (record { retired = refl; wait = refl; waits = refl })
+      _ others (record { retired = refl; wait = refl; waits = refl })
+
+module _ {v w : View} {key : ℕ} {answer : Option ℕ} (l : Looked v key answer w) where
+  pub goes_looked : Goes v w (Entered v.allowance.place v.counts.sections key ∷ (LeftMark v.allowance.place v.counts.sections ∷ []))
+  goes_looked = goes_section v w key l.before l.until l.within l.between l.seen l.sees l.made l.others
 
   pub was_answered : {u : View} {marks : List Mark} → HasGone u v marks → WasAnswered u key answer w
   was_answered {u} g = record {
@@ -120,7 +138,8 @@ module _ {v w : View} {key : ℕ} {answer : Option ℕ} (l : Looked v key answer
         ([], append-nil (l.until ++ LeftMark v.allowance.place v.counts.sections ∷ []) ∙ sym l.seen);
     more = [];
     own = subst (λ p. own_of p w.seen ≡ own_of p l.before
-        ++ Entered p v.counts.sections key ∷ (LeftMark p v.counts.sections ∷ [])) g.same own_looked;
+        ++ Entered p v.counts.sections key ∷ (LeftMark p v.counts.sections ∷ [])) g.same
+        (own_section v w key l.before l.until l.within l.between l.seen);
     last = refl;
     said = subst (λ us. WasSaid us key (length (updates_of l.before)) answer)
         (ap updates_of l.seen ∙ updates_of-append l.until (LeftMark v.allowance.place v.counts.sections ∷ [])

@@ -1,2 +1,4 @@
+pub mod GivingUp
 pub mod Storing
 pub mod Replacing
+pub mod Comparing

@@ -1,6 +1,6 @@
 -- What the parts of the calls leave.
 -- Source: docs/TREE_CALLS.md, "The calls".
-use Rattle.std.specs.Prelude.{◌≡◌, ◌⊎◌, ℕ, ◌+◌, ◌≤◌, false, List, [], ◌∷◌, ◌++◌, length, Option, Some, None}
+use Rattle.std.specs.Prelude.{◌≡◌, ◌≢◌, ◌⊎◌, ℕ, ◌+◌, ◌≤◌, false, List, [], ◌∷◌, ◌++◌, length, Option, Some, None}
 use Rattle.std.specs.List.{AllByRecursion}
 use Rattle.std.specs.FinMap as finite
 use mathlib.Core.List.{IsPrefix}
@@ -73,13 +73,14 @@ abbrev pub Searched : Shape → View → ℕ → Option Reached → View → Typ
 Searched k v key None w = (old : ℕ) × Looked v key (Some old) w
 Searched k v key (Some reached) w = (looked : Looked v key None w) × Records looked.reading reached.spot × IsSlot k reached.spot.slot
 
--- A set's search found the slot that has the key, and recorded its generation.
+-- A set's search found the slot that has the key, and recorded its generation. A compare's loaded the value too.
 pub record FoundHolder (k : Shape) (v : View) (key : ℕ) (holder : Holder) (w : View) : Type 0 where
   pub old : ℕ
   pub looked : Looked v key (Some old) w
   pub parent : ℕ
   pub side : Side
-  pub state_is : looked.reading.state ≡ Found holder.slot parent side None
+  pub value : Option ℕ
+  pub state_is : looked.reading.state ≡ Found holder.slot parent side value
   pub generation_is : LoadedGeneration looked.reading holder.slot holder.generation
   pub slot_is : IsSlot k holder.slot
 
@@ -111,6 +112,11 @@ pub record Since (k : Shape) (v : View) (key : ℕ) (marks : List Mark) (w : Vie
 abbrev pub leaf_stage : Option Held → Spot → Stage
 leaf_stage None spot = at.Reserve (Leaf spot) 1
 leaf_stage (Some held) spot = at.LeafLock spot
+
+-- another value than the one that is asked for, if one is
+abbrev pub IsOther : Option ℕ → ℕ → Type 0
+IsOther None value = ⊥
+IsOther (Some wanted) value = value ≢ wanted
 
 -- the value was stored: just before its update the dictionary gave the key the old one
 abbrev pub Stores : View → ℕ → ℕ → Replaced → View → Type 0

@@ -5,6 +5,7 @@ pub mod Gone
 pub mod Going
 pub mod Putting
 pub mod Replies
+pub mod Compares
 pub mod Clients
 pub mod Deletes
 pub mod Beginnings

@@ -11,9 +11,9 @@ use patience::Patience;
 use prcu_marks::Gate;
 use seat_table::{CitrusTable, Part, Seat, WaitPart, steps};
 
-/// The key's value, in a section with the key that stays open until `release`: a wait whose keys have this one among them, and that begins
-/// meanwhile, is over only after that. Where the key is absent the section is left, as a get leaves it. It takes no lock and waits for
-/// nobody's step.
+/// The key's value, or none, as the dictionary gave it at some time of a section with the key. With a value the section stays open until
+/// `release`: a wait whose keys have this one among them, and that begins meanwhile, is over only after that. With none it was left, as a
+/// get leaves it. It takes no lock and waits for nobody's step, but others' updates can make the search longer.
 // A call would hand its answer through memory.
 #[inline(always)]
 pub fn hold<P: Patience, W: WaitPart, G: Gate>(

@@ -4,6 +4,7 @@
 
 mod answer;
 mod commit;
+mod comparing;
 mod delete;
 mod descent;
 mod hold;
@@ -16,7 +17,8 @@ mod search;
 mod steadfast;
 
 pub use answer::Called;
+pub use comparing::Compared;
 pub use core_points::stage::Spot;
 pub use delete::Removed;
 pub use search::{End, Hop, Search};
-pub use steadfast::{call, del, get, put, remove, set};
+pub use steadfast::{call, compare, del, get, put, remove, set};

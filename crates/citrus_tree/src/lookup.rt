@@ -11,7 +11,7 @@ use prcu_marks::Gate;
 use prcu_model::{Reply, Told};
 use seat_table::{CitrusTable, Seat, WaitPart};
 
-// What the dictionary gave the key at some time of a section that is entered and left.
+// What a hold finds, with its section left.
 fn look_up<P: Patience, W: WaitPart, G: Gate>(
     patience: &P,
     table: &CitrusTable<W>,

@@ -9,6 +9,7 @@ ghost use Rattle.citrus_tree.specs.Clients.{IsTold};
 ghost use Rattle.citrus_tree.specs.Gone.{KeepsSlots, KeepsWait};
 
 use crate::answer::Called;
+pub use crate::comparing::compare;
 pub use crate::delete::{Removed, del, remove};
 pub use crate::hold::{hold, release};
 pub use crate::insert::put;

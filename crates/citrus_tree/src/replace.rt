@@ -1,5 +1,5 @@
 //! A value is replaced.
-ghost use Rattle.std.specs.Prelude.{◌≡◌, ℕ, ◌+◌, ◌≤◌, [], Some, None, IfOk, IfErr};
+ghost use Rattle.std.specs.Prelude.{◌≡◌, ℕ, ◌+◌, ◌≤◌, ◌↔◌, [], Some, None, IsTrue, IfOk, IfErr};
 ghost use Rattle.core_points.specs.declared.stage.Stage.TheVariants as at;
 ghost use Rattle.prcu_model.specs.declared.operation.Op.TheVariants.{Set};
 ghost use Rattle.seat_table.specs.Gains.{IsInformed};
@@ -9,7 +9,7 @@ ghost use Rattle.tree_points.specs.At.{IsAt};
 ghost use Rattle.tree_points.specs.Progress.{KeepsAllowance};
 ghost use Rattle.citrus_tree.specs.declared.replace.Replaced.{Replaced};
 ghost use Rattle.citrus_tree.specs.Beginnings.{BeginsByLookup};
-ghost use Rattle.citrus_tree.specs.Going.{Goes, Sought, Stores, set_stage};
+ghost use Rattle.citrus_tree.specs.Going.{Goes, IsOther, Sought, Stores, set_stage};
 ghost use Rattle.citrus_tree.specs.Gone.{KeepsSlots, KeepsWait};
 ghost use Rattle.citrus_tree.specs.Replies.{Sets};
 
@@ -26,15 +26,15 @@ use seat_table::{CitrusTable, Part, Seat, WaitPart, steps};
 /// A slot that had the key, with its generation then.
 #[derive(Clone, Copy)]
 pub(crate) struct Holder {
-    slot: u32,
-    generation: u64,
+    pub(crate) slot: u32,
+    pub(crate) generation: u64,
 }
 
 /// The value that was replaced, and the update's number.
 #[derive(Clone, Copy)]
 pub(crate) struct Replaced {
-    old: u64,
-    number: u64,
+    pub(crate) old: u64,
+    pub(crate) number: u64,
 }
 
 /// Gives the key another value, where it is present: `Was` with the old value and the update's position. `Absent` as at `get`. It waits
@@ -67,7 +67,7 @@ pub fn set<P: Patience, W: WaitPart, G: Gate>(
             return Ok(answered(gate, seat, Reply::Absent, 0));
         };
         gate.pass(Point::BeforeLock, seat.place());
-        if let Some(done) = store_value(patience, table, seat, holder, key, value)? {
+        if let Some(done) = store_value(patience, table, seat, holder, key, None, value)? {
             return Ok(answered(gate, seat, Reply::Was { value: done.old }, done.number));
         }
         patience.pause(&mut pauses)?;
@@ -108,13 +108,25 @@ fn find_holder<P: Patience, W: WaitPart, G: Gate>(
     }
 }
 
-// Stores the value in the recorded slot; or nothing, where the lock is taken or the slot's life isn't as recorded any more.
-fn store_value<P: Patience, W: WaitPart>(
+// Whether a value is another one than the one that is asked for, if one is.
+fn is_other(expected: Option<u64>, value: u64) -> bool
+    ensures { IsTrue result ↔ IsOther expected value }
+{
+    match expected {
+        Some(wanted) => value != wanted,
+        None => false,
+    }
+}
+
+// Stores the value in the recorded slot; or nothing, where the lock is taken, the slot's life isn't as recorded any more, or its value is
+// another one than the one that is asked for, if one is.
+pub(crate) fn store_value<P: Patience, W: WaitPart>(
     patience: &P,
     table: &CitrusTable<W>,
     seat: &mut Seat<W>,
     holder: Holder,
     key: u64,
+    expected: Option<u64>,
     value: u64,
 ) -> Result<Option<Replaced>, P::Tired>
     requires table { seat.old.table ≡ table.now }
@@ -125,6 +137,7 @@ fn store_value<P: Patience, W: WaitPart>(
     ensures stored { IfOk result (λ answer. (kept : ℕ) (done : Replaced)
         → IsAt (shape_of W.WAY table.now) (Set key value) kept (at.SetLock holder.slot holder.generation) seat.old.view → answer ≡ Some done
         → Stores seat.old.view key value done seat.new.view) }
+    ensures expected { IfOk result (λ answer. (done : Replaced) → answer ≡ Some done → IsOther expected done.old → ⊥) }
     ensures at { IfOk result (λ answer. (kept : ℕ)
         → IsAt (shape_of W.WAY table.now) (Set key value) kept (at.SetLock holder.slot holder.generation) seat.old.view
         → IsAt (shape_of W.WAY table.now) (Set key value) kept (set_stage answer) seat.new.view) }
@@ -143,6 +156,10 @@ fn store_value<P: Patience, W: WaitPart>(
     }
     // Only the lock's holder stores here, so this is the value that the update replaces.
     let old = steps::locked_load(table, seat, holder.slot, Part::Value);
+    if is_other(expected, old) {
+        steps::unlock(table, seat, holder.slot);
+        return Ok(None);
+    }
     let front = open_front(patience, table, seat)?;
     steps::replace_value(table, seat, holder.slot, key, value);
     let number = close_front(table, seat, front);

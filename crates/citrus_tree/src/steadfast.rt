@@ -2,6 +2,7 @@
 ghost use Rattle.std.specs.Prelude.{◌≡◌, ◌+◌, ◌≤◌};
 ghost use Rattle.citrus_tree.specs.Beginnings.{Begins, BeginsByLookup, BeginsOnceReady};
 ghost use Rattle.citrus_tree.specs.Clients.{IsTold};
+ghost use Rattle.citrus_tree.specs.Compares.{Compares};
 ghost use Rattle.citrus_tree.specs.Gone.{KeepsSlots, KeepsWait};
 ghost use Rattle.citrus_tree.specs.Lookups.{Gets};
 ghost use Rattle.citrus_tree.specs.Replies.{Dels, Puts, RetiresInOrder, Sets, TellsValue};
@@ -11,6 +12,7 @@ ghost use Rattle.seat_table.specs.Seats.{IsQuietSeat, shape_of};
 ghost use Rattle.tree_points.specs.Progress.{KeepsAllowance};
 
 use crate::answer::Called;
+use crate::comparing::Compared;
 use crate::delete::Removed;
 use crate::patient;
 use patience::Steadfast;
@@ -96,6 +98,37 @@ pub fn set<R: Wait, W: WaitPart, G: Gate>(
 {
     match patient::set(&Steadfast::new(rt), table, seat, gate, key, value) {
         Ok(told) => told,
+        Err(never) => match never {},
+    }
+}
+
+/// Gives the key another value, where its value is the expected one: `Replaced` with the update's position. Else it changes nothing:
+/// `Differs` with the value that the key had at some time of the call, and `Absent` as at `get`. It waits as a set does, for the holder of
+/// the node's lock and for other updates, and for no reader.
+pub fn compare<R: Wait, W: WaitPart, G: Gate>(
+    rt: &R,
+    table: &CitrusTable<W>,
+    seat: &mut Seat<W>,
+    gate: &G,
+    key: u64,
+    expected: u64,
+    value: u64,
+) -> Compared
+    requires table { seat.old.table ≡ table.now }
+    requires quiet { IsQuietSeat seat.old }
+    requires tickets { 4 ≤ seat.old.view.allowance.tickets }
+    ensures table { seat.new.table ≡ seat.old.table }
+    ensures compares { Compares seat.old.view key expected value result seat.new.view }
+    ensures begins { BeginsByLookup seat.old.view key seat.new.view }
+    ensures quiet { IsQuietSeat seat.new }
+    ensures wait { KeepsWait seat.old.view seat.new.view }
+    ensures slots { KeepsSlots seat.old seat.new }
+    ensures tickets { seat.old.view.allowance.tickets ≤ seat.new.view.allowance.tickets + 4 }
+    ensures allowance { KeepsAllowance seat.old.view seat.new.view }
+    ensures informed { IsInformed seat.new.view }
+{
+    match patient::compare(&Steadfast::new(rt), table, seat, gate, key, expected, value) {
+        Ok(compared) => compared,
         Err(never) => match never {},
     }
 }

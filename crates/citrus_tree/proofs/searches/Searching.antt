@@ -37,7 +37,8 @@ use Rattle.seat_table.specs.Gains.{Sees, IsSlot}
 use Rattle.seat_table.specs.Told.{IsAsked, Told}
 use Rattle.seat_table.specs.Sections.{is_entry, is_exit, HasEntered, HasLeft}
 use Rattle.seat_table.proofs.Sections.{made_none, made_more, made_both}
-use Rattle.citrus_tree.specs.Going.{Sought}
+use Rattle.citrus_tree.specs.Compares.{SoughtValue}
+use Rattle.citrus_tree.specs.Going.{FoundHolder, Sought}
 use Rattle.citrus_tree.specs.Holds.{IsHolding}
 use Rattle.citrus_tree.specs.Hops.{Records}
 use Rattle.citrus_tree.specs.Lookups.{is_load, is_of_lookup, state_parent, IsSearching, Looked}
@@ -300,37 +301,60 @@ module _ (k : Shape) (v : View) (key : ℕ) where
       (said.0, looked (Found s p b None) (Some said.0) w x i l said.1)
 
   -- a search that found its key loads the life of the slot
-  found_aged : (s p : ℕ) (b : Side) (life : ℕ) (w x : View) (i : IsSearching v key (Found s p b None) w)
-      → Told k w (SearchLoad s part.Life) life x → (j : IsSearching v key (Found s p b None) x)
+  found_aged : (s p : ℕ) (b : Side) (value : Option ℕ) (life : ℕ) (w x : View) (i : IsSearching v key (Found s p b value) w)
+      → Told k w (SearchLoad s part.Life) life x → (j : IsSearching v key (Found s p b value) x)
       × (j.reading ≡ noting_load i.reading (Life s) life)
-  found_aged s p b life w x i t =
-      moved_as (Found s p b None) (Found s p b None) s part.Life life w x i t (noting_load i.reading (Life s) life)
+  found_aged s p b value life w x i t =
+      moved_as (Found s p b value) (Found s p b value) s part.Life life w x i t (noting_load i.reading (Life s) life)
       (ap (λ z. searched (noting_load i.reading (Life s) life) z (Life s) life) i.state_is) i.key_is i.state_is i.here i.above
 
   pub needs_found_life : (s p : ℕ) (b : Side) (w : View) → IsSearching v key (Found s p b None) w → IsSlot k s
       → IsAsked k w (SearchLoad s part.Life)
   needs_found_life s p b w i slot = asks (Found s p b None) part.Life w i slot
 
+  -- The life was loaded last, and the section left: the slot that has the key, with its generation then.
+  abbrev aged_holder : (s p : ℕ) (b : Side) (value : Option ℕ) (old life generation : ℕ) (r : Reading) (x y : View) → IsSlot k s
+      → (j : IsSearching v key (Found s p b value) x) → j.reading ≡ noting_load r (Life s) life → (l : Looked v key (Some old) y)
+      → l.reading ≡ j.reading → generation ≡ life / 2 → FoundHolder k v key (record { slot = s; generation = generation }) y
+  aged_holder s p b value old life generation r x y slot j loaded l same half = record {
+    old = old;
+    looked = l;
+    parent = p;
+    side = b;
+    value = value;
+    state_is = ap (λ (z : Reading). z.state) same ∙ j.state_is;
+    generation_is = (
+      life,
+      ap (λ (z : Reading). known_in z.loads (Life s)) (same ∙ loaded)
+          ∙ ap (λ q. cond q (Some life) (known_in r.loads (Life s))) (eq-eqb s s refl),
+      half,
+    );
+    slot_is = slot;
+  }
+
   pub sought : (s p : ℕ) (b : Side) (life generation : ℕ) (w x y : View) → IsSlot k s → IsSearching v key (Found s p b None) w
       → Told k w (SearchLoad s part.Life) life x → HasLeft x y → generation ≡ life / 2
       → Sought k v key (Some (record { slot = s; generation = generation })) y
   sought s p b life generation w x y slot i t left half =
-      let j = found_aged s p b life w x i t in
+      let j = found_aged s p b None life w x i t in
       let l = looked_there_as s p b x y j.0 left in
-      record {
-        old = l.0;
-        looked = l.1.0;
-        parent = p;
-        side = b;
-        state_is = ap (λ (r : Reading). r.state) l.1.1 ∙ j.0.state_is;
-        generation_is = (
-          life,
-          ap (λ (r : Reading). known_in r.loads (Life s)) (l.1.1 ∙ j.1)
-              ∙ ap (λ q. cond q (Some life) (known_in i.reading.loads (Life s))) (eq-eqb s s refl),
-          half,
-        );
-        slot_is = slot;
-      }
+      aged_holder s p b None l.0 life generation i.reading x y slot j.0 j.1 l.1.0 l.1.1 half
+
+  -- the same where the value was loaded before the life
+  pub needs_valued_life : (s p : ℕ) (b : Side) (value : ℕ) (w u : View) → IsSlot k s → IsSearching v key (Found s p b None) w
+      → Told k w (SearchLoad s part.Value) value u → IsAsked k u (SearchLoad s part.Life)
+  needs_valued_life s p b value w u slot i t = asks (Found s p b (Some value)) part.Life u (valued s p b value w u i t) slot
+
+  pub sought_value : (s p : ℕ) (b : Side) (value life generation : ℕ) (w u x y : View) → IsSlot k s → IsSearching v key (Found s p b None) w
+      → Told k w (SearchLoad s part.Value) value u → Told k u (SearchLoad s part.Life) life x → HasLeft x y → generation ≡ life / 2
+      → SoughtValue k v key (Some (record { holder = record { slot = s; generation = generation }; value = value })) y
+  sought_value s p b value life generation w u x y slot i first second left half =
+      let found = valued s p b value w u i first in
+      let j = found_aged s p b (Some value) life u x found second in
+      let l = looked (Found s p b (Some value)) (Some value) x y j.0 left
+      (left.answer.present s p value b (no_list (Found s p b (Some value)) x y j.0 left)
+      (state_at (Found s p b (Some value)) x y j.0 left)) in
+      (aged_holder s p b (Some value) value life generation found.reading x y slot j.0 j.1 l.0 l.1 half, refl)
 
   -- at the end of a search that missed, loads only add what they loaded
   stays : (s : ℕ) (b : Side) (p : Part) (n : ℕ) (w x : View) (i : IsSearching v key (Missed s b) w) → Told k w (SearchLoad s p) n x

@@ -29,7 +29,7 @@ use Rattle.citrus_tree.specs.Gone.{AreTries, IsOfTry, KeepsWait, waits_in}
 use Rattle.citrus_tree.specs.Lookups.{Looked}
 use Rattle.citrus_tree.specs.Beginnings.{BeginsByLookup}
 use Rattle.citrus_tree.proofs.Beginning.{MayHaveBegun, begins_later, begins_looked}
-use Rattle.citrus_tree.specs.Replies.{Sets, WasAnswered}
+use Rattle.citrus_tree.specs.Replies.{HasTried, Sets, WasAnswered}
 use Rattle.citrus_tree.proofs.KeepingWaits.{none_begun}
 use Rattle.citrus_tree.proofs.Leavings.{goes_looked, goes_on, goes_same, goes_stays, was_answered}
 use Rattle.citrus_tree.proofs.sets.Storing.{at_end, at_lock}
@@ -135,6 +135,17 @@ module _ {k : Shape} {key value : ℕ} {v : View} where
         none,
       )
 
+      pub looked_tried : HasTried v key (t.marks
+          ++ (Entered w.allowance.place w.counts.sections key ∷ (LeftMark w.allowance.place w.counts.sections ∷ []))) x
+      looked_tried = record { tried = tries; own = goes.gone }
+
+      pub looked_answered : WasAnswered v key answer x
+      looked_answered = was_answered l t.goes.gone
+
+      pub looked_none : waits_in (t.marks
+          ++ (Entered w.allowance.place w.counts.sections key ∷ (LeftMark w.allowance.place w.counts.sections ∷ []))) ≡ 0
+      looked_none = none
+
       module _ (some_place : 1 ≤ k.places) where
         done : (kept : ℕ) → kept + 4 ≤ v.allowance.tickets → IsDone k (Set key value) kept x
         done kept enough = at_end ((t.ready kept enough).at (record { works = l.sees.works; some_place = some_place })) l
@@ -166,7 +177,7 @@ module _ {k : Shape} {key value : ℕ} {v : View} where
 
       pub locking : (kept : ℕ) → kept + 4 ≤ v.allowance.tickets → IsAt k (Set key value) kept (at.SetLock holder.slot holder.generation) x
       locking kept enough = at_lock ((t.ready kept enough).at (record { works = found.looked.sees.works; some_place = some_place }))
-          found.looked (found.parent, found.side, found.state_is) found.generation_is found.slot_is.inside
+          found.looked (found.parent, found.side, found.value, found.state_is) found.generation_is found.slot_is.inside
 
       pub may_store : (b : ℕ) × IsAt k (Set key value) b (at.SetLock holder.slot holder.generation) x
       may_store = (0, locking 0 few)

@@ -34,6 +34,7 @@ use Rattle.citrus_tree.specs.declared.replace.Holder.{Holder}
 use Rattle.citrus_tree.specs.declared.replace.Replaced.{Replaced}
 use Rattle.citrus_tree.specs.Going.{Goes, Opened, Closed, Stores}
 use Rattle.citrus_tree.specs.Lookups.{Looked}
+use Rattle.citrus_tree.proofs.sets.GivingUp.{gives_up_value}
 use Rattle.citrus_tree.proofs.Leavings.{goes_on, goes_stays, goes_lock, goes_load, goes_unlock, goes_opened, goes_closed}
 
 -- the life found is that of the record, unmarked
@@ -60,7 +61,7 @@ module _ {k : Shape} {kept key value : ℕ} where
 
   -- its search has left the section with a record
   pub at_lock : {v w : View} {old : ℕ} {holder : Holder} → IsAt k (Set key value) kept at.EnterClock v → (l : Looked v key (Some old) w)
-      → (p : ℕ) × (b : Side) × (l.reading.state ≡ Found holder.slot p b None)
+      → (p : ℕ) × (b : Side) × (found : Option ℕ) × (l.reading.state ≡ Found holder.slot p b found)
       → LoadedGeneration l.reading holder.slot holder.generation → holder.slot < slot_count k
       → IsAt k (Set key value) kept (at.SetLock holder.slot holder.generation) w
   at_lock {v} {w} {old} {holder} a l found generation below =
@@ -86,7 +87,7 @@ module _ {k : Shape} {kept key value : ℕ} where
             reading = l.reading;
             kept = (0, refl);
             key_is = l.sought ∙ sym (ap key_of a.op_is);
-            found = (found.0, found.1, None, found.2);
+            found = found;
             recorded = generation;
             inside = (let s = a.slots_are in let p = a.places_are in omega arith);
           };
@@ -160,6 +161,23 @@ module _ {k : Shape} {key kept value s g : ℕ} {v : View} (a : IsAt k (Set key 
 
             pub committing : IsAt k (Set key value) kept (at.Commit (update.Value s old) 0) z
             committing = passes_set_value valuing third 0 refl
+
+            -- another value is asked for
+            giving_up : IsAt k (Set key value) kept (at.Unlock last.Again) z
+            giving_up = gives_up_value committing
+
+            locked : HasLocks (s ∷ []) z
+            locked = keeps_locks (same_locked third) (keeps_locks (same_locked second) (locks_set_check checking))
+
+            pub gives_way : IsAsked k z (acts.Unlock s)
+            gives_way = needs_unlock locked giving_up
+
+            module _ {m : ℕ} {o : View} (fourth : Told k z (acts.Unlock s) m o) where
+              pub gave_way_goes : Goes v o []
+              gave_way_goes = goes_stays goes3 (goes_unlock fourth)
+
+              pub gave_way_at : IsAt k (Set key value) kept at.EnterClock o
+              gave_way_at = passes_unlock_again locked giving_up fourth
 
             pub settled : z.moving ≡ None
             settled = (((committing.fits.point).0).1).quiet.settled

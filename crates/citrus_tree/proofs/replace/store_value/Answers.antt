@@ -1,11 +1,16 @@
-use Rattle.std.proofs.Common.{◌≡◌, Some, sym, ap, ◌∙◌}
+use Rattle.std.proofs.Common.{◌≡◌, ◌↔◌, Bool, true, false, IsTrue, Some, sym, ap, subst, ◌∙◌}
 use Rattle.std.proofs.lemmas.Option.{none-some}
 use Rattle.citrus_tree.specs.declared.replace.Replaced.{Replaced}
-use Rattle.citrus_tree.proofs.sets.Storing.{again_goes, busy_at, busy_goes, is_alive, is_odd, locks, settled, unpaid, not_alive, loads_life, gives_up, again_at, loads_value, committing, stores, evening, lets_go, done_at, stored}
+use Rattle.citrus_tree.specs.Going.{IsOther}
+use Rattle.citrus_tree.proofs.sets.Storing.{again_goes, busy_at, busy_goes, is_alive, is_odd, locks, settled, unpaid, not_alive, loads_life, gives_up, again_at, loads_value, committing, stores, evening, lets_go, done_at, stored, gives_way, gave_way_goes, gave_way_at}
 use Rattle.citrus_tree.proofs.replace.store_value.Goals as goal
 
 one_done : (done known : Replaced) → Some known ≡ Some done → done ≡ known
 one_done done known e = cc
+
+-- a test that fails
+not_other : {b : Bool} {P : Type 0} → IsTrue b ↔ P → b ≡ false → P → ⊥
+not_other iff fails holds = (let e : true ≡ false = sym (iff.1 holds) ∙ fails in cc)
 
 pub lock-requires-clause-asks : goal.lock-requires-clause-asks
 lock-requires-clause-asks g c = locks c.requires.at.1
@@ -41,6 +46,23 @@ pub locked_load-old-requires-clause-asks : goal.locked_load-old-requires-clause-
 locked_load-old-requires-clause-asks g c =
     loads_value c.requires.at.1 c.lock.ensures.told c.if-lock-ne0.false c.locked_load-life.ensures.told
     (is_alive _ _ c.is_life-holds.ensures c.if-not-holds.false)
+
+pub unlock-requires-then-is_other-clause-asks : goal.unlock-requires-then-is_other-clause-asks
+unlock-requires-then-is_other-clause-asks g c = gives_way c.requires.at.1 c.lock.ensures.told c.if-lock-ne0.false c.locked_load-life.ensures.told
+    (is_alive _ _ c.is_life-holds.ensures c.if-not-holds.false) c.locked_load-old.ensures.told
+
+pub returns-then-is_other-clause-again : goal.returns-then-is_other-clause-again
+returns-then-is_other-clause-again g c _ =
+    gave_way_goes c.requires.at.1 c.lock.ensures.told c.if-lock-ne0.false c.locked_load-life.ensures.told
+    (is_alive _ _ c.is_life-holds.ensures c.if-not-holds.false) c.locked_load-old.ensures.told c.unlock-then-is_other.ensures.told
+
+pub returns-then-is_other-clause-stored : goal.returns-then-is_other-clause-stored
+returns-then-is_other-clause-stored g c kept done a e = absurd (none-some done e)
+
+pub returns-then-is_other-clause-at : goal.returns-then-is_other-clause-at
+returns-then-is_other-clause-at g c kept a =
+    gave_way_at a c.lock.ensures.told c.if-lock-ne0.false c.locked_load-life.ensures.told
+    (is_alive _ _ c.is_life-holds.ensures c.if-not-holds.false) c.locked_load-old.ensures.told c.unlock-then-is_other.ensures.told
 
 pub open_front-requires-clause-settled : goal.open_front-requires-clause-settled
 open_front-requires-clause-settled g c = settled c.requires.at.1 c.lock.ensures.told c.if-lock-ne0.false c.locked_load-life.ensures.told
@@ -106,3 +128,17 @@ returns-clause-at g c kept a =
     (is_alive _ _ c.is_life-holds.ensures c.if-not-holds.false) c.locked_load-old.ensures.told c.in_ok-front.ensures.opened storing
     c.replace_value.ensures.told))
     c.unlock-2.ensures.told
+
+pub returns-then-lock-ne0-clause-expected : goal.returns-then-lock-ne0-clause-expected
+returns-then-lock-ne0-clause-expected g c done e = absurd (none-some done e)
+
+pub returns-then-not-holds-clause-expected : goal.returns-then-not-holds-clause-expected
+returns-then-not-holds-clause-expected g c done e = absurd (none-some done e)
+
+pub returns-then-is_other-clause-expected : goal.returns-then-is_other-clause-expected
+returns-then-is_other-clause-expected g c done e = absurd (none-some done e)
+
+pub returns-clause-expected : goal.returns-clause-expected
+returns-clause-expected g c done e other =
+    let is = one_done done (record { old = c.locked_load-old.result; number = c.close_front-number.result }) e in
+    not_other c.is_other.ensures c.if-is_other.false (subst (λ (z : Replaced). IsOther c.args.expected z.old) is other)

@@ -1,0 +1,130 @@
+//! A value is replaced where it is an expected one.
+ghost use Rattle.std.specs.Prelude.{◌≡◌, ◌+◌, ◌≤◌, [], None, IfOk, IfErr};
+ghost use Rattle.seat_table.specs.Gains.{IsInformed};
+ghost use Rattle.seat_table.specs.Rounds.{HasMade, HasStepped};
+ghost use Rattle.seat_table.specs.Seats.{IsQuietSeat, shape_of};
+ghost use Rattle.tree_points.specs.Progress.{KeepsAllowance};
+ghost use Rattle.citrus_tree.specs.Beginnings.{BeginsByLookup};
+ghost use Rattle.citrus_tree.specs.Compares.{Compares, SoughtValue};
+ghost use Rattle.citrus_tree.specs.Gone.{KeepsSlots, KeepsWait};
+
+use crate::descent::{Descent, descend};
+use crate::replace::{Holder, store_value};
+use core_state::generation_of;
+use patience::Patience;
+use prcu_marks::{Gate, Point};
+use seat_table::{CitrusTable, Part, Seat, WaitPart, steps};
+
+/// What a compare came to.
+#[derive(Clone, Copy, Debug, PartialEq, Eq)]
+pub enum Compared {
+    /// The value was the expected one, and was replaced by the update of this number.
+    Replaced { number: u64 },
+    /// The key had another value, this one.
+    Differs { found: u64 },
+    /// The key was absent.
+    Absent,
+}
+
+/// A slot that had the key, and the value that was found there.
+#[derive(Clone, Copy)]
+pub(crate) struct Seen {
+    pub(crate) holder: Holder,
+    pub(crate) value: u64,
+}
+
+/// Gives the key another value, where its value is the expected one: `Replaced` with the update's position. Else it changes nothing:
+/// `Differs` with the value that the key had at some time of the call, and `Absent` as at `get`. It waits as a set does, for the holder of
+/// the node's lock and for other updates, and for no reader.
+///
+/// A value that is replaced and put back between the search and the lock isn't told from one that stayed: it is the expected one at the
+/// update, and that is what is said.
+pub fn compare<P: Patience, W: WaitPart, G: Gate>(
+    patience: &P,
+    table: &CitrusTable<W>,
+    seat: &mut Seat<W>,
+    gate: &G,
+    key: u64,
+    expected: u64,
+    value: u64,
+) -> Result<Compared, P::Tired>
+    requires table { seat.old.table ≡ table.now }
+    requires quiet { IsQuietSeat seat.old }
+    requires tickets { 4 ≤ seat.old.view.allowance.tickets }
+    ensures table { seat.new.table ≡ seat.old.table }
+    ensures compares { IfOk result (λ answer. Compares seat.old.view key expected value answer seat.new.view) }
+    ensures begins { IfOk result (λ _. BeginsByLookup seat.old.view key seat.new.view) }
+    ensures quiet { IfOk result (λ _. IsQuietSeat seat.new) }
+    ensures wait { IfOk result (λ _. KeepsWait seat.old.view seat.new.view) }
+    ensures slots { IfOk result (λ _. KeepsSlots seat.old seat.new) }
+    ensures tickets { IfOk result (λ _. seat.old.view.allowance.tickets ≤ seat.new.view.allowance.tickets + 4) }
+    ensures allowance { IfOk result (λ _. KeepsAllowance seat.old.view seat.new.view) }
+    ensures informed { IfOk result (λ _. IsInformed seat.new.view) }
+    ensures tired { IfErr result (λ _. HasMade (P.least patience.now) seat.new.view) }
+{
+    let mut pauses = patience.pauses();
+    for round in 0..u64::MAX {
+        let Some(seen) = find_value(patience, table, seat, gate, key)? else {
+            gate.pass(Point::Answered, seat.place());
+            return Ok(Compared::Absent);
+        };
+        let found = seen.value;
+        if found != expected {
+            gate.pass(Point::Answered, seat.place());
+            return Ok(Compared::Differs { found });
+        }
+        gate.pass(Point::BeforeLock, seat.place());
+        // Where the value is another one by now, the next search tells which.
+        if let Some(done) = store_value(
+            patience,
+            table,
+            seat,
+            seen.holder,
+            key,
+            Some(expected),
+            value,
+        )? {
+            gate.pass(Point::Answered, seat.place());
+            return Ok(Compared::Replaced {
+                number: done.number,
+            });
+        }
+        patience.pause(&mut pauses)?;
+    }
+    Err(patience.tired())
+}
+
+// The slot that has the key, with its value, or none where the key is absent.
+fn find_value<P: Patience, W: WaitPart, G: Gate>(
+    patience: &P,
+    table: &CitrusTable<W>,
+    seat: &mut Seat<W>,
+    gate: &G,
+    key: u64,
+) -> Result<Option<Seen>, P::Tired>
+    requires table { seat.old.table ≡ table.now }
+    requires outside { seat.old.view.section ≡ None }
+    requires unlocked { seat.old.view.locks ≡ [] }
+    ensures seat { (seat.new.table ≡ seat.old.table) × (seat.new.listed ≡ seat.old.listed) }
+    ensures place { IfOk result (λ _. 1 ≤ table.now.places) }
+    ensures sought { IfOk result (λ answer. SoughtValue (shape_of W.WAY table.now) seat.old.view key answer seat.new.view) }
+    ensures stepped { IfOk result (λ _. HasStepped seat.old.view seat.new.view) }
+    ensures tired { IfErr result (λ _. HasMade (P.least patience.now) seat.new.view) }
+{
+    match descend(patience, table, seat, gate, key)? {
+        Descent::Found { slot, .. } => {
+            let value = steps::search_load(table, seat, slot, Part::Value);
+            let life = steps::search_load(table, seat, slot, Part::Life);
+            W::leave(table, seat);
+            let generation = generation_of(life);
+            Ok(Some(Seen {
+                holder: Holder { slot, generation },
+                value,
+            }))
+        }
+        Descent::Ended { .. } => {
+            W::leave(table, seat);
+            Ok(None)
+        }
+    }
+}
