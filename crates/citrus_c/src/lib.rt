@@ -9,10 +9,10 @@
 ghost use Rattle.std.specs.Prelude.{◌≡◌, None};
 ghost use Rattle.tree_handles.specs.declared.status.Status.TheVariants.{Done};
 ghost use Rattle.tree_handles.specs.Begun.{Begins, Polls};
-ghost use Rattle.tree_handles.specs.Calls.{Gets, Inserts, Replaces, Upserts, Removes};
+ghost use Rattle.tree_handles.specs.Calls.{ComparesOut, Gets, Inserts, Replaces, Upserts, Removes};
 ghost use Rattle.tree_handles.specs.Holding.{Makes};
 ghost use Rattle.tree_handles.specs.Holds.{HoldsValue, Enters, LeavesSection, Waits};
-ghost use Rattle.tree_handles.specs.Lists.{ListsOut, Firsts};
+ghost use Rattle.tree_handles.specs.Lists.{ListsOut, Firsts, Lasts};
 ghost use Rattle.tree_handles.specs.Opening.{Opens, Shares, Reopens, HasLeft};
 ghost use Rattle.tree_handles.specs.Tidying.{Tidies};
 ghost use Rattle.citrus_c.specs.Numbers.{Says};
@@ -118,6 +118,23 @@ pub extern "C" fn citrus_replace(
     handle.replace(alloc, key, value, old).code()
 }
 
+/// [`Handle::compare`].
+#[unsafe(no_mangle)]
+pub extern "C" fn citrus_compare(
+    alloc: Global,
+    handle: &mut Handle,
+    key: u64,
+    expected: u64,
+    value: u64,
+    found: &mut u64,
+) -> i32
+    ensures compared { Says result (λ status. Makes (λ c d. ComparesOut c key expected value found.old status found.new d)
+        handle.old.held status handle.new.held) }
+    ensures closed { handle.old.held ≡ None → found.new ≡ found.old }
+{
+    handle.compare(alloc, key, expected, value, found).code()
+}
+
 /// [`Handle::upsert`].
 #[unsafe(no_mangle)]
 pub extern "C" fn citrus_upsert(
@@ -177,6 +194,23 @@ pub extern "C" fn citrus_first(
     ensures closed { handle.old.held ≡ None → (key.new ≡ key.old) × (value.new ≡ value.old) }
 {
     handle.first(alloc, low, key, value).code()
+}
+
+/// [`Handle::last`].
+#[unsafe(no_mangle)]
+pub extern "C" fn citrus_last(
+    alloc: Global,
+    handle: &mut Handle,
+    low: u64,
+    high: u64,
+    key: &mut u64,
+    value: &mut u64,
+) -> i32
+    ensures found { Says result (λ status. Makes (λ c d. Lasts c (record { low = low; high = high }) (key.old, value.old) status
+        (key.new, value.new) d) handle.old.held status handle.new.held) }
+    ensures closed { handle.old.held ≡ None → (key.new ≡ key.old) × (value.new ≡ value.old) }
+{
+    handle.last(alloc, low, high, key, value).code()
 }
 
 /// [`Handle::hold`].

@@ -16,6 +16,7 @@ use Rattle.citrus_tree.specs.Holds.{HoldsOrNot, IsHolding}
 use Rattle.citrus_tree.specs.Lookups.{Looked}
 use Rattle.citrus_tree.proofs.Leavings.{goes_looked}
 use Rattle.tree_lift.specs.Rooms.{GivesAllBack}
+use Rattle.exact_list.specs.Alone.{HasListed, HasListedAfterTries, HasListedAlone, HasListedByTry}
 use Rattle.exact_list.specs.Tries.{Try, HasTried}
 use Rattle.grace_cookie.specs.Cookies.{CookieAt, IsOf}
 use Rattle.grace_cookie.specs.Asking.{IsGivenUp}
@@ -88,6 +89,26 @@ module _ {k : Shape} {cookie : Option CookieAt} where
   pub cookie_tried : {v w : View} {key : ℕ} {tries : List Try} → HasTried v key tries w → HasCookie k cookie v → HasCookie k cookie w
   cookie_tried {v} {w} e has = stays_good (keeps_latest v w (ap (λ (z : View). z.allowance.place) e.others) e.seen
       (ap (λ (z : View). z.counts.waits) e.others) (ap (λ (z : View). z.wait) e.others)) has
+
+  -- the front was taken, or given back
+  cookie_front : {v w : View} → w.allowance ≡ v.allowance → w.seen ≡ v.seen → w.counts ≡ v.counts → w.wait ≡ v.wait → HasCookie k cookie v
+      → HasCookie k cookie w
+  cookie_front {v} {w} allowance seen counts wait has = stays_good (keeps_latest v w (ap (λ a. a.place) allowance)
+      ([], append-nil v.seen ∙ sym seen) (ap (λ c. c.waits) counts) wait) has
+
+  cookie_alone : {v w : View} {key front : ℕ} → HasListedAlone v key front w → HasCookie k cookie v → HasCookie k cookie w
+  cookie_alone {v} {w} a has =
+      let takes = a.takes.others in
+      let gives = a.gives.others in
+      cookie_front (ap (λ (z : View). z.allowance) gives) (ap (λ (z : View). z.seen) gives) (ap (λ (z : View). z.counts) gives)
+      (ap (λ (z : View). z.wait) gives) (cookie_tried a.tried
+      (cookie_front (ap (λ (z : View). z.allowance) takes) (ap (λ (z : View). z.seen) takes) (ap (λ (z : View). z.counts) takes)
+      (ap (λ (z : View). z.wait) takes) has))
+
+  pub cookie_listed : {v w : View} {key front most : ℕ} → HasListed v key front most w → HasCookie k cookie v → HasCookie k cookie w
+  cookie_listed {v} {w} {key} {front} {most} came has = ⊎_elim
+      (λ (x : HasListedByTry v key front most w). cookie_tried x.tried has)
+      (λ (x : HasListedAfterTries v key front most w). cookie_alone x.alone (cookie_tried x.tried has)) came
 
   pub cookie_waited : {other : Shape} {v w : View} {low high : ℕ} → HasWaited other v low high w → HasCookie k cookie v
       → HasCookie k cookie w

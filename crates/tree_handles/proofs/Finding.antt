@@ -1,66 +1,48 @@
--- The first pair of a range, by a list with room for one.
-use Rattle.std.proofs.Common.{◌≡◌, ℕ, zero, suc, ◌+◌, ◌<◌, ◌≤◌, List, [], ◌∷◌, length, Option, refl, ap, subst, arith}
-use mathlib.Core.Option.{some}
-use lib.ListN.{get_elem?}
+-- A pair of a range, by the one that is nearest to an end of it.
+use Rattle.std.proofs.Common.{◌≡◌, ◌⊎◌, inl, inr, ℕ, ◌<◌, Option, Some, None, subst, arith}
+use Rattle.key_interval.specs.Keys.{Interval, Holds}
+use Rattle.prcu_marks.specs.declared.mark.Side.{Side}
+use Rattle.prcu_marks.specs.declared.mark.Side.TheVariants.{Left, Right}
 use Rattle.prcu_marks.specs.Marks.{updates_of}
-use Rattle.exact_list.specs.declared.listing.Listed.TheVariants.{Whole, Part}
-use Rattle.exact_list.specs.Answers.{Paged}
-use Rattle.exact_list.specs.Pairs.{Pair, IsAt, ArePairs, had_at}
+use Rattle.exact_list.specs.declared.nearest.Found.{Found}
+use Rattle.exact_list.specs.declared.nearest.Nearest.{Nearest}
+use Rattle.exact_list.specs.Nearest.{IsNearest}
+use Rattle.exact_list.specs.Pairs.{had_at}
 use Rattle.tree_handles.specs.Callers.{CallerAt}
-use Rattle.tree_handles.specs.Lists.{Lists, FindsFirst, FindsNone}
+use Rattle.tree_handles.specs.Lists.{FindsPairIn, FindsNoneIn, Seeks, end_of}
 
--- One pair is all that there is up to its key.
-one_pair : (map : ℕ → Option ℕ) (low below : ℕ) (p : Pair) → ArePairs map low below (p ∷ []) → ArePairs map low (p.0 + 1) (p ∷ [])
-one_pair map low below p are = record {
-  ascend = are.ascend;
-  inside = λ i a at. ((are.inside i a at).0, at_most i a at);
-  there = are.there;
-  all = λ key value from to is. (let inside = (are.inside 0 p refl).1 in are.all key value from (omega (arith, inside, to)) is);
-}
-  where
-    at_most : (i : ℕ) (a : Pair) → get_elem? (p ∷ []) i ≡ some a → a.0 < p.0 + 1
-    at_most zero a at = (let e : p ≡ a = cc in let f : p.0 ≡ a.0 = (λ i. (e i).0) in omega arith)
-    at_most (suc i) a at = absurd (cc)
+-- No key of the range has a pair, where none has on that side of its end; and where the nearest pair isn't of the range.
+none_nearest : (map : ℕ → Option ℕ) (side : Side) (keys : Interval) (key : ℕ) → keys.high < 18446744073709551616
+    → IsNearest map side (end_of side keys) None → Holds keys key → map key ≡ None
+none_nearest map Right keys key few is (from, to) = is key (from, omega (arith, to, few))
+none_nearest map Left keys key few is (from, to) = is key to
 
-single : (pairs : List Pair) (r : Pair) → length pairs ≤ 1 → IsAt pairs 0 r → pairs ≡ r ∷ []
-single [] r few at = absurd (cc)
-single (p ∷ []) r few at = (let e : p ≡ r = cc in ap (λ (x : Pair). x ∷ []) e)
-single (p ∷ (q ∷ ps)) r few at = absurd (omega (arith, few))
+none_beyond : (map : ℕ → Option ℕ) (side : Side) (keys : Interval) (f : Found) (key : ℕ) → (f.key < keys.low) ⊎ (keys.high < f.key)
+    → IsNearest map side (end_of side keys) (Some f) → Holds keys key → map key ≡ None
+none_beyond map Right keys f key (inl low) is (from, to) = absurd (let on = is.on.0 in omega (arith, low, on))
+none_beyond map Right keys f key (inr high) is (from, to) =
+    let few = is.on.1 in is.none_before key (from, omega (arith, to, high, few)) (omega (arith, to, high))
+none_beyond map Left keys f key (inl low) is (from, to) = is.none_before key to (omega (arith, low, from))
+none_beyond map Left keys f key (inr high) is (from, to) = absurd (let on = is.on in omega (arith, high, on))
 
-empty : (pairs : List Pair) → length pairs ≡ 0 → pairs ≡ []
-empty [] none = refl
-empty (p ∷ ps) none = absurd (omega (arith, none))
+seeks_so : {c d : CallerAt} {side : Side} {from : ℕ} {n : Nearest} {pair : Option Found} → n.pair ≡ pair → Seeks c side from n d
+    → Seeks c side from (record { front = n.front; pair = pair }) d
+seeks_so {c} {d} {side} {from} {n} is seeks = subst (λ o. Seeks c side from (record { front = n.front; pair = o }) d) is seeks
 
-pub finds_whole : (c d : CallerAt) (low front : ℕ) (page : Paged) (r : Pair) → page.capacity ≡ 1 → IsAt page.pairs 0 r
-    → Lists c (record { low = low; high = 18446744073709551615 }) page (Whole front) d → FindsFirst c low r.0 r.1 d
-finds_whole c d low front page r room at l =
-    let map = had_at (updates_of d.seat.view.seen) front in
-    let is = single page.pairs r (subst (λ n. length page.pairs ≤ n) room l.holds.fit) at in record {
-      front = front;
-      looks = l.looks;
-      recent = l.recent;
-      first = one_pair map low (18446744073709551615 + 1) r
-          (subst (λ ps. ArePairs map low (18446744073709551615 + 1) ps) is l.holds.pairs);
-    }
+module _ {c d : CallerAt} {side : Side} {keys : Interval} {n : Nearest} where
+  pub finds_pair : {f : Found} → n.pair ≡ Some f → Holds keys f.key → Seeks c side (end_of side keys) n d
+      → FindsPairIn c side keys (f.key, f.value) d
+  finds_pair {f} is inside seeks = record { inside = inside; front = n.front; seeks = seeks_so is seeks }
 
-pub finds_part : (c d : CallerAt) (low front next : ℕ) (page : Paged) (r : Pair) → page.capacity ≡ 1 → IsAt page.pairs 0 r
-    → Lists c (record { low = low; high = 18446744073709551615 }) page (Part front next) d → FindsFirst c low r.0 r.1 d
-finds_part c d low front next page r room at l =
-    let map = had_at (updates_of d.seat.view.seen) front in
-    let full = l.holds.full in
-    let is = single page.pairs r (omega (arith, room, full)) at in record {
-      front = front;
-      looks = l.looks;
-      recent = l.recent;
-      first = one_pair map low next r (subst (λ ps. ArePairs map low next ps) is l.holds.pairs);
-    }
+  finds_so : ((key : ℕ) → Holds keys key → had_at (updates_of d.seat.view.seen) n.front key ≡ None) → Seeks c side (end_of side keys) n d
+      → FindsNoneIn c side keys d
+  finds_so none seeks = record { front = n.front; looks = seeks.looks; none = none; recent = seeks.recent }
 
-pub finds_none : (c d : CallerAt) (low front : ℕ) (page : Paged) → length page.pairs ≡ 0
-    → Lists c (record { low = low; high = 18446744073709551615 }) page (Whole front) d → FindsNone c low d
-finds_none c d low front page none l =
-    let map = had_at (updates_of d.seat.view.seen) front in record {
-      front = front;
-      looks = l.looks;
-      recent = l.recent;
-      none = subst (λ ps. ArePairs map low (18446744073709551615 + 1) ps) (empty page.pairs none) l.holds.pairs;
-    }
+  pub finds_none : keys.high < 18446744073709551616 → n.pair ≡ None → Seeks c side (end_of side keys) n d → FindsNoneIn c side keys d
+  finds_none few is seeks = finds_so
+      (λ key holds. none_nearest (had_at (updates_of d.seat.view.seen) n.front) side keys key few (seeks_so is seeks).is holds) seeks
+
+  pub finds_beyond : {f : Found} → n.pair ≡ Some f → (f.key < keys.low) ⊎ (keys.high < f.key) → Seeks c side (end_of side keys) n d
+      → FindsNoneIn c side keys d
+  finds_beyond {f} is out seeks = finds_so
+      (λ key holds. none_beyond (had_at (updates_of d.seat.view.seen) n.front) side keys f key out (seeks_so is seeks).is holds) seeks

@@ -11,7 +11,7 @@ use Rattle.tree_handles.specs.Callers.{CallerAt, IsInside, MayGoOn}
 use Rattle.tree_handles.specs.Calls.{ComesBehind, HasLifted, IsAnswered, IsLostBehind, IsHinderedBy, IsStoppedBy, Misses, StaysInside}
 use Rattle.tree_handles.specs.Holds.{Waits}
 use Rattle.tree_handles.specs.declared.status.Status.{Status}
-use Rattle.tree_handles.specs.declared.status.Status.TheVariants.{Done, Unchanged, Full, More, Moved, New, Closed, BadArgument, NoMemory, Spent, Lost, Holds}
+use Rattle.tree_handles.specs.declared.status.Status.TheVariants.{Done, Unchanged, Full, More, Moved, New, Different, Closed, BadArgument, NoMemory, Spent, Lost, Holds}
 
 inside_some : (o : Option ℕ) (s : Option Section) → IsInsideOf o s → is_some o ≡ true → (section : Section) × (s ≡ Some section)
 inside_some None s inside e = absurd (cc)
@@ -36,6 +36,7 @@ stops_call needed Full c d s = absurd s
 stops_call needed More c d s = absurd s
 stops_call needed Moved c d s = absurd s
 stops_call needed New c d s = absurd s
+stops_call needed Different c d s = absurd s
 stops_call needed Closed c d s = absurd s
 stops_call needed BadArgument c d s = absurd s
 stops_call needed NoMemory c d s = absurd s
@@ -53,6 +54,7 @@ hinders_wait keys Full c d some h = absurd h
 hinders_wait keys More c d some h = absurd h
 hinders_wait keys Moved c d some h = absurd h
 hinders_wait keys New c d some h = absurd h
+hinders_wait keys Different c d some h = absurd h
 hinders_wait keys Closed c d some h = absurd h
 hinders_wait keys BadArgument c d some h = absurd h
 hinders_wait keys NoMemory c d some h = absurd h

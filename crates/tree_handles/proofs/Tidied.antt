@@ -7,12 +7,14 @@ use Rattle.prcu_model.specs.Dictionary.{map_of}
 use Rattle.core_state.specs.declared.view.Retired.{Retired}
 use Rattle.seat_table.specs.Gains.{IsFull}
 use Rattle.seat_table.specs.Seats.{TableAt, shape_of}
+use Rattle.exact_list.specs.declared.alone.Exact.{Exact}
 use Rattle.exact_list.specs.Answers.{Paged}
+use Rattle.tree_handles.specs.Lists.{Lists}
 use Rattle.tree_handles.specs.Callers.{CallerAt, AreOfOneIndex, IsSameCaller, IsFilled, MayGoOn, pairs_that_fit}
 use Rattle.tree_handles.specs.Calls.{IsLost, IsStoppedBy}
-use Rattle.tree_handles.specs.Tidying.{Finishes, IsUnwritten, ListsKeys, MayTidy, Output, Tidies}
+use Rattle.tree_handles.specs.Tidying.{Finishes, IsUnwritten, MayTidy, Output, Tidies}
 use Rattle.tree_handles.specs.declared.status.Status.{Status}
-use Rattle.tree_handles.specs.declared.status.Status.TheVariants.{Done, Unchanged, Full, More, Moved, New, Closed, BadArgument, NoMemory, Spent, Lost, Holds}
+use Rattle.tree_handles.specs.declared.status.Status.TheVariants.{Done, Unchanged, Full, More, Moved, New, Different, Closed, BadArgument, NoMemory, Spent, Lost, Holds}
 
 pub index_on : (c b d : CallerAt) → AreOfOneIndex c b → AreOfOneIndex b d → AreOfOneIndex c d
 index_on c b d one two = record { way = two.way ∙ one.way; table = two.table ∙ one.table }
@@ -40,32 +42,31 @@ filled_here c d same full none =
     }
 
 -- Listed keys whose ways were lifted are what a tidy answers.
-listed_on : (c : CallerAt) (keys : Interval) (page : Paged) (after : Option ℕ) (b d : CallerAt) → ListsKeys c keys page after b → IsLost b d
+listed_on : (c : CallerAt) (keys : Interval) (page : Paged) (exact : Exact) (b d : CallerAt) → Lists c keys page exact b → IsLost b d
     → IsLost c d
-listed_on c keys page None b d listed lost =
-    lost_on c b d listed.1.looks.before (of_one_index c b listed.1.looks.index) listed.1.looks.after lost
-listed_on c keys page (Some next) b d listed lost =
-    lost_on c b d listed.1.looks.before (of_one_index c b listed.1.looks.index) listed.1.looks.after lost
+listed_on c keys page exact b d listed lost =
+    lost_on c b d listed.looks.before (of_one_index c b listed.looks.index) listed.looks.after lost
 
 pub tidies_listed : (c : CallerAt) (keys : Interval) (turns was : ℕ) (status : Status) (out : Output) (d : CallerAt) (page : Paged)
-    (after : Option ℕ) (b : CallerAt) → MayTidy c keys turns → page.capacity ≡ 256 → ListsKeys c keys page after b
+    (after : Option ℕ) (front : ℕ) (b : CallerAt) → MayTidy c keys turns → page.capacity ≡ 256 → Lists c keys page (record { front = front; next = after }) b
     → Finishes page.pairs turns after b was status out d → Tidies c keys turns was status out d
-tidies_listed c keys turns was Done out d page after b may capacity listed finished =
-    record { may = may; page = page; capacity = capacity; after = after; before = b; listed = listed; finished = finished }
-tidies_listed c keys turns was More out d page after b may capacity listed finished =
-    record { may = may; page = page; capacity = capacity; after = after; before = b; listed = listed; finished = finished }
-tidies_listed c keys turns was Full out d page after b may capacity listed finished =
-    record { may = may; page = page; capacity = capacity; after = after; before = b; listed = listed; finished = finished }
-tidies_listed c keys turns was Lost out d page after b may capacity listed finished =
-    (listed_on c keys page after b d listed finished.0, finished.1)
-tidies_listed c keys turns was Unchanged out d page after b may capacity listed finished = absurd finished
-tidies_listed c keys turns was Moved out d page after b may capacity listed finished = absurd finished
-tidies_listed c keys turns was New out d page after b may capacity listed finished = absurd finished
-tidies_listed c keys turns was Closed out d page after b may capacity listed finished = absurd finished
-tidies_listed c keys turns was BadArgument out d page after b may capacity listed finished = absurd finished
-tidies_listed c keys turns was NoMemory out d page after b may capacity listed finished = absurd finished
-tidies_listed c keys turns was Spent out d page after b may capacity listed finished = absurd finished
-tidies_listed c keys turns was Holds out d page after b may capacity listed finished = absurd finished
+tidies_listed c keys turns was Done out d page after front b may capacity listed finished =
+    record { may = may; page = page; capacity = capacity; after = after; front = front; before = b; listed = listed; finished = finished }
+tidies_listed c keys turns was More out d page after front b may capacity listed finished =
+    record { may = may; page = page; capacity = capacity; after = after; front = front; before = b; listed = listed; finished = finished }
+tidies_listed c keys turns was Full out d page after front b may capacity listed finished =
+    record { may = may; page = page; capacity = capacity; after = after; front = front; before = b; listed = listed; finished = finished }
+tidies_listed c keys turns was Lost out d page after front b may capacity listed finished =
+    (listed_on c keys page (record { front = front; next = after }) b d listed finished.0, finished.1)
+tidies_listed c keys turns was Unchanged out d page after front b may capacity listed finished = absurd finished
+tidies_listed c keys turns was Moved out d page after front b may capacity listed finished = absurd finished
+tidies_listed c keys turns was New out d page after front b may capacity listed finished = absurd finished
+tidies_listed c keys turns was Different out d page after front b may capacity listed finished = absurd finished
+tidies_listed c keys turns was Closed out d page after front b may capacity listed finished = absurd finished
+tidies_listed c keys turns was BadArgument out d page after front b may capacity listed finished = absurd finished
+tidies_listed c keys turns was NoMemory out d page after front b may capacity listed finished = absurd finished
+tidies_listed c keys turns was Spent out d page after front b may capacity listed finished = absurd finished
+tidies_listed c keys turns was Holds out d page after front b may capacity listed finished = absurd finished
 
 -- what stops a call is what a tidy answers
 pub tidies_stopped : (c : CallerAt) (keys : Interval) (turns was : ℕ) (status : Status) (out : Output) (d : CallerAt) → IsStoppedBy status c d
@@ -78,6 +79,7 @@ tidies_stopped c keys turns was Full out d stops unwritten = absurd stops
 tidies_stopped c keys turns was More out d stops unwritten = absurd stops
 tidies_stopped c keys turns was Moved out d stops unwritten = absurd stops
 tidies_stopped c keys turns was New out d stops unwritten = absurd stops
+tidies_stopped c keys turns was Different out d stops unwritten = absurd stops
 tidies_stopped c keys turns was Closed out d stops unwritten = absurd stops
 tidies_stopped c keys turns was BadArgument out d stops unwritten = absurd stops
 tidies_stopped c keys turns was NoMemory out d stops unwritten = absurd stops

@@ -1,24 +1,29 @@
 -- A tidy leaves no mark of an update.
-use Rattle.std.proofs.Common.{◌≡◌, ℕ, zero, suc, ◌+◌, true, false, List, [], ◌∷◌, ◌++◌, Option, Some, None, inl, inr, refl, sym, ap, subst, ◌∙◌, length}
+use Rattle.std.proofs.Common.{◌≡◌, ℕ, zero, suc, ◌+◌, true, false, List, [], ◌∷◌, ◌++◌, Option, Some, None, inl, inr, refl, sym, ap, subst, ◌∙◌, ⊎_elim, append-nil, length}
 use Rattle.std.specs.List.{AllByRecursion}
 use Rattle.key_interval.specs.Keys.{Interval}
 use Rattle.prcu_model.proofs.ListFacts.{all_append}
+use mathlib.Core.List.{IsPrefix}
 use Rattle.prcu_marks.specs.declared.mark.Mark.{Mark}
+use Rattle.prcu_marks.specs.Marks.{own_of}
 use Rattle.core_state.specs.declared.view.View.{View}
 use Rattle.tree_points.proofs.Gone.{gone_on, gone_same}
 use Rattle.citrus_tree.specs.Gone.{IsOfTry}
 use Rattle.exact_list.specs.Answers.{Paged}
 use Rattle.exact_list.specs.Pairs.{Pair}
+use Rattle.exact_list.specs.declared.alone.Exact.{Exact}
+use Rattle.exact_list.specs.Alone.{HasListedAfterTries, HasListedAlone, HasListedByTry}
 use Rattle.exact_list.specs.Tries.{Try, HasTried, marks_from}
 use Rattle.tree_lift.specs.declared.lifting.Stop.{Stop}
 use Rattle.tree_lift.specs.declared.lifting.Stop.TheVariants as stop
 use Rattle.tree_lift.specs.Lifts.{LeavesNoUpdate}
 use Rattle.tree_handles.specs.Callers.{CallerAt}
-use Rattle.tree_handles.specs.Tidying.{LiftsNext, LevelledTo, StopsAt, MakesSlots, Levels, Finishes, ListsKeys, Output, IsOfTidy, LeavesNoUpdates, TidiesMakeNoUpdate}
+use Rattle.tree_handles.specs.Lists.{Lists}
+use Rattle.tree_handles.specs.Tidying.{LiftsNext, LevelledTo, StopsAt, MakesSlots, Levels, Finishes, Output, IsOfTidy, LeavesNoUpdates, TidiesMakeNoUpdate}
 use Rattle.tree_handles.specs.declared.tidying.Tally.{Tally}
 use Rattle.tree_handles.specs.declared.tidying.Ending.TheVariants as ending
 use Rattle.tree_handles.specs.declared.status.Status.{Status}
-use Rattle.tree_handles.specs.declared.status.Status.TheVariants.{Done, Unchanged, Full, More, Moved, New, Closed, BadArgument, NoMemory, Spent, Lost, Holds}
+use Rattle.tree_handles.specs.declared.status.Status.TheVariants.{Done, Unchanged, Full, More, Moved, New, Different, Closed, BadArgument, NoMemory, Spent, Lost, Holds}
 
 of_key : (place key : ℕ) (marks : List Mark) → AllByRecursion (IsOfTry place key) marks → AllByRecursion (IsOfTidy place) marks
 of_key place key [] each = tt
@@ -61,10 +66,38 @@ plain_tried v key tries w tried = record {
         let same = ap (λ (z : View). z.allowance) tried.others in
         subst (λ a. a ≡ record v.allowance { tickets = a.tickets }) (sym same) refl
 
-plain_listed : (c : CallerAt) (keys : Interval) (page : Paged) (after : Option ℕ) (d : CallerAt) → ListsKeys c keys page after d
+-- the front was taken, or given back
+plain_front : (v w : View) → w.allowance ≡ v.allowance → w.seen ≡ v.seen → IsPrefix v.trail.steps w.trail.steps → LeavesNoUpdates v w
+plain_front v w allowance seen steps = record {
+  marks = [];
+  gone = record {
+    steps = steps;
+    same = ap (λ a. a.place) allowance;
+    allowance = record { rest = subst (λ a. a ≡ record v.allowance { tickets = a.tickets }) (sym allowance) refl };
+    begins = ([], append-nil v.seen ∙ sym seen);
+    own = ap (own_of v.allowance.place) seen ∙ sym (append-nil (own_of v.allowance.place v.seen));
+  };
+  each = tt;
+}
+
+plain_alone : (v : View) (key front : ℕ) (w : View) → HasListedAlone v key front w → LeavesNoUpdates v w
+plain_alone v key front w a =
+    let takes = a.takes.others in
+    let gives = a.gives.others in
+    plain_on v a.listed w (plain_on v a.holding a.listed
+    (plain_front v a.holding (ap (λ (z : View). z.allowance) takes) (ap (λ (z : View). z.seen) takes)
+    (a.takes.made.steps, sym (ap (λ t. t.steps) a.takes.made.trail)))
+    (plain_tried a.holding key _ a.listed a.tried))
+    (plain_front a.listed w (ap (λ (z : View). z.allowance) gives) (ap (λ (z : View). z.seen) gives)
+    (_, sym (ap (λ t. t.steps) a.gives.trail)))
+
+plain_listed : (c : CallerAt) (keys : Interval) (page : Paged) (exact : Exact) (d : CallerAt) → Lists c keys page exact d
     → LeavesNoUpdates c.seat.view d.seat.view
-plain_listed c keys page None d listed = plain_tried c.seat.view keys.low listed.1.looks.tries d.seat.view listed.1.looks.tried
-plain_listed c keys page (Some next) d listed = plain_tried c.seat.view keys.low listed.1.looks.tries d.seat.view listed.1.looks.tried
+plain_listed c keys page exact d listed = ⊎_elim
+    (λ (x : HasListedByTry c.seat.view keys.low exact.front 4 d.seat.view). plain_tried c.seat.view keys.low x.tries d.seat.view x.tried)
+    (λ (x : HasListedAfterTries c.seat.view keys.low exact.front 4 d.seat.view). plain_on c.seat.view x.failed d.seat.view
+    (plain_tried c.seat.view keys.low x.tries x.failed x.tried) (plain_alone x.failed keys.low exact.front d.seat.view x.alone))
+    listed.looks.came
 
 plain_next : (key turns : ℕ) (ended : Stop) (c : CallerAt) (before : Tally) (d : CallerAt) (after : Tally)
     → LiftsNext key turns ended c before d after → LeavesNoUpdates c.seat.view d.seat.view
@@ -103,6 +136,7 @@ plain_finished pairs turns after c was Lost out d kept finished = absurd (let e 
 plain_finished pairs turns after c was Unchanged out d kept finished = absurd finished
 plain_finished pairs turns after c was Moved out d kept finished = absurd finished
 plain_finished pairs turns after c was New out d kept finished = absurd finished
+plain_finished pairs turns after c was Different out d kept finished = absurd finished
 plain_finished pairs turns after c was Closed out d kept finished = absurd finished
 plain_finished pairs turns after c was BadArgument out d kept finished = absurd finished
 plain_finished pairs turns after c was NoMemory out d kept finished = absurd finished
@@ -111,5 +145,5 @@ plain_finished pairs turns after c was Holds out d kept finished = absurd finish
 
 pub tidies_plain : TidiesMakeNoUpdate
 tidies_plain c keys turns was status out d kept tidied = plain_on c.seat.view tidied.before.seat.view d.seat.view
-    (plain_listed c keys tidied.page tidied.after tidied.before tidied.listed)
+    (plain_listed c keys tidied.page (record { front = tidied.front; next = tidied.after }) tidied.before tidied.listed)
     (plain_finished tidied.page.pairs turns tidied.after tidied.before was status out d kept tidied.finished)

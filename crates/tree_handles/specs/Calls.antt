@@ -10,13 +10,16 @@ use Rattle.seat_table.specs.Gains.{IsInformed}
 use Rattle.seat_table.specs.Rounds.{HasMade}
 use Rattle.seat_table.specs.Seats.{SeatAt, IsQuietSeat, shape_of}
 use Rattle.tree_points.specs.Progress.{KeepsAllowance}
+use Rattle.citrus_tree.specs.declared.comparing.Compared.{Compared}
+use Rattle.citrus_tree.specs.declared.comparing.Compared.TheVariants as compared
 use Rattle.citrus_tree.specs.Clients.{IsTold}
+use Rattle.citrus_tree.specs.Compares.{Compares}
 use Rattle.citrus_tree.specs.Gone.{KeepsWait}
 use Rattle.citrus_tree.specs.Replies.{TellsValue}
 use Rattle.tree_lift.specs.Lifts.{LeavesNoUpdate}
 use Rattle.tree_handles.specs.Callers.{CallerAt, AreOfOneIndex, IsSameCaller, IsFilled, IsInside, MayGoOn}
 use Rattle.tree_handles.specs.declared.status.Status.{Status}
-use Rattle.tree_handles.specs.declared.status.Status.TheVariants.{Done, Unchanged, Full, Moved, New, Spent, Lost, Holds}
+use Rattle.tree_handles.specs.declared.status.Status.TheVariants.{Done, Unchanged, Full, Moved, New, Different, Spent, Lost, Holds}
 
 -- how many steps a seat has made at least with which a call gives up
 abbrev pub patient_steps : ℕ
@@ -134,6 +137,25 @@ abbrev pub Removes : CallerAt → ℕ → ℕ → Status → ℕ → CallerAt �
 Removes c key was Done old d = TakesOut c key (Some old) d
 Removes c key was Unchanged old d = TakesOut c key None d × (old ≡ was)
 Removes c key was status old d = CausedBy status c d × (old ≡ was)
+
+-- The caller, which had four tickets or more, made a compare, which was answered so by the tree's. Nothing comes behind it.
+pub record IsCompared (c : CallerAt) (key expected value : ℕ) (answer : Compared) (d : CallerAt) : Type 0 where
+  pub index : IsSameCaller c d
+  pub before : MayGoOn c
+  pub enough : 4 ≤ c.seat.view.allowance.tickets
+  pub told : Compares c.seat.view key expected value answer d.seat.view
+  pub wait : KeepsWait c.seat.view d.seat.view
+  pub tickets : c.seat.view.allowance.tickets ≤ d.seat.view.allowance.tickets + 4
+  pub allowance : KeepsAllowance c.seat.view d.seat.view
+  pub informed : IsInformed d.seat.view
+  pub may : MayGoOn d
+
+-- What a compare answers. `was` is what stood where the value found is told.
+abbrev pub ComparesOut : CallerAt → ℕ → ℕ → ℕ → ℕ → Status → ℕ → CallerAt → Type 0
+ComparesOut c key expected value was Done found d = (number : ℕ) × IsCompared c key expected value (compared.Replaced number) d × (found ≡ was)
+ComparesOut c key expected value was Different found d = IsCompared c key expected value (compared.Differs found) d
+ComparesOut c key expected value was Unchanged found d = IsCompared c key expected value compared.Absent d × (found ≡ was)
+ComparesOut c key expected value was status found d = CausedBy status c d × (found ≡ was)
 
 -- So many rounds of an upsert made no update: each time the key was absent at the set, and there at the put.
 abbrev pub Misses : CallerAt → ℕ → ℕ → ℕ → CallerAt → Type 0

@@ -1,36 +1,37 @@
 -- What lists answer, of a caller before and after.
 -- Source: docs/TREE_CALLS.md, "Lists of a key range".
-use Rattle.std.specs.Prelude.{◌≡◌, ◌⊎◌, ℕ, ◌+◌, ◌<◌, ◌≤◌, List, [], ◌∷◌, ◌++◌, length, map, drop}
-use Rattle.key_interval.specs.Keys.{Interval}
+use Rattle.std.specs.Prelude.{◌≡◌, ◌⊎◌, ℕ, ◌+◌, ◌<◌, ◌≤◌, List, [], ◌∷◌, ◌++◌, length, map, drop, Some, None}
+use Rattle.key_interval.specs.Keys.{Interval, Holds}
+use Rattle.prcu_marks.specs.declared.mark.Side.{Side}
+use Rattle.prcu_marks.specs.declared.mark.Side.TheVariants.{Left, Right}
 use Rattle.prcu_marks.specs.Marks.{updates_of}
-use Rattle.exact_list.specs.declared.listing.Listed.{Listed}
-use Rattle.exact_list.specs.declared.listing.Listed.TheVariants as listed
-use Rattle.exact_list.specs.Answers.{Paged, Holds as HoldsPairs, IsRecent, IsBetweenFronts, HasStood, HasGivenUp, EndAs}
-use Rattle.exact_list.specs.Pairs.{ArePairs, had_at}
+use Rattle.exact_list.specs.declared.alone.Exact.{Exact}
+use Rattle.exact_list.specs.Alone.{HasListed, HoldsExactly}
+use Rattle.exact_list.specs.declared.nearest.Nearest.{Nearest}
+use Rattle.exact_list.specs.Answers.{Paged, IsBetweenFronts}
+use Rattle.exact_list.specs.Nearest.{IsNearest}
+use Rattle.exact_list.specs.Pairs.{had_at}
 use Rattle.exact_list.specs.Pairs as found
-use Rattle.exact_list.specs.Tries.{Try, HasTried}
 use Rattle.tree_handles.specs.Callers.{CallerAt, IsSameCaller, MayGoOn}
 use Rattle.tree_handles.specs.Calls.{IsStoppedBy}
 use Rattle.tree_handles.specs.declared.lists.Pair.{Pair}
 use Rattle.tree_handles.specs.declared.status.Status.{Status}
-use Rattle.tree_handles.specs.declared.status.Status.TheVariants.{Done, Unchanged, More, Moved, BadArgument, NoMemory}
+use Rattle.tree_handles.specs.declared.status.Status.TheVariants.{Done, Unchanged, More, BadArgument, NoMemory}
 
--- The caller looked for pairs from this key on: in tries that ended so, each a section with looks at the front. It may go on, and no ticket
--- was taken.
-pub record Looks (c : CallerAt) (low : ℕ) (end : List Try → Type 0) (d : CallerAt) : Type 0 where
+-- The caller looked in sections with this key, and what it found is so after so many updates: by one of at most four tries, each a section
+-- with looks at the front, or under the front, which it held for one more. It may go on, and no ticket was taken.
+pub record Looks (c : CallerAt) (key front : ℕ) (d : CallerAt) : Type 0 where
   pub index : IsSameCaller c d
   pub before : MayGoOn c
   pub after : MayGoOn d
   pub tickets : d.seat.view.allowance.tickets ≡ c.seat.view.allowance.tickets
-  pub tries : List Try
-  pub tried : HasTried c.seat.view low tries d.seat.view
-  pub ended : end tries
+  pub came : HasListed c.seat.view key front 4 d.seat.view
 
--- The caller listed these keys on the page, in at most a thousand tries.
-pub record Lists (c : CallerAt) (keys : Interval) (page : Paged) (answer : Listed) (d : CallerAt) : Type 0 where
-  pub looks : Looks c keys.low (EndAs answer 1000) d
-  pub holds : HoldsPairs answer keys d.seat.view.seen page
-  pub recent : IsRecent answer c.seat.view.seen d.seat.view.seen
+-- The caller listed these keys on the page.
+pub record Lists (c : CallerAt) (keys : Interval) (page : Paged) (exact : Exact) (d : CallerAt) : Type 0 where
+  pub looks : Looks c keys.low exact.front d
+  pub holds : HoldsExactly exact keys d.seat.view.seen page
+  pub recent : IsBetweenFronts exact.front c.seat.view.seen d.seat.view.seen
 
 -- what a list writes
 pub record Output : Type 0 where
@@ -69,38 +70,49 @@ pub record IsLeft (c d : CallerAt) : Type 0 where
 
 -- What a list answers. At Done and More these are the pairs that the dictionary had at one front.
 abbrev pub ListsOut : CallerAt → Interval → Output → Status → Output → CallerAt → Type 0
-ListsOut c keys was Done out d = (front : ℕ) × (page : Paged) × Lists c keys page (listed.Whole front) d × IsWritten was page out
-    × (out.next ≡ was.next)
-ListsOut c keys was More out d = (front : ℕ) × (page : Paged) × Lists c keys page (listed.Part front out.next) d × IsWritten was page out
-ListsOut c keys was Moved out d = (first last : ℕ) × (page : Paged) × Lists c keys page (listed.Moved first last) d × IsUnwritten was out
+ListsOut c keys was Done out d = (front : ℕ) × (page : Paged) × Lists c keys page (record { front = front; next = None }) d
+    × IsWritten was page out × (out.next ≡ was.next)
+ListsOut c keys was More out d = (front : ℕ) × (page : Paged) × Lists c keys page (record { front = front; next = Some out.next }) d
+    × IsWritten was page out
 ListsOut c keys was BadArgument out d = IsBadList keys (length was.pairs) × IsLeft c d × IsUnwritten was out
 ListsOut c keys was NoMemory out d = IsGoodList keys (length was.pairs) × IsLeft c d × IsUnwritten was out
 ListsOut c keys was status out d = IsStoppedBy status c d × IsUnwritten was out
 
--- The dictionary had this pair after some number of updates, and none with a key from the low one on below its. Both looks at the front of
--- the last try found that number.
-pub record FindsFirst (c : CallerAt) (low key value : ℕ) (d : CallerAt) : Type 0 where
+-- The caller looked for the pair at this key, or the nearest one on that side of it, and it is the one after so many updates.
+pub record Seeks (c : CallerAt) (side : Side) (from : ℕ) (nearest : Nearest) (d : CallerAt) : Type 0 where
+  pub looks : Looks c from nearest.front d
+  pub is : IsNearest (had_at (updates_of d.seat.view.seen) nearest.front) side from nearest.pair
+  pub recent : IsBetweenFronts nearest.front c.seat.view.seen d.seat.view.seen
+
+-- the end of the range from which a search goes to that side: up from its low end, or down from its high end
+abbrev pub end_of : Side → Interval → ℕ
+end_of Right keys = keys.low
+end_of Left keys = keys.high
+
+-- The dictionary had this pair of the range after some number of updates, and none nearer to the end from which the search went.
+pub record FindsPairIn (c : CallerAt) (side : Side) (keys : Interval) (pair : found.Pair) (d : CallerAt) : Type 0 where
+  pub inside : Holds keys pair.0
   pub front : ℕ
-  pub looks : Looks c low (HasStood front 1000) d
-  pub recent : IsBetweenFronts front c.seat.view.seen d.seat.view.seen
-  pub first : ArePairs (had_at (updates_of d.seat.view.seen) front) low (key + 1) ((key, value) ∷ [])
+  pub seeks : Seeks c side (end_of side keys) (record { front = front; pair = Some (record { key = pair.0; value = pair.1 }) }) d
 
--- It had none with a key from the low one on.
-pub record FindsNone (c : CallerAt) (low : ℕ) (d : CallerAt) : Type 0 where
+-- It had none in the range.
+pub record FindsNoneIn (c : CallerAt) (side : Side) (keys : Interval) (d : CallerAt) : Type 0 where
   pub front : ℕ
-  pub looks : Looks c low (HasStood front 1000) d
+  pub looks : Looks c (end_of side keys) front d
+  pub none : (key : ℕ) → Holds keys key → had_at (updates_of d.seat.view.seen) front key ≡ None
   pub recent : IsBetweenFronts front c.seat.view.seen d.seat.view.seen
-  pub none : ArePairs (had_at (updates_of d.seat.view.seen) front) low 18446744073709551616 []
 
--- Updates were made in each of a thousand tries.
-pub record FindsNothing (c : CallerAt) (low : ℕ) (d : CallerAt) : Type 0 where
-  pub first : ℕ
-  pub last : ℕ
-  pub looks : Looks c low (HasGivenUp first last 1000) d
+-- What a search answers for a pair of the range: for the first one to the right, for the last one to the left. `was` is what stood where the
+-- pair is told.
+abbrev pub Finds : CallerAt → Side → Interval → found.Pair → Status → found.Pair → CallerAt → Type 0
+Finds c side keys was Done out d = FindsPairIn c side keys out d
+Finds c side keys was Unchanged out d = FindsNoneIn c side keys d × (out ≡ was)
+Finds c side keys was status out d = IsStoppedBy status c d × (out ≡ was)
 
+-- What a first answers, of the keys from this one on.
 abbrev pub Firsts : CallerAt → ℕ → found.Pair → Status → found.Pair → CallerAt → Type 0
-Firsts c low was Done out d = FindsFirst c low out.0 out.1 d
-Firsts c low was Unchanged out d = FindsNone c low d × (out ≡ was)
-Firsts c low was Moved out d = FindsNothing c low d × (out ≡ was)
-Firsts c low was NoMemory out d = IsLeft c d × (out ≡ was)
-Firsts c low was status out d = IsStoppedBy status c d × (out ≡ was)
+Firsts c low = Finds c Right (record { low = low; high = 18446744073709551615 })
+
+-- What a last answers. It has none where no key is between the two.
+abbrev pub Lasts : CallerAt → Interval → found.Pair → Status → found.Pair → CallerAt → Type 0
+Lasts c keys = Finds c Left keys

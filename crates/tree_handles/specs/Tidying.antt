@@ -14,14 +14,13 @@ use Rattle.tree_lift.specs.declared.lifting.Lifted.{Lifted}
 use Rattle.tree_lift.specs.declared.lifting.Stop.{Stop}
 use Rattle.tree_lift.specs.declared.lifting.Stop.TheVariants as stop
 use Rattle.tree_lift.specs.Lifts.{LeavesNoUpdate, HasLifted, EndsBy}
-use Rattle.exact_list.specs.declared.listing.Listed.TheVariants as listed
 use Rattle.exact_list.specs.Answers.{Paged}
 use Rattle.exact_list.specs.Pairs.{Pair, IsAt}
 use Rattle.tree_handles.specs.Callers.{CallerAt, IsSameCaller, IsFilled, MayGoOn}
 use Rattle.tree_handles.specs.Calls.{IsLost, IsSpent, IsStoppedBy}
 use Rattle.tree_handles.specs.Lists.{Lists, IsLeft}
 use Rattle.tree_handles.specs.declared.status.Status.{Status}
-use Rattle.tree_handles.specs.declared.status.Status.TheVariants.{Done, Full, More, Moved, BadArgument, NoMemory, Spent, Lost}
+use Rattle.tree_handles.specs.declared.status.Status.TheVariants.{Done, Full, More, BadArgument, NoMemory, Spent, Lost}
 use Rattle.tree_handles.specs.declared.tidying.Tally.{Tally}
 use Rattle.tree_handles.specs.declared.tidying.Ending.{Ending}
 use Rattle.tree_handles.specs.declared.tidying.Ending.TheVariants as ending
@@ -140,11 +139,6 @@ Finishes pairs turns after c was Full out d = (n : Tally) × (out.made ≡ n.mad
 Finishes pairs turns after c was Lost out d = IsLost c d × IsUnwritten was out
 Finishes pairs turns after c was _ out d = ⊥
 
--- The caller listed these keys: all of the range, or the first ones, and then the key after them.
-abbrev pub ListsKeys : CallerAt → Interval → Paged → Option ℕ → CallerAt → Type 0
-ListsKeys c keys page None d = (front : ℕ) × Lists c keys page (listed.Whole front) d
-ListsKeys c keys page (Some next) d = (front : ℕ) × Lists c keys page (listed.Part front next) d
-
 -- the arguments of a tidy are out of range: no key is between the two, or no turn is to be tried
 abbrev pub IsBadTidy : Interval → ℕ → Type 0
 IsBadTidy keys turns = (keys.high < keys.low) ⊎ (turns ≡ 0)
@@ -165,7 +159,8 @@ pub record HasTidied (c : CallerAt) (keys : Interval) (turns was : ℕ) (status 
   pub capacity : page.capacity ≡ 256
   pub after : Option ℕ
   pub before : CallerAt
-  pub listed : ListsKeys c keys page after before
+  pub front : ℕ
+  pub listed : Lists c keys page (record { front = front; next = after }) before
   pub finished : Finishes page.pairs turns after before was status out d
 
 -- a mark of a section at the place, or of a wait there for everybody
@@ -188,7 +183,6 @@ abbrev pub Tidies : CallerAt → Interval → ℕ → ℕ → Status → Output 
 Tidies c keys turns was Done out d = HasTidied c keys turns was Done out d
 Tidies c keys turns was More out d = HasTidied c keys turns was More out d
 Tidies c keys turns was Full out d = HasTidied c keys turns was Full out d
-Tidies c keys turns was Moved out d = MayTidy c keys turns × (first last : ℕ) × (page : Paged) × Lists c keys page (listed.Moved first last) d × IsUnwritten was out
 Tidies c keys turns was BadArgument out d = IsBadTidy keys turns × IsLeft c d × IsUnwritten was out
 Tidies c keys turns was NoMemory out d = MayTidy c keys turns × IsLeft c d × IsUnwritten was out
 Tidies c keys turns was Spent out d = IsGoodTidy keys turns × IsSpent 4 c d × IsUnwritten was out

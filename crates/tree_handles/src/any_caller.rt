@@ -2,20 +2,22 @@
 ghost use Rattle.std.specs.Prelude.{◌≡◌, ◌≤◌, ◌<◌, ◌+◌, false, MatchBool, IfOk, IfErr, IfNone, IfSome};
 ghost use Rattle.tree_handles.specs.Begun.{HasStarted, Polls};
 ghost use Rattle.tree_handles.specs.Callers.{MayGoOn, IsFresh, IsShared, IsReopened};
-ghost use Rattle.tree_handles.specs.Calls.{IsCalled, IsLost, TakesOut, CausedBy, IsHinderedBy, IsStoppedBy};
+ghost use Rattle.tree_handles.specs.Calls.{IsCalled, IsCompared, IsLost, TakesOut, CausedBy, IsHinderedBy, IsStoppedBy};
 ghost use Rattle.tree_handles.specs.Holds.{HasHeld, HasOutwaited, IsEntered, LeavesSection};
-ghost use Rattle.tree_handles.specs.Lists.{Lists};
+ghost use Rattle.tree_handles.specs.Lists.{Lists, Seeks};
 ghost use Rattle.tree_handles.specs.Opening.{FailsToReopen};
 ghost use Rattle.tree_handles.specs.Tidying.{GivesBack, HasNoneBack, LiftsWay};
 
 use crate::caller::Caller;
 use crate::spinning::GaveUp;
 use crate::status::Status;
+use citrus_tree::Compared;
 use d_wait::Domain;
 use deer_wait::Deer;
 use eer_wait::Eer;
-use exact_list::{Listed, Page};
+use exact_list::{Exact, Nearest, Page};
 use key_interval::Keys;
+use prcu_marks::Side;
 use prcu_model::{NoMemory, Op, Told};
 use std::alloc::Global;
 use std::marker::Model;
@@ -128,16 +130,45 @@ impl AnyCaller {
         }
     }
 
+    /// Gives the key another value, where its value is the expected one. It waits as a call does.
+    pub(crate) fn compare(
+        &mut self,
+        key: u64,
+        expected: u64,
+        value: u64,
+    ) -> Result<Compared, Status>
+        ensures compared { IfOk result (λ answer. IsCompared self.old key expected value answer self.new) }
+        ensures cause { IfErr result (λ status. CausedBy status self.old self.new) }
+    {
+        match &mut self.caller {
+            ByWaiter::Eer(caller) => caller.compare(key, expected, value),
+            ByWaiter::Domain(caller) => caller.compare(key, expected, value),
+            ByWaiter::Deer(caller) => caller.compare(key, expected, value),
+        }
+    }
+
     /// Lists the pairs with these keys on the page, as they were at one moment of the call. It takes no ticket.
-    pub(crate) fn list(&mut self, keys: Keys, page: &mut Page) -> Result<Listed, Status>
+    pub(crate) fn list(&mut self, keys: Keys, page: &mut Page) -> Result<Exact, Status>
         ensures capacity { IfOk result (λ _. page.new.capacity ≡ page.old.capacity) }
-        ensures listed { IfOk result (λ listed. Lists self.old keys page.new listed self.new) }
+        ensures listed { IfOk result (λ exact. Lists self.old keys page.new exact self.new) }
         ensures cause { IfErr result (λ status. IsStoppedBy status self.old self.new) }
     {
         match &mut self.caller {
             ByWaiter::Eer(caller) => caller.list(keys, page),
             ByWaiter::Domain(caller) => caller.list(keys, page),
             ByWaiter::Deer(caller) => caller.list(keys, page),
+        }
+    }
+
+    /// Finds the pair at this key, or the nearest one on that side of it, as it was at one moment of the call. It takes no ticket.
+    pub(crate) fn nearest(&mut self, side: Side, from: u64) -> Result<Nearest, Status>
+        ensures found { IfOk result (λ nearest. Seeks self.old side from nearest self.new) }
+        ensures cause { IfErr result (λ status. IsStoppedBy status self.old self.new) }
+    {
+        match &mut self.caller {
+            ByWaiter::Eer(caller) => caller.nearest(side, from),
+            ByWaiter::Domain(caller) => caller.nearest(side, from),
+            ByWaiter::Deer(caller) => caller.nearest(side, from),
         }
     }
 

@@ -6,23 +6,23 @@ ghost use Rattle.seat_table.specs.Gains.{IsInformed};
 ghost use Rattle.tree_handles.specs.Begun.{HasStarted, Polls};
 ghost use Rattle.tree_handles.specs.Callers.{IsSameCaller, MayGoOn, IsFresh, IsShared, IsReopened};
 ghost use Rattle.tree_handles.specs.Opening.{FailsToReopen};
-ghost use Rattle.tree_handles.specs.Calls.{ComesBehind, IsCalled, IsLost, TakesOut, CausedBy, IsHinderedBy, IsStoppedBy};
+ghost use Rattle.tree_handles.specs.Calls.{ComesBehind, IsCalled, IsCompared, IsLost, TakesOut, CausedBy, IsHinderedBy, IsStoppedBy};
 ghost use Rattle.tree_handles.specs.Holds.{HasHeld, HasOutwaited, IsEntered, LeavesSection};
-ghost use Rattle.tree_handles.specs.Lists.{Lists};
+ghost use Rattle.tree_handles.specs.Lists.{Lists, Seeks};
 ghost use Rattle.tree_handles.specs.Tidying.{GivesBack, HasNoneBack, LiftsWay};
 
 use crate::shared::Shared;
 use crate::spinning::{GaveUp, Spinning};
 use crate::status::Status;
 use crate::tidying::attempts_for;
-use citrus_tree::Called;
-use citrus_tree::patient::{call, hold, release, remove};
+use citrus_tree::patient::{call, compare, hold, release, remove};
+use citrus_tree::{Called, Compared};
 use core::mem::replace_with;
-use exact_list::patient::list;
-use exact_list::{Listed, Page};
+use exact_list::patient::{list_always, nearest_always};
+use exact_list::{Exact, Nearest, Page};
 use grace_cookie::{Ask, Cookie, ask, start};
 use key_interval::Keys;
-use prcu_marks::OpenGate;
+use prcu_marks::{OpenGate, Side};
 use prcu_model::{NoMemory, Op, Reply, Told};
 use seat_table::{CitrusTable, Seat, WaitPart, wait_in_grace};
 use std::alloc::Global;
@@ -55,8 +55,8 @@ const IN_HAND: u32 = 4;
 /// The slots that each handle beside the first needs.
 pub(crate) const KEPT_BACK: u32 = LIBRARY_ROOM + IN_HAND;
 
-/// How many times a list is tried.
-pub(crate) const TRIES: u32 = 1_000;
+/// How many times a list, a first or a last is tried beside updates, before it holds the front, and updates wait for it.
+pub(crate) const TRIES: u32 = 4;
 
 /// A seat, and its table, which it shares. It may be in a section. It is lost where a call gave up in its midst: then the seat may hold locks
 /// too. It has the cookie of the wait that was begun last to be asked about, until it is told that it is over.
@@ -266,18 +266,67 @@ impl<W: WaitPart> Caller<W> {
         }
     }
 
+    /// Gives the key another value, where its value is the expected one. It waits as a call does.
+    pub(crate) fn compare(
+        &mut self,
+        key: u64,
+        expected: u64,
+        value: u64,
+    ) -> Result<Compared, Status>
+        ensures compared { IfOk result (λ answer. IsCompared self.old key expected value answer self.new) }
+        ensures cause { IfErr result (λ status. CausedBy status self.old self.new) }
+    {
+        if let Some(status) = self.hindrance(TICKETS) {
+            return Err(status);
+        }
+        let table = self.shared.table();
+        match compare(
+            &Spinning,
+            table,
+            &mut self.seat,
+            &OpenGate,
+            key,
+            expected,
+            value,
+        ) {
+            Ok(answer) => Ok(answer),
+            Err(GaveUp) => {
+                self.lost = true;
+                Err(Status::Lost)
+            }
+        }
+    }
+
     /// Lists the pairs with these keys on the page, as they were at one moment of the call. It takes no ticket.
-    pub(crate) fn list(&mut self, keys: Keys, page: &mut Page) -> Result<Listed, Status>
+    pub(crate) fn list(&mut self, keys: Keys, page: &mut Page) -> Result<Exact, Status>
         ensures capacity { IfOk result (λ _. page.new.capacity ≡ page.old.capacity) }
-        ensures listed { IfOk result (λ listed. Lists self.old keys page.new listed self.new) }
+        ensures listed { IfOk result (λ exact. Lists self.old keys page.new exact self.new) }
         ensures cause { IfErr result (λ status. IsStoppedBy status self.old self.new) }
     {
         if let Some(status) = self.stopped() {
             return Err(status);
         }
         let table = self.shared.table();
-        match list(&Spinning, table, &mut self.seat, keys, page, TRIES) {
-            Ok(listed) => Ok(listed),
+        match list_always(&Spinning, table, &mut self.seat, keys, page, TRIES) {
+            Ok(exact) => Ok(exact),
+            Err(GaveUp) => {
+                self.lost = true;
+                Err(Status::Lost)
+            }
+        }
+    }
+
+    /// Finds the pair at this key, or the nearest one on that side of it, as it was at one moment of the call. It takes no ticket.
+    pub(crate) fn nearest(&mut self, side: Side, from: u64) -> Result<Nearest, Status>
+        ensures found { IfOk result (λ nearest. Seeks self.old side from nearest self.new) }
+        ensures cause { IfErr result (λ status. IsStoppedBy status self.old self.new) }
+    {
+        if let Some(status) = self.stopped() {
+            return Err(status);
+        }
+        let table = self.shared.table();
+        match nearest_always(&Spinning, table, &mut self.seat, side, from, TRIES) {
+            Ok(nearest) => Ok(nearest),
             Err(GaveUp) => {
                 self.lost = true;
                 Err(Status::Lost)

@@ -2,10 +2,10 @@
 ghost use Rattle.std.specs.Prelude.{◌≡◌, None};
 ghost use Rattle.tree_handles.specs.declared.status.Status.TheVariants.{Done};
 ghost use Rattle.tree_handles.specs.Begun.{Begins, Polls};
-ghost use Rattle.tree_handles.specs.Calls.{Gets, Inserts, Replaces, Upserts, Removes};
+ghost use Rattle.tree_handles.specs.Calls.{ComparesOut, Gets, Inserts, Replaces, Upserts, Removes};
 ghost use Rattle.tree_handles.specs.Holding.{Makes};
 ghost use Rattle.tree_handles.specs.Holds.{HoldsValue, Enters, LeavesSection, Waits};
-ghost use Rattle.tree_handles.specs.Lists.{ListsOut, Firsts};
+ghost use Rattle.tree_handles.specs.Lists.{ListsOut, Firsts, Lasts};
 ghost use Rattle.tree_handles.specs.Opening.{Shares, Reopens, HasLeft};
 ghost use Rattle.tree_handles.specs.Tidying.{Tidies};
 
@@ -13,6 +13,7 @@ use crate::handle::Handle;
 use crate::lists::Pair;
 use crate::status::Status;
 use crate::{reopening, sharing};
+use prcu_marks::Side;
 use std::alloc::Global;
 
 impl Handle {
@@ -119,6 +120,30 @@ impl Handle {
         status
     }
 
+    /// Gives the key another value, where its value right before that is the expected one. It says nothing of the time before: the key may
+    /// have had another value meanwhile, or have been absent.
+    ///
+    /// `Done`; `Different` where the key had another value at a moment of the call, which is told; `Unchanged` where the key is absent;
+    /// `Closed`; `Lost`; `Holds`; `Spent`. But at `Done` no pair has changed. Only at `Different` the value found is written.
+    pub fn compare(
+        &mut self,
+        alloc: Global,
+        key: u64,
+        expected: u64,
+        value: u64,
+        found: &mut u64,
+    ) -> Status
+        ensures compared { Makes (λ c d. ComparesOut c key expected value found.old result found.new d) self.old.held result self.new.held }
+        ensures closed { self.old.held ≡ None → found.new ≡ found.old }
+    {
+        let Some(mut caller) = self.take(alloc) else {
+            return Status::Closed;
+        };
+        let status = caller.compare_out(key, expected, value, found);
+        *self = Handle::of(caller);
+        status
+    }
+
     /// Gives the key this value, whether or not it is present: a replace, else an insert, until one of the two makes an update.
     ///
     /// `Done` where a value was replaced, which is told; `New` where the pair was added; `Full` as of an insert; `Moved` where others put the
@@ -153,9 +178,11 @@ impl Handle {
     /// Lists the pairs with keys from `low` to `high`, both among them, as they were at one moment of the call: keys ascending, as many as
     /// there is room for (1 to 1,048,576).
     ///
-    /// `Done`; `More` where there are more, and then `next` is the key after those listed; `Moved` where updates were made in each of 1,000
-    /// tries; `Closed`; `Lost`; `Holds`; `BadArgument` where `low` is above `high` or the room is out of range; `NoMemory`. `count` is always
-    /// written, and is 0 but at `Done` and `More`; the pairs only at these, `next` only at `More`.
+    /// It always comes: where others make updates in each of 4 tries, their updates wait while it lists once more.
+    ///
+    /// `Done`; `More` where there are more, and then `next` is the key after those listed; `Closed`; `Lost`; `Holds`; `BadArgument` where
+    /// `low` is above `high` or the room is out of range; `NoMemory`. `count` is always written, and is 0 but at `Done` and `More`; the
+    /// pairs only at these, `next` only at `More`.
     pub fn list(
         &mut self,
         alloc: Global,
@@ -179,10 +206,9 @@ impl Handle {
         status
     }
 
-    /// Tells the pair with the least key at or above `low`, as it was at one moment of the call.
+    /// Tells the pair with the least key at or above `low`, as it was at one moment of the call. It always comes, as [`Handle::list`].
     ///
-    /// `Done`; `Unchanged` where there is none; `Moved` where updates were made in each of 1,000 tries; `Closed`; `Lost`; `Holds`;
-    /// `NoMemory`. Only at `Done` the pair is written.
+    /// `Done`; `Unchanged` where there is none; `Closed`; `Lost`; `Holds`. Only at `Done` the pair is written.
     pub fn first(&mut self, alloc: Global, low: u64, key: &mut u64, value: &mut u64) -> Status
         ensures found { Makes (λ c d. Firsts c low (key.old, value.old) result (key.new, value.new) d)
             self.old.held result self.new.held }
@@ -191,7 +217,31 @@ impl Handle {
         let Some(mut caller) = self.take(alloc) else {
             return Status::Closed;
         };
-        let status = caller.first_out(alloc, low, key, value);
+        let status = caller.nearest_out(Side::Right, low, u64::MAX, key, value);
+        *self = Handle::of(caller);
+        status
+    }
+
+    /// Tells the pair with the greatest key from `low` to `high`, both among them, as it was at one moment of the call. It always comes, as
+    /// [`Handle::list`].
+    ///
+    /// `Done`; `Unchanged` where there is none, as where `low` is above `high`; `Closed`; `Lost`; `Holds`. Only at `Done` the pair is written.
+    pub fn last(
+        &mut self,
+        alloc: Global,
+        low: u64,
+        high: u64,
+        key: &mut u64,
+        value: &mut u64,
+    ) -> Status
+        ensures found { Makes (λ c d. Lasts c (record { low = low; high = high }) (key.old, value.old) result (key.new, value.new) d)
+            self.old.held result self.new.held }
+        ensures closed { self.old.held ≡ None → (key.new ≡ key.old) × (value.new ≡ value.old) }
+    {
+        let Some(mut caller) = self.take(alloc) else {
+            return Status::Closed;
+        };
+        let status = caller.nearest_out(Side::Left, low, high, key, value);
         *self = Handle::of(caller);
         status
     }
@@ -299,9 +349,9 @@ impl Handle {
     /// tried and for each key, and waits for all readers where the handle keeps back 63 slots, two for each turn.
     ///
     /// `Done` where no way to a key of the range needs a turn any more; `More` where turns or tickets are short, or there are more keys, and
-    /// `Full` where no slot is free for a turn: then `next` is the key to go on with; `Moved` where updates were made in each of 1,000 tries
-    /// of the list; `Closed`; `Holds`; `BadArgument` where `low` is above `high` or `turns` is 0; `NoMemory`; `Spent`; `Lost`. `made` is
-    /// always written, and is 0 but at `Done`, `More` and `Full`, where it is how many turns were made; `next` only at `More` and `Full`.
+    /// `Full` where no slot is free for a turn: then `next` is the key to go on with; `Closed`; `Holds`; `BadArgument` where `low` is above
+    /// `high` or `turns` is 0; `NoMemory`; `Spent`; `Lost`. `made` is always written, and is 0 but at `Done`, `More` and `Full`, where it is
+    /// how many turns were made; `next` only at `More` and `Full`.
     pub fn tidy(
         &mut self,
         alloc: Global,

@@ -1,11 +1,12 @@
-//! Lists of a caller, and the first pair from a key on.
+//! Lists of a caller, and the first and the last pair of a range.
 ghost use Rattle.std.specs.Prelude.{◌≡◌, ◌≤◌, ◌++◌, length, map, drop};
-ghost use Rattle.tree_handles.specs.Lists.{ListsOut, Firsts, pair_of};
+ghost use Rattle.tree_handles.specs.Lists.{Finds, ListsOut, end_of, pair_of};
 
 use crate::any_caller::AnyCaller;
 use crate::status::Status;
-use exact_list::{Listed, Page};
+use exact_list::Page;
 use key_interval::Keys;
+use prcu_marks::Side;
 use std::alloc::Global;
 
 /// How many pairs a list has room for at most.
@@ -30,6 +31,16 @@ fn write_out(page: &Page, pairs: &mut [Pair]) -> usize
         pairs[i as usize] = Pair { key, value };
     }
     page.count() as usize
+}
+
+// The end of the range from which a search goes to that side.
+fn near_end(side: Side, low: u64, high: u64) -> u64
+    ensures { result ≡ end_of side (record { low = low; high = high }) }
+{
+    match side {
+        Side::Right => low,
+        Side::Left => high,
+    }
 }
 
 impl AnyCaller {
@@ -61,53 +72,39 @@ impl AnyCaller {
             return Status::NoMemory;
         };
         match self.list(keys, &mut page) {
-            Ok(Listed::Whole { front: _ }) => {
+            Ok(exact) => {
                 *count = write_out(&page, pairs);
-                Status::Done
-            }
-            Ok(
-                Listed::Part {
-                    front: _,
-                    next: after,
-                },
-            ) => {
-                *count = write_out(&page, pairs);
+                let Some(after) = exact.next else {
+                    return Status::Done;
+                };
                 *next = after;
                 Status::More
             }
-            Ok(Listed::Moved { first: _, last: _ }) => Status::Moved,
             Err(status) => status,
         }
     }
 
-    /// Finds the pair with the least key at or above `low`, as it was at one moment of the call.
-    pub(crate) fn first_out(
+    /// Finds a pair with a key from `low` to `high`, as it was at one moment of the call: the first one to the right, the last one to the left.
+    pub(crate) fn nearest_out(
         &mut self,
-        alloc: Global,
+        side: Side,
         low: u64,
+        high: u64,
         key: &mut u64,
         value: &mut u64,
     ) -> Status
-        ensures { Firsts self.old low (key.old, value.old) result (key.new, value.new) self.new }
+        ensures { Finds self.old side (record { low = low; high = high }) (key.old, value.old) result (key.new, value.new) self.new }
     {
-        if let Some(status) = self.stopped() {
-            return status;
-        }
-        let keys = Keys::new(low, u64::MAX).unwrap();
-        let Ok(mut page) = Page::new(alloc, 1) else {
-            return Status::NoMemory;
-        };
-        match self.list(keys, &mut page) {
-            Ok(Listed::Moved { first: _, last: _ }) => Status::Moved,
-            Ok(Listed::Whole { front: _ }) => {
-                if page.count() == 0 {
+        match self.nearest(side, near_end(side, low, high)) {
+            Ok(nearest) => {
+                let Some(found) = nearest.pair else {
+                    return Status::Unchanged;
+                };
+                if found.key < low || high < found.key {
                     return Status::Unchanged;
                 }
-                (*key, *value) = page.pair(0);
-                Status::Done
-            }
-            Ok(Listed::Part { front: _, next: _ }) => {
-                (*key, *value) = page.pair(0);
+                *key = found.key;
+                *value = found.value;
                 Status::Done
             }
             Err(status) => status,

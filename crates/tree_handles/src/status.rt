@@ -14,10 +14,12 @@ pub enum Status {
     Full,
     /// A list has more pairs than there is room for, or a tidy isn't through.
     More,
-    /// Others made updates in each try, or the wait of a poll's cookie isn't the handle's latest any more.
+    /// Others put an upsert's key in and took it out in each of its rounds, or the wait of a poll's cookie isn't the handle's latest any more.
     Moved,
     /// An upsert added the pair.
     New,
+    /// The key has another value than the expected one: nothing has changed.
+    Different,
     /// The handle is closed.
     Closed,
     /// An argument is out of its range: nothing has changed.
@@ -44,6 +46,7 @@ impl Status {
             Status::More => 3,
             Status::Moved => 4,
             Status::New => 5,
+            Status::Different => 6,
             Status::Closed => -1,
             Status::BadArgument => -2,
             Status::NoMemory => -3,

@@ -8,7 +8,7 @@ use crate::any_caller::AnyCaller;
 use crate::caller::TICKETS;
 use crate::spinning::GaveUp;
 use crate::status::Status;
-use exact_list::{Listed, Page};
+use exact_list::Page;
 use key_interval::Keys;
 use std::alloc::Global;
 use tree_lift::Stop;
@@ -152,14 +152,7 @@ impl AnyCaller {
             return Status::NoMemory;
         };
         match self.list(keys, &mut page) {
-            Ok(Listed::Whole { front: _ }) => self.level_page(&page, None, turns, made, next),
-            Ok(
-                Listed::Part {
-                    front: _,
-                    next: after,
-                },
-            ) => self.level_page(&page, Some(after), turns, made, next),
-            Ok(Listed::Moved { first: _, last: _ }) => Status::Moved,
+            Ok(exact) => self.level_page(&page, exact.next, turns, made, next),
             Err(status) => status,
         }
     }

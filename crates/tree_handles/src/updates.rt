@@ -1,8 +1,9 @@
 //! Gets and updates of a caller, with what they tell.
-ghost use Rattle.tree_handles.specs.Calls.{Gets, Inserts, Replaces, Removes, Upserts};
+ghost use Rattle.tree_handles.specs.Calls.{ComparesOut, Gets, Inserts, Replaces, Removes, Upserts};
 
 use crate::any_caller::AnyCaller;
 use crate::status::Status;
+use citrus_tree::Compared;
 use prcu_model::{Op, Reply};
 
 /// How many rounds an upsert makes.
@@ -52,6 +53,27 @@ impl AnyCaller {
                 }
                 _ => Status::Unchanged,
             },
+        }
+    }
+
+    /// Gives the key another value, where its value is the expected one; else tells the value that it has.
+    pub(crate) fn compare_out(
+        &mut self,
+        key: u64,
+        expected: u64,
+        value: u64,
+        found: &mut u64,
+    ) -> Status
+        ensures { ComparesOut self.old key expected value found.old result found.new self.new }
+    {
+        match self.compare(key, expected, value) {
+            Ok(Compared::Replaced { number: _ }) => Status::Done,
+            Ok(Compared::Differs { found: other }) => {
+                *found = other;
+                Status::Different
+            }
+            Ok(Compared::Absent) => Status::Unchanged,
+            Err(status) => status,
         }
     }
 
