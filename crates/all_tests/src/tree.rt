@@ -41,10 +41,13 @@ macro_rules! call {
     };
 }
 
+mod compares;
 mod cookies;
+mod exact;
 mod histories;
 mod lifted;
 mod lists;
+mod nearest;
 mod removes;
 mod scripts;
 mod searches;
