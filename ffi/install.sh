@@ -1,63 +1,104 @@
 #!/usr/bin/env bash
-# Installs the C library: `install.sh PREFIX` puts PREFIX/lib/libcitrus.a there, the headers of `include` in PREFIX/include, and
-# PREFIX/lib/pkgconfig/citrus.pc. The archive is whole: the proved library, with the toolchain's heap functions, which call malloc, realloc and
-# free, in one object that shows the functions of citrus.h alone. It asks for nothing but the C library, so who links it needs no toolchain.
-#
-# It is built of the crate citrus_c over the libraries that .ci/run proved. What isn't proved yet is proved first, which takes long on a fresh
-# clone. `install.sh PREFIX ARCHIVE` takes a libcitrus_c.a that stands elsewhere.
+# Installs the C library, or takes it away again: `install.sh --help` says more. The archive is whole: the proved library, with the toolchain's
+# heap functions, which call malloc, realloc and free, and citrus_version, in one object that shows the functions of citrus.h alone. It asks
+# for nothing but the C library, so who links it needs no toolchain.
 set -eu
 here=$(cd "$(dirname "$0")" && pwd)
-top=$(dirname "$here")
 say() { printf 'install.sh: %s\n' "$*" >&2; }
-if [ $# = 0 ] || [ $# -gt 2 ] || [ -z "$1" ]; then
-    say "usage: install.sh PREFIX [ARCHIVE]"
+
+help() {
+    cat <<'END'
+usage: install.sh PREFIX [ARCHIVE]
+       install.sh --uninstall PREFIX
+
+Installs the C library below the folder PREFIX, which is made where it isn't there:
+  include/                  citrus.h, citrus.hpp, citrus_map.hpp, prcu.h, and what they include
+  lib/libcitrus.a           the archive, with all that it needs beside the C library
+  lib/libcitrus.so.*        the same as a shared library
+  lib/pkgconfig/            citrus.pc, and citrus-shared.pc for the shared library
+  lib/cmake/Citrus/         for CMake's find_package(Citrus)
+  share/citrus/installed    what was installed, for --uninstall
+
+It is built of the crate citrus_c over the libraries that .ci/run proved. What isn't proved yet is proved first, which takes long on a fresh
+clone. With ARCHIVE a libcitrus_c.a that stands elsewhere is taken. It needs the toolchain's command rt, ar, ld, objcopy and a C compiler
+(cc, or what CC names).
+
+--uninstall removes what was installed there, and the folders that were made for it where nothing else is in them.
+
+Statuses: 0 done; 1 not done, as it says; 2 these words are wrong.
+END
+}
+
+usage() {
+    help | head -n 2 >&2
     exit 2
-fi
-rt=$(command -v rt) || { say "the Rattle toolchain's command rt is not on the path"; exit 1; }
-heap=$(dirname "$(dirname "$(readlink -f "$rt")")")/c/liblibc_c.a
-
-# The proved library. Where the toolchain refuses to build it over what the gate left, its own command proves all below it anew.
-build_archive() {
-    local status=0
-    python3 "$top/build/side_by_side.py" library "$top" "$rt" >&2 || status=$?
-    [ "$status" != 3 ] || { status=0 && (cd "$top/crates/citrus_c" && "$rt" lib) >&2 || status=$?; }
-    return "$status"
 }
 
-# One object of all that is in these archives. Only the functions of citrus.h can be seen from outside.
-merge() {
-    local archive number=0
-    for archive in "$@"; do
-        number=$((number + 1))
-        mkdir "$room/$number"
-        (cd "$room/$number" && ar x "$archive")
-    done
-    ld -r -o "$room/citrus.o" "$room"/*/*.o
-    objcopy --wildcard --keep-global-symbol='citrus_*' "$room/citrus.o"
-    ar rcs "$room/libcitrus.a" "$room/citrus.o"
+# What was installed below the prefix stands there, a path a line; the folders that were made for it end with a stroke.
+listed=share/citrus/installed
+
+# Removes files, and with the word `folders` what was made for them.
+remove() {
+    local line
+    [ -f "$prefix/$listed" ] || return 0
+    while read -r line; do
+        case $line in
+            /* | *..*) ;;
+            */) [ "${1:-}" != folders ] || rmdir "$prefix/${line#./}" 2>/dev/null || true ;;
+            *) rm -f "$prefix/$line" ;;
+        esac
+    done < <(tac "$prefix/$listed")
 }
 
-archive=${2:-}
-if [ -z "$archive" ]; then
-    build_archive || { say "the library could not be built"; exit 1; }
-    archive=$top/crates/citrus_c/out/libcitrus_c.a
-fi
+# Copies what is laid out in a folder below the prefix, and lists it.
+copy() {
+    local line before
+    before=$(cat "$prefix/$listed" 2>/dev/null || true)
+    remove
+    {
+        (cd "$1" && find . -type d | sort) | while read -r line; do
+            line=$line/
+            if [ ! -d "$prefix/$line" ]; then mkdir -p "$prefix/$line" && printf '%s\n' "$line"; else grep -Fx "$line" <<<"$before" || true; fi
+        done
+        (cd "$1" && find . ! -type d | sort)
+    } >"$room/listed"
+    (cd "$1" && find . ! -type d) | while read -r line; do cp -df "$1/$line" "$prefix/$line"; done
+    install -m 644 "$room/listed" "$prefix/$listed"
+}
+
+# What comes next, in words that a shell takes as they stand.
+tell_next() {
+    local quoted ours words="\$(pkg-config --cflags --libs citrus)"
+    quoted=$(printf '%q' "$prefix") ours=$(printf '%q' "$here")
+    say "Citrus $version is installed in $prefix. Next, a program over it:"
+    if [ "$quoted" = "$prefix" ]; then words="cc $ours/c/first.c $words -o first"; else words="eval \"cc $ours/c/first.c $words -o first\""; fi
+    printf '    export PKG_CONFIG_PATH=%s\n    %s && ./first\n' "$quoted/lib/pkgconfig" "$words" >&2
+    say "docs/EMBEDDING.md has the calls; $ours/install.sh --uninstall $quoted removes it"
+}
+
+case ${1:-} in
+    --help | -h) help && exit ;;
+    --uninstall)
+        if [ $# != 2 ] || [ -z "$2" ]; then usage; fi
+        prefix=$(readlink -m "$2")
+        [ -f "$prefix/$listed" ] || { say "nothing was installed in $2: there is no $listed"; exit 1; }
+        remove folders
+        exit
+        ;;
+    '' | -*) usage ;;
+esac
+[ $# -le 2 ] || usage
+# shellcheck source=ffi/package/parts.sh
+. "$here/package/parts.sh"
+find_toolchain || exit 1
+if [ $# = 2 ]; then archive=$2; else build_archive || exit 1; fi
+[ -f "$archive" ] || { say "there is no archive $archive"; exit 1; }
 archive=$(readlink -f "$archive")
 room=$(mktemp -d)
 trap 'rm -rf "$room"' EXIT
-merge "$archive" "$heap"
-mkdir -p "$1/lib/pkgconfig" "$1/include"
-prefix=$(cd "$1" && pwd)
-install -m 644 "$room/libcitrus.a" "$prefix/lib/"
-install -m 644 "$here"/include/* "$prefix/include/"
-cat >"$prefix/lib/pkgconfig/citrus.pc" <<END
-prefix=$prefix
-libdir=\${prefix}/lib
-includedir=\${prefix}/include
-
-Name: citrus
-Description: An ordered index from 64-bit keys to 64-bit values that threads share
-Version: 0.1.0
-Cflags: -I\${includedir}
-Libs: -L\${libdir} -lcitrus
-END
+make_libraries "$archive" || { say "the libraries could not be made of $archive"; exit 1; }
+prefix=$(readlink -m "$1")
+lay_out "$room/laid" lib "$(escaped "$prefix")" "\${libdir}"
+mkdir -p "$room/laid/share/citrus" && : >"$room/laid/$listed"
+copy "$room/laid"
+tell_next

@@ -24,7 +24,7 @@ copy_library() {
     mkdir -p "$copy/crates" "$copy/ffi" && ln -s "$top"/crates/* "$copy/crates" && rm "$copy"/crates/{tree_handles,citrus_c} &&
         mkdir "$copy"/crates/{tree_handles,citrus_c} && cp -R "$top"/crates/tree_handles/{src,specs,proofs} "$copy/crates/tree_handles" &&
         cp -R "$top"/crates/citrus_c/{src,specs} "$copy/crates/citrus_c" &&
-        cp -R "$top/crates.txt" "$top/build" "$copy" && cp -R "$here/install.sh" "$here/include" "$copy/ffi"
+        cp -R "$top/crates.txt" "$top/build" "$copy" && cp -R "$here"/{install.sh,include,package,VERSION} "$copy/ffi"
 }
 
 # Changes the one place where these words stand in a file of tree_handles: `lower FILE WORDS OTHER_WORDS`.

@@ -54,6 +54,7 @@ compile_cpp() { g++ -std=c++17 "${strict[@]}" "$here/tests/$1.cpp" -L"$prefix/li
 
 compile_all() {
     compile_c answers && compile_c misuse && compile_c own_keys && compile_c moments && compile_c reopened && compile_c tidy &&
+        compile_c always && compile_c counters && compile_c version &&
         compile_c memory -Wl,--wrap=malloc,--wrap=realloc,--wrap=free && compile_cpp answers && compile_cpp order &&
         compile_c holds && compile_c begun && compile_c objects && compile_c prcu && compile_cpp map && compile_debug
 }
@@ -61,17 +62,6 @@ compile_all() {
 # A program of two files.
 compile_debug() {
     gcc -std=gnu11 "${strict[@]}" -DOTHER_FILE -c "$here/tests/debug.c" -o "$room/other_file.o" && compile_c debug "$room/other_file.o"
-}
-
-# The headers alone, in the oldest languages that they are for, with a static handle that is closed from the start and is closed again.
-headers_stand_alone() {
-    local words='static citrus_handle kept = CITRUS_CLOSED_HANDLE; void hand_on(void); void hand_on(void) { kept = citrus_closed_handle(); }'
-    printf '#include <citrus.h>\n%s\n' "$words" | gcc -std=c99 -pedantic -Wall -Wextra -Werror "-I$prefix/include" -c -o "$room/alone.o" -xc - &&
-        printf '#include <citrus.hpp>\n%s\n' "$words" |
-        g++ -std=c++17 -pedantic -Wall -Wextra -Werror "-I$prefix/include" -c -o "$room/alone.o" -xc++ - &&
-        printf '#include <prcu.h>\n' | gcc -std=c99 -pedantic -Wall -Wextra -Werror -DCITRUS_DEBUG "-I$prefix/include" -c -o "$room/alone.o" -xc - &&
-        printf '#include <citrus_map.hpp>\n#include <prcu.h>\ntemplate class citrus::map<int>;\n' |
-        g++ -std=c++17 -pedantic -Wall -Wextra -Werror -DCITRUS_DEBUG "-I$prefix/include" -c -o "$room/alone.o" -xc++ -
 }
 
 # A page shows the program as it is compiled here: `shows PAGE PROGRAM`.
@@ -161,6 +151,23 @@ values_under_a_sanitizer() {
     case_is 'the C++ map under AddressSanitizer' under_a_sanitizer map
 }
 
+# What a thread hands over by the index is in order for ThreadSanitizer, since the header says so; without those words it tells of a race.
+compile_published() { gcc -std=gnu11 -g "${strict[@]}" -fsanitize=thread "$here/tests/published.c" "${@:2}" -L"$prefix/lib" -lcitrus -o "$room/$1"; }
+is_told_of_a_race() { ! timeout 100 "${laid_out[@]}" "$room/published_unsaid" >"$room/report" 2>&1 && grep -q 'data race' "$room/report"; }
+
+# It takes addresses that some kernels give to others, unless those are always the same.
+laid_out=(setarch -R)
+has_thread_sanitizer() {
+    printf 'int main(void) { return 0; }\n' | gcc -fsanitize=thread -o "$room/tried" -xc - 2>/dev/null && "${laid_out[@]}" "$room/tried" 2>/dev/null
+}
+
+hand_overs() {
+    case_is 'programs compile with ThreadSanitizer' compile_published published
+    case_is 'what is handed over by the index is no race for ThreadSanitizer' timeout 100 "${laid_out[@]}" "$room/published"
+    case_is 'programs compile with ThreadSanitizer and CITRUS_NO_TSAN' compile_published published_unsaid -DCITRUS_NO_TSAN
+    case_is 'ThreadSanitizer tells of a race where nobody tells it of the index' is_told_of_a_race
+}
+
 # The Rust crate's own tests, counted as cargo counts them.
 rust_tests() {
     local status lost=$failed told='^test result: .* ([0-9]+) passed; ([0-9]+) failed'
@@ -222,7 +229,8 @@ rust_maps() {
 "$here/install.sh" "$prefix" "$@"
 case_is 'the library is built and installed' [ -e "$prefix/lib/pkgconfig/citrus.pc" ]
 [ "$failed" = 0 ] || end
-case_is 'the headers stand alone' headers_stand_alone
+case_is 'one version is named everywhere' python3 "$top/build/version.py" --check
+cases_of "$here/tests/headers.sh" "$prefix/include"
 case_is "the page's program in C" first_program c/first.c '5 has 50' gcc -Wall -Wextra -Werror
 case_is 'README shows the program in C' shows README.md c/first.c
 case_is "the page's program in C++" first_program cpp/first.cpp '5 has 50' g++ -std=c++17 -Wall -Wextra -Werror -pthread
@@ -231,8 +239,9 @@ case_is 'the cache in C++' example '5: five' g++ -std=c++17 -Wall -Wextra -Werro
 if hash pkg-config 2>/dev/null; then case_is "the page's program by pkg-config" with_pkg_config; else echo 'left out: pkg-config'; fi
 case_is 'the tests compile' compile_all
 [ -x "$room/order_cpp" ] || end
-for program in answers misuse memory moments own_keys reopened tidy answers_cpp; do cases_of "$room/$program"; done
+for program in answers misuse memory moments own_keys always counters reopened tidy version answers_cpp; do cases_of "$room/$program"; done
 for program in holds begun objects prcu debug map_cpp; do cases_of "$room/$program"; done
+if has_thread_sanitizer; then hand_overs; else echo 'left out: ThreadSanitizer'; fi
 if has_sanitizer; then values_under_a_sanitizer; else echo 'left out: AddressSanitizer'; fi
 if [ -x "$checker" ]; then orders; else echo "left out: one order of all calls, since $checker isn't built"; fi
 for crate in citrus_map server; do [ ! -e "$here/$crate/Cargo.toml" ] || rust_tests "$crate"; done

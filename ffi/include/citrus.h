@@ -1,6 +1,7 @@
 /* Citrus: an ordered index from 64-bit keys to 64-bit values, in memory, that up to 64 threads use at once.
  *
- * Lookups take no lock and wait for nobody; updates lock the few nodes that they change. Each thread calls through a handle of its own:
+ * Lookups take no lock and wait for nobody; updates lock the few nodes that they change. Each thread calls through a handle of its own, and
+ * looks at each status, which is left out here:
  *
  *     citrus_handle mine = CITRUS_CLOSED_HANDLE, other = CITRUS_CLOSED_HANDLE;
  *     citrus_open(&mine, 100000, 2, CITRUS_EER);
@@ -13,22 +14,49 @@
  * tested: that a close leaves its section, and to a reopen all that the handle had, that a reopen finds it and hands it on as it was, and that
  * memory is freed.
  *
+ * What a thread wrote before an insert, a replace or an upsert is seen by whoever is told that value of that key, and what a reader did before
+ * its release is over where a wait for its key ends. For all steps are sequentially consistent: an insert stores the link to its node, and a
+ * replace the node's value; whoever is told the value has loaded that link and that value, or those of a copy, which the thread that made it had
+ * loaded before; and a wait has loaded what the release stored. That is an argument on paper. Under ThreadSanitizer the header tells of it: see
+ * citrus_tsan.h.
+ *
  * What a caller owes, which nothing can test:
  *   - a handle is CITRUS_CLOSED_HANDLE, or as the last call with it left it. It is moved and never copied: who hands it on sets the old one
  *     to citrus_closed_handle(), and nobody touches its member;
- *   - one call at a time with one handle. It may go from thread to thread, by a lock, or by a thread's start or join;
+ *   - one call at a time with one handle. It may go from thread to thread, by a lock, or by a thread's start or join. CITRUS_DEBUG, defined
+ *     before this header is included, tells of two threads in calls with one: see citrus_debug.h;
  *   - the pointers of one call aren't null and don't overlap, and each leads to memory of its type that lives as long as the call;
  *   - no call from a signal handler, nor from the child of a fork of a program with threads;
  *   - malloc, realloc and free are of one allocator;
- *   - a thread that is in a section (citrus_hold, citrus_enter) makes no update, tidy or wait by another handle of the index. CITRUS_DEBUG,
- *     defined before this header is included, tests it: see citrus_debug.h.
+ *   - a thread that is in a section (citrus_hold, citrus_enter) makes no update, tidy or wait by another handle of the index. CITRUS_DEBUG
+ *     tests it too.
  *
- * What is written: *value, *old, *key, *next and *cookie only where the status says so; *count of citrus_list and *made always. */
+ * What is seen of a mistake, and what it may be:
+ *   - CITRUS_CLOSED of a handle that is open, an answer to another key, SIGILL or SIGSEGV: two threads call with one handle, or it was copied;
+ *   - a call that doesn't end: this thread is in a section by another handle, or another one is and waits for something of this one;
+ *   - an object that is freed twice, or changes as it is read: a get in place of a hold, a free without a wait, a wait for other keys.
+ *
+ * What is written: *value, *old, *found, *key, *next and *cookie only where the status says so; *count of citrus_list and *made always. */
 #ifndef CITRUS_H
 #define CITRUS_H
 
 #include <stddef.h>
 #include <stdint.h>
+
+/* Which version the header is of. citrus_version() tells the archive's. */
+#define CITRUS_VERSION "0.2.0"
+#define CITRUS_VERSION_MAJOR 0
+#define CITRUS_VERSION_MINOR 2
+#define CITRUS_VERSION_PATCH 0
+
+/* A call whose status matters: the compiler warns where it isn't looked at, if it can. */
+#if (defined __cplusplus && __cplusplus >= 201703L) || (defined __STDC_VERSION__ && __STDC_VERSION__ >= 202311L)
+#define CITRUS_STATUS_MATTERS [[nodiscard]]
+#elif defined __GNUC__
+#define CITRUS_STATUS_MATTERS __attribute__((warn_unused_result))
+#else
+#define CITRUS_STATUS_MATTERS
+#endif
 
 #ifdef __cplusplus
 extern "C" {
@@ -39,7 +67,11 @@ extern "C" {
 typedef struct { void *at; } citrus_handle;
 
 /* A closed handle: the first to begin with, for a static variable too, and the second for an assignment. */
-#define CITRUS_CLOSED_HANDLE { 0 }
+#ifdef __cplusplus
+#define CITRUS_CLOSED_HANDLE {}
+#else
+#define CITRUS_CLOSED_HANDLE { NULL }
+#endif
 
 static inline citrus_handle citrus_closed_handle(void) {
     citrus_handle closed = CITRUS_CLOSED_HANDLE;
@@ -61,20 +93,45 @@ enum { CITRUS_EER = 0, CITRUS_DOMAIN = 1, CITRUS_DEER = 2 };
  * before it was CITRUS_SPENT. Of several causes the first is told: CLOSED, LOST, HOLDS, BAD_ARGUMENT, SPENT, NO_MEMORY. */
 enum {
     CITRUS_DONE = 0,
-    CITRUS_UNCHANGED = 1,     /* insert: the key is there already; get, replace, remove: it is absent; first: there is no such pair;
-                                 reopen: no closed handle left a place; release: the handle is in no section; poll: a reader is left */
+    CITRUS_UNCHANGED = 1,     /* insert: the key is there already; get, replace, compare, remove: it is absent; first, last: there is no such
+                                 pair; reopen: no closed handle left a place; release: the handle is in no section; poll: a reader is left */
     CITRUS_FULL = 2,          /* the key is absent, and there is no free slot for it: as many pairs as were asked for are there, or more */
     CITRUS_MORE = 3,          /* list: there are more pairs than room; tidy: the range isn't done */
-    CITRUS_MOVED = 4,         /* others updated the index in each of 1,000 tries; nothing was changed. A later call may get through;
-                                 poll: the wait is no longer the handle's latest, or its end was told */
+    CITRUS_MOVED = 4,         /* upsert: others put the key in and took it out in each of 1,000 rounds; nothing was changed. A later call may
+                                 get through; poll: the wait is no longer the handle's latest, or its end was told */
     CITRUS_NEW = 5,           /* upsert: the pair was added */
+    CITRUS_DIFFERENT = 6,     /* compare: the key has another value than the expected one */
     CITRUS_CLOSED = -1,       /* the handle is closed */
     CITRUS_BAD_ARGUMENT = -2, /* a number is out of its range; reopen: the other handle is open */
-    CITRUS_NO_MEMORY = -3,    /* malloc gave none; open, share, reopen, list, first and tidy alone take memory */
+    CITRUS_NO_MEMORY = -3,    /* malloc gave none; open, share, reopen, list and tidy alone take memory */
     CITRUS_SPENT = -4,        /* the handle has fewer than 4 tickets (get, updates, tidy), or none (wait, begin): lists, holds and shares are left */
     CITRUS_LOST = -5,         /* a call with this handle gave up after 2^64 - 1 rounds of waiting: the handle can only be closed */
     CITRUS_HOLDS = -6         /* the handle is in a section: release, left and close alone are left to it */
 };
+
+/* A status by the name that it has above, for messages. */
+static inline const char *citrus_status_name(int32_t status) {
+    switch (status) {
+    case CITRUS_DONE: return "CITRUS_DONE";
+    case CITRUS_UNCHANGED: return "CITRUS_UNCHANGED";
+    case CITRUS_FULL: return "CITRUS_FULL";
+    case CITRUS_MORE: return "CITRUS_MORE";
+    case CITRUS_MOVED: return "CITRUS_MOVED";
+    case CITRUS_NEW: return "CITRUS_NEW";
+    case CITRUS_DIFFERENT: return "CITRUS_DIFFERENT";
+    case CITRUS_CLOSED: return "CITRUS_CLOSED";
+    case CITRUS_BAD_ARGUMENT: return "CITRUS_BAD_ARGUMENT";
+    case CITRUS_NO_MEMORY: return "CITRUS_NO_MEMORY";
+    case CITRUS_SPENT: return "CITRUS_SPENT";
+    case CITRUS_LOST: return "CITRUS_LOST";
+    case CITRUS_HOLDS: return "CITRUS_HOLDS";
+    default: return "no status of citrus";
+    }
+}
+
+/* The version of the archive, or of the shared library, that the program runs with: CITRUS_VERSION as it was built. Of all calls this alone
+   isn't proved. It never fails, and the text stays. */
+const char *citrus_version(void);
 
 typedef struct { uint64_t key, value; } citrus_pair;
 
@@ -83,20 +140,20 @@ typedef struct { uint64_t key, value; } citrus_pair;
  *            may have taken out of the index and not yet given back
  *   handles  1 to CITRUS_MAX_HANDLES: how many there can be at once. Each has a place, and a closed one leaves it to a reopen
  *   waiter   CITRUS_EER, CITRUS_DOMAIN or CITRUS_DEER
- * It takes all memory of the index, and twice as much until it comes back; only a list, a first, a share or a reopen takes more later. Its
+ * It takes all memory of the index, and twice as much until it comes back; only a list, a tidy, a share or a reopen takes more later. Its
  * time grows with the pairs.
  * DONE; BAD_ARGUMENT or NO_MEMORY, and then the handle is as it was. */
-int32_t citrus_open(citrus_handle *handle, uint32_t pairs, uint32_t handles, uint32_t waiter);
+CITRUS_STATUS_MATTERS int32_t citrus_open(citrus_handle *handle, uint32_t pairs, uint32_t handles, uint32_t waiter);
 
 /* Makes `other` a second handle of the index. So many of the handles that are left to the first one (1 or more; `other` itself is one of
  * them) and so many of its tickets (0 or more) go over to it, and can be shared from it in turn. What `other` was open on before is closed.
  * It waits for nobody and takes half a kilobyte of memory.
  * DONE; CLOSED; BAD_ARGUMENT where the first has fewer handles or tickets; NO_MEMORY; LOST. At all but DONE both are as they were. */
-int32_t citrus_share(citrus_handle *handle, uint32_t handles, uint64_t tickets, citrus_handle *other);
+CITRUS_STATUS_MATTERS int32_t citrus_share(citrus_handle *handle, uint32_t handles, uint64_t tickets, citrus_handle *other);
 
 /* Tells how many more handles can be shared from this one, and how many tickets it has. It costs a few loads.
  * DONE, of a lost handle too; CLOSED. */
-int32_t citrus_left(citrus_handle *handle, uint32_t *handles, uint64_t *tickets);
+CITRUS_STATUS_MATTERS int32_t citrus_left(citrus_handle *handle, uint32_t *handles, uint64_t *tickets);
 
 /* Closes the handle. A closed one may be closed again. What it had, its place, the handles that could be shared from it and its tickets, it
  * leaves to citrus_reopen, unless it is lost. So does a handle over which another is opened or shared. The memory of the index is freed with
@@ -109,50 +166,69 @@ void citrus_close(citrus_handle *handle);
  * half a kilobyte of memory.
  * DONE; UNCHANGED where no closed handle left a place; CLOSED; BAD_ARGUMENT where `other` is open; NO_MEMORY, and the place is left still;
  * LOST, where `handle` is. `handle` is as it was, and at all but DONE `other` too. */
-int32_t citrus_reopen(citrus_handle *handle, citrus_handle *other);
+CITRUS_STATUS_MATTERS int32_t citrus_reopen(citrus_handle *handle, citrus_handle *other);
 
 /* Tells the key's value. Where values are pointers, take citrus_hold.
  * It takes no lock and waits for nobody: a few stores, and a load or two for each level of the tree. It needs 4 tickets and uses none.
  * DONE, and *value; UNCHANGED where the key is absent; CLOSED; SPENT; LOST. */
-int32_t citrus_get(citrus_handle *handle, uint64_t key, uint64_t *value);
+CITRUS_STATUS_MATTERS int32_t citrus_get(citrus_handle *handle, uint64_t key, uint64_t *value);
 
 /* The updates. Each searches as a get does, locks the few nodes that it changes, and begins again where another thread changed them first.
  * Where another thread holds one of these locks it spins, since the library can't yield the processor: take no more threads that update
- * than there are processors. It waits for readers, who are inside a call or a section, only as said below. It needs 4 tickets and uses 4
- * at most, an insert that turns nodes up to 12 more; and so does each replace and insert of an upsert. */
+ * than there are processors. It waits for a list that keeps updates off, and for readers, who are inside a call or a section, only as said
+ * below. It needs 4 tickets and uses 4 at most, an insert that turns nodes up to 12 more; and so does each replace and insert of an upsert.
+ * */
 
 /* Adds the pair, where the key is absent. Where no slot is free it first waits for all readers, to give back slots of its own.
  * Where it went deep to add the pair, and has 12 tickets left, it then turns nodes on the way, in four attempts at most, so that the tree
  * stays shallow in whatever order keys come. A turn locks three nodes, and is given up where one of them is locked. It waits for all readers
  * only where the way is more than twice as deep as it is to be, and the handle keeps back 63 slots or more.
  * DONE, and after a loss at a turn too: then the next call is LOST; UNCHANGED where the key is there; FULL; CLOSED; SPENT; LOST. */
-int32_t citrus_insert(citrus_handle *handle, uint64_t key, uint64_t value);
+CITRUS_STATUS_MATTERS int32_t citrus_insert(citrus_handle *handle, uint64_t key, uint64_t value);
 
 /* Gives the key another value, where it is present. It waits for no reader.
  * DONE, and the value before in *old; UNCHANGED where the key is absent; CLOSED; SPENT; LOST. */
-int32_t citrus_replace(citrus_handle *handle, uint64_t key, uint64_t value, uint64_t *old);
+CITRUS_STATUS_MATTERS int32_t citrus_replace(citrus_handle *handle, uint64_t key, uint64_t value, uint64_t *old);
+
+/* Gives the key another value, where its value is `expected` at that moment. It waits for no reader. Where the value is another it locks
+ * nothing, and costs what a get costs. To raise a counter call it again with *found as `expected` while it is DIFFERENT: a round that is
+ * lost was won by another thread. Of values that are pointers see below.
+ * DONE where one update replaced `expected`; DIFFERENT where the key had the value *found, which isn't `expected`, at a moment of the call;
+ * UNCHANGED where the key is absent; CLOSED; SPENT; LOST. */
+CITRUS_STATUS_MATTERS int32_t citrus_compare(citrus_handle *handle, uint64_t key, uint64_t expected, uint64_t value, uint64_t *found);
 
 /* Gives the key this value: a replace, or else an insert, in turn until one of the two told an update.
  * DONE, and the value before in *old, where the key was present; NEW where the pair was added; FULL; MOVED where other threads put the key
  * in and took it out in each of 1,000 rounds; CLOSED; SPENT; LOST. */
-int32_t citrus_upsert(citrus_handle *handle, uint64_t key, uint64_t value, uint64_t *old);
+CITRUS_STATUS_MATTERS int32_t citrus_upsert(citrus_handle *handle, uint64_t key, uint64_t value, uint64_t *old);
 
 /* Takes the pair out, where the key is present. Where its node has two children it waits for the readers whose key lies above this key and
  * up to the next one; and where the handle keeps back 63 slots, a slot or two of each remove and two of each turn of an insert, it first
  * waits for all readers, a list too.
  * DONE, and the value in *old; UNCHANGED where the key is absent; CLOSED; SPENT; LOST. */
-int32_t citrus_remove(citrus_handle *handle, uint64_t key, uint64_t *old);
+CITRUS_STATUS_MATTERS int32_t citrus_remove(citrus_handle *handle, uint64_t key, uint64_t *old);
 
-/* Lists the pairs with keys from low to high, both among them, all as they were at one moment of the call, keys ascending.
- * It fills pairs[0] to pairs[*count - 1], and *count is 0 except at DONE and MORE. It takes no lock, and memory for `room` pairs. Where
- * updates come it reads again, up to 1,000 times, so beside steady writers take short ranges. It needs no tickets.
- * DONE; MORE where there are more than `room` such pairs: these are the first ones, and the key after them is in *next; MOVED; CLOSED;
+/* Lists of a key range, and the pairs nearest to a key: each as it was at one moment of the call. Beside writers none fails. They need no
+ * tickets and lock no node.
+ *
+ * What they cost others: where an update came in each of 4 tries, such a call keeps all updates off for one walk more, some 30 ns a pair,
+ * or one way down. Lookups and sections go on meanwhile. So beside writers a list of 1,000,000 pairs holds each update up for some 30 ms:
+ * where that is too long, list in pages. A thread that the system stops within that walk holds all updates up, as one does that is stopped
+ * within an update. Lists and updates race for their turn; none has a place in a queue. */
+
+/* Lists the pairs with keys from low to high, both among them, keys ascending.
+ * It fills pairs[0] to pairs[*count - 1], and *count is 0 except at DONE and MORE. It takes memory for `room` pairs, and gives it back.
+ * DONE; MORE where there are more than `room` such pairs: these are the first ones, and the key after them is in *next; CLOSED;
  * BAD_ARGUMENT where low is above high, or room is 0 or above CITRUS_MAX_ROOM; NO_MEMORY; LOST. */
-int32_t citrus_list(citrus_handle *handle, uint64_t low, uint64_t high, citrus_pair *pairs, size_t room, size_t *count, uint64_t *next);
+CITRUS_STATUS_MATTERS int32_t citrus_list(citrus_handle *handle, uint64_t low, uint64_t high, citrus_pair *pairs, size_t room, size_t *count, uint64_t *next);
 
-/* Tells the pair with the least key at or above `low`, as it was at one moment of the call. It costs what a list of one pair costs.
- * DONE, and *key and *value; UNCHANGED where there is none; MOVED; CLOSED; NO_MEMORY; LOST. */
-int32_t citrus_first(citrus_handle *handle, uint64_t low, uint64_t *key, uint64_t *value);
+/* Tells the pair with the least key at or above `low`. It costs what a get costs, and takes no memory.
+ * DONE, and *key and *value; UNCHANGED where there is none; CLOSED; LOST. */
+CITRUS_STATUS_MATTERS int32_t citrus_first(citrus_handle *handle, uint64_t low, uint64_t *key, uint64_t *value);
+
+/* Tells the pair with the greatest key from low to high, both among them. It costs as much.
+ * DONE, and *key and *value; UNCHANGED where there is none, as where low is above high; CLOSED; LOST. */
+CITRUS_STATUS_MATTERS int32_t citrus_last(citrus_handle *handle, uint64_t low, uint64_t high, uint64_t *key, uint64_t *value);
 
 /* Makes the tree shallow on the ways to the keys from low to high, without a change of any pair: for an index that was filled and is only
  * read from then on, since else inserts turn nodes where they went deep. It lists the first 256 of these keys and turns nodes on the way to
@@ -169,9 +245,9 @@ int32_t citrus_first(citrus_handle *handle, uint64_t low, uint64_t *key, uint64_
  * *made is how many turns were made: 0 but at DONE, MORE and FULL. *next is written at MORE and FULL alone.
  * DONE, where no way to a key of the range needs a turn any more; MORE where it isn't through, and *next is the key to go on with: so many
  * turns were tried, tickets are short, there are more keys, or no slot was free for a turn and the handle gave slots back that it kept, behind
- * a wait for all readers; FULL where no slot is free and it keeps none, and *next; MOVED, as of a list; CLOSED; HOLDS; BAD_ARGUMENT where low
- * is above high, or turns is 0; SPENT; NO_MEMORY; LOST. */
-int32_t citrus_tidy(citrus_handle *handle, uint64_t low, uint64_t high, uint32_t turns, uint32_t *made, uint64_t *next);
+ * a wait for all readers; FULL where no slot is free and it keeps none, and *next; CLOSED; HOLDS; BAD_ARGUMENT where low is above high, or
+ * turns is 0; SPENT; NO_MEMORY; LOST. */
+CITRUS_STATUS_MATTERS int32_t citrus_tidy(citrus_handle *handle, uint64_t low, uint64_t high, uint32_t turns, uint32_t *made, uint64_t *next);
 
 /* Values that are pointers.
  *
@@ -186,12 +262,14 @@ int32_t citrus_tidy(citrus_handle *handle, uint64_t low, uint64_t high, uint32_t
  *     if (citrus_remove(&mine, key, &value) == CITRUS_DONE && citrus_wait(&mine, key, key) == CITRUS_DONE)
  *         free((struct object *)(uintptr_t)value);
  *
- * So it is with the old value of a replace or an upsert. Who would rather not wait there begins a wait and asks later: citrus_begin,
- * citrus_poll. What a caller owes for this, which nothing tests:
+ * So it is with the old value of a replace or an upsert, and at a compare's DONE with `expected`. Who would rather not wait there begins a
+ * wait and asks later: citrus_begin, citrus_poll. What a caller owes for this, which nothing tests:
  *   - an object that was taken out is freed by whoever was told it, once, and not before a wait for its key is over that was begun after
  *     the call which told it. It isn't put in again;
  *   - an object stands under one key, or each of its keys is waited for;
- *   - what a hold told is followed up to the release alone, and what a get, a list or a first told isn't followed at all. */
+ *   - what a hold told is followed up to the release alone, and what a get, a list, a first or a last told isn't followed at all. A
+ *     compare compares addresses: an object that was freed since `expected` was told may have left its address to another, which is then
+ *     replaced. */
 
 /* Finds the key's value, and stays in a section with the key: each wait for the key waits for it. A handle is in one section at a time, so a
  * program that needs two values at once takes two handles. Hold for as short as you would hold a lock: waits for the key wait for you, and
@@ -199,11 +277,11 @@ int32_t citrus_tidy(citrus_handle *handle, uint64_t low, uint64_t high, uint32_t
  * wait by another handle of the index: what it waits for may be itself, or wait for it.
  * It costs what a get costs, takes no memory, needs no ticket, and waits for nobody.
  * DONE, and *value; UNCHANGED where the key is absent, and then the handle is in no section; CLOSED; HOLDS; LOST. */
-int32_t citrus_hold(citrus_handle *handle, uint64_t key, uint64_t *value);
+CITRUS_STATUS_MATTERS int32_t citrus_hold(citrus_handle *handle, uint64_t key, uint64_t *value);
 
 /* Enters a section with the key without a search, for something else than the index: see prcu.h. A few steps, and no ticket.
  * DONE; CLOSED; HOLDS; LOST. */
-int32_t citrus_enter(citrus_handle *handle, uint64_t key);
+CITRUS_STATUS_MATTERS int32_t citrus_enter(citrus_handle *handle, uint64_t key);
 
 /* Leaves the section. It costs a step. Whatever closes the handle does the same.
  * DONE; UNCHANGED where the handle is in none; CLOSED; LOST. */
@@ -213,20 +291,32 @@ int32_t citrus_release(citrus_handle *handle);
  * objects after one wait take a range with all their keys, or 0 to UINT64_MAX: it waits for more readers then.
  * It spins, and ends only when they have all left. It uses a ticket.
  * DONE; CLOSED; HOLDS; BAD_ARGUMENT where low is above high; SPENT; LOST. */
-int32_t citrus_wait(citrus_handle *handle, uint64_t low, uint64_t high);
+CITRUS_STATUS_MATTERS int32_t citrus_wait(citrus_handle *handle, uint64_t low, uint64_t high);
 
 /* Begins such a wait, and tells a cookie by which to ask for its end. A handle has one wait under way: a later begin or wait takes its place,
  * and so does a remove or an insert that waits. So who begins many gives them a handle of their own. It uses a ticket.
  * DONE, and *cookie; CLOSED; HOLDS; BAD_ARGUMENT where low is above high; SPENT; LOST. */
-int32_t citrus_begin(citrus_handle *handle, uint64_t low, uint64_t high, uint64_t *cookie);
+CITRUS_STATUS_MATTERS int32_t citrus_begin(citrus_handle *handle, uint64_t low, uint64_t high, uint64_t *cookie);
 
 /* Asks whether the wait is over. It looks for the readers that are left, from where the last poll stopped, and waits for nobody.
  * DONE where it is over, which is told once; UNCHANGED where a reader is left; MOVED where its end was told, or another wait of the handle
  * took its place: then begin again; CLOSED; HOLDS; LOST. */
-int32_t citrus_poll(citrus_handle *handle, uint64_t cookie);
+CITRUS_STATUS_MATTERS int32_t citrus_poll(citrus_handle *handle, uint64_t cookie);
 
 #ifdef __cplusplus
 }
+#endif
+
+/* Under ThreadSanitizer, and not where CITRUS_NO_TSAN is defined. */
+#if defined __SANITIZE_THREAD__
+#define CITRUS_TSAN
+#elif defined __has_feature
+#if __has_feature(thread_sanitizer)
+#define CITRUS_TSAN
+#endif
+#endif
+#if defined CITRUS_TSAN && !defined CITRUS_NO_TSAN
+#include "citrus_tsan.h"
 #endif
 
 #ifdef CITRUS_DEBUG

@@ -11,7 +11,13 @@
 #ifndef CITRUS_HPP
 #define CITRUS_HPP
 
+#if __cplusplus < 201703L
+#error "citrus.hpp is for C++17 or later: compile with -std=c++17"
+#else
+
 #include "citrus.h"
+#include <cstddef>
+#include <iterator>
 #include <optional>
 #include <stdexcept>
 #include <utility>
@@ -36,7 +42,7 @@ enum class fault : int32_t {
 inline const char *text_of(fault why) noexcept {
     switch (why) {
     case fault::full: return "citrus: there is no free slot";
-    case fault::moved: return "citrus: others updated the index in each of 1,000 tries";
+    case fault::moved: return "citrus: others put the key in and took it out in each of 1,000 rounds";
     case fault::closed: return "citrus: the handle is closed";
     case fault::bad_argument: return "citrus: an argument is out of its range";
     case fault::no_memory: return "citrus: there is no memory";
@@ -56,11 +62,19 @@ private:
     fault why_;
 };
 
-// The pairs of a list, and the key after them where there were more than room.
+// The pairs of a list, and the key after them where there were more than room. All of them are of one moment.
 struct page {
     std::vector<citrus_pair> pairs;
     std::optional<uint64_t> next;
+
+    std::vector<citrus_pair>::const_iterator begin() const noexcept { return pairs.begin(); }
+    std::vector<citrus_pair>::const_iterator end() const noexcept { return pairs.end(); }
+    size_t size() const noexcept { return pairs.size(); }
+    bool empty() const noexcept { return pairs.empty(); }
 };
+
+// What a compare_exchange came to: the value was the expected one and was replaced, or it was another, or the key was absent.
+enum class compared { done, different, absent };
 
 // What a tidy came to: the turns that it made, and the key to go on with where it isn't through.
 struct tidied {
@@ -113,6 +127,8 @@ private:
     uint64_t value_ = 0;
 };
 
+class pair_range;
+
 // What became of a wait that was begun: each of its readers has left, some are left, or another wait of the handle took its place.
 enum class progress { over, not_yet, displaced };
 
@@ -120,6 +136,9 @@ enum class progress { over, not_yet, displaced };
 // lines of memory of its own: threads whose handles share one would be half as fast.
 class alignas(128) handle {
 public:
+    // So many pairs a page has room for, where nothing else is said.
+    static constexpr size_t page_room = 1000;
+
     // A closed handle, which refuses each call by fault::closed.
     handle() noexcept = default;
 
@@ -175,13 +194,17 @@ public:
         return has;
     }
 
-    // The calls below throw closed, holds, spent or lost; `list` and `first` no_memory in place of spent.
+    // The calls below throw closed, holds, spent or lost. `first` and `last` never throw spent, and what lists pages throws no_memory in
+    // its place.
 
     // The key's value, where it is present.
     std::optional<uint64_t> get(uint64_t key) {
         uint64_t value = 0;
         return told(citrus_get(&at_, key, &value), value);
     }
+
+    // Whether the key is present.
+    bool contains(uint64_t key) { return get(key).has_value(); }
 
     // Whether the pair was added: not where the key is there already. Throws full.
     bool insert(uint64_t key, uint64_t value) { return is_done(citrus_insert(&at_, key, value)); }
@@ -190,6 +213,30 @@ public:
     std::optional<uint64_t> replace(uint64_t key, uint64_t value) {
         uint64_t old = 0;
         return told(citrus_replace(&at_, key, value, &old), old);
+    }
+
+    // Gives the key the value `desired`, where its value is `expected`. Where it is another, that is in `expected` then. As that of an
+    // atomic, but that the key may be absent.
+    compared compare_exchange(uint64_t key, uint64_t &expected, uint64_t desired) {
+        uint64_t found = 0;
+        const int32_t status = citrus_compare(&at_, key, expected, desired, &found);
+        if (status != CITRUS_DIFFERENT) return is_done(status) ? compared::done : compared::absent;
+        expected = found;
+        return compared::different;
+    }
+
+    // Gives the key what `change` makes of its value, where it is present; the value before. It is one update; where another thread updates
+    // the key between, `change` is called once more, with the value then.
+    template <class Change> std::optional<uint64_t> update(uint64_t key, Change change) {
+        const std::optional<uint64_t> found = get(key);
+        if (!found) return std::nullopt;
+        uint64_t value = *found;
+        for (;;) {
+            const uint64_t before = value, desired = change(before);
+            const compared told = compare_exchange(key, value, desired);
+            if (told == compared::done) return before;
+            if (told == compared::absent) return std::nullopt;
+        }
     }
 
     // Gives the key this value; the value before, or none where the pair was added. Throws full or moved.
@@ -208,8 +255,8 @@ public:
     }
 
     // The pairs with keys from low to high as they were at one moment, keys ascending, as many as there is room for, and the key after them
-    // where there are more. Throws bad_argument (low above high; no room, or more than CITRUS_MAX_ROOM) or moved.
-    page list(uint64_t low, uint64_t high, size_t room = 1000) {
+    // where there are more. Throws bad_argument (low above high; no room, or more than CITRUS_MAX_ROOM).
+    page list(uint64_t low, uint64_t high, size_t room = page_room) {
         if (room == 0 || room > CITRUS_MAX_ROOM) throw error(fault::bad_argument);
         page found{std::vector<citrus_pair>(room), std::nullopt};
         size_t count = 0;
@@ -221,15 +268,70 @@ public:
         return found;
     }
 
-    // The pair with the least key at or above `low`, if there is one. Throws moved.
+    // The pair with the least key at or above `low`, if there is one.
     std::optional<citrus_pair> first(uint64_t low = 0) {
         citrus_pair found{};
         if (!is_done(citrus_first(&at_, low, &found.key, &found.value))) return std::nullopt;
         return found;
     }
 
+    // The pair with the greatest key at or below `high`, if there is one.
+    std::optional<citrus_pair> last(uint64_t high = UINT64_MAX) { return last(0, high); }
+
+    // The same among the keys from low to high.
+    std::optional<citrus_pair> last(uint64_t low, uint64_t high) {
+        citrus_pair found{};
+        if (!is_done(citrus_last(&at_, low, high, &found.key, &found.value))) return std::nullopt;
+        return found;
+    }
+
+    // Takes out the pair with the least key at or above `low`, if there is one, with the value that it had by then. It was the least one at
+    // a moment of the call; others may have put in a lesser one before it was taken out.
+    std::optional<citrus_pair> pop_first(uint64_t low = 0) {
+        return pop([this, low] { return first(low); });
+    }
+
+    // The same with the greatest key at or below `high`.
+    std::optional<citrus_pair> pop_last(uint64_t high = UINT64_MAX) {
+        return pop([this, high] { return last(high); });
+    }
+
+    // Whether there is no pair.
+    bool empty() { return !first(); }
+
+    // The calls below read page by page, with room for `page_room` pairs, in order of keys. Each page is of one moment, later than that of
+    // the page before. So what others put in or take out behind the page isn't seen, and before it is. They throw bad_argument where low is
+    // above high.
+
+    // How many pairs there are: at one moment where there are no more than a page has room for, and else a sum over pages.
+    uint64_t size(uint64_t low = 0, uint64_t high = UINT64_MAX) {
+        uint64_t count = 0;
+        each_page(low, high, [&](const page &found) { count += found.size(); });
+        return count;
+    }
+
+    // Takes out each pair of the range that `stays(key, value)` says no to, each by an update of its own; how many. It asks with the value
+    // that the page tells: where another thread gives the key another one after that, the pair is taken out with it.
+    template <class Stays> uint64_t retain(uint64_t low, uint64_t high, Stays stays) {
+        uint64_t gone = 0;
+        each_page(low, high, [&](const page &found) {
+            for (const citrus_pair &pair : found)
+                if (!stays(pair.key, pair.value) && remove(pair.key)) gone++;
+        });
+        return gone;
+    }
+
+    // Takes out all pairs of the range, each by an update of its own; how many.
+    uint64_t clear(uint64_t low = 0, uint64_t high = UINT64_MAX) {
+        return retain(low, high, [](uint64_t, uint64_t) { return false; });
+    }
+
+    // The pairs of the range, to be gone through once. The handle stays where it is meanwhile; it may make other calls. Its iterators throw
+    // what `list` throws.
+    pair_range range(uint64_t low = 0, uint64_t high = UINT64_MAX, size_t room = page_room);
+
     // Makes the tree shallow on the ways to the first keys from low to high, by so many turns at most, and changes no pair. Throws
-    // bad_argument (low above high; no turns), full, moved or no_memory.
+    // bad_argument (low above high; no turns), full or no_memory.
     tidied tidy(uint64_t low, uint64_t high, uint32_t turns = 1000) {
         tidied came{};
         uint64_t next = 0;
@@ -284,6 +386,22 @@ private:
         return status == CITRUS_DONE;
     }
 
+    // Another thread may take the pair that was found first.
+    template <class Find> std::optional<citrus_pair> pop(Find find) {
+        while (const std::optional<citrus_pair> found = find())
+            if (const std::optional<uint64_t> value = remove(found->key)) return citrus_pair{found->key, *value};
+        return std::nullopt;
+    }
+
+    template <class Visit> void each_page(uint64_t low, uint64_t high, Visit visit) {
+        std::optional<uint64_t> from = low;
+        while (from) {
+            const page found = list(*from, high);
+            visit(found);
+            from = found.next;
+        }
+    }
+
     // The value is read after the call that wrote it, so it comes by reference.
     static std::optional<uint64_t> told(int32_t status, const uint64_t &value) {
         if (is_done(status)) return value;
@@ -291,6 +409,93 @@ private:
     }
 };
 
+// The pairs of a key range as `handle::range` gives them, keys ascending: page by page, each of one moment, later than that of the page
+// before. The next page is listed when the one before is through.
+class pair_range {
+public:
+    class iterator {
+    public:
+        using iterator_category = std::input_iterator_tag;
+        using value_type = citrus_pair;
+        using difference_type = std::ptrdiff_t;
+        using pointer = const citrus_pair *;
+        using reference = const citrus_pair &;
+
+        // The pair before a step, for `*it++`.
+        class stepped {
+        public:
+            const citrus_pair &operator*() const noexcept { return pair_; }
+
+        private:
+            friend class iterator;
+            explicit stepped(citrus_pair pair) noexcept : pair_(pair) {}
+
+            citrus_pair pair_;
+        };
+
+        iterator() noexcept = default;
+
+        reference operator*() const noexcept { return of_->page_.pairs[of_->at_]; }
+        pointer operator->() const noexcept { return &**this; }
+
+        iterator &operator++() {
+            if (!of_->step()) of_ = nullptr;
+            return *this;
+        }
+
+        stepped operator++(int) {
+            const stepped before(**this);
+            ++*this;
+            return before;
+        }
+
+        // Whether both are at the end, or both aren't.
+        friend bool operator==(const iterator &one, const iterator &other) noexcept { return one.of_ == other.of_; }
+        friend bool operator!=(const iterator &one, const iterator &other) noexcept { return one.of_ != other.of_; }
+
+    private:
+        friend class pair_range;
+        explicit iterator(pair_range *of) noexcept : of_(of) {}
+
+        pair_range *of_ = nullptr;
+    };
+
+    // Lists the first page. One pass is made at a time: another begin takes the first one's place.
+    iterator begin() {
+        next_ = low_;
+        return iterator(turn() ? this : nullptr);
+    }
+
+    iterator end() noexcept { return iterator(); }
+
+private:
+    friend class handle;
+    pair_range(handle &from, uint64_t low, uint64_t high, size_t room) noexcept : from_(&from), low_(low), high_(high), room_(room) {}
+
+    handle *from_;
+    uint64_t low_, high_;
+    size_t room_, at_ = 0;
+    page page_;
+    std::optional<uint64_t> next_;
+
+    // Whether there is another pair.
+    bool step() { return ++at_ < page_.size() || turn(); }
+
+    // Lists the next page that isn't empty, if there is one.
+    bool turn() {
+        while (next_) {
+            page_ = from_->list(*next_, high_, room_);
+            next_ = page_.next;
+            at_ = 0;
+            if (!page_.empty()) return true;
+        }
+        return false;
+    }
+};
+
+inline pair_range handle::range(uint64_t low, uint64_t high, size_t room) { return pair_range(*this, low, high, room); }
+
 } // namespace citrus
 
+#endif
 #endif

@@ -11,14 +11,17 @@
 //   - a map object outlives the held values that it gave, and what a held value leads to isn't used when that has ended;
 //   - while a thread has a held value of one map object it makes no update by another one of the same map. By the same one it can't: holds is
 //     thrown;
-//   - the destructor of an object makes no call of the map that has it.
+//   - the destructor of an object makes no call of the map that has it, nor does what `update` and `retain` call.
 #ifndef CITRUS_MAP_HPP
 #define CITRUS_MAP_HPP
 
 #include "citrus.hpp"
+// In an older language that header says so, and this one says nothing more.
+#if __cplusplus >= 201703L
 #include <algorithm>
 #include <atomic>
 #include <memory>
+#include <thread>
 
 namespace citrus {
 
@@ -48,9 +51,14 @@ public:
     // So many objects that were retired are kept at most.
     static constexpr size_t most_retired = 64;
 
+    // A pair that was taken out, when the readers of its value are gone.
+    struct popped {
+        uint64_t key;
+        std::unique_ptr<T> value;
+    };
+
     // The first map object of a new map, in which so many pairs always fit. Throws bad_argument or no_memory.
-    map(uint32_t pairs, uint32_t objects, waiter how = waiter::eer)
-        : own_(std::make_unique<own>(handle(pairs, objects, how), std::make_shared<std::atomic<size_t>>(0))) {}
+    map(uint32_t pairs, uint32_t objects, waiter how = waiter::eer) : map(handle(pairs, objects, how), objects) {}
 
     map(map &&) noexcept = default;
 
@@ -68,18 +76,22 @@ public:
     // first has all that are left. Throws bad_argument where there is none.
     map share() {
         std::optional<handle> again = own_->at.reopen();
-        return map(std::make_unique<own>(again ? std::move(*again) : own_->at.share(), own_->users));
+        return map(std::make_unique<own>(again ? std::move(*again) : own_->at.share(), own_->all));
     }
 
     // The key's value, where it is present. It takes no lock and waits for nobody.
     [[nodiscard]] held<T> get(uint64_t key) { return held<T>(own_->at.hold(key)); }
 
-    // The least key at or above `low`. Throws moved.
-    std::optional<uint64_t> next_key(uint64_t low = 0) {
-        const std::optional<citrus_pair> found = own_->at.first(low);
-        if (!found) return std::nullopt;
-        return found->key;
-    }
+    // Whether the key is present.
+    bool contains(uint64_t key) { return own_->at.contains(key); }
+
+    // The least key at or above `low`, and the greatest at or below `high`.
+    std::optional<uint64_t> next_key(uint64_t low = 0) { return key_of(own_->at.first(low)); }
+    std::optional<uint64_t> last_key(uint64_t high = UINT64_MAX) { return key_of(own_->at.last(high)); }
+
+    // Whether there is no pair; and how many there are, counted as `handle::size` counts.
+    bool empty() { return own_->at.empty(); }
+    uint64_t size(uint64_t low = 0, uint64_t high = UINT64_MAX) { return own_->at.size(low, high); }
 
     // Whether the value was added: not where the key is there already, and then `value` keeps it, as it does where this throws, but for lost.
     bool insert(uint64_t key, std::unique_ptr<T> &&value) {
@@ -96,6 +108,22 @@ public:
         if (!old) return nullptr;
         static_cast<void>(value.release());
         return outwait({key, *old});
+    }
+
+    // Gives the key the std::unique_ptr<T> that `change` makes of its value, where it is present: the value before, when its readers are
+    // gone. It is one update; where another thread gives the key another value meanwhile, what `change` made is dropped, and it is called
+    // once more with that. It reads the value as a held one is read, so it is to be short.
+    template <class Change> std::unique_ptr<T> update(uint64_t key, Change change) {
+        make_room();
+        for (;;) {
+            held<T> found = get(key);
+            if (!found) return nullptr;
+            std::unique_ptr<T> value = change(*found);
+            const uint64_t expected = address_of(found.get());
+            const compared told = compare(key, std::move(found), expected, value);
+            if (told == compared::absent) return nullptr;
+            if (told == compared::done) return outwait({key, expected});
+        }
     }
 
     // Gives the key this value: the value before, when its readers are gone, or none where the pair was added. Throws full or moved, and then
@@ -116,6 +144,15 @@ public:
         return outwait({key, *old});
     }
 
+    // Takes out the pair with the least key at or above `low`, or with the greatest at or below `high`, if there is one: as those of
+    // `handle`.
+    std::optional<popped> pop_first(uint64_t low = 0) {
+        return pop([this, low] { return next_key(low); });
+    }
+    std::optional<popped> pop_last(uint64_t high = UINT64_MAX) {
+        return pop([this, high] { return last_key(high); });
+    }
+
     // Takes the pair out, and returns whether it was there. Its value is dropped by a later call of this map object, when its readers are gone;
     // this one waits only where most_retired are kept.
     bool retire(uint64_t key) {
@@ -127,6 +164,26 @@ public:
         return true;
     }
 
+    // Retires each pair with a key from low to high that `stays(key, value)` says no to, page by page as `handle::retain`; how many. Where
+    // another thread gives the key another value after that was asked, the pair goes with it.
+    template <class Stays> uint64_t retain(uint64_t low, uint64_t high, Stays stays) {
+        uint64_t gone = 0;
+        for (const citrus_pair &pair : own_->at.range(low, high)) {
+            held<T> found = get(pair.key);
+            const bool goes = found && !stays(pair.key, *found);
+            found.release();
+            gone += goes && retire(pair.key);
+        }
+        return gone;
+    }
+
+    // Retires all pairs of the range, page by page; how many.
+    uint64_t clear(uint64_t low = 0, uint64_t high = UINT64_MAX) {
+        uint64_t gone = 0;
+        for (const citrus_pair &pair : own_->at.range(low, high)) gone += retire(pair.key);
+        return gone;
+    }
+
     // Waits for the readers of all that was retired by this map object, and drops it.
     void flush() {
         if (own_->leaving.empty() && own_->retired.empty()) return;
@@ -134,8 +191,8 @@ public:
         widen(low, high, own_->leaving);
         widen(low, high, own_->retired);
         own_->at.wait(low, high);
-        drop(std::exchange(own_->leaving, {}));
-        drop(std::exchange(own_->retired, {}));
+        drop(own_->leaving);
+        drop(own_->retired);
     }
 
 private:
@@ -145,32 +202,95 @@ private:
         uint64_t key, object;
     };
 
+    // The object with which a map object compares in an update, or 0. Nobody drops it meanwhile: so at its address there is no other one,
+    // which would be taken for it (Michael, "Hazard pointers: safe memory reclamation for lock-free objects", 2004). In lines of its own.
+    struct alignas(128) hazard {
+        std::atomic<bool> is_taken{false};
+        std::atomic<uint64_t> object{0};
+    };
+
+    // What all map objects of a map share.
+    struct common {
+        std::atomic<size_t> users{0};
+        std::vector<hazard> hazards;
+
+        explicit common(uint32_t objects) : hazards(objects) {}
+
+        // There are as many as handles, and each is given back before its handle is.
+        hazard &take_hazard() {
+            for (size_t i = 0;; i = (i + 1) % hazards.size())
+                if (!hazards[i].is_taken.exchange(true)) return hazards[i];
+        }
+    };
+
     // Where it is while the map object is moved, since held values lead to the handle.
     struct own {
         handle at;
-        std::shared_ptr<std::atomic<size_t>> users;
+        std::shared_ptr<common> all;
+        hazard &compares;
         std::vector<taken_out> leaving; // the wait of the cookie is for the readers of these
         std::vector<taken_out> retired;
         uint64_t cookie = 0;
 
-        own(handle &&handle, std::shared_ptr<std::atomic<size_t>> users) : at(std::move(handle)), users(std::move(users)) { ++*this->users; }
+        own(handle &&open, std::shared_ptr<common> shared) : at(std::move(open)), all(std::move(shared)), compares(all->take_hazard()) {
+            ++all->users;
+        }
+
+        ~own() { compares.is_taken = false; }
+    };
+
+    // While it is there, nobody drops the object.
+    class kept {
+    public:
+        kept(hazard &own, uint64_t object) noexcept : at_(own) { at_.object = object; }
+        kept(const kept &) = delete;
+        kept &operator=(const kept &) = delete;
+        ~kept() { at_.object = 0; }
+
+    private:
+        hazard &at_;
     };
 
     std::unique_ptr<own> own_;
 
-    explicit map(std::unique_ptr<own> &&own) noexcept : own_(std::move(own)) {}
+    explicit map(std::unique_ptr<own> &&its) noexcept : own_(std::move(its)) {}
 
-    static T *object_at(uint64_t object) noexcept { return reinterpret_cast<T *>(uintptr_t(object)); }
+    map(handle &&first, uint32_t objects) : own_(std::make_unique<own>(std::move(first), std::make_shared<common>(objects))) {}
+
+    static uint64_t address_of(const T *object) noexcept { return reinterpret_cast<uintptr_t>(object); }
+
+    static std::optional<uint64_t> key_of(const std::optional<citrus_pair> &pair) noexcept {
+        if (!pair) return std::nullopt;
+        return pair->key;
+    }
 
     // Where a call gave up, the object may be in the index, so it is left there.
     template <class Call> static auto offer(std::unique_ptr<T> &value, Call call) {
         if (!value) throw error(fault::bad_argument);
         try {
-            return call(reinterpret_cast<uintptr_t>(value.get()));
+            return call(address_of(value.get()));
         } catch (const error &told) {
             if (told.why() == fault::lost) static_cast<void>(value.release());
             throw;
         }
+    }
+
+    // Gives the key this value where it has the expected one still, which was held until now: whoever took that out waits for the hold, and
+    // then for the hazard.
+    compared compare(uint64_t key, held<T> &&found, uint64_t expected, std::unique_ptr<T> &value) {
+        const kept until_told(own_->compares, expected);
+        found.release();
+        uint64_t other = expected;
+        const compared told = offer(value, [&](uint64_t object) { return own_->at.compare_exchange(key, other, object); });
+        if (told == compared::done) static_cast<void>(value.release());
+        return told;
+    }
+
+    // Another map object may take the pair that was found first.
+    template <class Find> std::optional<popped> pop(Find find) {
+        while (const std::optional<uint64_t> key = find())
+            if (std::unique_ptr<T> value = remove(*key)) return popped{*key, std::move(value)};
+        return std::nullopt;
     }
 
     // Before a value is taken out, so that nothing fails between that and its place among the retired.
@@ -182,7 +302,15 @@ private:
         own_->retired.push_back(gone);
         own_->at.wait(gone.key, gone.key);
         own_->retired.pop_back();
-        return std::unique_ptr<T>(object_at(gone.object));
+        return give_up(gone.object);
+    }
+
+    // An object whose readers are gone, once nobody compares with it. Who does waits for no update of this map object, which has no lock
+    // here.
+    std::unique_ptr<T> give_up(uint64_t object) noexcept {
+        for (const hazard &one : own_->all->hazards)
+            while (one.object == object) std::this_thread::yield();
+        return std::unique_ptr<T>(reinterpret_cast<T *>(uintptr_t(object)));
     }
 
     // Drops those whose readers are gone, and begins a wait for the next ones.
@@ -190,7 +318,7 @@ private:
         own &now = *own_;
         if (!now.leaving.empty()) {
             const progress told = now.at.poll(now.cookie);
-            if (told == progress::over) drop(std::exchange(now.leaving, {}));
+            if (told == progress::over) drop(now.leaving);
             if (told == progress::displaced) begin(now.leaving);
         }
         if (now.leaving.empty() && !now.retired.empty()) {
@@ -214,8 +342,8 @@ private:
         }
     }
 
-    static void drop(const std::vector<taken_out> &gone) noexcept {
-        for (const taken_out &one : gone) delete object_at(one.object);
+    void drop(std::vector<taken_out> &list) noexcept {
+        for (const taken_out &one : std::exchange(list, {})) give_up(one.object);
     }
 
     // What can't be waited for, or listed, is leaked.
@@ -226,7 +354,7 @@ private:
         } catch (const std::exception &) {
         }
         try {
-            if (--*own_->users == 0) drop_all();
+            if (--own_->all->users == 0) drop_all();
         } catch (const std::exception &) {
         }
         own_.reset();
@@ -234,15 +362,11 @@ private:
 
     // There is no other map object, so nobody reads or updates.
     void drop_all() {
-        std::optional<uint64_t> low = 0;
-        while (low) {
-            const page found = own_->at.list(*low, UINT64_MAX);
-            for (const citrus_pair &pair : found.pairs) delete object_at(pair.value);
-            low = found.next;
-        }
+        for (const citrus_pair &pair : own_->at.range()) give_up(pair.value);
     }
 };
 
 } // namespace citrus
 
+#endif
 #endif

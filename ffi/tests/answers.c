@@ -14,8 +14,10 @@ static void an_absent_key(uint32_t waiter) {
     uint64_t told = UNTOUCHED, key = UNTOUCHED;
     WANT(citrus_get(&index, 1, &told), CITRUS_UNCHANGED);
     WANT(citrus_replace(&index, 1, 10, &told), CITRUS_UNCHANGED);
+    WANT(citrus_compare(&index, 1, 0, 10, &told), CITRUS_UNCHANGED);
     WANT(citrus_remove(&index, 1, &told), CITRUS_UNCHANGED);
     WANT(citrus_first(&index, 0, &key, &told), CITRUS_UNCHANGED);
+    WANT(citrus_last(&index, 0, UINT64_MAX, &key, &told), CITRUS_UNCHANGED);
     WANT(citrus_get(&index, 1, &told), CITRUS_UNCHANGED);
     WANT(told, UNTOUCHED);
     WANT(key, UNTOUCHED);
@@ -39,6 +41,30 @@ static void a_pair_comes_and_goes(uint32_t waiter) {
     WANT(citrus_remove(&index, 1, &told), CITRUS_UNCHANGED);
     WANT(citrus_get(&index, 1, &told), CITRUS_UNCHANGED);
     WANT(told, UNTOUCHED);
+    citrus_close(&index);
+}
+
+static void a_value_is_compared(uint32_t waiter) {
+    citrus_handle index = open_index(10, 1, waiter);
+    uint64_t told = UNTOUCHED;
+    WANT(citrus_insert(&index, 1, 10), CITRUS_DONE);
+    WANT(citrus_compare(&index, 1, 10, 11, &told), CITRUS_DONE);
+    WANT(told, UNTOUCHED);
+    WANT(citrus_compare(&index, 1, 10, 12, &told), CITRUS_DIFFERENT);
+    WANT(told, 11);
+    WANT(citrus_get(&index, 1, &told), CITRUS_DONE);
+    WANT(told, 11);
+    told = UNTOUCHED;
+    WANT(citrus_compare(&index, 1, 11, 11, &told), CITRUS_DONE);
+    WANT(citrus_compare(&index, 1, 11, 0, &told), CITRUS_DONE);
+    WANT(citrus_compare(&index, 1, 0, UINT64_MAX, &told), CITRUS_DONE);
+    WANT(citrus_compare(&index, 2, 0, 20, &told), CITRUS_UNCHANGED);
+    WANT(told, UNTOUCHED);
+    WANT(citrus_compare(&index, 1, 0, 5, &told), CITRUS_DIFFERENT);
+    WANT(told, UINT64_MAX);
+    WANT(citrus_remove(&index, 1, &told), CITRUS_DONE);
+    WANT(citrus_compare(&index, 1, UINT64_MAX, 5, &told), CITRUS_UNCHANGED);
+    WANT(citrus_get(&index, 1, &told), CITRUS_UNCHANGED);
     citrus_close(&index);
 }
 
@@ -67,8 +93,47 @@ static void numbers_at_their_ends(uint32_t waiter) {
     WANT(citrus_first(&index, 1, &key, &told), CITRUS_DONE);
     WANT(key, UINT64_MAX);
     WANT(citrus_first(&index, UINT64_MAX, &key, &told), CITRUS_DONE);
+    WANT(citrus_last(&index, 0, UINT64_MAX, &key, &told), CITRUS_DONE);
+    WANT(key, UINT64_MAX);
+    WANT(told, 0);
+    WANT(citrus_last(&index, 0, UINT64_MAX - 1, &key, &told), CITRUS_DONE);
+    WANT(key, 0);
+    WANT(told, UINT64_MAX);
+    WANT(citrus_last(&index, 0, 0, &key, &told), CITRUS_DONE);
+    WANT(citrus_last(&index, 1, UINT64_MAX - 1, &key, &told), CITRUS_UNCHANGED);
+    WANT(citrus_compare(&index, 0, UINT64_MAX, 0, &told), CITRUS_DONE);
+    WANT(citrus_compare(&index, UINT64_MAX, 0, UINT64_MAX, &told), CITRUS_DONE);
     WANT(citrus_remove(&index, UINT64_MAX, &told), CITRUS_DONE);
+    WANT(told, UINT64_MAX);
     WANT(citrus_first(&index, 1, &key, &told), CITRUS_UNCHANGED);
+    WANT(citrus_last(&index, 0, UINT64_MAX, &key, &told), CITRUS_DONE);
+    WANT(key, 0);
+    WANT(told, 0);
+    WANT(citrus_remove(&index, 0, &told), CITRUS_DONE);
+    WANT(citrus_last(&index, 0, UINT64_MAX, &key, &told), CITRUS_UNCHANGED);
+    citrus_close(&index);
+}
+
+/* At each key of some, and of those between them. */
+static void firsts_and_lasts(uint32_t waiter) {
+    citrus_handle index = open_index(10, 1, waiter);
+    for (uint64_t key = 10; key <= 50; key += 10) WANT(citrus_insert(&index, key, key + 1), CITRUS_DONE);
+    for (uint64_t at = 0; at <= 60; at++) {
+        const uint64_t above = (at + 9) / 10 * 10, below = at / 10 * 10;
+        uint64_t key = UNTOUCHED, value = UNTOUCHED;
+        WANT(citrus_first(&index, at, &key, &value), at <= 50 ? CITRUS_DONE : CITRUS_UNCHANGED);
+        WANT(key, at > 50 ? UNTOUCHED : above ? above : 10);
+        WANT(value, key == UNTOUCHED ? UNTOUCHED : key + 1);
+        key = value = UNTOUCHED;
+        WANT(citrus_last(&index, 0, at, &key, &value), at >= 10 ? CITRUS_DONE : CITRUS_UNCHANGED);
+        WANT(key, at < 10 ? UNTOUCHED : below < 50 ? below : 50);
+        WANT(value, key == UNTOUCHED ? UNTOUCHED : key + 1);
+        key = value = UNTOUCHED;
+        const int is_there = at >= 10 && at - (below < 50 ? below : 50) <= 5;
+        WANT(citrus_last(&index, at < 5 ? 0 : at - 5, at, &key, &value), is_there ? CITRUS_DONE : CITRUS_UNCHANGED);
+        WANT(key == UNTOUCHED, !is_there);
+        WANT(value == UNTOUCHED, !is_there);
+    }
     citrus_close(&index);
 }
 
@@ -350,7 +415,7 @@ static void slots_are_used_again(uint32_t waiter) {
 enum { MODEL_KEYS = 300 };
 
 /* What a list, and a first, of this handle must tell, by the model: 0 where the key is absent, else its value. */
-static void compare_lists(citrus_handle *index, const uint64_t *model) {
+static void look_at_lists(citrus_handle *index, const uint64_t *model) {
     static citrus_pair pairs[MODEL_KEYS];
     size_t count = 0, at = 0;
     uint64_t next = 0, key = 0, value = 0;
@@ -362,7 +427,17 @@ static void compare_lists(citrus_handle *index, const uint64_t *model) {
         }
     WANT(count, at);
     WANT(citrus_first(index, 0, &key, &value), at ? CITRUS_DONE : CITRUS_UNCHANGED);
-    if (at) WANT(key, pairs[0].key);
+    if (at) WANT(key == pairs[0].key && value == pairs[0].value, 1);
+    WANT(citrus_last(index, 0, UINT64_MAX, &key, &value), at ? CITRUS_DONE : CITRUS_UNCHANGED);
+    if (at) WANT(key == pairs[at - 1].key && value == pairs[at - 1].value, 1);
+}
+
+/* A last pair at or below a key must be told by this handle as the model has it. */
+static void look_for_last(citrus_handle *index, const uint64_t *model, uint64_t high) {
+    uint64_t wanted = high, key = UNTOUCHED, value = UNTOUCHED;
+    while (wanted && !model[wanted]) wanted--;
+    WANT(citrus_last(index, 0, high, &key, &value), model[wanted] ? CITRUS_DONE : CITRUS_UNCHANGED);
+    if (model[wanted]) WANT(key == wanted && value == model[wanted], 1);
 }
 
 static void drawn_calls_as_a_model_has_them(uint32_t waiter) {
@@ -372,7 +447,7 @@ static void drawn_calls_as_a_model_has_them(uint32_t waiter) {
     for (uint64_t i = 1; i <= 100000 && !wrong_here; i++) {
         const uint64_t key = draw(&state) % MODEL_KEYS, was = model[key];
         uint64_t told = was;
-        switch (draw(&state) % 5) {
+        switch (draw(&state) % 8) {
         case 0: WANT(citrus_get(&index, key, &told), was ? CITRUS_DONE : CITRUS_UNCHANGED); break;
         case 1:
             WANT(citrus_insert(&index, key, i), was ? CITRUS_UNCHANGED : CITRUS_DONE);
@@ -386,12 +461,18 @@ static void drawn_calls_as_a_model_has_them(uint32_t waiter) {
             WANT(citrus_upsert(&index, key, i, &told), was ? CITRUS_DONE : CITRUS_NEW);
             model[key] = i;
             break;
+        case 4:
+            WANT(citrus_compare(&index, key, was, i, &told), was ? CITRUS_DONE : CITRUS_UNCHANGED);
+            if (was) model[key] = i;
+            break;
+        case 5: WANT(citrus_compare(&index, key, i, i, &told), was ? CITRUS_DIFFERENT : CITRUS_UNCHANGED); break;
+        case 6: look_for_last(&index, model, key); break;
         default:
             WANT(citrus_remove(&index, key, &told), was ? CITRUS_DONE : CITRUS_UNCHANGED);
             model[key] = 0;
         }
         WANT(told, was);
-        if (i % 5000 == 0) compare_lists(&index, model);
+        if (i % 5000 == 0) look_at_lists(&index, model);
     }
     citrus_close(&index);
 }
@@ -399,8 +480,10 @@ static void drawn_calls_as_a_model_has_them(uint32_t waiter) {
 static const struct waiter_case cases[] = {
     {"an absent key", an_absent_key},
     {"a pair comes and goes", a_pair_comes_and_goes},
+    {"a value is compared", a_value_is_compared},
     {"an upsert adds and then replaces", an_upsert_adds_and_then_replaces},
     {"numbers at their ends", numbers_at_their_ends},
+    {"firsts and lasts", firsts_and_lasts},
     {"a full index", a_full_index},
     {"as many pairs fit as were asked for", as_many_pairs_fit_as_were_asked_for},
     {"keys in order make no path", keys_in_order_make_no_path},

@@ -40,6 +40,125 @@ static void answers(uint32_t waiter) {
     WANT(index.get(2).value_or(0), 20);
 }
 
+static void compares(uint32_t waiter) {
+    citrus::handle index(10, 1, static_cast<citrus::waiter>(waiter));
+    uint64_t expected = 10, calls = 0;
+    const auto twice = [&](uint64_t value) { return calls++, 2 * value; };
+    WANT(index.compare_exchange(1, expected, 11) == citrus::compared::absent, true);
+    WANT(expected, 10);
+    WANT(index.update(1, twice).has_value(), false);
+    WANT(calls, 0);
+    index.insert(1, 10);
+    WANT(index.compare_exchange(1, expected, 11) == citrus::compared::done, true);
+    WANT(expected, 10);
+    WANT(index.compare_exchange(1, expected, 12) == citrus::compared::different, true);
+    WANT(expected, 11);
+    WANT(index.compare_exchange(1, expected, 12) == citrus::compared::done, true);
+    WANT(index.update(1, twice).value_or(0), 12);
+    WANT(calls, 1);
+    WANT(index.get(1).value_or(0), 24);
+    WANT(is_refused(citrus::fault::closed, [] { citrus::handle().update(1, [](uint64_t value) { return value; }); }), true);
+    WANT(is_refused(citrus::fault::closed, [&] { citrus::handle().compare_exchange(1, expected, 1); }), true);
+}
+
+// An update of a value that others change meanwhile begins again with theirs.
+static void updates_begin_again(uint32_t waiter) {
+    citrus::handle index(10, 2, static_cast<citrus::waiter>(waiter)), other = index.share();
+    uint64_t calls = 0;
+    index.insert(1, 10);
+    index.insert(2, 20);
+    WANT(index.update(1, [&](uint64_t value) { return calls++ ? 2 * value : (other.upsert(1, 15), 7); }).value_or(0), 15);
+    WANT(calls, 2);
+    WANT(index.get(1).value_or(0), 30);
+    WANT(index.update(2, [&](uint64_t value) { return other.remove(2), value; }).has_value(), false);
+    WANT(index.contains(2), false);
+    std::vector<std::thread> threads;
+    citrus::handle wide(10, 4, static_cast<citrus::waiter>(waiter));
+    wide.insert(7, 0);
+    for (int i = 0; i < 3; i++)
+        threads.emplace_back([mine = wide.share()]() mutable {
+            for (int raise = 0; raise < 10000; raise++) mine.update(7, [](uint64_t value) { return value + 1; });
+        });
+    for (std::thread &thread : threads) thread.join();
+    WANT(wide.get(7).value_or(0), 30000);
+}
+
+static void first_and_last_pairs(uint32_t waiter) {
+    citrus::handle index(10, 1, static_cast<citrus::waiter>(waiter));
+    WANT(index.empty(), true);
+    WANT(index.size(), 0);
+    WANT(index.last().has_value(), false);
+    WANT(index.pop_first().has_value(), false);
+    WANT(index.pop_last().has_value(), false);
+    for (uint64_t key = 1; key <= 5; key++) index.insert(key, 10 * key);
+    WANT(index.empty(), false);
+    WANT(index.contains(5), true);
+    WANT(index.contains(6), false);
+    WANT(index.last().value_or(citrus_pair{}).key, 5);
+    WANT(index.last(3).value_or(citrus_pair{}).value, 30);
+    WANT(index.last(0).has_value(), false);
+    WANT(index.last(2, 4).value_or(citrus_pair{}).key, 4);
+    WANT(index.last(6, 9).has_value(), false);
+    WANT(index.pop_first().value_or(citrus_pair{}).value, 10);
+    WANT(index.pop_first(3).value_or(citrus_pair{}).value, 30);
+    WANT(index.pop_first(6).has_value(), false);
+    WANT(index.pop_last().value_or(citrus_pair{}).key, 5);
+    WANT(index.pop_last(3).value_or(citrus_pair{}).key, 2);
+    WANT(index.pop_last(3).has_value(), false);
+    WANT(index.size(), 1);
+}
+
+static uint64_t sum_of_keys(citrus::handle &index, uint64_t low, uint64_t high, size_t room) {
+    uint64_t sum = 0, before = 0, ascends = 1;
+    for (const auto &[key, value] : index.range(low, high, room)) {
+        ascends &= sum == 0 || key > before;
+        sum += before = key;
+        ascends &= value == ~key;
+    }
+    WANT(ascends, 1);
+    return sum;
+}
+
+static void ranges(uint32_t waiter) {
+    citrus::handle index(3000, 1, static_cast<citrus::waiter>(waiter));
+    WANT(index.range().begin() == index.range().end(), true);
+    for (uint64_t key = 1; key <= 3000; key++) index.insert(key, ~key);
+    WANT(index.size(), 3000);
+    WANT(index.size(10, 19), 10);
+    WANT(sum_of_keys(index, 0, UINT64_MAX, citrus::handle::page_room), 3000 * 3001 / 2);
+    for (size_t room = 1; room <= 7; room++) WANT(sum_of_keys(index, 11, 20, room), 155);
+    WANT(sum_of_keys(index, 4000, 5000, 10), 0);
+    auto twice = index.range(5, 6, 1);
+    auto at = twice.begin();
+    WANT((*at++).key, 5);
+    WANT(at->key, 6);
+    WANT(++at == twice.end(), true);
+    WANT(twice.begin()->key, 5);
+    WANT(is_refused(citrus::fault::bad_argument, [&] { index.range(2, 1).begin(); }), true);
+    WANT(is_refused(citrus::fault::bad_argument, [&] { index.range(1, 2, 0).begin(); }), true);
+    for (const citrus_pair &pair : index.range(0, UINT64_MAX, 10))
+        if (pair.key % 3) index.remove(pair.key);
+    WANT(index.size(), 1000);
+    WANT(index.retain(1, 1500, [](uint64_t key, uint64_t value) { return key % 2 == 0 && value == ~key; }), 250);
+    WANT(index.size(), 750);
+    WANT(index.clear(2001, 2100), 34);
+    WANT(index.clear(), 716);
+    WANT(index.empty(), true);
+    WANT(is_refused(citrus::fault::bad_argument, [&] { index.size(2, 1); }), true);
+}
+
+// What is put in before the page that a pass has come to is seen, and what is put in behind it isn't.
+static void ranges_go_on_at_the_next_key(uint32_t waiter) {
+    citrus::handle index(100, 1, static_cast<citrus::waiter>(waiter));
+    for (uint64_t key = 10; key < 20; key++) index.insert(key, key);
+    uint64_t seen = 0;
+    for (const citrus_pair &pair : index.range(0, 50, 5)) {
+        if (pair.key == 12) index.insert(5, 5), index.insert(30, 30), index.remove(19);
+        seen += pair.key;
+    }
+    WANT(seen, 10 + 11 + 12 + 13 + 14 + 15 + 16 + 17 + 18 + 30);
+}
+
 static void tidies(uint32_t waiter) {
     citrus::handle index(1010, 1, static_cast<citrus::waiter>(waiter));
     for (uint64_t key = 0; key < 1000; key++) index.insert(key, 10 * key);
@@ -64,6 +183,11 @@ static void pages(uint32_t waiter) {
     const citrus::page whole = index.list(2, 4);
     WANT(whole.pairs.size(), 3);
     WANT(whole.next.has_value(), false);
+    uint64_t sum = 0;
+    for (const auto &[key, value] : whole) sum += key * value;
+    WANT(sum, 290);
+    WANT(whole.size(), 3);
+    WANT(index.list(6, 9).empty(), true);
     const citrus::page part = index.list(2, 5, 2);
     WANT(part.pairs.size(), 2);
     WANT(part.pairs[1].value, 30);
@@ -213,7 +337,12 @@ static void keys_in_order_make_no_path() {
 
 static const waiter_case waiter_cases[] = {
     {"C++: answers", answers},
+    {"C++: compares", compares},
+    {"C++: updates begin again where others come between", updates_begin_again},
+    {"C++: first and last pairs", first_and_last_pairs},
     {"C++: pages", pages},
+    {"C++: ranges", ranges},
+    {"C++: ranges go on at the next key", ranges_go_on_at_the_next_key},
     {"C++: tidies", tidies},
     {"C++: sections", sections},
 };

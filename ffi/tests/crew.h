@@ -27,13 +27,13 @@ static inline void member_wants(struct member *member, const char *what, uint64_
 /* Whether nodes are turned behind each put, however deep it went. */
 static int tidies_behind_puts;
 
-/* Turns nodes on the way to a key that was just put in, in four attempts at most. Others' updates may come in each try of its list, other
- * turns before its own, and the index may be full. */
+/* Turns nodes on the way to a key that was just put in, in four attempts at most. Other turns may come before its own, and the index may be
+ * full. */
 static inline void tidy_behind(struct member *member, uint64_t key) {
     uint32_t made = 0;
     uint64_t next = key;
     const int32_t status = citrus_tidy(&member->handle, key, key, 4, &made, &next);
-    const int is_fine = status == CITRUS_MORE || status == CITRUS_FULL || status == CITRUS_MOVED;
+    const int is_fine = status == CITRUS_MORE || status == CITRUS_FULL;
     member_wants(member, "a tidy of", key, is_fine ? CITRUS_DONE : status, CITRUS_DONE);
     member_wants(member, "the next key of a tidy of", key, next, key);
     member_wants(member, "whether a tidy made more turns than it may, of", key, made > 4, 0);

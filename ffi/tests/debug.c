@@ -1,5 +1,5 @@
-/* What citrus.h does where CITRUS_DEBUG is defined: an update or a wait of a thread that is in a section by another handle aborts the program.
- * With OTHER_FILE this is a second file of it, which holds. */
+/* What citrus.h does where CITRUS_DEBUG is defined: an update or a wait of a thread that is in a section by another handle aborts the program, and
+ * so does a call with a handle with which another thread is in a call. With OTHER_FILE this is a second file of it, which holds. */
 #define CITRUS_DEBUG
 #include "cases.h"
 
@@ -50,6 +50,7 @@ static int aborts(void (*work)(void)) {
 
 static void insert_by_other(void) { citrus_insert(&second, 100, 1); }
 static void replace_by_other(void) { citrus_replace(&second, 9, 1, &told); }
+static void compare_by_other(void) { citrus_compare(&second, 9, 90, 90, &told); }
 static void upsert_by_other(void) { citrus_upsert(&second, 9, 1, &told); }
 static void remove_by_other(void) { citrus_remove(&second, 9, &told); }
 static void wait_by_other(void) { citrus_wait(&second, 9, 9); }
@@ -59,7 +60,7 @@ static void tidy_by_other(void) {
     citrus_tidy(&second, 0, 9, 1, &made, &told);
 }
 
-static void (*const waiting_calls[])(void) = {insert_by_other, replace_by_other, upsert_by_other,
+static void (*const waiting_calls[])(void) = {insert_by_other, replace_by_other, compare_by_other, upsert_by_other,
                                               remove_by_other, wait_by_other,    tidy_by_other};
 
 static void what_may_wait_for_its_own_thread_aborts(uint32_t waiter) {
@@ -86,6 +87,8 @@ static void what_waits_for_nobody_goes_on(uint32_t waiter) {
     WANT(citrus_hold(&first, 5, &told), CITRUS_DONE);
     WANT(citrus_get(&second, 5, &told), CITRUS_DONE);
     WANT(citrus_list(&second, 0, 9, pairs, 9, &count, &next), CITRUS_DONE);
+    WANT(citrus_first(&second, 0, &next, &told), CITRUS_DONE);
+    WANT(citrus_last(&second, 0, 9, &next, &told), CITRUS_DONE);
     WANT(citrus_reopen(&second, &third), CITRUS_UNCHANGED);
     WANT(citrus_hold(&second, 6, &told), CITRUS_DONE);
     WANT(citrus_insert(&first, 100, 1), CITRUS_HOLDS);
@@ -153,12 +156,57 @@ static void other_threads_have_sections_of_their_own(uint32_t waiter) {
     close_both();
 }
 
+/* Waits by the second handle, for a section of the first. */
+static void *wait_there(void *unused) {
+    (void)unused;
+    if (citrus_wait(&second, 5, 5) != CITRUS_DONE) abort();
+    return NULL;
+}
+
+static uint32_t some_handles;
+
+static void get_meanwhile(void) { citrus_get(&second, 9, &told); }
+static void left_meanwhile(void) { citrus_left(&second, &some_handles, &told); }
+static void begin_meanwhile(void) { citrus_begin(&second, 1, 1, &told); }
+static void insert_meanwhile(void) { citrus_insert(&second, 100, 1); }
+static void first_meanwhile(void) { citrus_first(&second, 0, &told, &told); }
+static void close_meanwhile(void) { citrus_close(&second); }
+static void hold_by_the_third_meanwhile(void) {
+    citrus_handle third = CITRUS_CLOSED_HANDLE;
+    if (citrus_hold(&third, 9, &told) != CITRUS_CLOSED) abort();
+}
+
+static void (*meanwhile)(void);
+
+/* A call of this thread while another one waits with the same handle. */
+static void call_meanwhile(void) {
+    pthread_t id;
+    if (citrus_hold(&first, 5, &told) != CITRUS_DONE || pthread_create(&id, NULL, wait_there, NULL)) _exit(3);
+    usleep(200000);
+    meanwhile();
+    if (citrus_release(&first) != CITRUS_DONE) _exit(4);
+    pthread_join(id, NULL);
+}
+
+static void one_handle_in_two_threads_aborts(uint32_t waiter) {
+    static void (*const calls[])(void) = {get_meanwhile, left_meanwhile, begin_meanwhile, insert_meanwhile, first_meanwhile, close_meanwhile};
+    open_both(waiter);
+    for (size_t i = 0; i < COUNT_OF(calls); i++) {
+        meanwhile = calls[i];
+        WANT(aborts(call_meanwhile), 1);
+    }
+    meanwhile = hold_by_the_third_meanwhile;
+    WANT(aborts(call_meanwhile), 0);
+    close_both();
+}
+
 static const struct waiter_case cases[] = {
     {"CITRUS_DEBUG: what may wait for its own thread aborts", what_may_wait_for_its_own_thread_aborts},
     {"CITRUS_DEBUG: what waits for nobody goes on", what_waits_for_nobody_goes_on},
     {"CITRUS_DEBUG: what closes a handle ends its section", what_closes_a_handle_ends_its_section},
     {"CITRUS_DEBUG: sections of all files are seen", sections_of_all_files_are_seen},
     {"CITRUS_DEBUG: other threads have sections of their own", other_threads_have_sections_of_their_own},
+    {"CITRUS_DEBUG: one handle in two threads aborts", one_handle_in_two_threads_aborts},
 };
 
 int main(void) {

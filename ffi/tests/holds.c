@@ -73,6 +73,9 @@ static void each_call_says_so(citrus_handle *inside) {
     WANT(citrus_get(inside, 5, &told), CITRUS_HOLDS);
     WANT(citrus_insert(inside, 100, 1), CITRUS_HOLDS);
     WANT(citrus_replace(inside, 5, 1, &told), CITRUS_HOLDS);
+    WANT(citrus_compare(inside, 5, 50, 1, &told), CITRUS_HOLDS);
+    WANT(citrus_compare(inside, 5, 0, 1, &told), CITRUS_HOLDS);
+    WANT(citrus_compare(inside, 100, 0, 1, &told), CITRUS_HOLDS);
     WANT(citrus_upsert(inside, 5, 1, &told), CITRUS_HOLDS);
     WANT(citrus_upsert(inside, 100, 1, &told), CITRUS_HOLDS);
     WANT(citrus_remove(inside, 5, &told), CITRUS_HOLDS);
@@ -80,6 +83,7 @@ static void each_call_says_so(citrus_handle *inside) {
     WANT(citrus_list(inside, 0, 9, &pair, 1, &count, &key), CITRUS_HOLDS);
     WANT(count, 0);
     WANT(citrus_first(inside, 0, &key, &told), CITRUS_HOLDS);
+    WANT(citrus_last(inside, 0, 9, &key, &told), CITRUS_HOLDS);
     WANT(citrus_tidy(inside, 0, 9, 1, &made, &key), CITRUS_HOLDS);
     WANT(made, 0);
     WANT(citrus_share(inside, 1, 1, &other), CITRUS_HOLDS);
@@ -138,6 +142,12 @@ static void others_go_on_beside_a_section(uint32_t waiter) {
     WANT(citrus_get(&handles[1], 5, &told), CITRUS_DONE);
     WANT(citrus_list(&handles[1], 0, 9, pairs, 9, &count, &next), CITRUS_DONE);
     WANT(count, 9);
+    WANT(citrus_last(&handles[1], 0, 5, &next, &told), CITRUS_DONE);
+    WANT(next, 5);
+    WANT(citrus_compare(&handles[1], 5, 50, 51, &told), CITRUS_DONE);
+    WANT(told, 50);
+    WANT(citrus_replace(&handles[1], 5, 50, &told), CITRUS_DONE);
+    WANT(told, 51);
     WANT(citrus_replace(&handles[1], 5, 51, &told), CITRUS_DONE);
     WANT(told, 50);
     WANT(citrus_wait(&handles[1], 6, 9), CITRUS_DONE);

@@ -1,11 +1,24 @@
 // The map of citrus_map.hpp: each answer, and four threads on one map. An object is counted, and tells whether it is there still.
 #include "cases.h"
 #include <chrono>
-#include <citrus_map.hpp>
 #include <functional>
 #include <random>
 #include <string>
 #include <thread>
+#include <utility>
+
+// What this thread does behind its next release: in an update that is before the value is compared.
+static thread_local std::function<void()> behind_release;
+
+static inline int32_t release_and_more(citrus_handle *handle) {
+    const int32_t status = citrus_release(handle);
+    if (const std::function<void()> work = std::exchange(behind_release, nullptr)) work();
+    return status;
+}
+
+#undef citrus_release
+#define citrus_release release_and_more
+#include <citrus_map.hpp>
 
 static std::atomic<long> there{0};
 
@@ -50,12 +63,121 @@ static void answers(uint32_t waiter) {
     WANT(mine.next_key().value_or(0), 5);
     WANT(mine.next_key(6).value_or(0), 6);
     WANT(mine.next_key(7).has_value(), false);
+    WANT(mine.last_key().value_or(0), 6);
+    WANT(mine.last_key(5).value_or(0), 5);
+    WANT(mine.last_key(4).has_value(), false);
+    WANT(mine.contains(6), true);
+    WANT(mine.contains(7), false);
+    WANT(mine.size(), 2);
+    WANT(mine.empty(), false);
     WANT(there, 2);
     WANT(mine.remove(5)->is_of(5), true);
     WANT(mine.remove(5) == nullptr, true);
     WANT(mine.retire(6), true);
     WANT(mine.retire(6), false);
     mine.flush();
+    WANT(there, 0);
+}
+
+static void ranges(uint32_t waiter) {
+    objects mine(3000, 1, static_cast<citrus::waiter>(waiter));
+    WANT(mine.empty(), true);
+    WANT(mine.pop_first().has_value(), false);
+    for (uint64_t key = 0; key < 3000; key++) mine.insert(key, make(key));
+    const auto first = mine.pop_first(), second = mine.pop_first(10), last = mine.pop_last(), before = mine.pop_last(2000);
+    WANT(first && first->key == 0 && first->value->is_of(0), true);
+    WANT(second && second->key == 10 && second->value->is_of(10), true);
+    WANT(last && last->key == 2999 && last->value->is_of(2999), true);
+    WANT(before && before->key == 2000 && before->value->is_of(2000), true);
+    WANT(mine.size(), 2996);
+    WANT(mine.retain(1000, 1999, [](uint64_t key, const object &value) { return value.is_of(key) && key % 2; }), 500);
+    WANT(mine.size(1000, 1999), 500);
+    WANT(mine.clear(0, 99), 98);
+    WANT(mine.clear(), 2996 - 500 - 98);
+    mine.flush();
+    WANT(there, 4);
+}
+
+// What is made of a value that isn't there any more is dropped, and made again of the one that is.
+static void updates(uint32_t waiter) {
+    objects mine(10, 2, static_cast<citrus::waiter>(waiter)), other = mine.share();
+    uint64_t calls = 0;
+    const auto renamed = [&](const object &value) {
+        calls++;
+        auto made = make(value.key);
+        made->text = value.text + "!";
+        return made;
+    };
+    WANT(mine.update(5, renamed) == nullptr, true);
+    WANT(calls, 0);
+    mine.insert(5, make(5));
+    WANT(mine.update(5, renamed)->text == "the object of key 5", true);
+    WANT(mine.get(5)->text == "the object of key 5!", true);
+    WANT(calls, 1);
+    WANT(is_refused(citrus::fault::bad_argument, [&] { mine.update(5, [](const object &) { return std::unique_ptr<object>(); }); }), true);
+    WANT(mine.get(5)->is_of(5), true);
+    WANT(other.remove(5)->is_of(5), true);
+    WANT(there, 0);
+}
+
+// An object that an update compares with isn't given up before it has: so none at its address is taken for it.
+static void what_is_compared_stays(uint32_t waiter) {
+    for (const bool retires : {false, true}) {
+        objects mine(10, 2, static_cast<citrus::waiter>(waiter)), other = mine.share();
+        std::atomic<bool> is_over{false};
+        std::thread thread;
+        long calls = 0;
+        mine.insert(5, make(5));
+        const auto take_out = [&] {
+            if (!retires) {
+                WANT(other.remove(5)->is_of(5), true);
+            } else {
+                WANT(other.retire(5), true);
+                other.flush();
+            }
+            is_over = true;
+        };
+        const auto changed = [&](const object &value) {
+            behind_release = [&] {
+                thread = std::thread(take_out);
+                std::this_thread::sleep_for(std::chrono::milliseconds(20));
+                WANT(bool(is_over), false);
+                WANT(mine.contains(5), false);
+            };
+            calls++;
+            return make(value.key);
+        };
+        WANT(mine.update(5, changed) == nullptr, true);
+        thread.join();
+        WANT(calls, 1);
+        WANT(bool(is_over), true);
+        WANT(there, 0);
+    }
+}
+
+// Each update adds a letter to what it found, so none may be lost, whatever addresses are used again.
+static void threads_update_the_same_keys(uint32_t waiter) {
+    enum { KEYS = 3, UPDATES = 3000, THREADS = 4 };
+    {
+        objects first(KEYS, THREADS + 1, static_cast<citrus::waiter>(waiter));
+        std::atomic<uint64_t> raises{0};
+        std::vector<std::thread> threads;
+        for (uint64_t key = 0; key < KEYS; key++) first.insert(key, make(key));
+        for (int number = 0; number < THREADS; number++)
+            threads.emplace_back([&raises, mine = first.share()]() mutable {
+                const auto longer = [](const object &value) {
+                    auto made = make(value.key);
+                    made->text = value.text + "+";
+                    return made;
+                };
+                for (uint64_t i = 0; i < UPDATES; i++) raises += mine.update(i % KEYS, longer) != nullptr;
+            });
+        for (std::thread &thread : threads) thread.join();
+        uint64_t letters = 0;
+        for (uint64_t key = 0; key < KEYS; key++) letters += first.get(key)->text.size() - object(key).text.size();
+        WANT(raises, THREADS * UPDATES);
+        WANT(letters, raises);
+    }
     WANT(there, 0);
 }
 
@@ -87,7 +209,10 @@ static void a_held_value_refuses_other_calls(uint32_t waiter) {
     WANT(is_refused(citrus::fault::holds, [&] { mine.insert(6, std::move(value)); }), true);
     WANT(is_refused(citrus::fault::holds, [&] { mine.replace(5, std::move(value)); }), true);
     WANT(is_refused(citrus::fault::holds, [&] { mine.upsert(5, std::move(value)); }), true);
+    WANT(is_refused(citrus::fault::holds, [&] { mine.update(5, [](const object &) { return make(5); }); }), true);
     WANT(is_refused(citrus::fault::holds, [&] { mine.remove(5); }), true);
+    WANT(is_refused(citrus::fault::holds, [&] { mine.pop_last(); }), true);
+    WANT(is_refused(citrus::fault::holds, [&] { mine.clear(); }), true);
     WANT(is_refused(citrus::fault::holds, [&] { mine.retire(5); }), true);
     WANT(is_refused(citrus::fault::holds, [&] { mine.next_key(); }), true);
     WANT(is_refused(citrus::fault::holds, [&] { mine.share(); }), true);
@@ -154,7 +279,8 @@ static void work(objects &mine, uint64_t seed, uint64_t keys, std::atomic<long> 
     const auto wants = [&](const std::unique_ptr<object> &gone, uint64_t key) { wrong += gone && !gone->is_of(key); };
     for (int i = 0; i < 5000; i++) {
         const uint64_t key = draw() % keys;
-        switch (draw() % 8) {
+        switch (draw() % 10) {
+        case 8: wants(mine.update(key, [&](const object &value) { return wrong += !value.is_of(key), make(key); }), key); break;
         case 0: mine.insert(key, make(key)); break;
         case 1: wants(mine.replace(key, make(key)), key); break;
         case 2: wants(mine.upsert(key, make(key)), key); break;
@@ -187,6 +313,10 @@ static void threads_read_and_take_out(uint32_t waiter) {
 
 static const waiter_case waiter_cases[] = {
     {"C++ map: answers", answers},
+    {"C++ map: ranges", ranges},
+    {"C++ map: updates", updates},
+    {"C++ map: what an update compares with stays", what_is_compared_stays},
+    {"C++ map: threads update the same keys", threads_update_the_same_keys},
     {"C++ map: values that are refused", values_that_are_refused},
     {"C++ map: a held value refuses other calls", a_held_value_refuses_other_calls},
     {"C++ map: retired values are dropped", retired_values_are_dropped},

@@ -61,14 +61,6 @@ static int32_t list_it(void) {
     return status;
 }
 
-static int32_t first_of_it(void) {
-    uint64_t key = UNTOUCHED, value = UNTOUCHED;
-    const int32_t status = citrus_first(&index_here, 2, &key, &value);
-    WANT(key, status == CITRUS_DONE ? 5 : UNTOUCHED);
-    WANT(value, status == CITRUS_DONE ? 50 : UNTOUCHED);
-    return status;
-}
-
 static int32_t tidy_it(void) {
     uint32_t made = 9;
     uint64_t next = UNTOUCHED;
@@ -90,7 +82,6 @@ static void each_allocation_fails(uint32_t waiter) {
     WANT(citrus_open(&index_here, 100, 4, waiter), CITRUS_NO_MEMORY);
     until_failure = INT64_MAX;
     fail_each(list_it, 1);
-    fail_each(first_of_it, 0);
     fail_each(tidy_it, 1);
     fail_each(share_it, 1);
     WANT(citrus_left(&index_here, &handles, &told), CITRUS_DONE);
@@ -107,13 +98,17 @@ static void each_allocation_fails(uint32_t waiter) {
     WANT(held, before);
 }
 
-static void updates_and_sections_take_no_memory(uint32_t waiter) {
-    uint64_t told = 0, cookie = 0;
+static void updates_firsts_and_sections_take_no_memory(uint32_t waiter) {
+    uint64_t told = 0, key = 0, cookie = 0;
     WANT(citrus_open(&index_here, 100, 1, waiter), CITRUS_DONE);
     until_failure = 0;
     for (uint64_t i = 0; i < 1000; i++) {
         WANT(citrus_insert(&index_here, i % 90, i), CITRUS_DONE);
         WANT(citrus_replace(&index_here, i % 90, i + 1, &told), CITRUS_DONE);
+        WANT(citrus_compare(&index_here, i % 90, i + 1, i + 2, &told), CITRUS_DONE);
+        WANT(citrus_compare(&index_here, i % 90, i + 1, i, &told), CITRUS_DIFFERENT);
+        WANT(citrus_first(&index_here, i % 90, &key, &told), CITRUS_DONE);
+        WANT(citrus_last(&index_here, 0, i % 90, &key, &told), CITRUS_DONE);
         WANT(citrus_remove(&index_here, i % 90, &told), CITRUS_DONE);
         WANT(citrus_upsert(&index_here, i % 90, i, &told), CITRUS_NEW);
         WANT(citrus_get(&index_here, i % 90, &told), CITRUS_DONE);
@@ -192,7 +187,7 @@ static void handles_are_closed_beside_updates(uint32_t waiter) {
 
 static const struct waiter_case waiter_cases[] = {
     {"each allocation fails in turn", each_allocation_fails},
-    {"updates and sections take no memory", updates_and_sections_take_no_memory},
+    {"updates, firsts and sections take no memory", updates_firsts_and_sections_take_no_memory},
     {"handles are closed beside updates", handles_are_closed_beside_updates},
 };
 

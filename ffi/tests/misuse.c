@@ -14,10 +14,13 @@ static void a_closed_handle_at_each_call(void) {
     WANT(citrus_get(&closed, 1, &told), CITRUS_CLOSED);
     WANT(citrus_insert(&closed, 1, 10), CITRUS_CLOSED);
     WANT(citrus_replace(&closed, 1, 10, &told), CITRUS_CLOSED);
+    WANT(citrus_compare(&closed, 1, 0, 10, &told), CITRUS_CLOSED);
     WANT(citrus_upsert(&closed, 1, 10, &told), CITRUS_CLOSED);
     WANT(citrus_remove(&closed, 1, &told), CITRUS_CLOSED);
     WANT(citrus_list(&closed, 0, 9, &pair, 1, &count, &key), CITRUS_CLOSED);
     WANT(citrus_first(&closed, 0, &key, &told), CITRUS_CLOSED);
+    WANT(citrus_last(&closed, 0, 9, &key, &told), CITRUS_CLOSED);
+    WANT(citrus_last(&closed, 9, 0, &key, &told), CITRUS_CLOSED);
     WANT(citrus_tidy(&closed, 0, 9, 1, &made, &key), CITRUS_CLOSED);
     WANT(citrus_hold(&closed, 1, &told), CITRUS_CLOSED);
     WANT(citrus_enter(&closed, 1), CITRUS_CLOSED);
@@ -160,6 +163,9 @@ static void a_handle_without_tickets(void) {
     WANT(citrus_get(&spent, 1, &told), CITRUS_SPENT);
     WANT(citrus_insert(&spent, 2, 20), CITRUS_SPENT);
     WANT(citrus_replace(&spent, 1, 11, &told), CITRUS_SPENT);
+    WANT(citrus_compare(&spent, 1, 10, 11, &told), CITRUS_SPENT);
+    WANT(citrus_compare(&spent, 1, 0, 11, &told), CITRUS_SPENT);
+    WANT(citrus_compare(&spent, 2, 0, 11, &told), CITRUS_SPENT);
     WANT(citrus_upsert(&spent, 1, 11, &told), CITRUS_SPENT);
     WANT(citrus_remove(&spent, 1, &told), CITRUS_SPENT);
     WANT(told, UNTOUCHED);
@@ -167,6 +173,11 @@ static void a_handle_without_tickets(void) {
     WANT(tickets, 3);
     WANT(citrus_first(&spent, 0, &key, &told), CITRUS_DONE);
     WANT(told, 10);
+    told = UNTOUCHED;
+    WANT(citrus_last(&spent, 0, UINT64_MAX, &key, &told), CITRUS_DONE);
+    WANT(told, 10);
+    WANT(citrus_left(&spent, &handles, &tickets), CITRUS_DONE);
+    WANT(tickets, 3);
     citrus_close(&spent);
     WANT(citrus_get(&index, 2, &told), CITRUS_UNCHANGED);
     WANT(citrus_share(&index, 1, 4, &spent), CITRUS_DONE);

@@ -1,6 +1,5 @@
-/* Lists and firsts beside updates: what they tell was so at one moment. */
+/* Lists, firsts and lasts beside updates: what they tell was so at one moment. */
 #include "crew.h"
-#include <time.h>
 
 enum { KEYS = 40, STEPS = 20000 };
 
@@ -27,7 +26,6 @@ static void list_both(struct member *me, struct stage *stage) {
     size_t count = 0;
     uint64_t next = 0;
     const int32_t status = citrus_list(&me->handle, 0, KEYS, pairs, KEYS + 1, &count, &next);
-    if (status == CITRUS_MOVED) return;
     member_wants(me, "a list", 0, status, CITRUS_DONE);
     member_wants(me, "the pairs of a list", 0, count, KEYS + 1);
     const uint64_t ahead = pairs[count - 1].value - pairs[0].value;
@@ -81,80 +79,45 @@ static void walk(struct member *me) {
 static void find_the_first(struct member *me, struct stage *stage) {
     uint64_t key = 0, value = 0;
     const int32_t status = citrus_first(&me->handle, 0, &key, &value);
-    if (status == CITRUS_MOVED) return;
     member_wants(me, "a first", 0, status, CITRUS_DONE);
     member_wants(me, "the key of the first with value", value, key, value % KEYS);
     stage->answers++;
 }
 
-static void *walk_or_find(void *member) {
+static void find_the_last(struct member *me, struct stage *stage) {
+    uint64_t key = 0, value = 0;
+    const int32_t status = citrus_last(&me->handle, 0, KEYS, &key, &value);
+    member_wants(me, "a last", 0, status, CITRUS_DONE);
+    member_wants(me, "the key of the last with value", value, key, value % KEYS);
+    stage->answers++;
+}
+
+static void *walk_or_find_the_first(void *member) {
     write_or_look(member, 1, walk, find_the_first);
     return NULL;
 }
 
-static void there_is_a_first_at_each_moment(uint32_t waiter) { run_stage(waiter, walk_or_find); }
-
-/* Keys that ascend make a path: a search for the last one takes long enough that others update the index meanwhile. */
-enum { PATH = 3000, PATIENCE_SECONDS = 30 };
-
-static int32_t list_path(struct member *me) {
-    static citrus_pair pairs[PATH];
-    size_t count = 0;
-    uint64_t next = UNTOUCHED;
-    const int32_t status = citrus_list(&me->handle, 0, PATH, pairs, PATH, &count, &next);
-    member_wants(me, "the pairs of a list of a path", 0, count, status == CITRUS_DONE ? PATH : 0);
-    member_wants(me, "the next key of a list of a path", 0, next, UNTOUCHED);
-    return status;
-}
-
-static int32_t find_last(struct member *me) {
-    uint64_t key = UNTOUCHED, value = UNTOUCHED;
-    const int32_t status = citrus_first(&me->handle, PATH - 1, &key, &value);
-    member_wants(me, "the key of a first at", PATH - 1, key, status == CITRUS_DONE ? PATH - 1 : UNTOUCHED);
-    member_wants(me, "the value of a first at", PATH - 1, value, status == CITRUS_DONE ? 0 : UNTOUCHED);
-    return status;
-}
-
-/* Looks until it is told that others updated the index in each try. */
-static void be_overtaken(struct member *me, const char *what, int32_t (*look)(struct member *)) {
-    const time_t end = time(NULL) + PATIENCE_SECONDS;
-    int32_t status = CITRUS_DONE;
-    while (status == CITRUS_DONE && !me->wrong && time(NULL) < end) status = look(me);
-    member_wants(me, what, PATH, status, CITRUS_MOVED);
-}
-
-static void *update_or_be_overtaken(void *member) {
-    struct member *me = member;
-    struct stage *stage = me->shared;
-    uint64_t old = 0;
-    for (uint64_t key = 0; me->number == 0 && key < PATH; key++)
-        member_wants(me, "an insert of", key, citrus_insert(&me->handle, key, 0), CITRUS_DONE);
-    pthread_barrier_wait(&stage->begin);
-    if (me->number == 0) {
-        be_overtaken(me, "a list of a path of", list_path);
-        be_overtaken(me, "a first at the end of a path of", find_last);
-        stage->is_over = 1;
-    }
-    while (!stage->is_over && !me->wrong)
-        member_wants(me, "a replace of", me->number, citrus_replace(&me->handle, me->number, 0, &old), CITRUS_DONE);
-    stage->answers++;
+static void *walk_or_find_the_last(void *member) {
+    write_or_look(member, 1, walk, find_the_last);
     return NULL;
 }
 
-static void lists_and_firsts_are_overtaken(uint32_t waiter) { run_stage(waiter, update_or_be_overtaken); }
+static void there_is_a_first_at_each_moment(uint32_t waiter) { run_stage(waiter, walk_or_find_the_first); }
+static void there_is_a_last_at_each_moment(uint32_t waiter) { run_stage(waiter, walk_or_find_the_last); }
 
-/* With a tidy behind each put, lists and firsts stand beside turns of the nodes that they read. */
-static void there_is_a_first_beside_turns(uint32_t waiter) {
+/* With a tidy behind each put, firsts and lasts stand beside turns of the nodes that they read. */
+static void there_are_both_beside_turns(uint32_t waiter) {
     tidies_behind_puts = 1;
     there_is_a_first_at_each_moment(waiter);
+    there_is_a_last_at_each_moment(waiter);
     tidies_behind_puts = 0;
 }
 
 static const struct waiter_case cases[] = {
     {"a list is of one moment", a_list_is_of_one_moment},
     {"there is a first at each moment", there_is_a_first_at_each_moment},
-    {"there is a first at each moment, with a tidy behind each put", there_is_a_first_beside_turns},
-    {"lists and firsts are overtaken", lists_and_firsts_are_overtaken},
+    {"there is a last at each moment", there_is_a_last_at_each_moment},
+    {"there are a first and a last at each moment, with a tidy behind each put", there_are_both_beside_turns},
 };
 
 int main(void) {

@@ -20,7 +20,7 @@ using Value = std::optional<uint64_t>;
 
 enum class Kind { Get, Put, Set, Del };
 
-// A call and its reply. An upsert is the set or the put by which it ended.
+// A call and its reply. An upsert is the set or the put by which it ended, and a compare the set or the get.
 struct Call {
     Kind kind;
     uint64_t key, value;      // what a put or a set gives the key
@@ -61,10 +61,18 @@ static uint64_t draw(uint64_t &state) {
     return state;
 }
 
+// What a compare came to, where it found this value or none.
+static void told_of_compare(Call &call, citrus::compared told, uint64_t found) {
+    call.kind = told == citrus::compared::done ? Kind::Set : Kind::Get;
+    call.is_found = told != citrus::compared::absent;
+    if (call.is_found) call.found = found;
+}
+
 // What a hold tells is judged as what a get tells: its reply is known before the section is left.
 static Call call_of(citrus::handle &index, uint64_t which, uint64_t key, uint64_t value) {
     Call call{};
     citrus::section held;
+    uint64_t found = which == 5 ? index.get(key).value_or(value) : value;
     call.key = key;
     call.value = value;
     call.begin = ++stamps;
@@ -94,6 +102,7 @@ static Call call_of(citrus::handle &index, uint64_t which, uint64_t key, uint64_
         call.is_found = call.found.has_value();
         call.kind = call.is_found ? Kind::Set : Kind::Put;
         break;
+    case 5: told_of_compare(call, index.compare_exchange(key, found, value), found); break;
     default:
         call.kind = Kind::Del;
         call.found = index.remove(key);
@@ -103,13 +112,12 @@ static Call call_of(citrus::handle &index, uint64_t which, uint64_t key, uint64_
     return call;
 }
 
-// Turns nodes on the way to the key, in four attempts at most. That others' updates come in each try of its list, or that no slot is free, is
-// no fault.
+// Turns nodes on the way to the key, in four attempts at most. That no slot is free is no fault.
 static void tidy(citrus::handle &index, uint64_t key) {
     try {
         index.tidy(key, key, 4);
     } catch (const citrus::error &refusal) {
-        if (refusal.why() != citrus::fault::moved && refusal.why() != citrus::fault::full) throw;
+        if (refusal.why() != citrus::fault::full) throw;
     }
 }
 
@@ -119,7 +127,7 @@ static std::vector<Call> script_of(citrus::handle &index, uint32_t number, const
     calls.reserve(settings.operations);
     uint64_t state = settings.seed * 1000003 + number + 1;
     for (uint64_t i = 0; i < settings.operations; i++) {
-        const uint64_t which = draw(state) % 6, key = draw(state) % settings.keys;
+        const uint64_t which = draw(state) % 7, key = draw(state) % settings.keys;
         calls.push_back(call_of(index, which, key, settings.threads * i + number));
         calls.back().script = number;
         if (settings.tidies && calls.back().kind == Kind::Put && calls.back().is_update()) tidy(index, key);

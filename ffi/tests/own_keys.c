@@ -33,6 +33,32 @@ static void look(struct owner *owner, uint64_t key) {
     }
 }
 
+/* Whether this thread owns the key and it is there. */
+static int is_own_and_there(const struct owner *owner, uint64_t key) {
+    const struct member *me = owner->member;
+    return key % me->of == me->number && key / me->of < owner->own_keys && owner->values[key / me->of];
+}
+
+/* The last pair at or below a key: it is no lower than the last own key that is there, and an own one is that. */
+static void look_below(struct owner *owner, uint64_t high) {
+    struct member *me = owner->member;
+    uint64_t low = high, key = UNTOUCHED, value = UNTOUCHED;
+    while (low && high - low < ROOM && !is_own_and_there(owner, low)) low--;
+    const int32_t status = citrus_last(&me->handle, low, high, &key, &value);
+    if (status == CITRUS_UNCHANGED && !is_own_and_there(owner, low)) {
+        member_wants(me, "the key where there is no last at or below", high, key, UNTOUCHED);
+        return;
+    }
+    member_wants(me, "a last at or below", high, status, CITRUS_DONE);
+    member_wants(me, "whether a last is in its range, at", high, key >= low && key <= high, 1);
+    if (key % me->of == me->number) {
+        member_wants(me, "the last own key at or below", high, key, low);
+        member_wants(me, "the value of the last own key", key, value, owner->values[key / me->of]);
+    } else {
+        member_wants(me, "who wrote the value of the last key", key, value % MOST_THREADS, key % me->of);
+    }
+}
+
 /* Lists the keys from this one on: they ascend, and its own ones among them are those that it knows. */
 static void look_at_range(struct owner *owner, uint64_t low) {
     struct member *me = owner->member;
@@ -40,7 +66,6 @@ static void look_at_range(struct owner *owner, uint64_t low) {
     size_t count = 0, at = 0;
     uint64_t next = 0;
     const int32_t status = citrus_list(&me->handle, low, low + ROOM - 1, pairs, ROOM, &count, &next);
-    if (status == CITRUS_MOVED) return;
     member_wants(me, "a list from", low, status, CITRUS_DONE);
     for (uint64_t key = low; key < low + ROOM; key++) {
         const int is_listed = at < count && pairs[at].key == key;
@@ -58,6 +83,7 @@ static void update(struct owner *owner, uint64_t at, uint64_t which) {
     struct member *me = owner->member;
     const uint64_t key = key_of(owner, at), known = owner->values[at], value = fresh_value(owner);
     const int32_t is_there = known ? CITRUS_DONE : CITRUS_UNCHANGED;
+    const uint64_t expected = known && which == 4 ? known : known + MOST_THREADS;
     uint64_t old = known;
     switch (which) {
     case 0:
@@ -73,6 +99,12 @@ static void update(struct owner *owner, uint64_t at, uint64_t which) {
         member_wants(me, "an upsert of", key, tidied(me, key, citrus_upsert(&me->handle, key, value, &old), CITRUS_NEW),
                      known ? CITRUS_DONE : CITRUS_NEW);
         owner->values[at] = value;
+        break;
+    case 3:
+    case 4:
+        member_wants(me, "a compare of", key, citrus_compare(&me->handle, key, expected, value, &old),
+                     which == 3 && known ? CITRUS_DIFFERENT : is_there);
+        if (known && which == 4) owner->values[at] = value;
         break;
     default:
         member_wants(me, "a remove of", key, citrus_remove(&me->handle, key, &old), is_there);
@@ -90,8 +122,9 @@ static void *work(void *member) {
     for (uint64_t i = 0; i < operations && !me->wrong; i++) {
         const uint64_t which = draw(&state) % 1000, drawn = draw(&state) % keys;
         if (which < 5) look_at_range(&owner, drawn);
+        else if (which < 10) look_below(&owner, drawn);
         else if (which < 600) look(&owner, drawn);
-        else update(&owner, drawn % owner.own_keys, which % 4);
+        else update(&owner, drawn % owner.own_keys, which % 6);
     }
     for (uint64_t at = 0; at < owner.own_keys; at++) look(&owner, key_of(&owner, at));
     free(owner.values);

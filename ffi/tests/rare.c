@@ -9,6 +9,10 @@ enum { KEYS = 15, DISPUTED = 8, FAR = 1, NEVER_THERE = 1000, PAIRS = 4000, PATIE
 
 static int is_late(time_t began) { return time(NULL) > began + PATIENCE_SECONDS; }
 
+/* The first values are of a key, and the later ones of a thread. */
+static uint64_t first_value(uint64_t key) { return key * MOST_THREADS; }
+static uint64_t value_at(const struct member *member, uint64_t step) { return step * MOST_THREADS + member->number; }
+
 /* A handle that can't go on answers the same to each call that takes it, and nothing is written. */
 static void each_call_answers(citrus_handle *handle, int32_t status) {
     citrus_pair pair = {UNTOUCHED, UNTOUCHED};
@@ -18,10 +22,13 @@ static void each_call_answers(citrus_handle *handle, int32_t status) {
     WANT(citrus_get(handle, FAR, &told), status);
     WANT(citrus_insert(handle, NEVER_THERE, 7), status);
     WANT(citrus_replace(handle, FAR, 7, &told), status);
+    WANT(citrus_compare(handle, FAR, first_value(FAR), 7, &told), status);
+    WANT(citrus_compare(handle, FAR, 7, 7, &told), status);
     WANT(citrus_upsert(handle, FAR, 7, &told), status);
     WANT(citrus_upsert(handle, NEVER_THERE, 7, &told), status);
     WANT(citrus_remove(handle, FAR, &told), status);
     WANT(citrus_first(handle, 0, &key, &told), status);
+    WANT(citrus_last(handle, 0, KEYS, &key, &told), status);
     WANT(citrus_hold(handle, FAR, &told), status);
     WANT(citrus_enter(handle, FAR), status);
     WANT(citrus_release(handle), status);
@@ -53,10 +60,6 @@ struct dispute {
     int is_always_there;
 };
 
-/* The first values are of a key, and the later ones of a thread. */
-static uint64_t first_value(uint64_t key) { return key * MOST_THREADS; }
-static uint64_t value_at(const struct member *member, uint64_t step) { return step * MOST_THREADS + member->number; }
-
 static int32_t replace_it(struct member *me, uint64_t step) {
     uint64_t old = UNTOUCHED;
     const int32_t status = citrus_replace(&me->handle, DISPUTED, value_at(me, step), &old);
@@ -70,6 +73,18 @@ static int32_t upsert_it(struct member *me, uint64_t step) {
     const int32_t status = citrus_upsert(&me->handle, DISPUTED, value_at(me, step), &old);
     if (status == CITRUS_LOST) member_wants(me, "what a lost upsert writes", DISPUTED, old, UNTOUCHED);
     else member_wants(me, "an upsert of", DISPUTED, status, CITRUS_DONE);
+    return status;
+}
+
+/* Each thread raises the value that it was told, so that most compares find another one. */
+static int32_t compare_it(struct member *me, uint64_t step) {
+    uint64_t found = UNTOUCHED;
+    int32_t status = citrus_get(&me->handle, DISPUTED, &found);
+    const uint64_t expected = found;
+    if (status == CITRUS_DONE) status = citrus_compare(&me->handle, DISPUTED, expected, value_at(me, step), &found);
+    if (status == CITRUS_DIFFERENT) member_wants(me, "whether a compare tells the expected value of", DISPUTED, found == expected, 0);
+    else member_wants(me, "what is written where a compare tells nothing of", DISPUTED, found, expected);
+    if (status != CITRUS_LOST && status != CITRUS_DIFFERENT) member_wants(me, "a compare of", DISPUTED, status, CITRUS_DONE);
     return status;
 }
 
@@ -223,6 +238,7 @@ static void run_dispute(uint32_t waiter, int is_always_there, int32_t (*update)(
 }
 
 static void a_replace_is_lost(uint32_t waiter) { run_dispute(waiter, 1, replace_it); }
+static void a_compare_is_lost(uint32_t waiter) { run_dispute(waiter, 1, compare_it); }
 static void an_upsert_is_lost(uint32_t waiter) { run_dispute(waiter, 1, upsert_it); }
 static void an_insert_or_a_remove_is_lost(uint32_t waiter) { run_dispute(waiter, 0, insert_or_remove_it); }
 
@@ -359,6 +375,7 @@ static void an_upsert_is_moved(uint32_t waiter) {
 
 static const struct waiter_case cases[] = {
     {"a replace is lost, and its handle", a_replace_is_lost},
+    {"a compare is lost, and its handle", a_compare_is_lost},
     {"an upsert is lost, and its handle", an_upsert_is_lost},
     {"an insert or a remove is lost, and its handle", an_insert_or_a_remove_is_lost},
     {"a wait is lost, and its handle", a_wait_is_lost},

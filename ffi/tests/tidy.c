@@ -170,7 +170,7 @@ static void *update_or_tidy(void *member) {
     }
     while (*busy > 0) {
         const int32_t status = citrus_tidy(&me->handle, low, UINT64_MAX, 50, &made, &low);
-        member_wants(me, "a tidy from", low, status == CITRUS_MORE || status == CITRUS_MOVED ? CITRUS_DONE : status, CITRUS_DONE);
+        member_wants(me, "a tidy from", low, status == CITRUS_MORE ? CITRUS_DONE : status, CITRUS_DONE);
         if (status == CITRUS_DONE) low = 0;
     }
     return NULL;

@@ -38,6 +38,7 @@ pub(crate) mod status {
     pub(crate) const MORE: i32 = 3;
     pub(crate) const MOVED: i32 = 4;
     pub(crate) const NEW: i32 = 5;
+    pub(crate) const DIFFERENT: i32 = 6;
     pub(crate) const NO_MEMORY: i32 = -3;
     pub(crate) const SPENT: i32 = -4;
     pub(crate) const LOST: i32 = -5;
@@ -53,6 +54,7 @@ extern "C" {
     pub(crate) fn citrus_get(handle: *mut RawHandle, key: u64, value: *mut u64) -> i32;
     pub(crate) fn citrus_insert(handle: *mut RawHandle, key: u64, value: u64) -> i32;
     pub(crate) fn citrus_replace(handle: *mut RawHandle, key: u64, value: u64, old: *mut u64) -> i32;
+    pub(crate) fn citrus_compare(handle: *mut RawHandle, key: u64, expected: u64, value: u64, found: *mut u64) -> i32;
     pub(crate) fn citrus_upsert(handle: *mut RawHandle, key: u64, value: u64, old: *mut u64) -> i32;
     pub(crate) fn citrus_remove(handle: *mut RawHandle, key: u64, old: *mut u64) -> i32;
     pub(crate) fn citrus_list(
@@ -65,6 +67,7 @@ extern "C" {
         next: *mut u64,
     ) -> i32;
     pub(crate) fn citrus_first(handle: *mut RawHandle, low: u64, key: *mut u64, value: *mut u64) -> i32;
+    pub(crate) fn citrus_last(handle: *mut RawHandle, low: u64, high: u64, key: *mut u64, value: *mut u64) -> i32;
     pub(crate) fn citrus_hold(handle: *mut RawHandle, key: u64, value: *mut u64) -> i32;
     pub(crate) fn citrus_enter(handle: *mut RawHandle, key: u64) -> i32;
     pub(crate) fn citrus_release(handle: *mut RawHandle) -> i32;

@@ -2,6 +2,7 @@
 
 use crate::guards::Held;
 use crate::handle::Handle;
+use crate::hazards::Hazards;
 use crate::index::Builder;
 use crate::node::{Found, NewNode, Retired, TakenOut};
 use crate::waits::{Cookie, GracePeriod, Tidied};
@@ -71,6 +72,7 @@ struct Shared<V> {
     /// What each handle, by its place, took out and hasn't given up: here while nobody has the handle. The lock also makes `V` invariant,
     /// as it has to be since a `&Map<V>` takes values.
     kept: Vec<Mutex<Kept<V>>>,
+    hazards: Hazards,
 }
 
 /// What a handle took out and hasn't given up, and its wait for the readers of the first of these.
@@ -155,7 +157,8 @@ impl<V: Send + Sync> Map<V> {
     /// A map over an empty index of which no handle is out.
     pub(crate) fn over(index: Index) -> Map<V> {
         let kept = (0..index.handles()).map(|_| Mutex::default()).collect();
-        Map { shared: Arc::new(Shared { index, kept }) }
+        let hazards = Hazards::new(index.handles());
+        Map { shared: Arc::new(Shared { index, kept, hazards }) }
     }
 
     /// A handle for a thread. It goes back to the map when it is dropped.
@@ -246,7 +249,7 @@ impl<V> From<Refused<V>> for Error {
 /// dropped. [`flush`](MapHandle::flush) drops it before.
 pub struct MapHandle<V> {
     kept: Kept<V>,
-    handle: Handle,
+    pub(crate) handle: Handle,
     shared: Arc<Shared<V>>,
 }
 
@@ -332,22 +335,6 @@ impl<V: Send + Sync> MapHandle<V> {
         Ok(Some(Guard { found, section }))
     }
 
-    /// Whether the key is present.
-    ///
-    /// # Errors
-    /// As [`get`](MapHandle::get).
-    pub fn contains_key(&self, key: u64) -> Result<bool, Error> {
-        self.handle.contains_key(key)
-    }
-
-    /// All keys in the range as they were at one moment of the call, ascending: as [`Handle::range`], with the same errors.
-    ///
-    /// # Errors
-    /// [`Error::TooLong`], [`Error::Moved`], [`Error::NoMemory`].
-    pub fn keys(&self, keys: impl RangeBounds<u64>) -> Result<Vec<u64>, Error> {
-        Ok(self.handle.range(keys)?.into_iter().map(|(key, _)| key).collect())
-    }
-
     /// Adds the pair where the key is absent.
     ///
     /// # Errors
@@ -391,6 +378,51 @@ impl<V: Send + Sync> MapHandle<V> {
             Ok(Some(word)) => self.outwait(unsafe { TakenOut::new(word) }).map_err(|cause| Refused { cause, value: None }),
             Ok(None) => Err(Refused::of(Error::Absent, node)),
             Err(cause) => Err(Refused::of(cause, node)),
+        }
+    }
+
+    /// Gives the key what `change` makes of its value where it is present, waits for the readers of the value before, and gives that back.
+    /// It is one update. Where another thread gives the key another value meanwhile, what `change` made is dropped, and it is called once
+    /// more, with that.
+    ///
+    /// `change` reads the value as a [`Guard`] does, so it is to be short and makes no update of the map.
+    ///
+    /// # Errors
+    /// [`Error::Holds`], [`Error::Spent`]; as [`remove`](MapHandle::remove) where the wait for readers fails.
+    ///
+    /// ```
+    /// let map = citrus_map::Map::new(100, 1)?;
+    /// let mut handle = map.handle()?;
+    /// assert_eq!(handle.update(5, |words: &Vec<&str>| [&words[..], &["cinq"]].concat())?, None);
+    /// handle.insert(5, vec!["five"])?;
+    /// assert_eq!(handle.update(5, |words| [&words[..], &["cinq"]].concat())?, Some(vec!["five"]));
+    /// assert_eq!(handle.remove(5)?, Some(vec!["five", "cinq"]));
+    /// # Ok::<(), citrus_map::Error>(())
+    /// ```
+    pub fn update(&mut self, key: u64, mut change: impl FnMut(&V) -> V) -> Result<Option<V>, Error> {
+        let place = self.handle.place();
+        loop {
+            let held = match self.handle.hold(key)? {
+                Some(held) => held,
+                None => return Ok(None),
+            };
+            let expected = held.value();
+            // SAFETY: `held` is its section, and is left behind this.
+            let node = NewNode::new(key, change(&unsafe { Found::new(expected) }.node().value));
+            let named = self.shared.hazards.name(place, expected);
+            drop(held);
+            let told = self.handle.compare_exchange(key, expected, node.word());
+            drop(named);
+            match told {
+                // SAFETY: the update replaced this value of the key's, and the index has it no more (`compared`).
+                Ok(Ok(word)) => return self.outwait(unsafe { TakenOut::new(word) }).map(Some),
+                Ok(Err(Some(_))) => drop(Refused::of(Error::Present, node)),
+                Ok(Err(None)) => {
+                    drop(Refused::of(Error::Absent, node));
+                    return Ok(None);
+                }
+                Err(cause) => return Err(Refused::of(cause, node).cause),
+            }
         }
     }
 
@@ -462,6 +494,8 @@ impl<V: Send + Sync> MapHandle<V> {
     /// # Ok::<(), citrus_map::Error>(())
     /// ```
     pub fn retire(&mut self, key: u64) -> Result<bool, Error> {
+        // What is asked for may have to outlast a hazard.
+        self.handle.may_wait()?;
         // The removal's own wait may take the place of the one that was begun: ask for that before.
         self.ask();
         match self.take_out(key)? {
@@ -483,7 +517,7 @@ impl<V: Send + Sync> MapHandle<V> {
             self.handle.wait(low..=high)?;
             self.kept.begun = None;
             // SAFETY: this handle took each of them out, and then waited for the keys of all (`waited`).
-            drop(unsafe { self.kept.retired.give_up(self.kept.retired.len()) });
+            unsafe { self.drop_first(self.kept.retired.len()) };
         }
         Ok(())
     }
@@ -505,8 +539,11 @@ impl<V: Send + Sync> MapHandle<V> {
     /// Waits for the readers of a node that this handle took out. Where that fails the node is kept: a reader may be left.
     fn outwait(&mut self, node: TakenOut<V>) -> Result<V, Error> {
         match self.handle.wait(node.key()..=node.key()) {
-            // SAFETY: this handle took it out, and then waited for its key (`waited`).
-            Ok(()) => Ok(unsafe { node.into_box() }.value),
+            Ok(()) => {
+                self.shared.hazards.outlast(node.word());
+                // SAFETY: this handle took it out, and then waited for its key (`waited`).
+                Ok(unsafe { node.into_box() }.value)
+            }
             Err(cause) => {
                 self.kept.retired.push(node);
                 Err(cause)
@@ -514,12 +551,22 @@ impl<V: Send + Sync> MapHandle<V> {
         }
     }
 
+    /// Drops so many of the retired values, the first ones.
+    ///
+    /// # Safety
+    /// As of [`Retired::give_up`].
+    unsafe fn drop_first(&mut self, count: usize) {
+        self.kept.retired.words(count).for_each(|word| self.shared.hazards.outlast(word));
+        // SAFETY: so says the caller.
+        drop(unsafe { self.kept.retired.give_up(count) });
+    }
+
     /// Drops the first of the retired values where the wait for their readers is over.
     fn ask(&mut self) {
         if let Some(begun) = self.kept.begun.take() {
             match self.handle.poll(begun.cookie) {
                 // SAFETY: this handle took each of them out, and then began the wait for the keys of all (`begun`, `polled`).
-                Ok(GracePeriod::Over) => drop(unsafe { self.kept.retired.give_up(begun.nodes) }),
+                Ok(GracePeriod::Over) => unsafe { self.drop_first(begun.nodes) },
                 Ok(GracePeriod::UnderWay) => self.kept.begun = Some(begun),
                 Ok(GracePeriod::Displaced) | Err(_) => {}
             }

@@ -77,6 +77,11 @@ impl<V> TakenOut<V> {
         TakenOut(unsafe { node_of(word) })
     }
 
+    /// What the index had for it.
+    pub(crate) fn word(&self) -> u64 {
+        word_of(self.0)
+    }
+
     pub(crate) fn key(&self) -> u64 {
         // SAFETY: it is owned, and nobody writes to it.
         unsafe { self.0.as_ref() }.key
@@ -114,6 +119,11 @@ impl<V> Retired<V> {
     pub(crate) fn keys(&self) -> Option<(u64, u64)> {
         let keys = || self.nodes.iter().map(TakenOut::key);
         Some((keys().min()?, keys().max()?))
+    }
+
+    /// What the index had for the first so many nodes.
+    pub(crate) fn words(&self, count: usize) -> impl Iterator<Item = u64> + '_ {
+        self.nodes[..count].iter().map(TakenOut::word)
     }
 
     /// The first so many nodes. Where one of their values panics as it is dropped, the others are dropped all the same.

@@ -15,8 +15,12 @@ fn a_handle_without_tickets_is_spent_and_not_given_out_again() {
     let (first, mut short) = (index.handle().unwrap(), index.handle().unwrap());
     assert_eq!(short.get(5), Err(Error::Spent));
     assert_eq!(short.insert(5, 50), Err(Error::Spent));
+    assert_eq!(short.compare_exchange(5, 50, 51), Err(Error::Spent));
+    assert_eq!(short.update(5, |value| value), Err(Error::Spent));
     assert_eq!(short.remove(5), Err(Error::Spent));
-    assert_eq!(short.range(..), Ok(vec![]));
+    assert_eq!(short.pop_first(), Ok(None));
+    assert_eq!((short.len(), short.first(), short.last()), (Ok(0), Ok(None), Ok(None)));
+    assert_eq!(short.list(..), Ok(vec![]));
     assert!(matches!(short.hold(5), Ok(None)));
     assert_eq!(first.insert(5, 50), Ok(true));
     drop((first, short));
@@ -57,6 +61,7 @@ fn work_until_spent(handle: &mut MapHandle<Counted>, count: &Arc<AtomicUsize>) -
             handle.upsert(key, Counted::new(count))?;
             handle.upsert(key, Counted::new(count))?;
             handle.replace(key, Counted::new(count))?;
+            handle.update(key, |_| Counted::new(count))?;
             handle.insert(key + 1, Counted::new(count))?;
             handle.retire(key)?;
             handle.remove(key + 1)?;

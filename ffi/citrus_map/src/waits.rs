@@ -119,8 +119,8 @@ impl Handle {
     /// Where it isn't finished it tells the key to go on with:
     ///
     /// # Errors
-    /// [`Error::Full`] where no slot was free for a turn, and [`Error::Moved`] where updates came in each of 1,000 tries: it may have made
-    /// turns at the first, and made none at the second. [`Error::Holds`], [`Error::NoMemory`], [`Error::Spent`].
+    /// [`Error::Full`] where no slot was free for a turn; it may have made turns before. [`Error::Holds`], [`Error::NoMemory`],
+    /// [`Error::Spent`].
     ///
     /// ```
     /// let index = citrus_map::Index::new(1_000, 1)?;
@@ -132,7 +132,7 @@ impl Handle {
     /// while let Some(low) = from {
     ///     from = handle.tidy(low.., 64)?.next;
     /// }
-    /// assert_eq!(handle.range(..)?.len(), 1_000);
+    /// assert_eq!(handle.len()?, 1_000);
     /// # Ok::<(), citrus_map::Error>(())
     /// ```
     pub fn tidy(&self, keys: impl RangeBounds<u64>, turns: u32) -> Result<Tidied, Error> {

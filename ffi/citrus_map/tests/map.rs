@@ -66,6 +66,56 @@ fn calls_answer_as_a_map() {
 }
 
 #[test]
+fn pairs_are_taken_out_at_both_ends_and_by_ranges() {
+    for waiter in waiters() {
+        let count = Arc::new(AtomicUsize::new(0));
+        let map = Map::build(Index::builder(3_000, 1).waiter(waiter)).unwrap();
+        let mut handle = map.handle().unwrap();
+        assert_eq!((handle.is_empty(), handle.len()), (Ok(true), Ok(0)));
+        assert_eq!((handle.first_key_from(0), handle.last_key_to(9)), (Ok(None), Ok(None)));
+        assert!(handle.pop_first().unwrap().is_none() && handle.pop_last().unwrap().is_none());
+        for key in 0..3_000 {
+            handle.insert(key, Counted::new(key, &count)).unwrap();
+        }
+        assert_eq!((handle.is_empty(), handle.len()), (Ok(false), Ok(3_000)));
+        assert_eq!((handle.first_key_from(5), handle.last_key_to(9_999)), (Ok(Some(5)), Ok(Some(2_999))));
+        for (expected, told) in [(0, handle.pop_first()), (2_999, handle.pop_last())] {
+            let (key, value) = told.unwrap().unwrap();
+            assert_eq!((key, value.key), (expected, expected));
+        }
+        assert_eq!(handle.retain(1_000..2_500, |key, value| value.key == key && key % 3 == 0), Ok(1_000));
+        assert_eq!(handle.len(), Ok(1_998));
+        assert_eq!(handle.retain(7..7, |_, _| false), Ok(0));
+        assert_eq!(handle.clear(), Ok(1_998));
+        handle.flush().unwrap();
+        assert_eq!((handle.is_empty(), count.load(SeqCst)), (Ok(true), 0));
+    }
+}
+
+#[test]
+fn an_update_reads_the_value_and_gives_it_back() {
+    for waiter in waiters() {
+        let count = Arc::new(AtomicUsize::new(0));
+        let map = Map::build(Index::builder(100, 2).waiter(waiter)).unwrap();
+        let (mut handle, mut other) = (map.handle().unwrap(), map.handle().unwrap());
+        assert!(handle.update(5, |_| panic!("it is absent")).unwrap().is_none());
+        handle.insert(5, Counted::new(5, &count)).unwrap();
+        let before = handle.update(5, |value| Counted::new(value.key + 1, &value.count)).unwrap().unwrap();
+        assert_eq!((before.key, handle.get(5).unwrap().unwrap().key, count.load(SeqCst)), (5, 6, 2));
+        drop(before);
+        let refused = handle.update(5, |value| {
+            assert_eq!(other.retire(5), Err(Error::Holds));
+            assert!(other.update(5, |_| panic!("it waits")).is_err());
+            Counted::new(value.key + 1, &value.count)
+        });
+        assert_eq!(refused.unwrap().unwrap().key, 6);
+        let panics = catch_unwind(AssertUnwindSafe(|| handle.update(5, |_| panic!("in an update"))));
+        assert!(panics.is_err());
+        assert_eq!((handle.remove(5).unwrap().unwrap().key, count.load(SeqCst)), (7, 0));
+    }
+}
+
+#[test]
 fn each_value_is_dropped_once() {
     for waiter in waiters() {
         let count = Arc::new(AtomicUsize::new(0));
@@ -82,6 +132,8 @@ fn each_value_is_dropped_once() {
         for key in 100..150 {
             drop(handle.replace(key, Counted::new(key, &count)).unwrap());
             drop(handle.upsert(key, Counted::new(key, &count)).unwrap().unwrap());
+            drop(handle.update(key, |value| Counted::new(value.key, &count)).unwrap().unwrap());
+            assert!(handle.update(key + 800, |value| Counted::new(value.key, &count)).unwrap().is_none());
             assert!(handle.replace(key + 800, Counted::new(key, &count)).is_err());
             assert!(handle.insert(key, Counted::new(key, &count)).is_err());
         }
@@ -254,8 +306,11 @@ fn a_thread_with_a_guard_updates_by_no_handle_of_the_map() {
             assert_eq!(refused.cause, Error::Holds);
             assert!(refused.value.is_some());
         }
+        assert_eq!(writer.update(5, |value| value + 1), Err(Error::Holds));
         assert_eq!(writer.remove(5), Err(Error::Holds));
         assert_eq!(writer.retire(5), Err(Error::Holds));
+        assert_eq!(writer.pop_first(), Err(Error::Holds));
+        assert_eq!(writer.clear(), Err(Error::Holds));
         assert_eq!(writer.flush(), Err(Error::Holds));
         assert_eq!(writer.tidy(.., 1), Err(Error::Holds));
         // It reads on, another map isn't concerned, and another thread isn't either.
@@ -422,12 +477,19 @@ fn work_on_shared_keys(handle: &mut MapHandle<Counted>, thread: u64, keys: u64, 
     let (mut draws, mut read) = (draws_of(thread), 0);
     for _ in 0..20_000 {
         let key = draws.below(keys);
-        match draws.below(10) {
+        match draws.below(11) {
             0 | 1 => drop(handle.insert(key, Counted::new(key, count))),
             2 => drop(handle.replace(key, Counted::new(key, count))),
             3 => drop(handle.upsert(key, Counted::new(key, count)).unwrap()),
             4 => drop(handle.remove(key).unwrap()),
             5 => drop(handle.retire(key).unwrap()),
+            6 => {
+                let changed = |value: &Counted| {
+                    assert_eq!((value.live, value.key), (LIVE, key));
+                    Counted::new(key, count)
+                };
+                drop(handle.update(key, changed).unwrap());
+            }
             _ => {
                 if let Some(value) = handle.get(key).unwrap() {
                     for _ in 0..draws.below(32) {

@@ -94,12 +94,17 @@ fn a_thread_in_a_section_updates_and_waits_by_no_handle() {
     let section = reader.enter(5).unwrap();
     assert_eq!(other.insert(6, 60), Err(Error::Holds));
     assert_eq!(other.replace(5, 51), Err(Error::Holds));
+    assert_eq!(other.compare_exchange(5, 50, 51), Err(Error::Holds));
+    assert_eq!(other.update(5, |value| value), Err(Error::Holds));
     assert_eq!(other.upsert(5, 51), Err(Error::Holds));
     assert_eq!(other.remove(5), Err(Error::Holds));
+    assert_eq!(other.pop_first(), Err(Error::Holds));
+    assert_eq!(other.clear(), Err(Error::Holds));
     assert_eq!(other.wait(9..10), Err(Error::Holds));
     assert_eq!(other.tidy(.., 1), Err(Error::Holds));
-    assert_eq!(other.range(..), Ok(vec![(5, 50)]));
+    assert_eq!(other.list(..), Ok(vec![(5, 50)]));
     assert_eq!(other.first_from(0), Ok(Some((5, 50))));
+    assert_eq!(other.last_to(9), Ok(Some((5, 50))));
     assert_eq!(other.get(5), Ok(Some(50)));
     let cookie = other.begin(9..10).unwrap();
     assert_eq!(other.poll(cookie), Ok(GracePeriod::Over));
@@ -124,9 +129,11 @@ fn each_call_leaves_the_section_of_a_forgotten_guard() {
     after_a_forgotten_guard!(handle.get(5), Ok(Some(50)));
     after_a_forgotten_guard!(handle.insert(5, 51), Ok(false));
     after_a_forgotten_guard!(handle.replace(5, 52), Ok(Some(50)));
+    after_a_forgotten_guard!(handle.compare_exchange(5, 50, 53), Ok(Err(Some(52))));
     after_a_forgotten_guard!(handle.upsert(5, 53), Ok(Some(52)));
-    after_a_forgotten_guard!(handle.range(..), Ok(vec![(5, 53)]));
+    after_a_forgotten_guard!(handle.list(..), Ok(vec![(5, 53)]));
     after_a_forgotten_guard!(handle.first_from(0), Ok(Some((5, 53))));
+    after_a_forgotten_guard!(handle.last_to(9), Ok(Some((5, 53))));
     after_a_forgotten_guard!(handle.hold(5).unwrap().map(|held| held.value()), Some(53));
     after_a_forgotten_guard!(handle.enter(6).unwrap().key(), 6);
     after_a_forgotten_guard!(handle.wait(..), Ok(()));
@@ -148,7 +155,7 @@ fn a_tree_is_tidied_range_by_range() {
     for key in 0..2_000 {
         handle.insert(key, !key).unwrap();
     }
-    let before = handle.range(..).unwrap();
+    let before = handle.list(..).unwrap();
     let (mut calls, mut from) = (0, Some(0));
     while let Some(low) = from {
         let told = handle.tidy(low.., 1_000).unwrap();
@@ -157,7 +164,7 @@ fn a_tree_is_tidied_range_by_range() {
         from = told.next;
     }
     assert!(calls >= 2_000 / 256, "{calls}");
-    assert_eq!(handle.range(..), Ok(before));
+    assert_eq!(handle.list(..), Ok(before));
     assert_eq!(handle.tidy(5..5, 4), Ok(Tidied { made: 0, next: None }));
     assert!(handle.tidy(5..6, 0).is_ok());
 }
@@ -175,5 +182,5 @@ fn a_turn_takes_free_slots() {
         told = handle.tidy(next.., 1_000);
     }
     assert_eq!(told, Err(Error::Full));
-    assert_eq!(handle.range(..).unwrap().len(), 2_068);
+    assert_eq!(handle.list(..).unwrap().len(), 2_068);
 }

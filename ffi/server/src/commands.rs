@@ -52,6 +52,9 @@ pub enum Command<'a> {
     Setting(&'a [u8]),
     /// The connection is to end.
     Quit,
+    /// A line of HTTP, as a web page has a browser send it to any port. The connection is to end at once: what follows are no commands of
+    /// somebody who means this server.
+    Http,
 }
 
 /// Why a request is no command.
@@ -132,6 +135,7 @@ impl<'a> Command<'a> {
             (b"CONFIG", [get, name]) if get.eq_ignore_ascii_case(b"GET") => Ok(Command::Setting(name)),
             (b"CONFIG", [_, ..]) => Err(Refusal::Syntax),
             (b"QUIT", _) => Ok(Command::Quit),
+            (b"POST" | b"HOST:", _) => Ok(Command::Http),
             (b"GET" | b"SET" | b"SETNX" | b"DEL" | b"EXISTS" | b"RANGE" | b"PING" | b"ECHO" | b"CONFIG", _) => {
                 Err(Refusal::Arguments { name: shown(name).to_ascii_lowercase() })
             }
@@ -203,6 +207,7 @@ fn try_answer(command: &Command, handle: &Handle, replies: &mut Replies) -> Resu
         Command::Commands => replies.array(0),
         Command::Setting(name) => setting(name, replies),
         Command::Quit => replies.status("OK"),
+        Command::Http => {}
     }
     Ok(())
 }
@@ -362,6 +367,19 @@ mod tests {
                 ("CONFIG GET port", "*0"),
                 ("CONFIG SET save 1", "-ERR syntax error"),
                 ("QUIT", "+OK"),
+            ],
+        );
+    }
+
+    #[test]
+    fn lines_of_http_are_told_from_commands() {
+        check(
+            10,
+            &[
+                ("POST / HTTP/1.1", ""),
+                ("Host: localhost", ""),
+                ("hOsT:", ""),
+                ("HOST", "-ERR unknown command 'HOST', with args beginning with:"),
             ],
         );
     }

@@ -1,15 +1,19 @@
 //! A server on a port of the system's choice, and clients that talk to it.
 
 use citrus_map::Index;
-use citrus_server::server::Server;
+use citrus_server::server::{Limits, Server};
 use std::io::{Read, Write};
 use std::net::{Shutdown, SocketAddr, TcpStream};
 use std::thread;
-use std::time::Duration;
+use std::time::{Duration, Instant};
 
-fn server(pairs: u32, connections: u32) -> SocketAddr {
-    let index = Index::new(pairs, connections).unwrap();
-    let server = Server::bind("127.0.0.1:0", index).unwrap();
+fn server(pairs: u32, handles: u32) -> SocketAddr {
+    server_with(pairs, handles, Limits::default())
+}
+
+fn server_with(pairs: u32, handles: u32, limits: Limits) -> SocketAddr {
+    let index = Index::new(pairs, handles).unwrap();
+    let server = Server::bind("127.0.0.1:0", index, limits).unwrap();
     let address = server.address().unwrap();
     thread::spawn(move || server.run());
     address
@@ -90,8 +94,8 @@ fn bytes_that_are_no_request_end_the_session_behind_all_replies() {
 }
 
 #[test]
-fn more_connections_than_handles_are_told_so() {
-    let address = server(10, 2);
+fn more_connections_than_are_allowed_are_told_so() {
+    let address = server_with(10, 2, Limits { connections: 2, ..Limits::default() });
     let (one, other) = (client(address), client(address));
     expect(&one, b"PING\n", b"+PONG\r\n");
     expect(&other, b"PING\n", b"+PONG\r\n");
@@ -107,6 +111,111 @@ fn more_connections_than_handles_are_told_so() {
         (&next).read_to_end(&mut told).is_ok() && told == b"+PONG\r\n"
     };
     assert!((0..1_000).any(|round| is_served(&round)));
+}
+
+#[test]
+fn connections_that_send_nothing_whole_lock_nobody_out() {
+    let address = server(10, 4);
+    let begun: Vec<TcpStream> = (0..200).map(|_| client(address)).collect();
+    for (number, mut stream) in begun.iter().enumerate() {
+        stream.write_all([&b"*3\r\n$3\r\nSET\r\n$1\r\n5\r\n$2\r\n5"[..], b"PING", b"", b"\r\n"][number % 4]).unwrap();
+    }
+    let stream = client(address);
+    expect(&stream, b"SET 5 50\nGET 5\n", b"+OK\r\n$2\r\n50\r\n");
+    // They go on where they stopped.
+    expect(&begun[0], b"1\r\n", b"+OK\r\n");
+    expect(&begun[1], b"\r\n", b"+PONG\r\n");
+    expect(&stream, b"GET 5\n", b"$2\r\n51\r\n");
+}
+
+#[test]
+fn clients_that_read_no_reply_lock_nobody_out() {
+    let address = server(10_000, 2);
+    let stream = client(address);
+    for key in 0..10_000u64 {
+        (&stream).write_all(format!("SET {key} {key}\n").as_bytes()).unwrap();
+    }
+    expect(&stream, b"", &b"+OK\r\n".repeat(10_000));
+    let asked = b"RANGE - + LIMIT 10000\n".repeat(400);
+    let silent: Vec<TcpStream> = (0..8).map(|_| client(address)).collect();
+    for mut stream in &silent {
+        stream.write_all(&asked).unwrap();
+    }
+    thread::sleep(Duration::from_millis(300));
+    for _ in 0..100 {
+        expect(&stream, b"GET 7\n", b"$1\r\n7\r\n");
+    }
+}
+
+/// Whether the server ends the connection, and when.
+fn time_to_its_end(stream: &TcpStream) -> Duration {
+    let begin = Instant::now();
+    assert_eq!(rest(stream), "");
+    begin.elapsed()
+}
+
+#[test]
+fn a_quiet_connection_is_ended() {
+    let idle = Duration::from_millis(400);
+    let address = server_with(10, 2, Limits { idle: Some(idle), ..Limits::default() });
+    assert!(time_to_its_end(&client(address)) >= idle / 2);
+    let stream = client(address);
+    for _ in 0..5 {
+        expect(&stream, b"PING\n", b"+PONG\r\n");
+        thread::sleep(idle / 4);
+    }
+    assert!(time_to_its_end(&stream) >= idle / 2);
+}
+
+#[test]
+fn a_request_that_comes_by_drops_is_ended() {
+    let idle = Duration::from_millis(400);
+    let address = server_with(10, 2, Limits { idle: Some(idle), ..Limits::default() });
+    let stream = client(address);
+    let begin = Instant::now();
+    let mut sender = &stream;
+    while sender.write_all(b"x").is_ok() {
+        thread::sleep(idle / 8);
+        assert!(begin.elapsed() < 50 * idle, "it goes on");
+    }
+    assert!(begin.elapsed() >= idle / 2);
+}
+
+#[test]
+fn no_limit_of_quiet_is_none() {
+    let address = server_with(10, 2, Limits { idle: None, ..Limits::default() });
+    let stream = client(address);
+    thread::sleep(Duration::from_millis(300));
+    expect(&stream, b"PING\n", b"+PONG\r\n");
+}
+
+/// What comes until the server ends the connection, by a word or by a reset.
+fn until_its_end(mut stream: &TcpStream) -> Vec<u8> {
+    let mut told = Vec::new();
+    let _ = stream.read_to_end(&mut told);
+    told
+}
+
+#[test]
+fn what_a_web_page_sends_is_no_command() {
+    let address = server(10, 2);
+    let asked = [
+        "POST / HTTP/1.1\r\nHost: 127.0.0.1:6380\r\nContent-Length: 12\r\n\r\nSET 77 1\r\n\r\n",
+        "GET / HTTP/1.1\r\nHost: 127.0.0.1:6380\r\n\r\nSET 77 1\r\n",
+        "OPTIONS /x HTTP/1.1\r\nhost: a\r\n\r\nSET 77 1\r\n",
+        "post\r\nSET 77 1\r\n",
+    ];
+    for text in asked {
+        let stream = client(address);
+        let _ = (&stream).write_all(text.as_bytes());
+        let told = until_its_end(&stream);
+        assert!(!told.windows(3).any(|three| three == b"+OK"), "{text}");
+    }
+    let stream = client(address);
+    expect(&stream, b"SET 5 50\n", b"+OK\r\n");
+    (&stream).write_all(b"GET 5\nPOST / HTTP/1.1\nSET 77 1\n").unwrap();
+    assert!(b"$2\r\n50\r\n".starts_with(&until_its_end(&stream)));
+    expect(&client(address), b"EXISTS 77\n", b":0\r\n");
 }
 
 #[test]

@@ -1,0 +1,331 @@
+use crate::handle::{ends, Handle};
+use crate::library::*;
+use crate::{Error, MAX_ROOM};
+use std::iter::FusedIterator;
+use std::ops::RangeBounds;
+use std::vec::IntoIter;
+
+/// So many pairs a page of a [`Range`] has room for.
+pub(crate) const PAGE_ROOM: usize = 1_000;
+
+/// Pairs of a key range as they were at one moment, and where to go on.
+#[derive(Clone, Debug, PartialEq, Eq)]
+pub struct Page {
+    /// Key and value of each pair, keys ascending.
+    pub pairs: Vec<(u64, u64)>,
+    /// The key after them in the range at that moment, where there were more than fitted.
+    pub next: Option<u64>,
+}
+
+/// The pairs of a key range, page by page: see [`Handle::range`].
+#[derive(Debug)]
+#[must_use = "it lists nothing before it is asked for a pair"]
+pub struct Range<'h> {
+    handle: &'h Handle,
+    /// The rest of the page.
+    pairs: IntoIter<(u64, u64)>,
+    /// The first key of the next page, where there is one.
+    low: Option<u64>,
+    high: u64,
+}
+
+impl Iterator for Range<'_> {
+    type Item = Result<(u64, u64), Error>;
+
+    fn next(&mut self) -> Option<Self::Item> {
+        loop {
+            if let Some(pair) = self.pairs.next() {
+                return Some(Ok(pair));
+            }
+            match self.handle.list_from(self.low.take()?, self.high, PAGE_ROOM) {
+                Ok(page) => (self.pairs, self.low) = (page.pairs.into_iter(), page.next),
+                Err(error) => return Some(Err(error)),
+            }
+        }
+    }
+}
+
+impl FusedIterator for Range<'_> {}
+
+impl<'h> IntoIterator for &'h Handle {
+    type Item = Result<(u64, u64), Error>;
+    type IntoIter = Range<'h>;
+
+    fn into_iter(self) -> Range<'h> {
+        self.iter()
+    }
+}
+
+/// Lists of key ranges, and the first and the last pair. They take no lock of a node and need no tickets.
+///
+/// Each page, and each pair alone, is exact at one moment. Where an update came in each of four tries, updates are kept off for one walk
+/// more, some 30 ns a pair, and other threads' updates wait meanwhile: so where others mustn't wait long, ask for short pages.
+impl Handle {
+    /// All pairs with keys in the range as they were at one moment of the call, keys ascending. A range without keys, as `9..3`, has no
+    /// pairs.
+    ///
+    /// It goes over the range again where there are more pairs than it made room for. [`page`](Handle::page) doesn't, and so suits long
+    /// ranges beside many updates.
+    ///
+    /// # Errors
+    /// [`Error::TooLong`] where the range has more than [`MAX_ROOM`] pairs, [`Error::NoMemory`].
+    ///
+    /// ```
+    /// let index = citrus_map::Index::new(100, 1)?;
+    /// let handle = index.handle()?;
+    /// for key in [3, 1, 2] {
+    ///     handle.insert(key, 10 * key)?;
+    /// }
+    /// assert_eq!(handle.list(2..)?, [(2, 20), (3, 30)]);
+    /// assert_eq!(handle.list(..=1)?, [(1, 10)]);
+    /// # Ok::<(), citrus_map::Error>(())
+    /// ```
+    pub fn list(&self, keys: impl RangeBounds<u64>) -> Result<Vec<(u64, u64)>, Error> {
+        let (low, high) = match ends(&keys) {
+            Some(ends) => ends,
+            None => return Ok(Vec::new()),
+        };
+        for room in [1 << 8, 1 << 12, 1 << 16, MAX_ROOM] {
+            let page = self.list_from(low, high, room)?;
+            if page.next.is_none() {
+                return Ok(page.pairs);
+            }
+        }
+        Err(Error::TooLong)
+    }
+
+    /// The first pairs with keys in the range, as they were at one moment of the call, keys ascending: as many as there is room for, and
+    /// the key after them. Room for 0 pairs is taken as 1, and for more than [`MAX_ROOM`] as that.
+    ///
+    /// Page by page a range of any length can be read, as [`range`](Handle::range) does. Each page is exact at a moment of its own, later
+    /// than that of the page before.
+    ///
+    /// # Errors
+    /// [`Error::NoMemory`].
+    ///
+    /// ```
+    /// let index = citrus_map::Index::new(100, 1)?;
+    /// let handle = index.handle()?;
+    /// for key in 0..10 {
+    ///     handle.insert(key, key * key)?;
+    /// }
+    /// let mut sum = 0;
+    /// let mut from = Some(0);
+    /// while let Some(low) = from {
+    ///     let page = handle.page(low.., 4)?;
+    ///     sum += page.pairs.iter().map(|(_, value)| value).sum::<u64>();
+    ///     from = page.next;
+    /// }
+    /// assert_eq!(sum, 285);
+    /// # Ok::<(), citrus_map::Error>(())
+    /// ```
+    pub fn page(&self, keys: impl RangeBounds<u64>, room: usize) -> Result<Page, Error> {
+        match ends(&keys) {
+            Some((low, high)) => self.list_from(low, high, room.clamp(1, MAX_ROOM)),
+            None => Ok(Page { pairs: Vec::new(), next: None }),
+        }
+    }
+
+    /// The pair with the least key at or above this one, as it was at one moment of the call.
+    ///
+    /// # Errors
+    /// [`Error::Lost`] alone.
+    ///
+    /// ```
+    /// let index = citrus_map::Index::new(100, 1)?;
+    /// let handle = index.handle()?;
+    /// handle.insert(5, 50)?;
+    /// assert_eq!(handle.first_from(4)?, Some((5, 50)));
+    /// assert_eq!(handle.first_from(6)?, None);
+    /// # Ok::<(), citrus_map::Error>(())
+    /// ```
+    pub fn first_from(&self, low: u64) -> Result<Option<(u64, u64)>, Error> {
+        let (mut key, mut value) = (0, 0);
+        // SAFETY: as in `get`.
+        match self.call(|raw| unsafe { citrus_first(raw, low, &mut key, &mut value) }) {
+            status::DONE => Ok(Some((key, value))),
+            status::UNCHANGED => Ok(None),
+            status => Err(self.error(status)),
+        }
+    }
+
+    /// The pair with the greatest key at or below this one, as it was at one moment of the call.
+    ///
+    /// # Errors
+    /// [`Error::Lost`] alone.
+    ///
+    /// ```
+    /// let index = citrus_map::Index::new(100, 1)?;
+    /// let handle = index.handle()?;
+    /// handle.insert(5, 50)?;
+    /// assert_eq!(handle.last_to(6)?, Some((5, 50)));
+    /// assert_eq!(handle.last_to(4)?, None);
+    /// # Ok::<(), citrus_map::Error>(())
+    /// ```
+    pub fn last_to(&self, high: u64) -> Result<Option<(u64, u64)>, Error> {
+        let (mut key, mut value) = (0, 0);
+        // SAFETY: as in `get`.
+        match self.call(|raw| unsafe { citrus_last(raw, 0, high, &mut key, &mut value) }) {
+            status::DONE => Ok(Some((key, value))),
+            status::UNCHANGED => Ok(None),
+            status => Err(self.error(status)),
+        }
+    }
+
+    /// The pair with the least key of all, as [`first_from`](Handle::first_from).
+    ///
+    /// # Errors
+    /// [`Error::Lost`] alone.
+    pub fn first(&self) -> Result<Option<(u64, u64)>, Error> {
+        self.first_from(0)
+    }
+
+    /// The pair with the greatest key of all, as [`last_to`](Handle::last_to).
+    ///
+    /// # Errors
+    /// [`Error::Lost`] alone.
+    pub fn last(&self) -> Result<Option<(u64, u64)>, Error> {
+        self.last_to(u64::MAX)
+    }
+
+    /// Takes out the pair with the least key, if there is one, with the value that it has by then. It was the least one at a moment of the
+    /// call; another thread may have put in a lesser one before it was taken out.
+    ///
+    /// # Errors
+    /// As [`remove`](Handle::remove).
+    ///
+    /// ```
+    /// let index = citrus_map::Index::new(100, 1)?;
+    /// let handle = index.handle()?;
+    /// for key in [3, 1, 2] {
+    ///     handle.insert(key, 10 * key)?;
+    /// }
+    /// assert_eq!(handle.pop_first()?, Some((1, 10)));
+    /// assert_eq!(handle.pop_last()?, Some((3, 30)));
+    /// # Ok::<(), citrus_map::Error>(())
+    /// ```
+    pub fn pop_first(&self) -> Result<Option<(u64, u64)>, Error> {
+        self.pop(Handle::first)
+    }
+
+    /// Takes out the pair with the greatest key, as [`pop_first`](Handle::pop_first) that with the least.
+    ///
+    /// # Errors
+    /// As [`remove`](Handle::remove).
+    pub fn pop_last(&self) -> Result<Option<(u64, u64)>, Error> {
+        self.pop(Handle::last)
+    }
+
+    /// Another thread may take the pair that was found first.
+    fn pop(&self, find: impl Fn(&Handle) -> Result<Option<(u64, u64)>, Error>) -> Result<Option<(u64, u64)>, Error> {
+        while let Some((key, _)) = find(self)? {
+            if let Some(value) = self.remove(key)? {
+                return Ok(Some((key, value)));
+            }
+        }
+        Ok(None)
+    }
+
+    /// Whether there is no pair, at a moment of the call.
+    ///
+    /// # Errors
+    /// [`Error::Lost`] alone.
+    pub fn is_empty(&self) -> Result<bool, Error> {
+        Ok(self.first()?.is_none())
+    }
+
+    /// How many pairs there are. They are counted page by page, as [`range`](Handle::range) goes: with at most 1,000 pairs it is their
+    /// number at one moment, and with more beside updates the number may be that of no moment.
+    ///
+    /// # Errors
+    /// [`Error::NoMemory`].
+    pub fn len(&self) -> Result<usize, Error> {
+        self.iter().try_fold(0, |count, pair| pair.map(|_| count + 1))
+    }
+
+    /// The pairs with keys in the range, keys ascending, page by page: it lists up to 1,000 pairs, as they were at one moment, and goes on
+    /// at the next key when they are through. So what other threads change behind the page isn't seen, and what they change before it is.
+    /// The handle may make other calls meanwhile. An error is the last item.
+    ///
+    /// [`list`](Handle::list) tells the pairs of one moment.
+    ///
+    /// ```
+    /// let index = citrus_map::Index::new(100, 1)?;
+    /// let handle = index.handle()?;
+    /// for key in 0..10 {
+    ///     handle.insert(key, key * key)?;
+    /// }
+    /// let mut sum = 0;
+    /// for pair in handle.range(3..) {
+    ///     let (_, value) = pair?;
+    ///     sum += value;
+    /// }
+    /// assert_eq!(sum, 280);
+    /// # Ok::<(), citrus_map::Error>(())
+    /// ```
+    pub fn range(&self, keys: impl RangeBounds<u64>) -> Range<'_> {
+        let (low, high) = match ends(&keys) {
+            Some((low, high)) => (Some(low), high),
+            None => (None, 0),
+        };
+        Range { handle: self, pairs: Vec::new().into_iter(), low, high }
+    }
+
+    /// All pairs, as [`range`](Handle::range).
+    pub fn iter(&self) -> Range<'_> {
+        self.range(..)
+    }
+
+    /// Takes out each pair with a key in the range that `stays(key, value)` says no to, and tells how many. It goes page by page, as
+    /// [`range`](Handle::range), and each pair is taken out by an update of its own. The value is that of the page: where another thread
+    /// gives the key another one after that, the pair is taken out with it.
+    ///
+    /// # Errors
+    /// As [`remove`](Handle::remove), and [`Error::NoMemory`]. The pairs before stay out.
+    ///
+    /// ```
+    /// let index = citrus_map::Index::new(100, 1)?;
+    /// let handle = index.handle()?;
+    /// for key in 0..10 {
+    ///     handle.insert(key, key * key)?;
+    /// }
+    /// assert_eq!(handle.retain(5.., |_, value| value % 2 == 0)?, 3);
+    /// assert_eq!(handle.list(4..)?, [(4, 16), (6, 36), (8, 64)]);
+    /// # Ok::<(), citrus_map::Error>(())
+    /// ```
+    pub fn retain(&self, keys: impl RangeBounds<u64>, mut stays: impl FnMut(u64, u64) -> bool) -> Result<usize, Error> {
+        let mut gone = 0;
+        for pair in self.range(keys) {
+            let (key, value) = pair?;
+            gone += usize::from(!stays(key, value) && self.remove(key)?.is_some());
+        }
+        Ok(gone)
+    }
+
+    /// Takes out all pairs, and tells how many: page by page, as [`range`](Handle::range), each by an update of its own. What other threads
+    /// put in behind the page stays.
+    ///
+    /// # Errors
+    /// As [`retain`](Handle::retain).
+    pub fn clear(&self) -> Result<usize, Error> {
+        self.retain(.., |_, _| false)
+    }
+
+    /// The keys are from `low` to `high`, both among them, and `room` is from 1 to `MAX_ROOM`.
+    fn list_from(&self, low: u64, high: u64, room: usize) -> Result<Page, Error> {
+        let mut pairs: Vec<RawPair> = Vec::new();
+        pairs.try_reserve_exact(room).map_err(|_| Error::NoMemory)?;
+        let (mut count, mut next) = (0, 0);
+        // SAFETY: as in `get`; there is room for so many pairs at `pairs`, and a `RawPair` is laid out as in C.
+        let status = self.call(|raw| unsafe { citrus_list(raw, low, high, pairs.as_mut_ptr(), room, &mut count, &mut next) });
+        let next = match status {
+            status::DONE => None,
+            status::MORE => Some(next),
+            status => return Err(self.error(status)),
+        };
+        // SAFETY: the library has written the first `count` pairs, and there are no more of them than there is room for.
+        unsafe { pairs.set_len(count) };
+        pairs.shrink_to_fit();
+        Ok(Page { pairs: pairs.into_iter().map(|pair| (pair.key, pair.value)).collect(), next })
+    }
+}

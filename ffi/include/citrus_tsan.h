@@ -1,0 +1,143 @@
+/* Part of citrus.h under ThreadSanitizer, which sees nothing of what the library does: it is compiled without its marks. So it would report
+ * each plain hand-over of memory by the index as a race. Here each call tells it what the library orders:
+ *   - what a thread did before an insert, replace or upsert of a pair comes before what is done by whoever is told this pair;
+ *   - what a thread did before a release comes before what is done behind a wait, or a poll that is DONE.
+ *
+ * It tells somewhat more than the library promises: the words that stand for pairs are shared by those with one hash, also of two indexes,
+ * and each release comes before each later wait, whatever its keys. So a wait for the wrong keys isn't reported. What it reports is a race
+ * all the same. Each file of a program that calls the library is compiled so, or the hand-overs of the others are reported. */
+#ifndef CITRUS_TSAN_H
+#define CITRUS_TSAN_H
+
+#include <sanitizer/tsan_interface.h>
+
+#ifdef __cplusplus
+extern "C" {
+#endif
+
+enum { CITRUS_TSAN_PAIRS = 4096 };
+
+/* They are weak, so that all files of a program have one of them. */
+__attribute__((weak)) uint64_t citrus_tsan_pairs[CITRUS_TSAN_PAIRS];
+__attribute__((weak)) uint64_t citrus_tsan_sections;
+
+static inline void *citrus_tsan_pair(uint64_t key, uint64_t value) {
+    const uint64_t mixed = ((key * UINT64_C(0x9e3779b97f4a7c15)) ^ value) * UINT64_C(0xbf58476d1ce4e5b9);
+    return &citrus_tsan_pairs[mixed >> 52];
+}
+
+/* Before the pair is put in, and behind the call that told it. */
+static inline void citrus_tsan_puts(uint64_t key, uint64_t value) { __tsan_release(citrus_tsan_pair(key, value)); }
+static inline void citrus_tsan_is_told(uint64_t key, uint64_t value) { __tsan_acquire(citrus_tsan_pair(key, value)); }
+
+static inline int32_t citrus_tsan_get(citrus_handle *handle, uint64_t key, uint64_t *value) {
+    const int32_t status = citrus_get(handle, key, value);
+    if (status == CITRUS_DONE) citrus_tsan_is_told(key, *value);
+    return status;
+}
+
+static inline int32_t citrus_tsan_hold(citrus_handle *handle, uint64_t key, uint64_t *value) {
+    const int32_t status = citrus_hold(handle, key, value);
+    if (status == CITRUS_DONE) citrus_tsan_is_told(key, *value);
+    return status;
+}
+
+static inline int32_t citrus_tsan_insert(citrus_handle *handle, uint64_t key, uint64_t value) {
+    citrus_tsan_puts(key, value);
+    return citrus_insert(handle, key, value);
+}
+
+static inline int32_t citrus_tsan_replace(citrus_handle *handle, uint64_t key, uint64_t value, uint64_t *old) {
+    int32_t status;
+    citrus_tsan_puts(key, value);
+    status = citrus_replace(handle, key, value, old);
+    if (status == CITRUS_DONE) citrus_tsan_is_told(key, *old);
+    return status;
+}
+
+static inline int32_t citrus_tsan_compare(citrus_handle *handle, uint64_t key, uint64_t expected, uint64_t value, uint64_t *found) {
+    int32_t status;
+    citrus_tsan_puts(key, value);
+    status = citrus_compare(handle, key, expected, value, found);
+    if (status == CITRUS_DONE) citrus_tsan_is_told(key, expected);
+    if (status == CITRUS_DIFFERENT) citrus_tsan_is_told(key, *found);
+    return status;
+}
+
+static inline int32_t citrus_tsan_upsert(citrus_handle *handle, uint64_t key, uint64_t value, uint64_t *old) {
+    int32_t status;
+    citrus_tsan_puts(key, value);
+    status = citrus_upsert(handle, key, value, old);
+    if (status == CITRUS_DONE) citrus_tsan_is_told(key, *old);
+    return status;
+}
+
+static inline int32_t citrus_tsan_remove(citrus_handle *handle, uint64_t key, uint64_t *old) {
+    const int32_t status = citrus_remove(handle, key, old);
+    if (status == CITRUS_DONE) citrus_tsan_is_told(key, *old);
+    return status;
+}
+
+static inline int32_t citrus_tsan_first(citrus_handle *handle, uint64_t low, uint64_t *key, uint64_t *value) {
+    const int32_t status = citrus_first(handle, low, key, value);
+    if (status == CITRUS_DONE) citrus_tsan_is_told(*key, *value);
+    return status;
+}
+
+static inline int32_t citrus_tsan_last(citrus_handle *handle, uint64_t low, uint64_t high, uint64_t *key, uint64_t *value) {
+    const int32_t status = citrus_last(handle, low, high, key, value);
+    if (status == CITRUS_DONE) citrus_tsan_is_told(*key, *value);
+    return status;
+}
+
+static inline int32_t citrus_tsan_list(citrus_handle *handle, uint64_t low, uint64_t high, citrus_pair *pairs, size_t room, size_t *count,
+                                       uint64_t *next) {
+    const int32_t status = citrus_list(handle, low, high, pairs, room, count, next);
+    size_t i;
+    for (i = 0; i < *count; i++) citrus_tsan_is_told(pairs[i].key, pairs[i].value);
+    return status;
+}
+
+static inline int32_t citrus_tsan_release(citrus_handle *handle) {
+    __tsan_release(&citrus_tsan_sections);
+    return citrus_release(handle);
+}
+
+/* It leaves the section too. */
+static inline void citrus_tsan_close(citrus_handle *handle) {
+    __tsan_release(&citrus_tsan_sections);
+    citrus_close(handle);
+}
+
+static inline int32_t citrus_tsan_wait(citrus_handle *handle, uint64_t low, uint64_t high) {
+    const int32_t status = citrus_wait(handle, low, high);
+    if (status == CITRUS_DONE) __tsan_acquire(&citrus_tsan_sections);
+    return status;
+}
+
+static inline int32_t citrus_tsan_poll(citrus_handle *handle, uint64_t cookie) {
+    const int32_t status = citrus_poll(handle, cookie);
+    if (status == CITRUS_DONE) __tsan_acquire(&citrus_tsan_sections);
+    return status;
+}
+
+#ifdef __cplusplus
+}
+#endif
+
+#define citrus_get citrus_tsan_get
+#define citrus_hold citrus_tsan_hold
+#define citrus_insert citrus_tsan_insert
+#define citrus_replace citrus_tsan_replace
+#define citrus_compare citrus_tsan_compare
+#define citrus_upsert citrus_tsan_upsert
+#define citrus_remove citrus_tsan_remove
+#define citrus_first citrus_tsan_first
+#define citrus_last citrus_tsan_last
+#define citrus_list citrus_tsan_list
+#define citrus_release citrus_tsan_release
+#define citrus_close citrus_tsan_close
+#define citrus_wait citrus_tsan_wait
+#define citrus_poll citrus_tsan_poll
+
+#endif
