@@ -91,7 +91,7 @@ def files(*patterns):
 
 
 def main():
-    pages = files("README.md", "docs/*.md", "crates/*/README.md", "bench/*.md", "ffi/**/*.md")
+    pages = files("README.md", "CHANGES.md", "docs/*.md", "crates/*/README.md", "bench/*.md", "ffi/**/*.md")
     plain = files("crates/*/README.md", "crates/*/src/**/*.rt", "crates/*/specs/**/*.antt", "crates/*/proofs/**/*.antt", "bench/*", "build/*.sh")
     bad, named = [], {}
     for page in pages:

@@ -52,7 +52,7 @@ def lost_paths(page):
 
 def main():
     there, bad = known() | ELSEWHERE, 0
-    for page in sorted(glob.glob(f"{ROOT}/README.md") + glob.glob(f"{ROOT}/docs/*.md") + glob.glob(f"{ROOT}/crates/*/README.md")):
+    for page in sorted(glob.glob(f"{ROOT}/README.md") + glob.glob(f"{ROOT}/CHANGES.md") + glob.glob(f"{ROOT}/docs/*.md") + glob.glob(f"{ROOT}/crates/*/README.md")):
         for name in sorted(set(named(page)) - there):
             if name.strip("_") not in there:
                 print(f"{os.path.relpath(page, ROOT)}: `{name}` stands nowhere")

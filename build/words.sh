@@ -1,7 +1,9 @@
-# What `citrus` does beside running the program that stands: it reads this in. `top` and is_fresh are its own.
+# What `citrus` does beside running the program that stands: it reads this in. `top`, `proved` and is_fresh are its own.
 # shellcheck shell=bash disable=SC2154
 # shellcheck source=build/turns.sh
 . "$top/build/turns.sh"
+# shellcheck source=build/unproved.sh
+. "$top/build/unproved.sh"
 
 # The status of this script's own failures, which no answer of the program has.
 no_answer=70
@@ -36,7 +38,8 @@ Options behind a command:
   --cookies                 go on with operations while a wait for readers lasts (run without --schedule)
 
 Words of this script alone, as the first word:
-  --unproved                answer within a minute by a build without proofs; without this word the program is proved and built first
+  --unproved                answer by a build without proofs, which the first such call makes in half a minute and keeps; without this
+                            word the program is proved and built first
   --help, -h                this text
   --version                 the commit and the toolchain
 
@@ -66,56 +69,108 @@ version() {
 
 # --- an answer by a build without proofs
 
-# Answers by `rt try`, which builds the program anew without proofs, runs it under watch, and leaves nothing here.
+# Here the program stands that was built without proofs, with what it was built from: apart from the proved one, and never taken for it.
+unproved=$top/crates/citrus_cli/out/unproved
+
+# Answers by that program, which is built first where it doesn't stand yet, or a source or the toolchain is another.
 unproved() {
-    local status
-    find_toolchain || return
-    room=$(mktemp -d) || return $no_answer
-    trap 'rm -rf "$room"' EXIT
-    take_input "${1:-}" || return
-    # rt tells of itself in the same statuses 1 to 6 as the program, so only its last line counts.
-    exec_in_turn env -C "$top/crates/citrus_cli" rt try --seconds 60 -- "$@" <"$room/input" >"$room/output" 2>"$room/told"
-    status=$?
-    [ "$status" -lt 128 ] || return "$status"
-    if [[ $(tail -n 1 "$room/told") =~ ^run=ended\ status=([0-9]+)\ .*proved=no$ ]]; then
-        hand_on "${BASH_REMATCH[1]}"
-    else
-        say_no_answer
+    local status=0
+    case ${1:-} in --help | -h) help && return ;; esac
+    if ! is_command "$@"; then
+        printf 'usage: citrus run|check|load\n' >&2
+        say "./citrus --help has all commands and their options"
+        return 2
     fi
-}
-
-# Keeps what the command reads in a file: `rt try` takes a pipe that pauses for ended, and no more than 64 MiB.
-take_input() {
-    : >"$room/input" || return $no_answer
-    case $1 in run | check | watch | hash) ;; *) return 0 ;; esac
-    if ! cat >"$room/input" 2>/dev/null; then
-        say "the input can't be read here"
+    is_fresh "$unproved" || build_unproved || return
+    [ "$1" != load ] || warn_of_load "${@:2}"
+    # It was built to stop at what a proof excludes, by an abort.
+    ASAN_OPTIONS=abort_on_error=1:allocator_may_return_null=1:detect_leaks=0 "$unproved/citrus_cli" "$@" || status=$?
+    if [ "$status" = 134 ]; then
+        say "the build without proofs stopped, as it says above: this needs the proved program, the same words without --unproved"
         return $no_answer
-    fi
-    if [ "$(wc -c <"$room/input")" -gt 67108864 ]; then
-        say "an input past 64 MiB needs the proved program: the same words without --unproved"
-        return $no_answer
-    fi
-}
-
-# Writes what the program wrote, and what it said: the lines above those that `rt try` adds.
-hand_on() {
-    local status=$1
-    if ! cat "$room/output" 2>/dev/null; then
-        printf 'cannot write the output\n' >&2
-        status=5
-    else
-        sed -E '/^(interpreter|checked|races): /,$d' "$room/told" >&2
     fi
     say "this answer is by a build without proofs; the same words without --unproved prove the program, build it and answer by it"
     return "$status"
 }
 
-say_no_answer() {
+# What a load costs so: 0.2 ms of a processor for each operation.
+warn_of_load() {
+    local numbers=() slots='' schedule='' waiter='' cookies=''
+    read_arguments "$@"
+    if [ $((numbers[1] * numbers[2])) -ge 50000 ]; then
+        say "${numbers[1]} scripts of ${numbers[2]} operations take some $((numbers[1] * numbers[2] / 5000)) s of processor time without proofs"
+    fi
+}
+
+# Builds the program without proofs, by a run that is long enough to be seen, and keeps it.
+build_unproved() {
+    find_toolchain || return
+    say "building the program without proofs, which takes half a minute; it is kept, so later calls with --unproved answer at once"
+    room=$(mktemp -d) || return $no_answer
+    trap 'rm -rf "$room"' EXIT
+    touch "$room/since"
+    if build_without_proofs "$room" "$top/crates/citrus_cli" --seconds 60 -- load 1 8 20000 </dev/null && keep_program; then
+        rm -rf "$room"
+        return
+    fi
     cat "$room/told" >&2
-    say "the build without proofs has no answer (it has a minute, and 1 MiB of output): this needs the proved program, the same words without --unproved"
+    say "the program could not be built without proofs"
     return $no_answer
 }
+
+# Puts it in its place, beside what it was built from.
+keep_program() {
+    local name part crates parts=()
+    mapfile -t crates < <(crates_below)
+    for name in "${crates[@]}"; do
+        for part in src specs proofs; do [ ! -d "$top/crates/$name/$part" ] || parts+=("$name/$part"); done
+    done
+    printf '%s\n' "$(readlink -f "${BASH_CMDS[rt]}")" "${crates[*]}" "${parts[*]}" >"$room/built_from"
+    mkdir -p "$unproved" && rm -f "$unproved/built_from" && mv -f "$room/program" "$unproved/citrus_cli" &&
+        touch -r "$room/since" "$room/built_from" && cp -p "$room/built_from" "$unproved/built_from"
+}
+
+# Whether these words are a command, as docs/FORMATS.md has it. The program says so itself; here nothing is built to hear it.
+is_command() {
+    local word=${1:-} slots='' schedule='' waiter='' cookies='' numbers=() LC_ALL=C
+    read_arguments "${@:2}" || return
+    case $word in
+        run) [ ${#numbers[@]} = 0 ] && { [ -z "$schedule" ] || [ -z "$waiter$cookies" ]; } ;;
+        check) [ -z "${numbers[*]}$schedule$waiter$cookies" ] ;;
+        hash) [ -z "${numbers[*]}$slots$schedule$waiter$cookies" ] ;;
+        watch) [ ${#numbers[@]} = 2 ] && [ -z "$schedule$cookies" ] && at_most "${numbers[@]}" ;;
+        load) [ ${#numbers[@]} = 3 ] && [ -z "$slots$schedule$cookies" ] && is_load "${numbers[@]:1}" ;;
+        *) return 1 ;;
+    esac
+}
+
+# Options with their values, each at most once, and numbers.
+read_arguments() {
+    local option value
+    while [ $# -gt 0 ]; do
+        case $1 in
+            --cookies) [ -z "$cookies" ] && cookies=yes && shift && continue || return 1 ;;
+            --slots | --schedule | --waiter) [ $# -ge 2 ] && option=$1 value=$2 && shift 2 || return 1 ;;
+            --*=*) option=${1%%=*} value=${1#*=} && shift ;;
+            *) is_number "$1" && numbers+=("$1") && shift && continue || return 1 ;;
+        esac
+        case $option:$value in
+            --slots:*) [ -z "$slots" ] && is_number "$value" && at_most 1 "$value" && at_most "$value" 2095892 && slots=$value ;;
+            --schedule:*) [ -z "$schedule" ] && is_number "$value" && schedule=$value ;;
+            --waiter:eer | --waiter:d | --waiter:deer) [ -z "$waiter" ] && waiter=$value ;;
+            *) false ;;
+        esac || return 1
+    done
+}
+
+# A decimal number of 64 bits, without a zero before it.
+is_number() { [[ $1 =~ ^(0|[1-9][0-9]{0,19})$ ]] && at_most "$1" 18446744073709551615; }
+
+# Of two such numbers, or longer ones, whether the first isn't above the second.
+at_most() { [ ${#1} -lt ${#2} ] || { [ ${#1} = ${#2} ] && [[ ! $1 > $2 ]]; }; }
+
+# From 1 to 64 scripts, and a million operations in all.
+is_load() { at_most 1 "$1" && at_most "$1" 64 && at_most "$2" 1048576 && [ $(($1 * $2)) -le 1048576 ]; }
 
 # --- the proved program
 
@@ -124,7 +179,7 @@ bring_up_to_date() {
     local status
     find_toolchain || return
     take_turn "$top" "citrus: another build or gate runs here; waiting for it to end. ./citrus --unproved WORDS answers meanwhile" || return $no_answer
-    if is_fresh; then
+    if is_fresh "$proved"; then
         give_turn
         return 0
     fi

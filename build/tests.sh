@@ -1,0 +1,71 @@
+#!/usr/bin/env bash
+# Runs all tests without proofs, for those who change the code: `tests.sh [WORD]`, or those alone whose names have the word in them. The tests
+# of all_tests and the rows of tool_rows are built side by side by `rt try`, which watches for what a proof excludes, and then run on all
+# processors. A test fails too where it takes longer than a third of the time that the toolchain gives it. Its last line is `N passed, M
+# failed`, and its status 1 where something failed.
+#
+# The gate proves these tests, and runs them as they are proved.
+set -u
+top=$(cd "$(dirname "$0")/.." && pwd)
+# shellcheck source=build/unproved.sh
+. "$top/build/unproved.sh"
+limit=60
+processors=$(nproc)
+if [ $# -gt 1 ] || [[ ${1:-} == -* ]]; then
+    echo 'usage: tests.sh [WORD]' >&2
+    exit 2
+fi
+hash rt 2>/dev/null || { echo "tests.sh: the Rattle toolchain's command rt is not on the path" >&2; exit 2; }
+word=${1:-}
+room=$(mktemp -d)
+trap 'rm -rf "$room"' EXIT
+SECONDS=0
+
+build() {
+    mkdir "$room/$1"
+    build_without_proofs "$room/$1" "$top/crates/$1" "${@:2}" || { cat "$room/$1/told" >&2; echo "tests.sh: $1 could not be built" >&2; return 1; }
+}
+
+# Runs one test: whether it passed, and how long it took. Beside other work that is its time on processors, if it is shorter.
+run_test() {
+    local times whole user system took status=0 told=$room/$1.told TIMEFORMAT='%3R %3U %3S'
+    mkdir -p "$room/$1"
+    times=$({ time timeout "$limit" env -C "$room/$1" -i "$watched" "$room/all_tests/program" "$1" >"$told" 2>&1; } 2>&1) || status=$?
+    read -r whole user system <<<"${times//./}"
+    took=$((10#$user + 10#$system < 10#$whole ? 10#$user + 10#$system : 10#$whole))
+    if [ "$status" != 0 ] || ! tail -n 1 "$told" | grep -qx 'test result: ok'; then
+        tail -n 20 "$told"
+        echo "FAILED: $1, with status $status, after $((10#$whole)) ms"
+    elif [ $((3 * took)) -gt $((1000 * limit)) ]; then
+        echo "FAILED: $1 took $took ms, more than a third of $limit s"
+    else
+        echo "ok: $1 ($took ms)"
+    fi
+}
+
+# Rows of what is read, and what has to be written.
+run_rows() {
+    local its=$top/crates/tool_rows
+    if [ "$("$room/tool_rows/program" <"$its/stdin" 2>&1 | cksum)" = "$(cksum <"$its/stdout")" ]; then echo 'ok: tool_rows'; else echo 'FAILED: tool_rows'; fi
+}
+
+build tool_rows --seconds "$limit" <"$top/crates/tool_rows/stdin" &
+rows=$!
+build all_tests --test </dev/null || exit 1
+echo "built after $SECONDS s" >&2
+# It stops at what a proof excludes by an abort.
+watched=ASAN_OPTIONS=abort_on_error=1:allocator_may_return_null=1:detect_leaks=0
+export room limit watched
+export -f run_test
+"$room/all_tests/program" --list | sed -n 's/: test$//p' | { grep -F -e "$word" || true; } >"$room/names"
+xargs -a "$room/names" -r -P "$processors" -I NAME bash -c 'run_test NAME' | tee "$room/lines"
+if [ -z "$word" ]; then
+    wait "$rows" && run_rows | tee -a "$room/lines"
+    [ -e "$room/tool_rows/program" ] || echo 'FAILED: tool_rows is built' | tee -a "$room/lines"
+else
+    kill "$rows" 2>/dev/null
+fi
+failed=$(grep -c '^FAILED: ' "$room/lines")
+echo "after $SECONDS s" >&2
+echo "$(grep -c '^ok: ' "$room/lines") passed, $failed failed"
+[ "$failed" = 0 ]
