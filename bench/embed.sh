@@ -1,9 +1,9 @@
 #!/usr/bin/env bash
-# Measures the C library in a C++ program, for each waiter and mix at one, two and four threads, beside std::map under a lock and TBB's
-# concurrent map, and beside the tree's own calls in tree_benches, which draws the same: `embed.sh [--rounds N] [--operations N] [--seconds S]
-# [--archive FILE]`. It installs the proved library for itself, or the libcitrus_c.a that `--archive` names. Minima and medians go to
-# bench/results/embed.csv. At the end it tells by how many nanoseconds a call through the library takes longer (minima, one thread). It stands
-# outside the gate.
+# Measures the C library in a C++ program, the archive and the shared one, for each waiter and mix at one, two and four threads, beside std::map
+# under a lock and TBB's concurrent map, and beside the tree's own calls in tree_benches, which draws the same: `embed.sh [--rounds N]
+# [--operations N] [--seconds S] [--archive FILE]`. It installs the proved library for itself, or the libcitrus_c.a that `--archive` names.
+# Minima and medians go to bench/results/embed.csv. At the end it tells by how many nanoseconds a call through the library takes longer (minima,
+# one thread). It stands outside the gate.
 set -eu
 # shellcheck source=bench/peers.sh
 . "$(dirname "$0")/peers.sh"
@@ -22,9 +22,12 @@ while [ $# -gt 0 ]; do
 done
 
 "$top/ffi/install.sh" "$out/installed" "${archive[@]}"
-g++ -O2 -std=c++17 -pthread -I"$out/installed/include" -o "$out/embed" "$top/bench/cpp/embed.cpp" -L"$out/installed/lib" -lcitrus
+# The archive, and the shared library.
+embed=(g++ -O2 -std=c++17 -pthread "-I$out/installed/include" "$top/bench/cpp/embed.cpp" "-L$out/installed/lib")
+"${embed[@]}" '-DLIBRARY="C library"' -lcitrus -o "$out/embed"
+"${embed[@]}" '-DLIBRARY="shared C library"' -l:libcitrus.so.0 "-Wl,-rpath,$out/installed/lib" -o "$out/embed_shared"
 build_cpp locked
-peers=("$out/embed" "$out/locked")
+peers=("$out/embed" "$out/embed_shared" "$out/locked")
 ! build_with oneapi/tbb/concurrent_map.h libtbb-dev tbb tbb || peers+=("$out/tbb")
 with_ours=yes
 has_ours || with_ours=
@@ -46,8 +49,9 @@ awk -F, '
         split("90 50 load 98 100", mixes, " "); split("first second third", waiters, " ")
         for (m = 1; m <= 5; m++) for (w = 1; w <= 3; w++) {
             ours = least["proved " waiters[w], mixes[m], 1]; library = least["C library " waiters[w], mixes[m], 1]
-            if (ours && library) printf "%s waiter, %s: %.1f ns through the library, %.1f by the tree: %+.1f\n", waiters[w],
-                mixes[m] == "load" ? "load" : mixes[m] " of 100 gets", library, ours, library - ours
+            shared = least["shared C library " waiters[w], mixes[m], 1]
+            if (ours && library) printf "%s waiter, %s: %.1f ns through the library, %.1f by the tree: %+.1f; the shared one %+.1f\n", waiters[w],
+                mixes[m] == "load" ? "load" : mixes[m] " of 100 gets", library, ours, library - ours, shared - library
         }
     }' "$out/embed.csv"
 same_answers "$out/embed_cells"

@@ -6,8 +6,8 @@
 # What they can't see. The library is compiled without a sanitizer's marks, so ThreadSanitizer and AddressSanitizer watch the C side alone:
 # what the tests do with handles and with what they are told. helgrind takes each access of the library for a plain one unless the machine's
 # instruction has a lock prefix, so it can't tell an atomic load or store from a plain one; and valgrind runs one thread at a time. That the
-# library's words are never raced for is proved, and isn't shown here. ThreadSanitizer doesn't see what orders the reads of an object and its
-# free, so it isn't shown objects.
+# library's words are never raced for is proved, and isn't shown here. What orders the reads of an object and its free ThreadSanitizer knows of
+# citrus_tsan.h alone.
 set -u
 top=$(cd "$(dirname "$0")/.." && pwd)
 out=$top/bench/out
@@ -49,8 +49,8 @@ else
 fi
 if hash clang 2>/dev/null; then
     for kind in address,undefined thread; do
-        names=(answers misuse own_keys moments holds begun)
-        [ "$kind" = thread ] || names+=(objects prcu)
+        names=(answers misuse own_keys moments always counters holds begun objects prcu)
+        [ "$kind" != thread ] || names+=(published)
         for name in "${names[@]}"; do
             if build "$name" clang "-fsanitize=$kind"; then try "$name under -fsanitize=$kind" "$out/$name"; else failed=$((failed + 1)); fi
         done

@@ -20,7 +20,8 @@ while [ $# -gt 0 ]; do
 done
 
 "$top/ffi/install.sh" "$out/installed" "${archive[@]}"
-strict=(-std=gnu11 -O2 -Wall -Wextra -pthread)
+# What is measured is how long calls take, whatever they answer.
+strict=(-std=gnu11 -O2 -Wall -Wextra -Wno-unused-result -pthread)
 gcc "${strict[@]}" "-I$out/installed/include" -o "$out/sections" "$top/bench/sections.c" -L"$out/installed/lib" -lcitrus
 
 # A flavour of liburcu: `build_urcu NAME WORDS..`.

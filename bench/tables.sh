@@ -84,6 +84,25 @@ lists() {
         { printf "| %s | %s | %s | %d of %d |\n", $1, rest, $3, $4, $5 }' "$1"
 }
 
+# Lists of the C library beside writers, and where a library from before was measured too, what it did.
+writers() {
+    head_of 'pairs of a list' writers 'lists a second' 'that failed' 'updates a second' '999 of 1,000 took, µs' 'the longest, µs' \
+        'before: lists' 'that failed' updates '999 of 1,000' 'the longest'
+    awk -F, '/^#/ || /^series/ { next }
+        {
+            row = $2 "," $3
+            if (!(row in seen)) { seen[row]; order[++rows] = row }
+            cells[$1, row] = ($2 ? $4 " | " $5 : "- | -") " | " $6 " | " $7 " | " $8
+        }
+        END {
+            for (i = 1; i <= rows; i++) {
+                split(order[i], part, ",")
+                past = cells["before", order[i]]
+                print "| " (part[1] ? part[1] : "none") " | " part[2] " | " cells["now", order[i]] " | " (past ? past : "- | - | - | - | -") " |"
+            }
+        }' "$1"
+}
+
 shapes() {
     head_of 'keys come' keys threads 'ns a put' 'slots of a way' 'times log2 of the keys' 'longest way'
     awk -F, '/^#/ || /^order/ { next } { printf "| %s | %s | %s | %s | %s | %s | %s |\n", $1, $2, $3, $4, $5, $6, $7 }' "$1"
@@ -227,7 +246,7 @@ if [ $# -gt 0 ]; then
 fi
 out=$top/bench/out
 mkdir -p "$out"
-for name in tree waits lists shapes threads text limits cookies embed rust_map server; do
+for name in tree waits lists writers shapes threads text limits cookies embed rust_map server; do
     [ -e "$results/$name.csv" ] || continue
     { echo; table "$name"; echo; } >"$out/table"
     put_in "$name" "$out/table"

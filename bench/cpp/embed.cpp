@@ -38,7 +38,7 @@ int main(int count, char **words) {
     const auto measure_waiter = [&](const char *name, citrus::waiter waiter) {
         measure_all(name, options, [=](const Room &room) { return std::make_unique<IndexOfRoom>(room, waiter); });
     };
-    measure_waiter("C library first waiter", citrus::waiter::eer);
-    measure_waiter("C library second waiter", citrus::waiter::domain);
-    measure_waiter("C library third waiter", citrus::waiter::deer);
+    measure_waiter(LIBRARY " first waiter", citrus::waiter::eer);
+    measure_waiter(LIBRARY " second waiter", citrus::waiter::domain);
+    measure_waiter(LIBRARY " third waiter", citrus::waiter::deer);
 }
