@@ -25,6 +25,9 @@ const COMES: u64 = 55;
 // How often it comes and goes, and how often another thread asks meanwhile.
 const ROUNDS: u64 = 2000;
 
+// More than the places may keep back.
+const SLOTS: u32 = 200;
+
 const TICKETS: u64 = 100_000;
 
 // Puts a key, which isn't there, with itself as its value.
@@ -99,8 +102,10 @@ fn assert_nearest<R: Abort + Wait, W: WaitPart>(
 }
 
 // Asks on both sides of each key that stays, and at both ends.
-fn ask_all<R: Abort + Wait, W: WaitPart>(rt: &R, alloc: Global) -> Result<(), Fail> {
-    let (table, mut seat) = CitrusTable::<W>::new(alloc, 20, 1, TICKETS)?;
+fn ask_all<R: Abort + Wait, W: WaitPart>(rt: &R, alloc: Global) -> Result<(), Fail>
+    requires way { W.WAY ≤ 2 }
+{
+    let (table, mut seat) = CitrusTable::<W>::new(alloc, SLOTS, 1, TICKETS)?;
     put_all(rt, &table, &mut seat);
     for i in 0..STAY - 1 {
         let key = 10 * i;
@@ -181,7 +186,7 @@ fn ask_beside<R: Threads + Wait + Sync + Abort, W: WaitPart + Sync>(
 ) -> Result<(), Fail>
     requires way { W.WAY ≤ 2 }
 {
-    let (table, seat) = CitrusTable::<W>::new(alloc, 20, 2, TICKETS)?;
+    let (table, seat) = CitrusTable::<W>::new(alloc, SLOTS, 2, TICKETS)?;
     let (mut updater, asker) = seat.split(&table, 1, 0);
     put_all(rt, &table, &mut updater);
     let gate = Barrier::new(2);
