@@ -43,13 +43,25 @@ run_test() {
     fi
 }
 
-# Rows of what is read, and what has to be written.
+# The rows of tool_rows, and what has to be written of each, from its line behind a `>` on. Four that make tables for two million pairs, or
+# 800,000 operations, take minutes without proofs, so they are left to the gate.
+takes_minutes='--slots=2095892|load .*100000'
+rows_to_run() { grep -vE -e "$takes_minutes" "$top/crates/tool_rows/stdin"; }
+wanted_of_rows() { awk -v out="$takes_minutes" '/^> / { is_out = $0 ~ out } !is_out' "$top/crates/tool_rows/stdout"; }
+
 run_rows() {
-    local its=$top/crates/tool_rows
-    if [ "$("$room/tool_rows/program" <"$its/stdin" 2>&1 | cksum)" = "$(cksum <"$its/stdout")" ]; then echo 'ok: tool_rows'; else echo 'FAILED: tool_rows'; fi
+    local count
+    count=$(rows_to_run | wc -l)
+    if rows_to_run | env -i "$watched" timeout "$limit" "$room/tool_rows/program" 2>&1 | diff - <(wanted_of_rows) >"$room/differs"; then
+        echo "ok: $count rows of tool_rows"
+    else
+        head -n 20 "$room/differs"
+        echo 'FAILED: the rows of tool_rows'
+    fi
 }
 
-build tool_rows --seconds "$limit" <"$top/crates/tool_rows/stdin" &
+rows_to_run >"$room/rows"
+build tool_rows --seconds "$limit" <"$room/rows" &
 rows=$!
 build all_tests --test </dev/null || exit 1
 echo "built after $SECONDS s" >&2

@@ -53,8 +53,8 @@ compile_c() { gcc -std=gnu11 "${strict[@]}" "$here/tests/$1.c" "${@:2}" -L"$pref
 compile_cpp() { g++ -std=c++17 "${strict[@]}" "$here/tests/$1.cpp" -L"$prefix/lib" -lcitrus -o "$room/$1_cpp"; }
 
 compile_all() {
-    compile_c answers && compile_c misuse && compile_c own_keys && compile_c moments && compile_c reopened && compile_c tidy &&
-        compile_c always && compile_c counters && compile_c version &&
+    compile_c answers && compile_c misuse && compile_c own_keys && compile_c moments && compile_c reopened && compile_c tidy && compile_c version &&
+        compile_c always && compile_c counters &&
         compile_c memory -Wl,--wrap=malloc,--wrap=realloc,--wrap=free && compile_cpp answers && compile_cpp order &&
         compile_c holds && compile_c begun && compile_c objects && compile_c prcu && compile_cpp map && compile_debug
 }

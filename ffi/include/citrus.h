@@ -14,7 +14,7 @@
  * tested: that a close leaves its section, and to a reopen all that the handle had, that a reopen finds it and hands it on as it was, and that
  * memory is freed.
  *
- * What a thread wrote before an insert, a replace or an upsert is seen by whoever is told that value of that key, and what a reader did before
+ * What a thread wrote before an insert, a replace, a compare or an upsert is seen by whoever is told that value of that key, and what a reader did before
  * its release is over where a wait for its key ends. For all steps are sequentially consistent: an insert stores the link to its node, and a
  * replace the node's value; whoever is told the value has loaded that link and that value, or those of a copy, which the thread that made it had
  * loaded before; and a wait has loaded what the release stored. That is an argument on paper. Under ThreadSanitizer the header tells of it: see

@@ -232,7 +232,6 @@ static inline int32_t citrus_debug_poll(citrus_handle *handle, uint64_t cookie) 
 #undef citrus_close
 #undef citrus_insert
 #undef citrus_replace
-#undef citrus_compare
 #undef citrus_upsert
 #undef citrus_remove
 #undef citrus_wait
@@ -240,7 +239,9 @@ static inline int32_t citrus_debug_poll(citrus_handle *handle, uint64_t cookie) 
 #undef citrus_list
 #undef citrus_first
 #undef citrus_last
+#undef citrus_compare
 #undef citrus_poll
+#undef citrus_reopen
 #define citrus_hold citrus_debug_hold
 #define citrus_enter citrus_debug_enter
 #define citrus_release citrus_debug_release

@@ -242,7 +242,7 @@ private:
     // While it is there, nobody drops the object.
     class kept {
     public:
-        kept(hazard &own, uint64_t object) noexcept : at_(own) { at_.object = object; }
+        kept(hazard &at, uint64_t object) noexcept : at_(at) { at_.object = object; }
         kept(const kept &) = delete;
         kept &operator=(const kept &) = delete;
         ~kept() { at_.object = 0; }

@@ -1,7 +1,8 @@
 /* Part of citrus.h under ThreadSanitizer, which sees nothing of what the library does: it is compiled without its marks. So it would report
  * each plain hand-over of memory by the index as a race. Here each call tells it what the library orders:
- *   - what a thread did before an insert, replace or upsert of a pair comes before what is done by whoever is told this pair;
- *   - what a thread did before a release comes before what is done behind a wait, or a poll that is DONE.
+ *   - what a thread did before an insert, replace, compare or upsert of a pair comes before what is done by whoever is told this pair;
+ *   - what a thread did before a release comes before what is done behind a wait, or a poll that is DONE;
+ *   - a close comes before each later close and reopen, which take or free the memory that it left.
  *
  * It tells somewhat more than the library promises: the words that stand for pairs are shared by those with one hash, also of two indexes,
  * and each release comes before each later wait, whatever its keys. So a wait for the wrong keys isn't reported. What it reports is a race
@@ -20,6 +21,7 @@ enum { CITRUS_TSAN_PAIRS = 4096 };
 /* They are weak, so that all files of a program have one of them. */
 __attribute__((weak)) uint64_t citrus_tsan_pairs[CITRUS_TSAN_PAIRS];
 __attribute__((weak)) uint64_t citrus_tsan_sections;
+__attribute__((weak)) uint64_t citrus_tsan_closed;
 
 static inline void *citrus_tsan_pair(uint64_t key, uint64_t value) {
     const uint64_t mixed = ((key * UINT64_C(0x9e3779b97f4a7c15)) ^ value) * UINT64_C(0xbf58476d1ce4e5b9);
@@ -55,6 +57,7 @@ static inline int32_t citrus_tsan_replace(citrus_handle *handle, uint64_t key, u
     return status;
 }
 
+/* Who replaced `expected`, or was told another value, has loaded it. */
 static inline int32_t citrus_tsan_compare(citrus_handle *handle, uint64_t key, uint64_t expected, uint64_t value, uint64_t *found) {
     int32_t status;
     citrus_tsan_puts(key, value);
@@ -106,7 +109,14 @@ static inline int32_t citrus_tsan_release(citrus_handle *handle) {
 /* It leaves the section too. */
 static inline void citrus_tsan_close(citrus_handle *handle) {
     __tsan_release(&citrus_tsan_sections);
+    __tsan_acquire(&citrus_tsan_closed);
     citrus_close(handle);
+    __tsan_release(&citrus_tsan_closed);
+}
+
+static inline int32_t citrus_tsan_reopen(citrus_handle *handle, citrus_handle *other) {
+    __tsan_acquire(&citrus_tsan_closed);
+    return citrus_reopen(handle, other);
 }
 
 static inline int32_t citrus_tsan_wait(citrus_handle *handle, uint64_t low, uint64_t high) {
@@ -129,14 +139,15 @@ static inline int32_t citrus_tsan_poll(citrus_handle *handle, uint64_t cookie) {
 #define citrus_hold citrus_tsan_hold
 #define citrus_insert citrus_tsan_insert
 #define citrus_replace citrus_tsan_replace
-#define citrus_compare citrus_tsan_compare
 #define citrus_upsert citrus_tsan_upsert
 #define citrus_remove citrus_tsan_remove
 #define citrus_first citrus_tsan_first
 #define citrus_last citrus_tsan_last
+#define citrus_compare citrus_tsan_compare
 #define citrus_list citrus_tsan_list
 #define citrus_release citrus_tsan_release
 #define citrus_close citrus_tsan_close
+#define citrus_reopen citrus_tsan_reopen
 #define citrus_wait citrus_tsan_wait
 #define citrus_poll citrus_tsan_poll
 
