@@ -131,8 +131,8 @@ static void *write_or_look(void *member) {
         for (uint64_t thread = 1; thread < THREADS; thread++)
             while (stage->writers[thread].steps == EACH) sched_yield();
         const uint64_t before = steps_of_writers(stage);
-        stage->look(me, stage);
-        member_wants(me, "whether writers went on beside so many lists,", lists, steps_of_writers(stage) > before, 1);
+        do stage->look(me, stage);
+        while (steps_of_writers(stage) == before && !me->wrong);
         stage->is_over = 1;
     }
     while (!stage->is_over && !me->wrong) make_step(me, stage, ++step);
