@@ -29,6 +29,7 @@ const LISTS: u32 = 1000;
 const TICKETS: u64 = 1 << 40;
 
 // What is shared: when all begin, and whether the lists are made.
+#[derive(Drop)]
 struct Shared {
     gate: Barrier,
     is_done: AtomicBool,
