@@ -34,15 +34,14 @@ static inline void citrus_debug_abort(const char *call, const char *why) {
     abort();
 }
 
-/* The handles of calls that are under way, by their members. */
+/* The handles of calls that are under way, by where they stand: a call takes the member out of its handle until it ends. */
 __attribute__((weak)) void *citrus_debug_calls[CITRUS_DEBUG_CALLS];
 
-/* Where the handle stands among them now, or null where it is closed, or there is no room. These accesses order nothing else. */
+/* Where the handle is among them now, or null where there is no room. These accesses order nothing else. */
 static inline void **citrus_debug_begins(const char *call, const citrus_handle *handle) {
-    void *const at = handle->at;
+    void *const at = (void *)(uintptr_t)handle;
     const uint64_t place = ((uint64_t)(uintptr_t)at * UINT64_C(0x9e3779b97f4a7c15)) >> 54;
     unsigned i;
-    if (!at) return CITRUS_DEBUG_NULL;
     for (i = 0; i < CITRUS_DEBUG_TRIES; i++) {
         void **const word = &citrus_debug_calls[(place + i) % CITRUS_DEBUG_CALLS];
         void *found = CITRUS_DEBUG_NULL;

@@ -102,7 +102,11 @@ static Call call_of(citrus::handle &index, uint64_t which, uint64_t key, uint64_
         call.is_found = call.found.has_value();
         call.kind = call.is_found ? Kind::Set : Kind::Put;
         break;
-    case 5: told_of_compare(call, index.compare_exchange(key, found, value), found); break;
+    case 5: {
+        const citrus::compared told = index.compare_exchange(key, found, value);
+        told_of_compare(call, told, found);
+        break;
+    }
     default:
         call.kind = Kind::Del;
         call.found = index.remove(key);

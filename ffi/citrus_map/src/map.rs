@@ -400,6 +400,8 @@ impl<V: Send + Sync> MapHandle<V> {
     /// # Ok::<(), citrus_map::Error>(())
     /// ```
     pub fn update(&mut self, key: u64, mut change: impl FnMut(&V) -> V) -> Result<Option<V>, Error> {
+        // Where it will be refused, `change` isn't called.
+        self.handle.may_wait()?;
         let place = self.handle.place();
         loop {
             let held = match self.handle.hold(key)? {
