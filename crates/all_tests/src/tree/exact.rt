@@ -24,7 +24,7 @@ const KEYS: u64 = 100;
 
 const COUNTERS: u64 = 3;
 
-const LISTS: u32 = 300;
+const LISTS: u32 = 50;
 
 const TICKETS: u64 = 1 << 40;
 

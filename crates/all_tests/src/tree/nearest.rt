@@ -23,7 +23,7 @@ const STAY: u64 = 10;
 const COMES: u64 = 55;
 
 // How often it comes and goes, and how often another thread asks meanwhile.
-const ROUNDS: u64 = 2000;
+const ROUNDS: u64 = 400;
 
 // More than the places may keep back.
 const SLOTS: u32 = 200;
@@ -101,19 +101,29 @@ fn assert_nearest<R: Abort + Wait, W: WaitPart>(
     assert_same(rt, alone, wanted, (side, from));
 }
 
+// Asks on both sides of each key that stays but the last, for the key itself and from between it and the next one.
+fn ask_each<R: Abort + Wait, W: WaitPart>(rt: &R, table: &CitrusTable<W>, seat: &mut Seat<W>)
+    requires table { seat.old.table ≡ table.now }
+    requires quiet { IsQuietSeat seat.old }
+    ensures table { seat.new.table ≡ seat.old.table }
+    ensures quiet { IsQuietSeat seat.new }
+{
+    for i in 0..STAY - 1 {
+        let key = 10 * i;
+        assert_nearest(rt, table, seat, Side::Right, key, Some(key));
+        assert_nearest(rt, table, seat, Side::Right, key + 1, Some(key + 10));
+        assert_nearest(rt, table, seat, Side::Left, key, Some(key));
+        assert_nearest(rt, table, seat, Side::Left, key + 9, Some(key));
+    }
+}
+
 // Asks on both sides of each key that stays, and at both ends.
 fn ask_all<R: Abort + Wait, W: WaitPart>(rt: &R, alloc: Global) -> Result<(), Fail>
     requires way { W.WAY ≤ 2 }
 {
     let (table, mut seat) = CitrusTable::<W>::new(alloc, SLOTS, 1, TICKETS)?;
     put_all(rt, &table, &mut seat);
-    for i in 0..STAY - 1 {
-        let key = 10 * i;
-        assert_nearest(rt, &table, &mut seat, Side::Right, key, Some(key));
-        assert_nearest(rt, &table, &mut seat, Side::Right, key + 1, Some(key + 10));
-        assert_nearest(rt, &table, &mut seat, Side::Left, key, Some(key));
-        assert_nearest(rt, &table, &mut seat, Side::Left, key + 9, Some(key));
-    }
+    ask_each(rt, &table, &mut seat);
     assert_nearest(rt, &table, &mut seat, Side::Right, 91, None);
     assert_nearest(rt, &table, &mut seat, Side::Left, u64::MAX, Some(90));
     del_old(rt, &table, &mut seat, 0);
