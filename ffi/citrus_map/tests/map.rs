@@ -111,7 +111,8 @@ fn an_update_reads_the_value_and_gives_it_back() {
         assert_eq!(refused.unwrap().unwrap().key, 6);
         let panics = catch_unwind(AssertUnwindSafe(|| handle.update(5, |_| panic!("in an update"))));
         assert!(panics.is_err());
-        assert_eq!((handle.remove(5).unwrap().unwrap().key, count.load(SeqCst)), (7, 0));
+        let last = handle.remove(5).unwrap().unwrap().key;
+        assert_eq!((last, count.load(SeqCst)), (7, 0));
     }
 }
 
