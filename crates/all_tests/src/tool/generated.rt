@@ -89,38 +89,14 @@ fn what_is_written_is_checked_as_true(rt: HostRuntime) -> Result<(), Fail> {
     Ok(())
 }
 
-// That the accounts of every third of a hundred long texts on the hash dictionary are true ones, from the text of this number on.
-fn assert_long_ones<R: Threads + Wait + Sync + Abort>(
-    rt: &R,
-    alloc: Global,
-    first: u32,
-) -> Result<(), Fail> {
-    for number in 0..34u64 {
-        let text = long_scripts(alloc, 3 * number + u64::from(first))?;
-        assert_checked_as_true(rt, alloc, "citrus hash", "citrus check", text.as_bytes())?;
+#[test]
+fn what_the_hash_dictionary_writes_is_checked_as_true(rt: HostRuntime) -> Result<(), Fail> {
+    for number in 0..300 {
+        let text = long_scripts(rt.alloc(), number / 3)?;
+        let input = text.as_bytes();
+        assert_checked_as_true(&rt, rt.alloc(), "citrus hash", "citrus check", input)?;
     }
     Ok(())
-}
-
-#[test]
-fn what_the_hash_dictionary_writes_of_every_third_text_is_checked_as_true(
-    rt: HostRuntime,
-) -> Result<(), Fail> {
-    assert_long_ones(&rt, rt.alloc(), 0)
-}
-
-#[test]
-fn what_the_hash_dictionary_writes_of_the_texts_behind_those_is_checked_as_true(
-    rt: HostRuntime,
-) -> Result<(), Fail> {
-    assert_long_ones(&rt, rt.alloc(), 1)
-}
-
-#[test]
-fn what_the_hash_dictionary_writes_of_the_other_texts_is_checked_as_true(
-    rt: HostRuntime,
-) -> Result<(), Fail> {
-    assert_long_ones(&rt, rt.alloc(), 2)
 }
 
 // 64 scripts with a put each.
