@@ -9,7 +9,7 @@ use Rattle.core_state.specs.declared.shape.Waiter.{Waiter}
 use Rattle.core_state.specs.declared.shape.Waiter.TheVariants.{Eer, Domain, Deer}
 use Rattle.core_state.specs.declared.words.Field.{Field}
 use Rattle.core_state.specs.declared.words.Field.TheVariants.{Clock, Front, Free, Announced, Stamp, Gate, Count, Row, State, Lock, Life, Key, Value, Link, Tag}
-use Rattle.core_state.specs.memory.Words.{side_number, tag_number}
+use Rattle.core_state.specs.memory.Words.{side_number}
 use Rattle.core_state.specs.memory.Memory.{apart, own_room, row_room, classes, slot_base, slot_count, same_waiter, waiter_room, word_count, word_of, is_field, same_side, same_field}
 use Rattle.core_acts.specs.declared.act.Act.TheVariants as act
 use Rattle.core_acts.specs.declared.act.Part.TheVariants as part
@@ -32,13 +32,9 @@ at_deer : (w : Waiter) (places : ℕ) → same_waiter w Deer ≡ true → (numbe
 at_deer Deer places e = (refl, refl)
 at_deer _ places e = absurd (cc)
 
-side_small : (b : Side) → (4 ≤ side_number b) × (side_number b ≤ 5)
+side_small : (b : Side) → (2 ≤ side_number b) × (side_number b ≤ 3)
 side_small Left = (omega arith, omega arith)
 side_small Right = (omega arith, omega arith)
-
-tag_small : (b : Side) → (6 ≤ tag_number b) × (tag_number b ≤ 7)
-tag_small Left = (omega arith, omega arith)
-tag_small Right = (omega arith, omega arith)
 
 -- where a field lies
 abbrev pub Lies : Shape → Field → Type 0
@@ -55,8 +51,8 @@ Lies k (Lock s) = s < slot_count k
 Lies k (Life s) = s < slot_count k
 Lies k (Key s) = s < slot_count k
 Lies k (Value s) = s < slot_count k
-Lies k (Link s b) = (s < slot_count k) × (4 ≤ side_number b) × (side_number b ≤ 5)
-Lies k (Tag s b) = (s < slot_count k) × (6 ≤ tag_number b) × (tag_number b ≤ 7)
+Lies k (Link s b) = (s < slot_count k) × (2 ≤ side_number b) × (side_number b ≤ 3)
+Lies k (Tag s b) = (s < slot_count k) × (2 ≤ side_number b) × (side_number b ≤ 3)
 
 pub lies : (k : Shape) (field : Field) → is_field k field ≡ true → Lies k field
 lies k Clock e = tt
@@ -75,17 +71,12 @@ lies k (Life s) e = ltb-true s (slot_count k) e
 lies k (Key s) e = ltb-true s (slot_count k) e
 lies k (Value s) e = ltb-true s (slot_count k) e
 lies k (Link s b) e = (ltb-true s (slot_count k) e, (side_small b).0, (side_small b).1)
-lies k (Tag s b) e = (ltb-true s (slot_count k) e, (tag_small b).0, (tag_small b).1)
+lies k (Tag s b) e = (ltb-true s (slot_count k) e, (side_small b).0, (side_small b).1)
 
 side_of : (a b : Side) → side_number a ≡ side_number b → same_side a b ≡ true
 side_of Left Left e = refl
 side_of Right Right e = refl
 side_of _ _ e = absurd (omega arith)
-
-tag_of : (a b : Side) → tag_number a ≡ tag_number b → same_side a b ≡ true
-tag_of Left Left e = refl
-tag_of Right Right e = refl
-tag_of _ _ e = absurd (omega arith)
 
 -- two fields at one place are the same
 pub one_field : (k : Shape) (f g : Field) → Lies k f → Lies k g → word_of k f ≡ word_of k g → same_field f g ≡ true
@@ -103,7 +94,7 @@ one_field k (Life a) (Life b) p q e = eq-eqb a b (omega arith)
 one_field k (Key a) (Key b) p q e = eq-eqb a b (omega arith)
 one_field k (Value a) (Value b) p q e = eq-eqb a b (omega arith)
 one_field k (Link a s) (Link b t) p q e = and_from _ _ (eq-eqb a b (omega arith)) (side_of s t (omega arith))
-one_field k (Tag a s) (Tag b t) p q e = and_from _ _ (eq-eqb a b (omega arith)) (tag_of s t (omega arith))
+one_field k (Tag a s) (Tag b t) p q e = and_from _ _ (eq-eqb a b (omega arith)) (side_of s t (omega arith))
 one_field k _ _ p q e = absurd (omega arith)
 
 inside_case : (k : Shape) (f : Field) → Lies k f → word_of k f < word_count k

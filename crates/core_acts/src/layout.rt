@@ -3,27 +3,31 @@
 //! Callers on different processors wait for each other where they write words of one line of memory, which is 64 bytes, and lines are
 //! fetched two at a time. So the clock, the front and the free count stand 128 bytes or more from all other words. So do a place's key and
 //! stamp, a class's gate and counts, and a place's row of stamps (`words_stand_apart`): wherever the row begins they share no line, and no
-//! pair of lines, with other words. What a search loads of a slot stands in one line: its lock, life, key, value, links and tags. The
-//! states, at which only those look who take a slot, stand in a row of their own behind. Neighbouring slots are 64 bytes from each other,
-//! and states 8.
+//! pair of lines, with other words. A slot has two halves of a line. What a search loads on its way stands in one, so that it waits for one
+//! line a node and as many nodes as can be are kept near the processor: the key, the value and the two links. What is loaded at its end and
+//! by those who store stands in the other: the lock, the life and the two tags. The halves of one kind are a row, and so two slots share a
+//! line. The states, at which only those look who take a slot, stand in a row of their own behind.
 //!
 //! A line begins at a multiple of 64 bytes. glibc puts a row that it maps by itself 16 bytes behind such a multiple, and any other row
 //! behind some multiple of 16. It maps rows of 128 KiB and more; once a mapped block was given back, only rows that are larger than that
-//! block, up to 32 MiB. So 14 words of room stand before the first: with them each place, class and slot of a mapped row begins a line. In
-//! any other a slot may stand in two lines, and so may a class's words.
+//! block, up to 32 MiB. So 14 words of room stand before the first: with them each place and class of a mapped row begins a line, and no
+//! half of a slot stands in two. In any other row it may, and so may a class's words.
 //!
 //! Two lines at a time: Intel's optimization manual on adjacent lines, and `CachePadded` of crossbeam.
 ghost use Rattle.std.specs.Prelude.{◌≡◌, ◌+◌, ◌*◌, ◌≤◌};
 ghost use Rattle.core_state.specs.declared.shape.Shape.{Shape};
-ghost use Rattle.core_state.specs.memory.Memory.{line, waiter_room, waiter_base, word_count, word_of};
+ghost use Rattle.core_state.specs.memory.Memory.{half, waiter_room, waiter_base, word_count, word_of};
 ghost use Rattle.core_acts.specs.Acts.{in_slot};
 
 use crate::act::Part;
 use core_state::shape::Waiter;
-use core_state::{Field, side_field, tag_field};
+use core_state::{Field, side_field};
 
-/// The words of a line of memory.
-pub const LINE: usize = 8;
+// The words of a line of memory.
+const LINE: usize = 8;
+
+/// The words of half a slot.
+pub const HALF: usize = 4;
 
 /// How far from each other words stand that different callers write often.
 pub const APART: usize = 2 * LINE;
@@ -58,14 +62,15 @@ pub fn index_of(waiter: Waiter, slots: u32, places: u32, field: Field) -> usize
         Field::Count { class, side } => WAITER + OWN_ROOM * class as usize + 1 + side as usize,
         Field::Row { place, class } => WAITER + ROW_ROOM * place as usize + class as usize,
         Field::State { slot } => states(waiter, slots, places) + slot as usize,
-        Field::Lock { slot } => line_of(waiter, places, slot as usize),
-        Field::Life { slot } => line_of(waiter, places, slot as usize) + 1,
-        Field::Key { slot } => line_of(waiter, places, slot as usize) + 2,
-        Field::Value { slot } => line_of(waiter, places, slot as usize) + 3,
-        Field::Link { slot, side } => line_of(waiter, places, slot as usize)
+        Field::Key { slot } => half_of(waiter, places, slot as usize),
+        Field::Value { slot } => half_of(waiter, places, slot as usize) + 1,
+        Field::Link { slot, side } => half_of(waiter, places, slot as usize)
             + side_field(side) as usize,
-        Field::Tag { slot, side } => line_of(waiter, places, slot as usize)
-            + tag_field(side) as usize,
+        Field::Lock { slot } => locks(waiter, slots, places) + HALF * slot as usize,
+        Field::Life { slot } => locks(waiter, slots, places) + HALF * slot as usize + 1,
+        Field::Tag { slot, side } => locks(waiter, slots, places)
+            + HALF * slot as usize
+            + side_field(side) as usize,
     }
 }
 
@@ -90,24 +95,32 @@ pub fn in_slot(slot: u32, part: Part) -> Field
     }
 }
 
-// Where the states begin, behind the line of the last slot.
+// Where the locks, lives and tags begin, behind the other half of the last slot.
 #[inline(always)]
-fn states(waiter: Waiter, slots: u32, places: u32) -> usize
-    ensures { result ≡ waiter_base + waiter_room waiter places + line * (slots + places + 1) }
+fn locks(waiter: Waiter, slots: u32, places: u32) -> usize
+    ensures { result ≡ waiter_base + waiter_room waiter places + half * (slots + places + 1) }
 {
-    line_of(waiter, places, slots as usize + places as usize + 1)
+    half_of(waiter, places, slots as usize + places as usize + 1)
 }
 
-// Where the line of a slot begins.
+// Where the states begin, behind the locks, lives and tags of the last slot.
 #[inline(always)]
-fn line_of(waiter: Waiter, places: u32, slot: usize) -> usize
+fn states(waiter: Waiter, slots: u32, places: u32) -> usize
+    ensures { result ≡ waiter_base + waiter_room waiter places + half * (slots + places + 1) + half * (slots + places + 1) }
+{
+    locks(waiter, slots, places) + HALF * (slots as usize + places as usize + 1)
+}
+
+// Where the half of a slot begins that has its key.
+#[inline(always)]
+fn half_of(waiter: Waiter, places: u32, slot: usize) -> usize
     requires slot { slot ≤ 8589934592 }
-    ensures { result ≡ waiter_base + waiter_room waiter places + line * slot }
+    ensures { result ≡ waiter_base + waiter_room waiter places + half * slot }
 {
     let room = match waiter {
         Waiter::Eer => OWN_ROOM * places as usize,
         Waiter::Domain => OWN_ROOM * CLASSES,
         Waiter::Deer => ROW_ROOM * places as usize,
     };
-    WAITER + room + LINE * slot
+    WAITER + room + HALF * slot
 }

@@ -87,9 +87,9 @@ tickets_total (s ∷ ss) = let rest = tickets_total ss in let one = sum_by-cons 
 made_shape : (scripts : List (List Op)) (slots : ℕ) → IsMachine scripts slots → IsShape (shape_of slots scripts)
 made_shape scripts slots m = record {
   some_slot = m.some_slot;
-  few_slots = m.few_slots;
+  few_slots = let few = m.few_slots in omega arith;
   some_place = m.some_script;
-  few_places = m.few_scripts;
+  few_places = let few = m.few_scripts in omega arith;
   some_room = omega arith;
   few_room = omega arith;
   few_tickets = (let few = m.few_ops in let same = tickets_total scripts in let most : most_tickets ≡ 144115188075855872 = refl in

@@ -13,8 +13,8 @@ use Rattle.core_state.specs.declared.shape.Waiter.TheVariants.{Eer}
 use Rattle.core_state.specs.declared.words.Field.{Field}
 use Rattle.core_state.specs.declared.words.Field.TheVariants as fields
 use Rattle.core_state.specs.declared.view.View.{View}
-use Rattle.core_state.specs.memory.Memory.{is_field, line, memory_of, stored, waiter_base, waiter_room, word_of}
-use Rattle.core_state.specs.memory.Words.{side_number, tag_number}
+use Rattle.core_state.specs.memory.Memory.{is_field, half, memory_of, stored, waiter_base, waiter_room, word_of}
+use Rattle.core_state.specs.memory.Words.{side_number}
 use Rattle.core_points.proofs.All.{trails_are_free}
 use Rattle.core_points.specs.declared.stage.Update.TheVariants as update
 use Rattle.core_points.specs.declared.stage.Stage.{Stage}
@@ -83,13 +83,16 @@ same_word k l waiter slots places (fields.Gate c) = refl
 same_word k l waiter slots places (fields.Count c side) = refl
 same_word k l waiter slots places (fields.Row p c) = refl
 same_word k l waiter slots places (fields.State s) =
-    λ i. waiter_base + waiter_room (waiter i) (places i) + line * (slots i + places i + 1) + s
-same_word k l waiter slots places (fields.Lock s) = λ i. waiter_base + waiter_room (waiter i) (places i) + line * s
-same_word k l waiter slots places (fields.Life s) = λ i. waiter_base + waiter_room (waiter i) (places i) + line * s + 1
-same_word k l waiter slots places (fields.Key s) = λ i. waiter_base + waiter_room (waiter i) (places i) + line * s + 2
-same_word k l waiter slots places (fields.Value s) = λ i. waiter_base + waiter_room (waiter i) (places i) + line * s + 3
-same_word k l waiter slots places (fields.Link s b) = λ i. waiter_base + waiter_room (waiter i) (places i) + line * s + side_number b
-same_word k l waiter slots places (fields.Tag s b) = λ i. waiter_base + waiter_room (waiter i) (places i) + line * s + tag_number b
+    λ i. waiter_base + waiter_room (waiter i) (places i) + half * (slots i + places i + 1) + half * (slots i + places i + 1) + s
+same_word k l waiter slots places (fields.Key s) = λ i. waiter_base + waiter_room (waiter i) (places i) + half * s
+same_word k l waiter slots places (fields.Value s) = λ i. waiter_base + waiter_room (waiter i) (places i) + half * s + 1
+same_word k l waiter slots places (fields.Link s b) = λ i. waiter_base + waiter_room (waiter i) (places i) + half * s + side_number b
+same_word k l waiter slots places (fields.Lock s) =
+    λ i. waiter_base + waiter_room (waiter i) (places i) + half * (slots i + places i + 1) + half * s
+same_word k l waiter slots places (fields.Life s) =
+    λ i. waiter_base + waiter_room (waiter i) (places i) + half * (slots i + places i + 1) + half * s + 1
+same_word k l waiter slots places (fields.Tag s b) =
+    λ i. waiter_base + waiter_room (waiter i) (places i) + half * (slots i + places i + 1) + half * s + side_number b
 
 -- the shape of a caller's table, but for the tickets
 untold_tickets : Shape → Shape

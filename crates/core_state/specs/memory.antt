@@ -1,3 +1,4 @@
+pub mod Bounds
 pub mod Memory
 pub mod Words
 pub mod Lists

@@ -27,6 +27,7 @@ use Rattle.core_state.specs.declared.words.Field.TheVariants.{Clock, Front, Free
 use Rattle.core_state.specs.declared.view.Retired.{Retired}
 use Rattle.core_state.specs.declared.view.Section.{Section}
 use Rattle.core_state.specs.declared.view.View.{View}
+use Rattle.core_state.specs.memory.Bounds.{most_free, most_places}
 use Rattle.core_state.specs.memory.Memory.{Memory, slot_count, word_count, word_of, is_field}
 use Rattle.core_state.specs.memory.Lists.{sum_below, flag}
 use Rattle.core_state.specs.views.Known.{lock_of}
@@ -184,7 +185,7 @@ module _ (k : Shape) (m : Memory) (vs : List View) (h : List Mark) (i : HoldsNow
   small_clock : m Clock ≤ most_tickets
   small_clock = let paid = i.counts.clock in let few = i.table.few_tickets in omega arith
 
-  small_free : m Free ≤ 2097217
+  small_free : m Free ≤ most_free
   small_free = let free = i.counts.free in let most = sum_most (λ s. m (StateWord s) == 0) (slot_count k) in let a = i.table.few_slots in
       let b = i.table.few_places in omega arith
 
@@ -202,7 +203,7 @@ module _ (k : Shape) (m : Memory) (vs : List View) (h : List Mark) (i : HoldsNow
       odd_case false found e updates is = let paid = i.counts.clock in let few = i.table.few_tickets in omega arith
 
   -- a class has no more sections open than there are places
-  small_count : (c side : ℕ) → k.waiter ≡ Domain → c < 64 → side < 2 → m (Count c side) ≤ 64
+  small_count : (c side : ℕ) → k.waiter ≡ Domain → c < 64 → side < 2 → m (Count c side) ≤ most_places
   small_count c side way small few =
       let is = (i.waiters.domain way).counts c side small few in
       let most = total_le (λ (u : View). inside_count c side u.section) (λ (u : View). length (places_of u)) vs

@@ -12,7 +12,7 @@ use Rattle.core_state.specs.declared.shape.Waiter.{Waiter}
 use Rattle.core_state.specs.declared.shape.Waiter.TheVariants.{Eer, Domain, Deer}
 use Rattle.core_state.specs.declared.words.Field.{Field}
 use Rattle.core_state.specs.declared.words.Field.TheVariants.{Announced, Stamp, Gate, Count, Row, Lock, Life, Key, Value, Link, Tag}
-use Rattle.core_state.specs.memory.Memory.{Memory, line, apart, lead, classes, own_room, row_room, waiter_base, waiter_room, slot_count, same_waiter, slot_base, state_base, word_count, word_of, is_field, memory_of, idle}
+use Rattle.core_state.specs.memory.Memory.{Memory, half, apart, lead, classes, own_room, row_room, waiter_base, waiter_room, slot_count, same_waiter, slot_base, lock_base, state_base, word_count, word_of, is_field, memory_of, idle}
 use Rattle.core_state.specs.Fresh.{first_view, IsFresh}
 use Rattle.core_state.specs.Invariant.{IsShape, Rule}
 use Rattle.core_frames.proofs.Telling.{told_of}
@@ -78,7 +78,7 @@ module _ (k : Shape) where
   part = waiter_part k.waiter k.places
 
   abbrev lines : List ℕ
-  lines = replicate (line * slot_count k) 0
+  lines = replicate (2 * half * slot_count k) 0
 
   abbrev used : List ℕ
   used = replicate (k.places + 1) 1
@@ -93,8 +93,8 @@ module _ (k : Shape) where
       let c = length-append used unused in
       omega arith
 
-  length_lines : length lines ≡ line * slot_count k
-  length_lines = length-replicate {A = ℕ} (line * slot_count k) 0
+  length_lines : length lines ≡ 2 * half * slot_count k
+  length_lines = length-replicate {A = ℕ} (2 * half * slot_count k) 0
 
   long : length ws ≡ word_count k
   long =
@@ -121,13 +121,13 @@ module _ (k : Shape) where
       (let a = length_part k.waiter k.places in omega arith)
 
   -- the words of the slots but their states
-  line_at : (i : ℕ) → i < line * slot_count k → get_or ws (slot_base k + i) 0 ≡ 0
+  line_at : (i : ℕ) → i < 2 * half * slot_count k → get_or ws (slot_base k + i) 0 ≡ 0
   line_at i small =
       let a = length_part k.waiter k.places in
       let e : slot_base k + i ≡ waiter_base + (length part + i) = omega arith in
       ap (λ z. get_or ws z 0) e ∙ from_base (length part + i) ∙ get_or-append-add part (lines ++ first_states k) i 0
       ∙ get_or_append_left lines (first_states k) 0 i (let b = length_lines in omega arith)
-      ∙ get_or-replicate (line * slot_count k) i 0 0 small
+      ∙ get_or-replicate (2 * half * slot_count k) i 0 0 small
 
   -- the states
   state_at : (s : ℕ) → s < slot_count k → get_or ws (state_base k + s) 0 ≡ cond (nat_le s k.places) 1 0
@@ -158,10 +158,19 @@ module _ (k : Shape) where
   or_none true x is = is refl
   or_none false x is = refl
 
-  slot_none : (field : Field) (s j : ℕ) → is_field k field ≡ nat_lt s (slot_count k) → word_of k field ≡ slot_base k + (line * s + j)
-      → j < line → memory_of k ws field ≡ 0
-  slot_none field s j of at small = or_none (is_field k field) (get_or ws (word_of k field) 0)
-      (λ has. let below = ltb-true s (slot_count k) (sym of ∙ has) in ap (λ z. get_or ws z 0) at ∙ line_at (line * s + j) (omega arith))
+  slot_none : (field : Field) (s j : ℕ) → is_field k field ≡ nat_lt s (slot_count k)
+      → (s < slot_count k → (word_of k field ≡ slot_base k + j) × (j < 2 * half * slot_count k)) → memory_of k ws field ≡ 0
+  slot_none field s j of at = or_none (is_field k field) (get_or ws (word_of k field) 0)
+      (λ has. let there = at (ltb-true s (slot_count k) (sym of ∙ has)) in ap (λ z. get_or ws z 0) there.0 ∙ line_at j there.1)
+
+  -- a word in the first half of a slot, and in the second
+  first_none : (field : Field) (s j : ℕ) → is_field k field ≡ nat_lt s (slot_count k) → word_of k field ≡ slot_base k + (half * s + j)
+      → j < half → memory_of k ws field ≡ 0
+  first_none field s j of at small = slot_none field s (half * s + j) of (λ below. (at, omega arith))
+
+  second_none : (field : Field) (s j : ℕ) → is_field k field ≡ nat_lt s (slot_count k) → word_of k field ≡ lock_base k + (half * s + j)
+      → j < half → memory_of k ws field ≡ 0
+  second_none field s j of at small = slot_none field s (half * slot_count k + (half * s + j)) of (λ below. (omega arith, omega arith))
 
   -- the waiter's words by the waiter
   key_at : (w : Waiter) (places p : ℕ) → same_waiter w Eer ≡ true → p < places → get_or (waiter_part w places) (own_room * p) 0 ≡ 0
@@ -185,12 +194,12 @@ module _ (k : Shape) where
   first false b e = absurd (cc)
 
   link_case : (s : ℕ) (b : Side) → memory_of k ws (Link s b) ≡ 0
-  link_case s Left = slot_none (Link s Left) s 4 refl (omega arith) (omega arith)
-  link_case s Right = slot_none (Link s Right) s 5 refl (omega arith) (omega arith)
+  link_case s Left = first_none (Link s Left) s 2 refl (omega arith) (omega arith)
+  link_case s Right = first_none (Link s Right) s 3 refl (omega arith) (omega arith)
 
   tag_case : (s : ℕ) (b : Side) → memory_of k ws (Tag s b) ≡ 0
-  tag_case s Left = slot_none (Tag s Left) s 6 refl (omega arith) (omega arith)
-  tag_case s Right = slot_none (Tag s Right) s 7 refl (omega arith) (omega arith)
+  tag_case s Left = second_none (Tag s Left) s 2 refl (omega arith) (omega arith)
+  tag_case s Right = second_none (Tag s Right) s 3 refl (omega arith) (omega arith)
 
   has_place : (w : Waiter) (p places : ℕ) → p < places → nat_lt p places ≡ true
   has_place w p places small = lt-ltb p places small
@@ -227,10 +236,10 @@ module _ (k : Shape) where
         ∙ part_at (row_room * p + c) (let a = l.1 in let b = l.2 in omega arith)
         ∙ deer_at k.waiter k.places (row_room * p + c) (first _ _ is) (omega arith);
     states = λ s small. ap (λ b. cond b (get_or ws (state_base k + s) 0) 0) (has_place k.waiter s (slot_count k) small) ∙ state_at s small;
-    locks = λ s. slot_none (Lock s) s 0 refl (omega arith) (omega arith);
-    lives = λ s. slot_none (Life s) s 1 refl (omega arith) (omega arith);
-    keys = λ s. slot_none (Key s) s 2 refl (omega arith) (omega arith);
-    values = λ s. slot_none (Value s) s 3 refl (omega arith) (omega arith);
+    locks = λ s. second_none (Lock s) s 0 refl (omega arith) (omega arith);
+    lives = λ s. second_none (Life s) s 1 refl (omega arith) (omega arith);
+    keys = λ s. first_none (Key s) s 0 refl (omega arith) (omega arith);
+    values = λ s. first_none (Value s) s 1 refl (omega arith) (omega arith);
     links = link_case;
     tags = tag_case;
   }

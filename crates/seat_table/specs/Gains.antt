@@ -25,6 +25,7 @@ use Rattle.core_state.specs.declared.view.Section.{Section}
 use Rattle.core_state.specs.declared.view.View.{View}
 use Rattle.core_state.specs.declared.view.Visit.{Visit}
 use Rattle.list_laws.specs.Counts.{times, IsIn, Each}
+use Rattle.core_state.specs.memory.Bounds.{most_free}
 use Rattle.core_state.specs.memory.Lists.{IsEven}
 use Rattle.core_state.specs.memory.Memory.{slot_count}
 use Rattle.core_state.specs.Marks.{Grace, Reuse}
@@ -60,7 +61,7 @@ pub record IsInformed (w : View) : Type 0 where
 abbrev pub WordFits : Shape → Field → ℕ → Type 0
 WordFits k Clock n = n ≤ most_tickets
 WordFits k Front n = n ≤ most_front
-WordFits k Free n = n ≤ 2097217
+WordFits k Free n = n ≤ most_free
 WordFits k (Lock s) n = n ≤ k.places
 WordFits k (Life s) n = n ≤ most_life
 WordFits k (Tag s b) n = n ≤ most_tickets

@@ -5,6 +5,7 @@ use mathlib.Core.List.{IsPrefix}
 use Rattle.atomic_table.specs.Seated.{TableId}
 use Rattle.prcu_marks.specs.Marks.{own_of}
 use Rattle.prcu_marks.specs.Bounds.{most_tickets, most_turns}
+use Rattle.core_state.specs.memory.Bounds.{most_places}
 use Rattle.core_state.specs.declared.shape.Shape.{Shape}
 use Rattle.core_state.specs.declared.shape.Waiter.{Waiter}
 use Rattle.core_state.specs.declared.shape.Waiter.TheVariants.{Eer, Domain, Deer}
@@ -40,11 +41,11 @@ pub record SeatAt : Type 0 where
   pub listed : List ℕ
   pub looked : ℕ
 
--- The seat works at a place of the table, which has at most 64, each with room for 16 to 256 retired slots.
+-- The seat works at a place of the table, each with room for 16 to 256 retired slots.
 pub record HasPlace (t : TableAt) (v : View) : Type 0 where
   pub works : 1 ≤ v.allowance.places
   pub inside : v.allowance.place + v.allowance.places ≤ t.places
-  pub few_places : t.places ≤ 64
+  pub few_places : t.places ≤ most_places
   pub some_room : 16 ≤ t.room
   pub few_room : t.room ≤ 256
 

@@ -1,5 +1,6 @@
 //! Where a scan for a free slot looks next.
 ghost use Rattle.std.specs.Prelude.{◌≡◌, ◌+◌, ◌<◌, ◌≤◌};
+ghost use Rattle.core_state.specs.memory.Bounds.{most_slots, most_places};
 ghost use Rattle.seat_table.specs.Scans as scans;
 
 /// The slot after this one, in a round of the slots from 1 to the last. Slot 0 is the tree's root.
@@ -25,8 +26,8 @@ pub(crate) fn after_look(looked: u32, slot: u32, last: u32) -> u32
 
 // Where the scans of a place begin: behind this slot, so that each place has a region of its own.
 pub(crate) fn region(slots: u32, places: u32, place: u32) -> u32
-    requires slots { (1 ≤ slots) × (slots ≤ 2097152) }
-    requires places { (place < places) × (places ≤ 64) }
+    requires slots { (1 ≤ slots) × (slots ≤ most_slots) }
+    requires places { (place < places) × (places ≤ most_places) }
     ensures { result ≡ scans.region slots places place }
 {
     let before = place as u64 * slots as u64 / places as u64;

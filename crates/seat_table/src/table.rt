@@ -2,6 +2,7 @@
 ghost use Rattle.std.specs.Prelude.{◌≡◌, ℕ, ◌+◌, ◌*◌, ◌<◌, ◌≤◌, ◌++◌, IfOk, length, replicate};
 ghost use Rattle.prcu_marks.specs.Bounds.{most_tickets};
 ghost use Rattle.core_state.specs.declared.shape.Shape.{Shape};
+ghost use Rattle.core_state.specs.memory.Bounds.{most_slots, most_places};
 ghost use Rattle.seat_table.specs.Fresh.{fresh_seat, alone, key_stamps, waiter_part, first_words};
 ghost use Rattle.seat_table.specs.Seats.{IsQuietSeat};
 
@@ -11,7 +12,7 @@ use crate::seat::Seat;
 use crate::waiter::{WaitWords, waiter_of};
 use arrayvec::ArrayVec;
 use atomic_table::Table;
-use core_acts::{APART, CLASSES, LEAD, LINE, OWN_ROOM, ROW_ROOM, row_length};
+use core_acts::{APART, CLASSES, HALF, LEAD, OWN_ROOM, ROW_ROOM, row_length};
 use core_state::shape::{ROOM, Waiter};
 use core_state::{Shape, View};
 use prcu_model::NoMemory;
@@ -105,7 +106,7 @@ pub fn words_of(alloc: Global, shape: &Shape) -> Result<Vec<u64>, AllocError>
     add_many(&mut words, LEAD + 2 * APART, 0)?;
     add_alone(&mut words, shape.slots as u64)?;
     add_waiter(&mut words, shape.waiter, places)?;
-    add_many(&mut words, LINE * (slots + places + 1), 0)?;
+    add_many(&mut words, 2 * HALF * (slots + places + 1), 0)?;
     add_many(&mut words, places + 1, 1)?;
     add_many(&mut words, slots, 0)?;
     Ok(words)
@@ -122,8 +123,8 @@ impl<W: WaitWords> CitrusTable<W> {
         tickets: u64,
     ) -> Result<(CitrusTable<W>, Seat<W>), NoMemory>
         requires way { W.WAY ≤ 2 }
-        requires slots { (1 ≤ slots) × (slots ≤ 2097152) }
-        requires places { (1 ≤ places) × (places ≤ 64) }
+        requires slots { (1 ≤ slots) × (slots ≤ most_slots) }
+        requires places { (1 ≤ places) × (places ≤ most_places) }
         requires tickets { tickets ≤ most_tickets }
         ensures table { IfOk result (λ made. (made.0.slots ≡ slots) × (made.0.places ≡ places) × (made.0.tickets ≡ tickets)) }
         ensures room { IfOk result (λ made. made.0.room ≡ 16) }
@@ -142,8 +143,8 @@ impl<W: WaitWords> CitrusTable<W> {
         tickets: u64,
     ) -> Result<(CitrusTable<W>, Seat<W>), NoMemory>
         requires way { W.WAY ≤ 2 }
-        requires slots { (1 ≤ slots) × (slots ≤ 2097152) }
-        requires places { (1 ≤ places) × (places ≤ 64) }
+        requires slots { (1 ≤ slots) × (slots ≤ most_slots) }
+        requires places { (1 ≤ places) × (places ≤ most_places) }
         requires room { (16 ≤ room) × (room ≤ 256) }
         requires tickets { tickets ≤ most_tickets }
         ensures table { IfOk result (λ made. (made.0.slots ≡ slots) × (made.0.places ≡ places) × (made.0.tickets ≡ tickets)) }
@@ -196,7 +197,7 @@ impl<W: WaitWords> CitrusTable<W> {
     /// How many slots it was made with.
     pub fn slots(&self) -> u32
         ensures slots { result ≡ self.now.slots }
-        ensures few { (1 ≤ result) × (result ≤ 2097152) }
+        ensures few { (1 ≤ result) × (result ≤ most_slots) }
     {
         self.slots
     }
@@ -204,7 +205,7 @@ impl<W: WaitWords> CitrusTable<W> {
     /// How many places it was made with.
     pub fn places(&self) -> u32
         ensures places { result ≡ self.now.places }
-        ensures few { (1 ≤ result) × (result ≤ 64) }
+        ensures few { (1 ≤ result) × (result ≤ most_places) }
     {
         self.places
     }

@@ -8,7 +8,7 @@ use Rattle.core_state.specs.declared.shape.Waiter.{Waiter}
 use Rattle.core_state.specs.declared.shape.Waiter.TheVariants.{Eer, Domain, Deer}
 use Rattle.core_state.specs.declared.words.Field.{Field}
 use Rattle.core_state.specs.declared.words.Field.TheVariants.{Clock, Front, Free, Announced, Stamp, Gate, Count, Row, State, Lock, Life, Key, Value, Link, Tag}
-use Rattle.core_state.specs.memory.Words.{side_number, tag_number}
+use Rattle.core_state.specs.memory.Words.{side_number}
 
 -- the slots: the root, the spares of all places, and those that begin free
 abbrev pub slot_count : Shape → ℕ
@@ -54,13 +54,22 @@ waiter_room Eer places = own_room * places
 waiter_room Domain places = own_room * classes
 waiter_room Deer places = row_room * places
 
--- where the slots' lines begin
+-- A slot's words stand in two halves of a line: what a search loads on its way, and, in a row behind, what is loaded at its end and under
+-- the lock. So two slots share a line of either row.
+abbrev pub half : ℕ
+half = 4
+
+-- where the keys, values and links of the slots begin
 abbrev pub slot_base : Shape → ℕ
 slot_base k = waiter_base + waiter_room k.waiter k.places
 
+-- where their locks, lives and tags begin
+abbrev pub lock_base : Shape → ℕ
+lock_base k = slot_base k + half * slot_count k
+
 -- where the slots' states begin, which stand in a row of their own, and how long the table's row is
 abbrev pub state_base : Shape → ℕ
-state_base k = slot_base k + line * slot_count k
+state_base k = lock_base k + half * slot_count k
 
 abbrev pub word_count : Shape → ℕ
 word_count k = state_base k + slot_count k
@@ -76,12 +85,12 @@ word_of k (Gate c) = waiter_base + own_room * c
 word_of k (Count c side) = waiter_base + own_room * c + 1 + side
 word_of k (Row p c) = waiter_base + row_room * p + c
 word_of k (State s) = state_base k + s
-word_of k (Lock s) = slot_base k + line * s
-word_of k (Life s) = slot_base k + line * s + 1
-word_of k (Key s) = slot_base k + line * s + 2
-word_of k (Value s) = slot_base k + line * s + 3
-word_of k (Link s b) = slot_base k + line * s + side_number b
-word_of k (Tag s b) = slot_base k + line * s + tag_number b
+word_of k (Key s) = slot_base k + half * s
+word_of k (Value s) = slot_base k + half * s + 1
+word_of k (Link s b) = slot_base k + half * s + side_number b
+word_of k (Lock s) = lock_base k + half * s
+word_of k (Life s) = lock_base k + half * s + 1
+word_of k (Tag s b) = lock_base k + half * s + side_number b
 
 -- The table has the field: it is one of its waiter, and its place, class, side or slot is one of the table's.
 abbrev pub is_field : Shape → Field → Bool

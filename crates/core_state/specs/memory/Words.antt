@@ -17,14 +17,10 @@ abbrev pub across : Side → Side
 across Left = Right
 across Right = Left
 
--- the numbers of a side's link and tag among the words of a slot's line
+-- the number of a side's link among the words of its half of a slot, and that of its tag
 abbrev pub side_number : Side → ℕ
-side_number Left = 4
-side_number Right = 5
-
-abbrev pub tag_number : Side → ℕ
-tag_number Left = 6
-tag_number Right = 7
+side_number Left = 2
+side_number Right = 3
 
 -- the side to which a search goes on at a node with another key
 abbrev pub step_side : ℕ → ℕ → Option Side
