@@ -4,6 +4,7 @@ use base.Fml.{GName}
 use denote.MutBor.{MutBor}
 use Rattle.std.specs.Prelude.{◌≡◌, ◌≢◌, ℕ, Some, None}
 use Rattle.prcu_marks.specs.declared.mark.Side.{Side}
+use Rattle.prcu_marks.specs.declared.mark.Side.TheVariants.{Left, Right}
 use Rattle.core_state.specs.declared.shape.Shape.{Shape}
 use Rattle.core_state.specs.declared.words.Field.TheVariants.{Tag}
 use Rattle.core_state.specs.declared.view.Reading.{Reading}
@@ -59,14 +60,27 @@ state_after s b (step.Moved c d) = at.At c d
 state_after s b (step.Found c) = at.Found c s b None
 state_after s b step.Ended = at.Missed s b
 
--- What a step down loads: a link to a slot, and that slot's key, which is another or the sought one; or a link that is 0.
+-- of two links that of a side
+abbrev pub link_on : Side → ℕ → ℕ → ℕ
+link_on Left left right = left
+link_on Right left right = right
+
+-- Both links of a slot were loaded, the left one first. That of the side is n.
+pub record LoadsLinks (k : Shape) (v : View) (s : ℕ) (b : Side) (n : ℕ) (w : View) : Type 0 where
+  pub left : ℕ
+  pub right : ℕ
+  pub between : View
+  pub left_told : Told k v (SearchLoad s (part.Link Left)) left between
+  pub right_told : Told k between (SearchLoad s (part.Link Right)) right w
+  pub link_is : link_on b left right ≡ n
+
+-- What a step down loads: the links of a slot, of which that of the side leads to a slot, and that slot's key, which is another or the
+-- sought one; or links of which that of the side is 0.
 abbrev pub Loads : Shape → View → ℕ → ℕ → Side → Step → View → Type 0
 Loads k v key s b (step.Moved c d) w = (c ≢ 0)
-    × ((u : View) × (there : ℕ) × Told k v (SearchLoad s (part.Link b)) c u × Told k u (SearchLoad c part.Key) there w
-    × (step_side key there ≡ Some d))
-Loads k v key s b (step.Found c) w = (c ≢ 0) × ((u : View) × Told k v (SearchLoad s (part.Link b)) c u
-    × Told k u (SearchLoad c part.Key) key w)
-Loads k v key s b step.Ended w = Told k v (SearchLoad s (part.Link b)) 0 w
+    × ((u : View) × (there : ℕ) × LoadsLinks k v s b c u × Told k u (SearchLoad c part.Key) there w × (step_side key there ≡ Some d))
+Loads k v key s b (step.Found c) w = (c ≢ 0) × ((u : View) × LoadsLinks k v s b c u × Told k u (SearchLoad c part.Key) key w)
+Loads k v key s b step.Ended w = LoadsLinks k v s b 0 w
 
 -- From the view v a section with the key was entered. Where its search stands, by what its last hop came to.
 abbrev pub Stands : Shape → View → ℕ → Hop → ℕ → Side → View → Type 0

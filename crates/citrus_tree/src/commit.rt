@@ -10,8 +10,12 @@ ghost use Rattle.seat_table.specs.Seats.{shape_of};
 ghost use Rattle.tree_points.specs.At.{IsAt};
 ghost use Rattle.citrus_tree.specs.Going.{Opened, Closed};
 
+use core_state::linking;
 use patience::Patience;
 use seat_table::{CitrusTable, Seat, WaitPart, steps};
+
+/// How many exchanges are made at most without a pause.
+const AT_ONCE: u64 = 8;
 
 // The number itself, or the next one, whichever is even.
 fn even_from(number: u64) -> u64
@@ -49,7 +53,10 @@ pub(crate) fn open_front<P: Patience, W: WaitPart>(
             return Ok(found);
         }
         expected = even_from(found);
-        patience.pause(&mut pauses)?;
+        // Where nobody has the front it tries again at once: beside a caller that never rests the number found is old after a pause.
+        if linking(found) || round % AT_ONCE == AT_ONCE - 1 {
+            patience.pause(&mut pauses)?;
+        }
     }
     Err(patience.tired())
 }

@@ -1,22 +1,22 @@
 //! The way down from the root, in a section and without a lock.
-ghost use Rattle.std.specs.Prelude.{◌≡◌, ◌≤◌, [], None, IfOk, IfErr};
+ghost use Rattle.std.specs.Prelude.{◌≡◌, ℕ, ◌≤◌, [], None, IfOk, IfErr};
 ghost use Rattle.core_state.specs.declared.view.SearchState.TheVariants.{At};
 ghost use Rattle.core_state.specs.declared.view.View.{View};
 ghost use Rattle.core_state.specs.parts.ReaderParts.{state_slot};
 ghost use Rattle.seat_table.specs.Gains.{IsSlot};
 ghost use Rattle.seat_table.specs.Rounds.{HasMade};
 ghost use Rattle.seat_table.specs.Seats.{shape_of};
-ghost use Rattle.citrus_tree.specs.Hops.{Loads, state_after};
+ghost use Rattle.citrus_tree.specs.Hops.{Loads, LoadsLinks, link_on, state_after};
 ghost use Rattle.citrus_tree.specs.Lookups.{IsSearching, state_of};
 
-use core_state::{side_field, step_side};
+use core_state::step_side;
 use patience::Patience;
 use prcu_marks::{Gate, Point, Side};
 use seat_table::{CitrusTable, Part, Seat, WaitPart, steps};
 
 /// Where a search goes on from a slot and a side.
 #[derive(Clone, Copy)]
-pub(crate) enum Step {
+pub enum Step {
     /// At that side of a slot with another key.
     Moved { slot: u32, side: Side },
     /// Nowhere: the slot has the sought key.
@@ -34,8 +34,38 @@ pub(crate) enum Descent {
     Ended { slot: u32, side: Side, depth: u64 },
 }
 
-/// Loads the link of a side and, where it leads to a slot, that slot's key.
-pub(crate) fn go_down<W: WaitPart>(
+// Of two links that of a side: a choice between two numbers, and no jump.
+#[inline(always)]
+fn link_on(side: Side, left: u64, right: u64) -> u64
+    ensures { result ≡ link_on side left right }
+{
+    match side {
+        Side::Left => left,
+        Side::Right => right,
+    }
+}
+
+// Loads both links of the slot at which the search stands, and answers that of the side.
+#[inline(always)]
+fn load_links<W: WaitPart>(table: &CitrusTable<W>, seat: &mut Seat<W>, slot: u32, side: Side) -> u64
+    requires table { seat.old.table ≡ table.now }
+    requires slot { IsSlot (shape_of W.WAY table.now) slot }
+    requires searching { (v : View) × (key : ℕ) × IsSearching v key (At slot side) seat.old.view }
+    ensures seat { (seat.new.table ≡ seat.old.table) × (seat.new.listed ≡ seat.old.listed) }
+    ensures loads { LoadsLinks (shape_of W.WAY table.now) seat.old.view slot side result seat.new.view }
+{
+    // The side depends on the slot's key, which may still be on its way from memory. The links stand beside the key, and neither load waits
+    // for the comparison. The link of the other side only adds to what the section knows, and moves its search nowhere.
+    // docs/TREE.md#why-a-get-beside-a-delete-is-right
+    let left = steps::search_load(table, seat, slot, Part::Link { side: Side::Left });
+    let right = steps::search_load(table, seat, slot, Part::Link { side: Side::Right });
+    link_on(side, left, right)
+}
+
+/// Loads both links of a slot and, where that of the side leads to a slot, that slot's key.
+// A call would hand its answer through memory.
+#[inline(always)]
+pub fn go_down<W: WaitPart>(
     table: &CitrusTable<W>,
     seat: &mut Seat<W>,
     key: u64,
@@ -52,7 +82,7 @@ pub(crate) fn go_down<W: WaitPart>(
     ensures searching { (v : View) → IsSearching v key (At slot side) seat.old.view
         → IsSearching v key (state_after slot side result) seat.new.view }
 {
-    let link = steps::search_load(table, seat, slot, Part::Link { side });
+    let link = load_links(table, seat, slot, side);
     // The slot may have been unlinked meanwhile. Its links still lead to the tree, or to slots unlinked later.
     // docs/TREE.md#why-a-get-beside-a-delete-is-right
     if link == 0 {

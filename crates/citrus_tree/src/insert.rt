@@ -22,7 +22,6 @@ use crate::descent::{Descent, descend};
 use crate::lives::is_life;
 use crate::search::leave_with_spot;
 use core_points::stage::Spot;
-use core_state::{side_field, tag_field};
 use node_slots::patient::{reclaim, take};
 use node_slots::{Taken, put_back};
 use patience::Patience;

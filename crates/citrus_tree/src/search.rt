@@ -11,7 +11,7 @@ ghost use Rattle.citrus_tree.specs.Lookups.{IsSearching, Looked};
 
 use crate::descent::{Step, go_down};
 use core_points::stage::Spot;
-use core_state::{generation_of, tag_field};
+use core_state::generation_of;
 use prcu_marks::Side;
 use seat_table::{CitrusTable, Part, Seat, WaitPart, steps};
 
@@ -67,7 +67,8 @@ impl<'a, W: WaitPart> Search<'a, W> {
         }
     }
 
-    /// Loads the next link and, where it leads to a slot, that slot's key. The last hop, if there was one, has to have moved.
+    /// Loads both links of the slot and, where that of the side leads to a slot, that slot's key. The last hop, if there was one, has to have
+    /// moved.
     pub fn hop(&mut self) -> Hop
         requires table { (search_at self.old).seat.table ≡ (search_at self.old).table }
         requires moved { (search_at self.old).last ≡ Moved }

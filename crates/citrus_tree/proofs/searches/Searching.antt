@@ -1,10 +1,12 @@
 -- Searches in a section, hop by hop.
 use Rattle.std.proofs.Common.{◌≡◌, ◌/◌, ◌≢◌, ℕ, ◌&&◌, cond, Bool, true, false, [], ◌∷◌, ◌++◌, Option, Some, None, refl, sym, ap, subst, ◌∙◌, arith, eq-eqb, ne_eqb}
 use mathlib.Core.List.{IsPrefix}
+use mathlib.Core.Logic.{dite}
+use native.Mathlib.Decide.{ℕ_discrete}
 use Rattle.prcu_marks.specs.declared.mark.Mark.{Mark}
 use Rattle.prcu_marks.specs.declared.mark.Mark.TheVariants.{Entered, Left as LeftMark}
 use Rattle.prcu_marks.specs.declared.mark.Side.{Side}
-use Rattle.prcu_marks.specs.declared.mark.Side.TheVariants.{Right}
+use Rattle.prcu_marks.specs.declared.mark.Side.TheVariants.{Left, Right}
 use Rattle.prcu_model.specs.Dictionary.{WasSaid}
 use Rattle.prcu_marks.specs.Marks.{updates_of, own_of}
 use Rattle.prcu_marks.proofs.MarkLists.{own_of-append}
@@ -40,7 +42,7 @@ use Rattle.seat_table.proofs.Sections.{made_none, made_more, made_both}
 use Rattle.citrus_tree.specs.Compares.{SoughtValue}
 use Rattle.citrus_tree.specs.Going.{FoundHolder, Sought}
 use Rattle.citrus_tree.specs.Holds.{IsHolding}
-use Rattle.citrus_tree.specs.Hops.{Records}
+use Rattle.citrus_tree.specs.Hops.{LoadsLinks, Records}
 use Rattle.citrus_tree.specs.Lookups.{is_load, is_of_lookup, state_parent, IsSearching, Looked}
 use Rattle.tree_laws.proofs.searches.Readings.{in_more}
 
@@ -132,24 +134,43 @@ module _ (k : Shape) (v : View) (key : ℕ) where
       → IsIn r.stood (state_slot state') → IsIn r.stood (state_parent state') → IsSearching v key state' x
   moved state state' s p n w x i t r is sought stands here above = (moved_as state state' s p n w x i t r is sought stands here above).0
 
+  -- a load that moves the search nowhere only adds what it loaded
+  stays : (state : SearchState) (s : ℕ) (p : Part) (n : ℕ) (w x : View) (i : IsSearching v key state w) → Told k w (SearchLoad s p) n x
+      → ((r : Reading) → searched r state (in_slot s p) n ≡ r)
+      → (j : IsSearching v key state x) × (j.reading ≡ noting_load i.reading (in_slot s p) n)
+  stays state s p n w x i t nowhere =
+      moved_as state state s p n w x i t (noting_load i.reading (in_slot s p) n)
+      (ap (λ z. searched (noting_load i.reading (in_slot s p) n) z (in_slot s p) n) i.state_is
+      ∙ nowhere (noting_load i.reading (in_slot s p) n)) i.key_is i.state_is i.here i.above
+
   -- where it stands is a slot of the table
   pub slot_at : (state : SearchState) (s : ℕ) (p : Part) (n : ℕ) (w x : View) → IsSearching v key state x → Told k w (SearchLoad s p) n x
       → IsSlot k (state_slot state)
   slot_at state s p n w x i t = t.stood.stood _ (state_slot state) i.inside i.here
 
   -- any part of it may be loaded
-  pub asks : (state : SearchState) (p : Part) (w : View) → IsSearching v key state w → IsSlot k (state_slot state)
-      → IsAsked k w (SearchLoad (state_slot state) p)
-  asks state p w i slot = λ now. (
-    part_word k (state_slot state) p slot.inside,
+  asks_stood : (state : SearchState) (s : ℕ) (p : Part) (w : View) (i : IsSearching v key state w) → IsIn i.reading.stood s → IsSlot k s
+      → IsAsked k w (SearchLoad s p)
+  asks_stood state s p w i stood slot = λ now. (
+    part_word k s p slot.inside,
     (
       record i.entered.section { reading = i.reading },
-      record { section_is = i.inside; searches = i.entered.no_list; stood = i.here; loadable = part_loadable (state_slot state) p },
+      record { section_is = i.inside; searches = i.entered.no_list; stood = stood; loadable = part_loadable s p },
     ),
   )
 
-  pub needs_link : (s : ℕ) (b : Side) (w : View) → IsSearching v key (At s b) w → IsSlot k s → IsAsked k w (SearchLoad s (part.Link b))
-  needs_link s b w i slot = asks (At s b) (part.Link b) w i slot
+  pub asks : (state : SearchState) (p : Part) (w : View) → IsSearching v key state w → IsSlot k (state_slot state)
+      → IsAsked k w (SearchLoad (state_slot state) p)
+  asks state p w i slot = asks_stood state (state_slot state) p w i i.here slot
+
+  -- and any part of the slot from which it came there
+  pub asks_above : (state : SearchState) (p : Part) (w : View) → IsSearching v key state w → IsSlot k (state_parent state)
+      → IsAsked k w (SearchLoad (state_parent state) p)
+  asks_above state p w i slot = asks_stood state (state_parent state) p w i i.above slot
+
+  pub needs_left : (s : ℕ) (b : Side) (w : View) → IsSearching v key (At s b) w → IsSlot k s
+      → IsAsked k w (SearchLoad s (part.Link Left))
+  needs_left s b w i slot = asks (At s b) (part.Link Left) w i slot
 
   at_link : (s : ℕ) (b : Side) (n : ℕ) (w x : View) (i : IsSearching v key (At s b) w) → Told k w (SearchLoad s (part.Link b)) n x
       → (r : Reading) → linked_on (noting_load i.reading (Link s b) n) s b n ≡ r → (state : SearchState) → r.key ≡ key → r.state ≡ state
@@ -158,19 +179,49 @@ module _ (k : Shape) (v : View) (key : ℕ) where
       moved (At s b) state s (part.Link b) n w x i t r (link_moves i.reading s b n i.state_is ∙ is) sought stands here above
 
   -- the link is empty, or leads on
-  pub missed : (s : ℕ) (b : Side) (n : ℕ) (w x : View) → n ≡ 0 → IsSearching v key (At s b) w → Told k w (SearchLoad s (part.Link b)) n x
+  missed : (s : ℕ) (b : Side) (n : ℕ) (w x : View) → n ≡ 0 → IsSearching v key (At s b) w → Told k w (SearchLoad s (part.Link b)) n x
       → IsSearching v key (Missed s b) x
   missed s b n w x none i t =
       let r : Reading = record (noting_load i.reading (Link s b) n) { state = Missed s b } in
       at_link s b n w x i t r (ap (λ z. cond z r (record (noting_load i.reading (Link s b) n)
       { state = Unread n s b; stood = n ∷ i.reading.stood })) (eq-eqb n 0 none)) (Missed s b) i.key_is refl i.here i.here
 
-  pub reached : (s : ℕ) (b : Side) (n : ℕ) (w x : View) → n ≢ 0 → IsSearching v key (At s b) w → Told k w (SearchLoad s (part.Link b)) n x
+  reached : (s : ℕ) (b : Side) (n : ℕ) (w x : View) → n ≢ 0 → IsSearching v key (At s b) w → Told k w (SearchLoad s (part.Link b)) n x
       → IsSearching v key (Unread n s b) x
   reached s b n w x some_slot i t =
       let r : Reading = record (noting_load i.reading (Link s b) n) { state = Unread n s b; stood = n ∷ i.reading.stood } in
       at_link s b n w x i t r (ap (λ z. cond z (record (noting_load i.reading (Link s b) n) { state = Missed s b }) r)
       (ne_eqb n 0 some_slot)) (Unread n s b) i.key_is refl (0, refl) (in_more i.reading.stood n s i.here)
+
+  -- the other link was loaded, before that of the side or after it
+  other : (s : ℕ) (b c : Side) (n : ℕ) (w x : View) → same_side c b ≡ false → IsSearching v key (At s b) w
+      → Told k w (SearchLoad s (part.Link c)) n x → IsSearching v key (At s b) x
+  other s b c n w x apart i t = (stays (At s b) s (part.Link c) n w x i t (λ r. ap (λ z. cond z (linked_on r s b n) r)
+      (ap (λ z. z && same_side c b) (eq-eqb s s refl) ∙ apart))).0
+
+  pub needs_right : (s : ℕ) (b : Side) (n : ℕ) (w x : View) → IsSearching v key (At s b) w → Told k w (SearchLoad s (part.Link Left)) n x
+      → IsSlot k s → IsAsked k x (SearchLoad s (part.Link Right))
+  needs_right s Left n w x i t slot = dite (ℕ_discrete n 0)
+      (λ none. asks_above (Missed s Left) (part.Link Right) x (missed s Left n w x none i t) slot)
+      (λ some_slot. asks_above (Unread n s Left) (part.Link Right) x (reached s Left n w x some_slot i t) slot)
+  needs_right s Right n w x i t slot = asks_above (At s Right) (part.Link Right) x (other s Right Left n w x refl i t) slot
+
+  -- both links were loaded, and that of the side is empty, or leads on
+  pub missed_by : (s : ℕ) (b : Side) (n : ℕ) (w x : View) → n ≡ 0 → IsSearching v key (At s b) w → LoadsLinks k w s b n x
+      → IsSearching v key (Missed s b) x
+  missed_by s Left n w x none i l = (stays (Missed s Left) s (part.Link Right) l.right l.between x
+      (missed s Left l.left w l.between (l.link_is ∙ none) i l.left_told) l.right_told (λ r. refl)).0
+  missed_by s Right n w x none i l = missed s Right l.right l.between x (l.link_is ∙ none)
+      (other s Right Left l.left w l.between refl i l.left_told) l.right_told
+
+  pub reached_by : (s : ℕ) (b : Side) (n : ℕ) (w x : View) → n ≢ 0 → IsSearching v key (At s b) w → LoadsLinks k w s b n x
+      → IsSearching v key (Unread n s b) x
+  reached_by s Left n w x some_slot i l = subst (λ z. IsSearching v key (Unread z s Left) x) l.link_is
+      (stays (Unread l.left s Left) s (part.Link Right) l.right l.between x
+      (reached s Left l.left w l.between (λ none. some_slot (sym l.link_is ∙ none)) i l.left_told) l.right_told (λ r. refl)).0
+  reached_by s Right n w x some_slot i l = subst (λ z. IsSearching v key (Unread z s Right) x) l.link_is
+      (reached s Right l.right l.between x (λ none. some_slot (sym l.link_is ∙ none))
+      (other s Right Left l.left w l.between refl i l.left_told) l.right_told)
 
   pub needs_key : (s p : ℕ) (b : Side) (w : View) → IsSearching v key (Unread s p b) w → IsSlot k s → IsAsked k w (SearchLoad s part.Key)
   needs_key s p b w i slot = asks (Unread s p b) part.Key w i slot
@@ -304,9 +355,7 @@ module _ (k : Shape) (v : View) (key : ℕ) where
   found_aged : (s p : ℕ) (b : Side) (value : Option ℕ) (life : ℕ) (w x : View) (i : IsSearching v key (Found s p b value) w)
       → Told k w (SearchLoad s part.Life) life x → (j : IsSearching v key (Found s p b value) x)
       × (j.reading ≡ noting_load i.reading (Life s) life)
-  found_aged s p b value life w x i t =
-      moved_as (Found s p b value) (Found s p b value) s part.Life life w x i t (noting_load i.reading (Life s) life)
-      (ap (λ z. searched (noting_load i.reading (Life s) life) z (Life s) life) i.state_is) i.key_is i.state_is i.here i.above
+  found_aged s p b value life w x i t = stays (Found s p b value) s part.Life life w x i t (λ r. refl)
 
   pub needs_found_life : (s p : ℕ) (b : Side) (w : View) → IsSearching v key (Found s p b None) w → IsSlot k s
       → IsAsked k w (SearchLoad s part.Life)
@@ -356,29 +405,20 @@ module _ (k : Shape) (v : View) (key : ℕ) where
       (state_at (Found s p b (Some value)) x y j.0 left)) in
       (aged_holder s p b (Some value) value life generation found.reading x y slot j.0 j.1 l.0 l.1 half, refl)
 
-  -- at the end of a search that missed, loads only add what they loaded
-  stays : (s : ℕ) (b : Side) (p : Part) (n : ℕ) (w x : View) (i : IsSearching v key (Missed s b) w) → Told k w (SearchLoad s p) n x
-      → ((r : Reading) → searched r (Missed s b) (in_slot s p) n ≡ r)
-      → (j : IsSearching v key (Missed s b) x) × (j.reading ≡ noting_load i.reading (in_slot s p) n)
-  stays s b p n w x i t nowhere =
-      moved_as (Missed s b) (Missed s b) s p n w x i t (noting_load i.reading (in_slot s p) n)
-      (ap (λ z. searched (noting_load i.reading (in_slot s p) n) z (in_slot s p) n) i.state_is
-      ∙ nowhere (noting_load i.reading (in_slot s p) n)) i.key_is i.state_is i.here i.above
-
   module _ (s : ℕ) (b : Side) (w : View) (i : IsSearching v key (Missed s b) w) (slot : IsSlot k s) where
     pub needs_tag : IsAsked k w (SearchLoad s (part.Tag b))
     needs_tag = asks (Missed s b) (part.Tag b) w i slot
 
     module _ (tag : ℕ) (x : View) (first : Told k w (SearchLoad s (part.Tag b)) tag x) where
       tagged : (j : IsSearching v key (Missed s b) x) × (j.reading ≡ noting_load i.reading (Tag s b) tag)
-      tagged = stays s b (part.Tag b) tag w x i first (λ r. refl)
+      tagged = stays (Missed s b) s (part.Tag b) tag w x i first (λ r. refl)
 
       pub needs_life : IsAsked k x (SearchLoad s part.Life)
       needs_life = asks (Missed s b) part.Life x tagged.0 slot
 
       module _ (life : ℕ) (y : View) (second : Told k x (SearchLoad s part.Life) life y) where
         aged : (j : IsSearching v key (Missed s b) y) × (j.reading ≡ noting_load tagged.0.reading (Life s) life)
-        aged = stays s b part.Life life x y tagged.0 second (λ r. refl)
+        aged = stays (Missed s b) s part.Life life x y tagged.0 second (λ r. refl)
 
         pub still_inside : (section : Section) × (y.section ≡ Some section)
         still_inside = in_section (Missed s b) y aged.0

@@ -14,7 +14,6 @@ ghost use Rattle.citrus_tree.specs.Gone.{KeepsSlots, retired_marks};
 
 use crate::commit::{close_front, open_front};
 use core_points::stage::Node;
-use core_state::tag_field;
 use patience::Patience;
 use prcu_marks::Side;
 use seat_table::{CitrusTable, Part, Seat, WaitPart, steps};

@@ -11,7 +11,6 @@ ghost use Rattle.citrus_tree.specs.Deletes.{StandsAt, Comes, KeepsAll, KeepsRest
 
 use crate::lives::is_life;
 use core_points::stage::{Found, Node, Successor, Target};
-use core_state::side_field;
 use prcu_marks::Side;
 use seat_table::{CitrusTable, Part, Seat, WaitPart, steps};
 

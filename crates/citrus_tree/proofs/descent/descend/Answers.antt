@@ -2,6 +2,7 @@ use Rattle.std.proofs.Common.{◌∙◌, arith}
 use Rattle.seat_table.specs.Seats.{shape_of}
 use Rattle.citrus_tree.proofs.searches.Searching.{root_is, begun}
 use Rattle.seat_table.proofs.Rounding.{told_steps}
+use Rattle.citrus_tree.proofs.Rounds.{links_steps}
 use Rattle.citrus_tree.proofs.descent.descend.Goals as goal
 
 pub loop-round-init : goal.loop-round-init
@@ -26,9 +27,9 @@ loop-round-preserved g c = record {
   made =
       let made = c.loop-round.invariant.made in
       let loads = c.in-Moved.ensures.loads.1 in
-      let link = told_steps loads.2 in
+      let links = links_steps loads.2 in
       let key = told_steps loads.3 in
-      omega (arith, made, link, key);
+      omega (arith, made, links, key);
 }
 
 pub returns-in-Found-clause-searching : goal.returns-in-Found-clause-searching
