@@ -4,8 +4,12 @@ ghost use Rattle.prcu_marks.specs.Bounds.{most_front};
 ghost use Rattle.seat_table.specs.Rounds.{HasMade};
 ghost use Rattle.exact_list.specs.Fronts.{LosesFront, TakesFront};
 
+use core_state::linking;
 use patience::Patience;
 use seat_table::{CitrusTable, Seat, WaitWords, steps};
+
+/// How many exchanges it makes at most without a pause.
+const AT_ONCE: u64 = 8;
 
 // The number itself, or the next one, whichever is even.
 fn even_from(number: u64) -> u64
@@ -43,7 +47,10 @@ pub(crate) fn take_front<P: Patience, W: WaitWords>(
             return Ok(found);
         }
         expected = even_from(found);
-        patience.pause(&mut pauses)?;
+        // Where nobody has the front it tries again at once: beside a seat that never rests the number found is old after a pause.
+        if linking(found) || round % AT_ONCE == AT_ONCE - 1 {
+            patience.pause(&mut pauses)?;
+        }
     }
     Err(patience.tired())
 }
