@@ -22,11 +22,11 @@ private:
     std::unique_ptr<std::atomic<uint64_t>, Free> words_;
 };
 
-// The words of a slot that stand together. Beside them it has its state.
-enum Field { Lock, Life, Key, Value, Left, Right, LeftTag, RightTag };
+// The words of a slot beside its state: the first four are what a search loads on its way.
+enum Field { Key, Value, Left, Right, Lock, Life, LeftTag, RightTag };
 
-// What one thread writes alone stands on 128 bytes of its own, since a processor loads lines of 64 bytes in pairs. A slot but its state
-// is a line, and the states are a row behind the slots.
+// What one thread writes alone stands on 128 bytes of its own, since a processor loads lines of 64 bytes in pairs. The first four words of
+// all slots are a row, so that two slots share a line; behind it is the row of the other four, and behind that the row of the states.
 struct Spaced {
     static constexpr const char *suffix = "";
     static constexpr uint64_t apart = 16;
@@ -40,8 +40,10 @@ struct Spaced {
     // Of the third a place's row of stamps.
     static uint64_t stamps(uint32_t place) { return head + 64 * place; }
     static uint64_t stamps_end(uint32_t places) { return stamps(places); }
-    // A slot's words, which begin behind the waiter's, and its state, behind those of so many slots.
-    static uint64_t field(uint64_t base, uint32_t slot, Field field) { return base + 8 * uint64_t(slot) + field; }
+    // A slot's words, which begin behind the waiter's, and its state, in a table of so many slots.
+    static uint64_t field(uint64_t base, uint64_t slots, uint32_t slot, Field field) {
+        return field < Lock ? base + 4 * uint64_t(slot) + field : base + 4 * slots + 4 * uint64_t(slot) + (field - Lock);
+    }
     static uint64_t state(uint64_t base, uint64_t slots, uint32_t slot) { return base + 8 * slots + slot; }
 };
 
@@ -57,6 +59,6 @@ struct Packed {
     static uint64_t gates_end() { return gate(64); }
     static uint64_t stamps(uint32_t place) { return head + 64 * place; }
     static uint64_t stamps_end(uint32_t places) { return stamps(places); }
-    static uint64_t field(uint64_t base, uint32_t slot, Field field) { return base + 9 * uint64_t(slot) + 1 + field; }
+    static uint64_t field(uint64_t base, uint64_t, uint32_t slot, Field field) { return base + 9 * uint64_t(slot) + 1 + field; }
     static uint64_t state(uint64_t base, uint64_t, uint32_t slot) { return base + 9 * uint64_t(slot); }
 };

@@ -99,7 +99,8 @@ private:
         uint32_t slot = 0;
         Field side = Right;
         for (;;) {
-            const uint32_t child = at(slot, side).load();
+            const uint64_t left = at(slot, Left).load(), right = at(slot, Right).load();
+            const uint32_t child = side == Left ? left : right;
             if (child == 0) return {false, slot, 0, side};
             const uint64_t found = at(child, Key).load();
             if (found == key) return {true, child, slot, side};

@@ -5,15 +5,15 @@
 #include <algorithm>
 
 struct TreeSeat : Seat {
-    uint32_t hand = 0, spare = 0, seized = 0;
+    uint32_t hand = 0, spare = 0, looked = 0;
     uint64_t free = 0, front = 0;
-    std::vector<uint32_t> retired;
+    std::vector<uint32_t> retired, freed;
 };
 
 template <class W> class TreeSlots {
 public:
     using L = typename W::Layout;
-    static constexpr size_t most_retired = 15;
+    static constexpr size_t most_retired = 15, most_freed = 64;
 
     TreeSlots(uint32_t slots, uint32_t places)
         : slots_(slots), places_(places), base_(W::end(places)), words_(base_ + 9 * (uint64_t(slots) + places + 1)) {
@@ -28,12 +28,14 @@ public:
         seat.tickets = tickets;
         seat.spare = place + 1;
         seat.free = slots_;
+        seat.looked = places_ + uint64_t(place) * slots_ / places_;
         seat.retired.reserve(most_retired + 1);
+        seat.freed.reserve(most_freed);
         return seat;
     }
 
 protected:
-    std::atomic<uint64_t> &at(uint32_t slot, Field field) { return words_[L::field(base_, slot, field)]; }
+    std::atomic<uint64_t> &at(uint32_t slot, Field field) { return words_[L::field(base_, slots_ + places_ + 1, slot, field)]; }
     std::atomic<uint64_t> &front() { return words_[L::front]; }
     void enter(TreeSeat &seat, uint64_t key) { W::enter(words_, seat, key); }
     void leave(TreeSeat &seat) { W::leave(words_, seat); }
@@ -89,11 +91,21 @@ private:
             expected = found;
         }
         seat.tickets--;
-        uint32_t slot = seat.seized == 0 ? places_ + 1 + uint64_t(seat.place) * slots_ / places_ : next_slot(seat.seized);
-        while (exchange(state(slot), 0, 1) != 0) slot = next_slot(slot);
-        seat.hand = seat.seized = slot;
-        at(slot, Life).load();
+        seat.hand = seize(seat);
+        at(seat.hand, Life).load();
         return true;
+    }
+
+    // A free slot: the last that the place freed, where nobody has it by now, else the next in a round of all.
+    uint32_t seize(TreeSeat &seat) {
+        while (!seat.freed.empty()) {
+            const uint32_t slot = seat.freed.back();
+            seat.freed.pop_back();
+            if (exchange(state(slot), 0, 1) == 0) return slot;
+        }
+        do seat.looked = next_slot(seat.looked);
+        while (exchange(state(seat.looked), 0, 1) != 0);
+        return seat.looked;
     }
 
     uint32_t next_slot(uint32_t slot) const { return slot < slots_ + places_ ? slot + 1 : 1; }
@@ -107,6 +119,7 @@ private:
         raise_life(slot);
         state(slot).store(0);
         seat.free = words_[L::free_count].fetch_add(1) + 1;
+        if (seat.freed.size() < most_freed) seat.freed.push_back(slot);
     }
 
     void reclaim(TreeSeat &seat) {
