@@ -1,6 +1,7 @@
 -- What lists answer, of a caller before and after.
 -- Source: docs/TREE_CALLS.md, "Lists of a key range".
 use Rattle.std.specs.Prelude.{◌≡◌, ◌⊎◌, ℕ, ◌+◌, ◌<◌, ◌≤◌, List, [], ◌∷◌, ◌++◌, length, map, drop, Some, None}
+use Rattle.core_state.specs.memory.Bounds.{most_slots}
 use Rattle.key_interval.specs.Keys.{Interval, Holds}
 use Rattle.prcu_marks.specs.declared.mark.Side.{Side}
 use Rattle.prcu_marks.specs.declared.mark.Side.TheVariants.{Left, Right}
@@ -57,11 +58,11 @@ pub record IsUnwritten (was out : Output) : Type 0 where
 
 -- the arguments of a list are out of range: no key is between the two, or there is no room, or too much
 abbrev pub IsBadList : Interval → ℕ → Type 0
-IsBadList keys room = (keys.high < keys.low) ⊎ ((room ≡ 0) ⊎ (1048576 < room))
+IsBadList keys room = (keys.high < keys.low) ⊎ ((room ≡ 0) ⊎ (most_slots < room))
 
 pub record IsGoodList (keys : Interval) (room : ℕ) : Type 0 where
   pub some : keys.low ≤ keys.high
-  pub room_is : (1 ≤ room) × (room ≤ 1048576)
+  pub room_is : (1 ≤ room) × (room ≤ most_slots)
 
 -- The caller may go on, and nothing has changed.
 pub record IsLeft (c d : CallerAt) : Type 0 where

@@ -1,17 +1,22 @@
 -- What is answered where handles are opened, shared, opened again and asked what they have left.
 -- Source: docs/EMBEDDING.md, "Statuses".
-use Rattle.std.specs.Prelude.{◌≡◌, ℕ, ◌+◌, ◌<◌, ◌≤◌, true, Option, Some, None}
+use Rattle.std.specs.Prelude.{◌≡◌, ℕ, ◌+◌, ◌-◌, ◌*◌, ◌<◌, ◌≤◌, true, Option, Some, None}
+use Rattle.core_state.specs.memory.Bounds.{most_slots, most_places}
 use Rattle.tree_handles.specs.Callers.{CallerAt, IsFresh, IsShared, IsReopened}
 use Rattle.tree_handles.specs.Calls.{StaysInside}
 use Rattle.tree_handles.specs.Lists.{IsLeft}
 use Rattle.tree_handles.specs.declared.status.Status.{Status}
 use Rattle.tree_handles.specs.declared.status.Status.TheVariants.{Done, Unchanged, BadArgument, NoMemory, Lost, Holds}
 
--- An index can be made for so many pairs and handles, with this waiter. The most pairs are those for which there are slots enough, 2,097,152,
--- beside what 64 handles may keep back, each its room and four.
+-- the most pairs, with every number of handles: those for which there are slots enough beside what so many handles may keep back, each its
+-- room and four
+abbrev pub most_pairs : ℕ
+most_pairs = most_slots - 68 * most_places
+
+-- An index can be made for so many pairs and handles, with this waiter.
 pub record CanOpen (pairs handles way : ℕ) : Type 0 where
-  pub pairs_are : (1 ≤ pairs) × (pairs ≤ 2092800)
-  pub handles_are : (1 ≤ handles) × (handles ≤ 64)
+  pub pairs_are : (1 ≤ pairs) × (pairs ≤ most_pairs)
+  pub handles_are : (1 ≤ handles) × (handles ≤ most_places)
   pub way_is : way ≤ 2
 
 -- What an open answers, of what the handle holds before and after.

@@ -1,11 +1,12 @@
 //! What a handle leads to, whatever its waiter.
 ghost use Rattle.std.specs.Prelude.{◌≡◌, ◌≤◌, ◌<◌, ◌+◌, false, MatchBool, IfOk, IfErr, IfNone, IfSome};
+ghost use Rattle.core_state.specs.memory.Bounds.{most_places};
 ghost use Rattle.tree_handles.specs.Begun.{HasStarted, Polls};
 ghost use Rattle.tree_handles.specs.Callers.{MayGoOn, IsFresh, IsShared, IsReopened};
 ghost use Rattle.tree_handles.specs.Calls.{IsCalled, IsCompared, IsLost, TakesOut, CausedBy, IsHinderedBy, IsStoppedBy};
 ghost use Rattle.tree_handles.specs.Holds.{HasHeld, HasOutwaited, IsEntered, LeavesSection};
 ghost use Rattle.tree_handles.specs.Lists.{Lists, Seeks};
-ghost use Rattle.tree_handles.specs.Opening.{FailsToReopen};
+ghost use Rattle.tree_handles.specs.Opening.{FailsToReopen, most_pairs};
 ghost use Rattle.tree_handles.specs.Tidying.{GivesBack, HasNoneBack, LiftsWay};
 
 use crate::caller::Caller;
@@ -54,8 +55,8 @@ impl AnyCaller {
         handles: u32,
         waiter: u32,
     ) -> Result<AnyCaller, NoMemory>
-        requires pairs { (1 ≤ pairs) × (pairs ≤ 2092800) }
-        requires handles { (1 ≤ handles) × (handles ≤ 64) }
+        requires pairs { (1 ≤ pairs) × (pairs ≤ most_pairs) }
+        requires handles { (1 ≤ handles) × (handles ≤ most_places) }
         requires waiter { waiter ≤ 2 }
         ensures { IfOk result (λ caller. IsFresh waiter pairs handles caller) }
     {

@@ -3,9 +3,10 @@ ghost use Rattle.std.specs.Prelude.{◌≡◌, ◌≤◌, ◌<◌, ◌+◌, fals
 ghost use Rattle.seat_table.specs.Seats.{IsQuietSeat};
 ghost use Rattle.core_state.specs.steps.Seating.{first_of, second_of};
 ghost use Rattle.seat_table.specs.Gains.{IsInformed};
+ghost use Rattle.core_state.specs.memory.Bounds.{most_places};
 ghost use Rattle.tree_handles.specs.Begun.{HasStarted, Polls};
 ghost use Rattle.tree_handles.specs.Callers.{IsSameCaller, MayGoOn, IsFresh, IsShared, IsReopened};
-ghost use Rattle.tree_handles.specs.Opening.{FailsToReopen};
+ghost use Rattle.tree_handles.specs.Opening.{FailsToReopen, most_pairs};
 ghost use Rattle.tree_handles.specs.Calls.{ComesBehind, IsCalled, IsCompared, IsLost, TakesOut, CausedBy, IsHinderedBy, IsStoppedBy};
 ghost use Rattle.tree_handles.specs.Holds.{HasHeld, HasOutwaited, IsEntered, LeavesSection};
 ghost use Rattle.tree_handles.specs.Lists.{Lists, Seeks};
@@ -72,6 +73,7 @@ impl<W: WaitPart> Model for Caller<W> {
     ghost use Rattle.std.specs.Arc.{arc_value};
     ghost use Rattle.seat_table.specs.Seats.{shape_of};
     ghost use Rattle.seat_table.specs.Sections.{IsQuietReader};
+    ghost use Rattle.core_state.specs.memory.Bounds.{most_places};
     ghost use Rattle.tree_handles.specs.Begun.{HasCookie};
     ghost use Rattle.tree_handles.specs.Callers.{CallerAt};
 
@@ -129,8 +131,8 @@ impl<W: WaitPart> Caller<W> {
     /// The first caller on a new table in which so many pairs always fit, and 68 more, for so many handles, with all tickets.
     pub(crate) fn new(alloc: Global, pairs: u32, handles: u32) -> Result<Caller<W>, NoMemory>
         requires way { W.WAY ≤ 2 }
-        requires pairs { (1 ≤ pairs) × (pairs ≤ 2092800) }
-        requires handles { (1 ≤ handles) × (handles ≤ 64) }
+        requires pairs { (1 ≤ pairs) × (pairs ≤ most_pairs) }
+        requires handles { (1 ≤ handles) × (handles ≤ most_places) }
         ensures { IfOk result (λ caller. IsFresh W.WAY pairs handles caller) }
     {
         // For the first handle too: where so many pairs are there, a turn finds slots free, or gets those that its handle kept back. Without

@@ -10,7 +10,7 @@ use prcu_marks::Side;
 use std::alloc::Global;
 
 /// How many pairs a list has room for at most.
-const MOST_ROOM: usize = 1_048_576;
+const MOST_ROOM: usize = 1_073_741_824;
 
 /// A pair of the index.
 #[repr(C)]

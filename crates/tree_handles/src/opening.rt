@@ -8,10 +8,10 @@ use crate::status::Status;
 use std::alloc::Global;
 
 /// How many slots a table has at most.
-const MOST_SLOTS: u32 = 2_097_152;
+const MOST_SLOTS: u32 = 1_073_741_824;
 
 /// How many handles an index has at most.
-const MOST_HANDLES: u32 = 64;
+const MOST_HANDLES: u32 = 1024;
 
 /// For how many pairs it is opened at most: so many fit with every number of handles.
 const MOST_PAIRS: u32 = MOST_SLOTS - KEPT_BACK * MOST_HANDLES;
@@ -20,7 +20,7 @@ const MOST_PAIRS: u32 = MOST_SLOTS - KEPT_BACK * MOST_HANDLES;
 const LAST_WAITER: u32 = 2;
 
 impl Handle {
-    /// Opens the handle on a new index in which so many pairs always fit (1 to 2,092,800), for so many handles (1 to 64), with a waiter: 0
+    /// Opens the handle on a new index in which so many pairs always fit (1 to 1,073,672,192), for so many handles (1 to 1,024), with a waiter: 0
     /// looks at each reader, 1 counts readers by class, 2 looks at readers by class. The handle has all 2^57 tickets. What it was open on
     /// before is closed. The index has a slot for each pair, and 68 for each handle, which may keep back so many.
     ///
