@@ -1,4 +1,4 @@
-/* Citrus: an ordered index from 64-bit keys to 64-bit values, in memory, that up to 64 threads use at once.
+/* Citrus: an ordered index from 64-bit keys to 64-bit values, in memory, that up to 1,024 threads use at once.
  *
  * Lookups take no lock and wait for nobody; updates lock the few nodes that they change. Each thread calls through a handle of its own, and
  * looks at each status, which is left out here:
@@ -78,8 +78,9 @@ static inline citrus_handle citrus_closed_handle(void) {
     return closed;
 }
 
-#define CITRUS_MAX_PAIRS 2092800u
-#define CITRUS_MAX_HANDLES 64u
+/* 2^30, less the 68 slots that are set aside for each of 1,024 handles. */
+#define CITRUS_MAX_PAIRS 1073672192u
+#define CITRUS_MAX_HANDLES 1024u
 #define CITRUS_MAX_ROOM 1048576u
 /* 2^57: what the first handle of an index has. At a million updates a second, 16 tickets each, they last 280 years. */
 #define CITRUS_ALL_TICKETS 144115188075855872u
@@ -162,7 +163,7 @@ void citrus_close(citrus_handle *handle);
 
 /* Makes `other`, which must be closed, a handle of the index, with all that one handle had which was closed: whose it was isn't told, and
  * citrus_left tells what it has. So threads that come and go may close their handles and open them again without end, while one handle of
- * the index stays open. It waits for nobody: it looks at the places, 64 at most, and again only where another reopen was first. It takes
+ * the index stays open. It waits for nobody: it looks at the places, one after the other, and again only where another reopen was first. It takes
  * half a kilobyte of memory.
  * DONE; UNCHANGED where no closed handle left a place; CLOSED; BAD_ARGUMENT where `other` is open; NO_MEMORY, and the place is left still;
  * LOST, where `handle` is. `handle` is as it was, and at all but DONE `other` too. */

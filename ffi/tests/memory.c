@@ -6,20 +6,25 @@ void *__real_malloc(size_t bytes);
 void *__real_realloc(void *at, size_t bytes);
 void __real_free(void *at);
 
-/* How many allocations go well before one fails, if one is to fail; and how many blocks are held. */
+/* How many allocations go well before one fails, if one is to fail; how large a block may be; how large the largest was that was asked for;
+ * and how many blocks are held. */
 static _Atomic int64_t until_failure = INT64_MAX;
+static _Atomic size_t most_bytes = SIZE_MAX, bytes_asked;
 static _Atomic int64_t held;
 
-static int is_refused(void) { return --until_failure < 0; }
+static int is_refused(size_t bytes) {
+    if (bytes > bytes_asked) bytes_asked = bytes;
+    return --until_failure < 0 || bytes > most_bytes;
+}
 
 void *__wrap_malloc(size_t bytes) {
-    void *at = is_refused() ? NULL : __real_malloc(bytes);
+    void *at = is_refused(bytes) ? NULL : __real_malloc(bytes);
     held += at != NULL;
     return at;
 }
 
 void *__wrap_realloc(void *at, size_t bytes) {
-    void *moved = is_refused() ? NULL : __real_realloc(at, bytes);
+    void *moved = is_refused(bytes) ? NULL : __real_realloc(at, bytes);
     held += at == NULL && moved != NULL;
     return moved;
 }
@@ -95,6 +100,19 @@ static void each_allocation_fails(uint32_t waiter) {
     WANT(told, 100);
     citrus_close(&other_here);
     citrus_close(&index_here);
+    WANT(held, before);
+}
+
+/* What the index of the most pairs asks for, 72 bytes for each, is more than most machines have. Here it isn't given, so that none tries. */
+static void the_largest_index_asks_for_its_memory(uint32_t waiter) {
+    const int64_t before = held;
+    bytes_asked = 0;
+    most_bytes = 1 << 30;
+    WANT(citrus_open(&index_here, CITRUS_MAX_PAIRS, CITRUS_MAX_HANDLES, waiter), CITRUS_NO_MEMORY);
+    WANT(bytes_asked / CITRUS_MAX_PAIRS, 72);
+    WANT(citrus_open(&index_here, CITRUS_MAX_PAIRS + 1, 1, waiter), CITRUS_BAD_ARGUMENT);
+    most_bytes = SIZE_MAX;
+    WANT(index_here.at == NULL, 1);
     WANT(held, before);
 }
 
@@ -187,6 +205,7 @@ static void handles_are_closed_beside_updates(uint32_t waiter) {
 
 static const struct waiter_case waiter_cases[] = {
     {"each allocation fails in turn", each_allocation_fails},
+    {"the largest index asks for its memory", the_largest_index_asks_for_its_memory},
     {"updates, firsts and sections take no memory", updates_firsts_and_sections_take_no_memory},
     {"handles are closed beside updates", handles_are_closed_beside_updates},
 };

@@ -37,7 +37,7 @@
 //! # Ok::<(), citrus_map::Error>(())
 //! ```
 //!
-//! Each has a pool of up to 64 handles. Each thread takes a [`Handle`] or a [`MapHandle`] and makes its calls with that; the handle goes back
+//! Each has a pool of up to 1,024 handles. Each thread takes a [`Handle`] or a [`MapHandle`] and makes its calls with that; the handle goes back
 //! to the pool when it is dropped.
 //!
 //! # While a value is read
@@ -67,7 +67,7 @@
 //! - A list that updates came in between in four tries keeps them off for a walk, some 30 ns a pair: see [`Handle::page`].
 //!
 //! # Limits
-//! An index for 2,092,800 pairs, 64 handles, and 2^53 updates divided by the number of handles. No call from a signal handler, or from the
+//! An index for 1,073,672,192 pairs, 1,024 handles, and 2^53 updates divided by the number of handles. No call from a signal handler, or from the
 //! child of a `fork` of a program with threads.
 //!
 //! The crate needs Rust 1.63 and the library, which `build.rs` finds by pkg-config (`citrus.pc`) or in the folder `CITRUS_LIB_DIR`.
@@ -99,9 +99,9 @@ pub use map::{Guard, Map, MapHandle, Refused, MOST_RETIRED};
 pub use waits::{Cookie, GracePeriod, Tidied};
 
 /// The greatest number of pairs that an index can be made for.
-pub const MAX_PAIRS: u32 = 2_092_800;
+pub const MAX_PAIRS: u32 = 1_073_672_192;
 /// The greatest number of handles of an index.
-pub const MAX_HANDLES: u32 = 64;
+pub const MAX_HANDLES: u32 = 1_024;
 /// The greatest number of pairs that one list tells.
 pub const MAX_ROOM: usize = 1_048_576;
 
