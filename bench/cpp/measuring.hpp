@@ -4,6 +4,7 @@
 // the means for one more.
 #pragma once
 #include "mixes.hpp"
+#include "size.hpp"
 #include <algorithm>
 #include <chrono>
 #include <cinttypes>
@@ -16,13 +17,15 @@
 
 using Clock = std::chrono::steady_clock;
 
-enum class Subject { Calls, Keys, Places, Crowd };
+enum class Subject { Calls, Keys, Places, Crowd, Crush, Size };
 
 struct Options {
     Subject subject = Subject::Calls;
     uint32_t operations = 100000; // of each thread
     double seconds = 1;           // a cell ends when they have passed
     bool packed = false;
+    std::string only; // the series that is measured, or all
+    Size size;
 };
 
 inline Options options_of(int count, char **words) {
@@ -33,15 +36,24 @@ inline Options options_of(int count, char **words) {
         if (word == "--operations") options.operations = number();
         else if (word == "--seconds") options.seconds = number();
         else if (word == "--packed") options.packed = true;
+        else if (word == "--only") options.only = ++i < count ? words[i] : "";
+        else if (word == "--pairs") options.size.pairs = uint64_t(number());
+        else if (word == "--threads") options.size.threads = uint32_t(number());
         else if (word == "calls") options.subject = Subject::Calls;
         else if (word == "keys") options.subject = Subject::Keys;
         else if (word == "places") options.subject = Subject::Places;
         else if (word == "crowd") options.subject = Subject::Crowd;
+        else if (word == "crush") options.subject = Subject::Crush;
+        else if (word == "size") options.subject = Subject::Size;
         else {
-            fprintf(stderr, "usage: %s [--operations N] [--seconds S] [--packed] calls|keys|places|crowd\n", words[0]);
+            fprintf(stderr,
+                    "usage: %s [--operations N] [--seconds S] [--packed] [--only SERIES] calls|keys|places|crowd|crush\n"
+                    "       %s [--operations N] [--pairs N] [--threads N] [--only SERIES] size\n",
+                    words[0], words[0]);
             exit(2);
         }
     }
+    options.size.operations = options.operations;
     return options;
 }
 
@@ -117,6 +129,7 @@ struct Room {
 
 // Measures all cells of the subject, each on a dictionary of its own: `make(room)`.
 template <class Make> void measure_all(const std::string &name, const Options &options, const Make &make) {
+    if (!options.only.empty() && options.only != name) return;
     const auto cell = [&](const auto &mix, Crew crew) {
         const auto dictionary = make(Room{mix.keys, crew.places, options.operations});
         measure(*dictionary, name, mix, crew, options);
@@ -136,6 +149,16 @@ template <class Make> void measure_all(const std::string &name, const Options &o
         break;
     case Subject::Crowd:
         for (const uint32_t threads : {1, 2, 4, 8, 16, 32, 64}) cell(Uniform<90, 20000>{}, {threads, threads});
+        break;
+    // More threads than processors.
+    case Subject::Crush:
+        for (const uint32_t threads : {4, 16, 64}) {
+            cell(Uniform<90, 20000>{}, {threads, threads});
+            cell(Uniform<50, 1000>{}, {threads, threads});
+        }
+        break;
+    case Subject::Size:
+        measure_size(name, options.size, [&](uint64_t pairs) { return make(Room{pairs, options.size.threads, 2 * options.operations}); });
         break;
     }
 }

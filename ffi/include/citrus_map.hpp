@@ -18,12 +18,16 @@
 #include "citrus.hpp"
 // In an older language that header says so, and this one says nothing more.
 #if __cplusplus >= 201703L
+#include "citrus_turns.hpp"
 #include <algorithm>
 #include <atomic>
 #include <memory>
 #include <thread>
 
 namespace citrus {
+
+// Whether the updates of a map's objects go beside each other, or take turns: see citrus_turns.hpp.
+enum class updates { beside, in_turn };
 
 // A value that is read, and stays meanwhile; or none. It is for a moment, as a lock is: updates of its key wait for it.
 template <class T> class held {
@@ -58,7 +62,8 @@ public:
     };
 
     // The first map object of a new map, in which so many pairs always fit. Throws bad_argument or no_memory.
-    map(uint32_t pairs, uint32_t objects, waiter how = waiter::eer) : map(handle(pairs, objects, how), objects) {}
+    map(uint32_t pairs, uint32_t objects, waiter how = waiter::eer, updates go = updates::beside)
+        : map(handle(pairs, objects, how), objects, go) {}
 
     map(map &&) noexcept = default;
 
@@ -139,7 +144,7 @@ public:
     // Takes the pair out, where the key is present: its value, when its readers are gone. Where it throws then, the value is retired.
     std::unique_ptr<T> remove(uint64_t key) {
         make_room();
-        const auto old = own_->at.remove(key);
+        const auto old = take_out(key);
         if (!old) return nullptr;
         return outwait({key, *old});
     }
@@ -157,7 +162,7 @@ public:
     // this one waits only where most_retired are kept.
     bool retire(uint64_t key) {
         make_room();
-        const auto old = own_->at.remove(key);
+        const auto old = take_out(key);
         if (!old) return false;
         own_->retired.push_back({key, *old});
         settle();
@@ -213,8 +218,10 @@ private:
     struct common {
         std::atomic<size_t> users{0};
         std::vector<hazard> hazards;
+        const updates go;
+        turns update_turns;
 
-        explicit common(uint32_t objects) : hazards(objects) {}
+        common(uint32_t objects, updates how) : hazards(objects), go(how) {}
 
         // There are as many as handles, and each is given back before its handle is.
         hazard &take_hazard() {
@@ -251,11 +258,14 @@ private:
         hazard &at_;
     };
 
+    // No wait has this cookie.
+    static constexpr uint64_t no_cookie = UINT64_MAX;
+
     std::unique_ptr<own> own_;
 
     explicit map(std::unique_ptr<own> &&its) noexcept : own_(std::move(its)) {}
 
-    map(handle &&first, uint32_t objects) : own_(std::make_unique<own>(std::move(first), std::make_shared<common>(objects))) {}
+    map(handle &&first, uint32_t objects, updates go) : own_(std::make_unique<own>(std::move(first), std::make_shared<common>(objects, go))) {}
 
     static uint64_t address_of(const T *object) noexcept { return reinterpret_cast<uintptr_t>(object); }
 
@@ -264,11 +274,24 @@ private:
         return pair->key;
     }
 
+    // Makes an update of the index: in its turn, where updates take turns. Whoever has one may wait for the section of this map object, so
+    // where it is in one it is refused before it asks for a turn.
+    template <class Update> auto in_turn(Update update) {
+        if (own_->all->go == updates::beside) return update();
+        static_cast<void>(own_->at.poll(no_cookie));
+        const std::lock_guard<turns> turn(own_->all->update_turns);
+        return update();
+    }
+
+    std::optional<uint64_t> take_out(uint64_t key) {
+        return in_turn([&] { return own_->at.remove(key); });
+    }
+
     // Where a call gave up, the object may be in the index, so it is left there.
-    template <class Call> static auto offer(std::unique_ptr<T> &value, Call call) {
+    template <class Call> auto offer(std::unique_ptr<T> &value, Call call) {
         if (!value) throw error(fault::bad_argument);
         try {
-            return call(address_of(value.get()));
+            return in_turn([&] { return call(address_of(value.get())); });
         } catch (const error &told) {
             if (told.why() == fault::lost) static_cast<void>(value.release());
             throw;

@@ -200,8 +200,8 @@ static void values_that_are_refused(uint32_t waiter) {
     WANT(mine.get(5)->is_of(5), true);
 }
 
-static void a_held_value_refuses_other_calls(uint32_t waiter) {
-    objects mine(10, 2, static_cast<citrus::waiter>(waiter));
+static void a_held_value_refuses(uint32_t waiter, citrus::updates go) {
+    objects mine(10, 2, static_cast<citrus::waiter>(waiter), go);
     mine.insert(5, make(5));
     citrus::held<object> held = mine.get(5);
     std::unique_ptr<object> value = make(6);
@@ -227,6 +227,26 @@ static void a_held_value_refuses_other_calls(uint32_t waiter) {
     held.release();
     WANT(bool(held), false);
     WANT(mine.retire(7), true);
+}
+
+static void a_held_value_refuses_other_calls(uint32_t waiter) {
+    for (const auto go : {citrus::updates::beside, citrus::updates::in_turn}) a_held_value_refuses(waiter, go);
+}
+
+// The removal has its turn and waits for the held value, since its node has two children and the held one's key is the next.
+static void a_held_value_asks_for_no_turn(uint32_t waiter) {
+    objects mine(10, 2, static_cast<citrus::waiter>(waiter), citrus::updates::in_turn), other = mine.share();
+    for (const uint64_t key : {5, 3, 7}) mine.insert(key, make(key));
+    citrus::held<object> held = mine.get(7);
+    std::atomic<bool> is_told{false};
+    std::thread remover([&] { is_told = other.remove(5)->is_of(5); });
+    std::this_thread::sleep_for(std::chrono::milliseconds(20));
+    WANT(is_refused(citrus::fault::holds, [&] { mine.remove(3); }), true);
+    WANT(held->is_of(7), true);
+    held.release();
+    remover.join();
+    WANT(is_told, true);
+    WANT(mine.remove(3)->is_of(3), true);
 }
 
 // Those that are retired are dropped by later calls, by a wait once there are many, and by the end of the map object; and none that is held.
@@ -295,11 +315,11 @@ static void work(objects &mine, uint64_t seed, uint64_t keys, std::atomic<long> 
     }
 }
 
-static void threads_read_and_take_out(uint32_t waiter) {
+static void read_and_take_out(uint32_t waiter, citrus::updates go) {
     for (const uint64_t keys : {4, 300}) {
         std::atomic<long> read{0}, wrong{0};
         {
-            objects first(300, 5, static_cast<citrus::waiter>(waiter));
+            objects first(300, 5, static_cast<citrus::waiter>(waiter), go);
             std::vector<std::thread> threads;
             for (uint64_t number = 1; number <= 4; number++)
                 threads.emplace_back([number, keys, &read, &wrong, mine = first.share()]() mutable { work(mine, number, keys, read, wrong); });
@@ -311,6 +331,9 @@ static void threads_read_and_take_out(uint32_t waiter) {
     }
 }
 
+static void threads_read_and_take_out(uint32_t waiter) { read_and_take_out(waiter, citrus::updates::beside); }
+static void threads_take_turns(uint32_t waiter) { read_and_take_out(waiter, citrus::updates::in_turn); }
+
 static const waiter_case waiter_cases[] = {
     {"C++ map: answers", answers},
     {"C++ map: ranges", ranges},
@@ -321,6 +344,8 @@ static const waiter_case waiter_cases[] = {
     {"C++ map: a held value refuses other calls", a_held_value_refuses_other_calls},
     {"C++ map: retired values are dropped", retired_values_are_dropped},
     {"C++ map: threads read and take out", threads_read_and_take_out},
+    {"C++ map: threads whose updates take turns read and take out", threads_take_turns},
+    {"C++ map: who holds a value is refused before it waits for a turn", a_held_value_asks_for_no_turn},
 };
 
 static const plain_case plain_cases[] = {{"C++ map: map objects are shared and moved", map_objects_are_shared_and_moved}};

@@ -1,6 +1,7 @@
 use crate::handle::Handle;
 use crate::library::{citrus_open, citrus_share, status, RawHandle};
 use crate::sections::Sections;
+use crate::turns::Turns;
 use crate::{Error, ALL_TICKETS, MAX_HANDLES, MAX_PAIRS};
 use std::fmt;
 use std::sync::atomic::{AtomicU64, Ordering::Relaxed};
@@ -18,16 +19,18 @@ pub(crate) struct Pool {
     free: Mutex<Vec<Placed>>,
     /// The threads that are in sections of the index.
     pub(crate) sections: Sections,
+    /// The turns of updates, where they take turns.
+    pub(crate) turns: Option<Turns>,
     /// No two indexes of the process have the same number.
     pub(crate) number: u64,
 }
 
 impl Pool {
-    fn new(handles: Vec<RawHandle>) -> Pool {
+    fn new(handles: Vec<RawHandle>, turns: Option<Turns>) -> Pool {
         static NEXT: AtomicU64 = AtomicU64::new(0);
         let sections = Sections::new(handles.len());
         let free = handles.into_iter().enumerate().map(|(place, raw)| Placed { raw, place }).collect();
-        Pool { free: Mutex::new(free), sections, number: NEXT.fetch_add(1, Relaxed) }
+        Pool { free: Mutex::new(free), sections, turns, number: NEXT.fetch_add(1, Relaxed) }
     }
 
     fn free(&self) -> MutexGuard<'_, Vec<Placed>> {
@@ -78,12 +81,26 @@ pub struct Builder {
     pairs: u32,
     handles: u32,
     waiter: Waiter,
+    in_turn: bool,
 }
 
 impl Builder {
     /// The way in which removals wait; [`Waiter::Eer`] where nothing is said. All three answer the same.
     pub fn waiter(self, waiter: Waiter) -> Builder {
         Builder { waiter, ..self }
+    }
+
+    /// Whether updates take turns, one at a time; they don't where nothing is said. It is for programs with many more threads that update than
+    /// processors: there an update of the library spins for a thread that the system has stopped, while one that waits for its turn yields
+    /// the processor, and then sleeps. With as many threads as processors turns make updates slower. Lookups, lists and waits take none.
+    ///
+    /// ```
+    /// let index = citrus_map::Index::builder(1_000, 100).updates_in_turn(true).build()?;
+    /// assert_eq!(index.handle()?.insert(5, 50), Ok(true));
+    /// # Ok::<(), citrus_map::Error>(())
+    /// ```
+    pub fn updates_in_turn(self, in_turn: bool) -> Builder {
+        Builder { in_turn, ..self }
     }
 
     /// Makes the index, with nothing in it. It takes all its memory at once.
@@ -96,7 +113,7 @@ impl Builder {
 
     /// The same with so many tickets in all, which its handles share.
     pub(crate) fn build_with(self, tickets: u64) -> Result<Index, Error> {
-        let Builder { pairs, handles, waiter } = self;
+        let Builder { pairs, handles, waiter, in_turn } = self;
         if !(1..=MAX_PAIRS).contains(&pairs) {
             return Err(Error::Pairs);
         }
@@ -114,7 +131,7 @@ impl Builder {
             all.push(other);
         }
         all.push(first);
-        Ok(Index { pairs, handles, pool: Arc::new(Pool::new(all)) })
+        Ok(Index { pairs, handles, pool: Arc::new(Pool::new(all, in_turn.then(Turns::default))) })
     }
 }
 
@@ -160,7 +177,7 @@ impl Index {
 
     /// The same as [`Index::new`], with more to say before the index is made.
     pub fn builder(pairs: u32, handles: u32) -> Builder {
-        Builder { pairs, handles, waiter: Waiter::default() }
+        Builder { pairs, handles, waiter: Waiter::default(), in_turn: false }
     }
 
     /// A handle for a thread. It goes back to the index when it is dropped.

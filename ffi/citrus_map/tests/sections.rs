@@ -148,6 +148,22 @@ fn each_call_leaves_the_section_of_a_forgotten_guard() {
     assert_eq!((index.free_handles(), other.wait(..)), (1, Ok(())));
 }
 
+/// The removal has its turn and waits for the forgotten section, since its node has two children and the section's key is the next one.
+#[test]
+fn a_forgotten_section_is_left_before_its_handle_waits_for_a_turn() {
+    let index = Index::builder(100, 2).updates_in_turn(true).build().unwrap();
+    let (mut reader, writer) = (index.handle().unwrap(), index.handle().unwrap());
+    for key in [5, 3, 7] {
+        reader.insert(key, key).unwrap();
+    }
+    forget(reader.hold(7).unwrap().unwrap());
+    thread::scope(|scope| {
+        scope.spawn(move || assert_eq!(writer.remove(5), Ok(Some(5))));
+        thread::sleep(Duration::from_millis(20));
+        assert_eq!(reader.insert(9, 9), Ok(true));
+    });
+}
+
 #[test]
 fn a_tree_is_tidied_range_by_range() {
     let index = Index::new(2_000, 1).unwrap();
