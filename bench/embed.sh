@@ -21,11 +21,10 @@ while [ $# -gt 0 ]; do
     shift 2
 done
 
-"$top/ffi/install.sh" "$out/installed" "${archive[@]}"
-# The archive, and the shared library.
-embed=(g++ -O2 -std=c++17 -pthread "-I$out/installed/include" "$top/bench/cpp/embed.cpp" "-L$out/installed/lib")
-"${embed[@]}" '-DLIBRARY="C library"' -lcitrus -o "$out/embed"
-"${embed[@]}" '-DLIBRARY="shared C library"' -l:libcitrus.so.0 "-Wl,-rpath,$out/installed/lib" -o "$out/embed_shared"
+build_library "${archive[@]}"
+# The same over the shared library.
+g++ -O2 -std=c++17 -pthread "-I$out/installed/include" "$top/bench/cpp/embed.cpp" "-L$out/installed/lib" '-DLIBRARY="shared C library"' \
+    -l:libcitrus.so.0 "-Wl,-rpath,$out/installed/lib" -o "$out/embed_shared"
 build_cpp locked
 peers=("$out/embed" "$out/embed_shared" "$out/locked")
 ! build_with oneapi/tbb/concurrent_map.h libtbb-dev tbb tbb || peers+=("$out/tbb")

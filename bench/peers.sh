@@ -26,6 +26,13 @@ build_with() {
     build_cpp "$3" "$4"
 }
 
+# Installs the C library, the proved one or that of an archive, and builds the program over it: `build_library [ARCHIVE]`.
+build_library() {
+    "$top/ffi/install.sh" "$out/installed" "$@"
+    g++ -O2 -std=c++17 -pthread "-I$out/installed/include" "$top/bench/cpp/embed.cpp" "-L$out/installed/lib" '-DLIBRARY="C library"' -lcitrus \
+        -o "$out/embed"
+}
+
 # Builds the program on BTreeMap, with the locks of parking_lot where Debian's sources of it are there.
 build_btree() {
     local sources=/usr/share/cargo/registry folder=$top/bench/btree

@@ -103,6 +103,34 @@ writers() {
         }' "$1"
 }
 
+# More threads than processors, medians.
+crowded() {
+    head_of gets keys threads 'the C library' 'updates in turn' 'C++, which yields' TBB 'BTreeMap, parking_lot Mutex' RwLock
+    awk -F, '/^#/ || /^series/ { next }
+        {
+            row = $2 "," $3 "," $4
+            if (!(row in seen)) { seen[row]; order[++rows] = row }
+            median[$1, row] = $7
+        }
+        function ns(name, row) { return (name, row) in median ? sprintf("%.0f", median[name, row]) : "-" }
+        END {
+            split("C library first;C library first in turn;C++ first;TBB map;BTreeMap under parking_lot Mutex;BTreeMap under parking_lot RwLock", names, ";")
+            for (i = 1; i <= rows; i++) {
+                split(order[i], part, ",")
+                line = "| " part[1] " | " part[2] " | " part[3]
+                for (n = 1; n <= 6; n++) line = line " | " ns(names[n], order[i])
+                print line " |"
+            }
+        }' "$1"
+}
+
+# Indexes of many pairs: a row for each process.
+size() {
+    head_of pairs threads pages what 'to open, s' 'MB for it' 'MB then' 'ns to fill, a pair' 'ns a get' 'ns mixed'
+    awk -F, '/^#/ || /^pages/ { next } { print $3, $4, $1, $2, $5, $9, $11, $6, $7, $8, $12 }' OFS=, "$1" | sort -t, -k1,1n -k2,2n -k3,3r -s |
+        awk -F, '{ printf "| %s | %s | %s | %s | %s | %s | %s | %.0f | %.0f | %.0f |\n", $1, $2, $3, $4, $5, $6, $7, $8, $9, $10 }'
+}
+
 shapes() {
     head_of 'keys come' keys threads 'ns a put' 'slots of a way' 'times log2 of the keys' 'longest way'
     awk -F, '/^#/ || /^order/ { next } { printf "| %s | %s | %s | %s | %s | %s | %s |\n", $1, $2, $3, $4, $5, $6, $7 }' "$1"
@@ -246,8 +274,8 @@ if [ $# -gt 0 ]; then
 fi
 out=$top/bench/out
 mkdir -p "$out"
-for name in tree waits lists writers shapes threads text limits cookies embed rust_map server; do
-    [ -e "$results/$name.csv" ] || continue
+for name in tree waits lists writers shapes threads text limits cookies embed crowded size rust_map server; do
+    [ -e "$results/$name.csv" ] && grep -qxF "<!-- $name -->" "$top/docs/BENCHMARKS.md" "$top/bench/TABLES.md" || continue
     { echo; table "$name"; echo; } >"$out/table"
     put_in "$name" "$out/table"
 done

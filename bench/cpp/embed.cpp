@@ -1,44 +1,63 @@
-// The C library, as a program that links it sees it: an index for each waiter, and a handle for each place.
+// The C library, as a program that links it sees it: an index for each waiter, and a handle for each place. Where more threads than
+// processors are measured there is one more series, of updates that take turns.
 #include "client.hpp"
 #include "measuring.hpp"
 #include <citrus.hpp>
+#include <citrus_turns.hpp>
 #include <optional>
 
-struct HandlePlace {
-    citrus::handle &handle;
-
-    std::optional<uint64_t> get(uint64_t key) { return handle.get(key); }
-    bool put(uint64_t key, uint64_t value) { return handle.insert(key, value); }
-    bool del(uint64_t key) { return handle.remove(key).has_value(); }
+struct NoTurns {
+    void lock() {}
+    void unlock() {}
 };
 
-struct HandleClient {
-    HandlePlace place;
+template <class Turns> struct HandlePlace {
+    citrus::handle &handle;
+    Turns &turns;
+
+    std::optional<uint64_t> get(uint64_t key) { return handle.get(key); }
+
+    bool put(uint64_t key, uint64_t value) {
+        const std::lock_guard<Turns> turn(turns);
+        return handle.insert(key, value);
+    }
+
+    bool del(uint64_t key) {
+        const std::lock_guard<Turns> turn(turns);
+        return handle.remove(key).has_value();
+    }
+};
+
+template <class Turns> struct HandleClient {
+    HandlePlace<Turns> place;
 
     bool may_call() const { return true; }
-    uint64_t call(const Op &op) { return PlainClient<HandlePlace>{place}.call(op); }
+    uint64_t call(const Op &op) { return PlainClient<HandlePlace<Turns>>{place}.call(op); }
 };
 
 // An index with room for each key.
-class IndexOfRoom {
+template <class Turns> class IndexOfRoom {
 public:
     IndexOfRoom(const Room &room, citrus::waiter waiter) {
         handles_.emplace_back(uint32_t(room.keys), room.places, waiter);
         for (uint32_t place = 1; place < room.places; place++) handles_.push_back(handles_[0].share());
     }
 
-    HandleClient client(uint32_t place) { return {{handles_[place]}}; }
+    HandleClient<Turns> client(uint32_t place) { return {{handles_[place], turns_}}; }
 
 private:
     std::vector<citrus::handle> handles_;
+    Turns turns_;
 };
+
+template <class Turns> void measure_waiter(const char *name, const Options &options, citrus::waiter waiter) {
+    measure_all(name, options, [=](const Room &room) { return std::make_unique<IndexOfRoom<Turns>>(room, waiter); });
+}
 
 int main(int count, char **words) {
     const Options options = options_of(count, words);
-    const auto measure_waiter = [&](const char *name, citrus::waiter waiter) {
-        measure_all(name, options, [=](const Room &room) { return std::make_unique<IndexOfRoom>(room, waiter); });
-    };
-    measure_waiter(LIBRARY " first waiter", citrus::waiter::eer);
-    measure_waiter(LIBRARY " second waiter", citrus::waiter::domain);
-    measure_waiter(LIBRARY " third waiter", citrus::waiter::deer);
+    measure_waiter<NoTurns>(LIBRARY " first waiter", options, citrus::waiter::eer);
+    if (options.subject == Subject::Crowded) measure_waiter<citrus::turns>(LIBRARY " first waiter in turn", options, citrus::waiter::eer);
+    measure_waiter<NoTurns>(LIBRARY " second waiter", options, citrus::waiter::domain);
+    measure_waiter<NoTurns>(LIBRARY " third waiter", options, citrus::waiter::deer);
 }

@@ -17,7 +17,7 @@
 
 using Clock = std::chrono::steady_clock;
 
-enum class Subject { Calls, Keys, Places, Crowd, Crush, Size };
+enum class Subject { Calls, Keys, Places, Crowd, Crowded, Size };
 
 struct Options {
     Subject subject = Subject::Calls;
@@ -38,16 +38,16 @@ inline Options options_of(int count, char **words) {
         else if (word == "--packed") options.packed = true;
         else if (word == "--only") options.only = ++i < count ? words[i] : "";
         else if (word == "--pairs") options.size.pairs = uint64_t(number());
-        else if (word == "--threads") options.size.threads = uint32_t(number());
+        else if (word == "--threads") options.size.threads = std::max(uint32_t(number()), 1u);
         else if (word == "calls") options.subject = Subject::Calls;
         else if (word == "keys") options.subject = Subject::Keys;
         else if (word == "places") options.subject = Subject::Places;
         else if (word == "crowd") options.subject = Subject::Crowd;
-        else if (word == "crush") options.subject = Subject::Crush;
+        else if (word == "crowded") options.subject = Subject::Crowded;
         else if (word == "size") options.subject = Subject::Size;
         else {
             fprintf(stderr,
-                    "usage: %s [--operations N] [--seconds S] [--packed] [--only SERIES] calls|keys|places|crowd|crush\n"
+                    "usage: %s [--operations N] [--seconds S] [--packed] [--only SERIES] calls|keys|places|crowd|crowded\n"
                     "       %s [--operations N] [--pairs N] [--threads N] [--only SERIES] size\n",
                     words[0], words[0]);
             exit(2);
@@ -151,7 +151,7 @@ template <class Make> void measure_all(const std::string &name, const Options &o
         for (const uint32_t threads : {1, 2, 4, 8, 16, 32, 64}) cell(Uniform<90, 20000>{}, {threads, threads});
         break;
     // More threads than processors.
-    case Subject::Crush:
+    case Subject::Crowded:
         for (const uint32_t threads : {4, 16, 64}) {
             cell(Uniform<90, 20000>{}, {threads, threads});
             cell(Uniform<50, 1000>{}, {threads, threads});

@@ -140,9 +140,10 @@ static void what_is_compared_stays(uint32_t waiter) {
         const auto changed = [&](const object &value) {
             behind_release = [&] {
                 thread = std::thread(take_out);
+                for (int turn = 0; mine.contains(5) && turn < 1000; turn++) std::this_thread::sleep_for(std::chrono::milliseconds(10));
+                WANT(mine.contains(5), false);
                 std::this_thread::sleep_for(std::chrono::milliseconds(20));
                 WANT(bool(is_over), false);
-                WANT(mine.contains(5), false);
             };
             calls++;
             return make(value.key);

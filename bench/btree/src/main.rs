@@ -1,9 +1,11 @@
 //! A `BTreeMap` under one lock: std's `Mutex` and `RwLock`, and with the feature `parking_lot` those of that crate.
-//! `btree [--operations N] [--seconds S] calls|keys|crowd` writes the lines that the programs of bench/cpp write.
+//! `btree [--operations N] [--seconds S] [--only SERIES] calls|keys|crowd|crowded` and `btree [--operations N] [--pairs N] [--threads N]
+//! [--only SERIES] size` write the lines that the programs of bench/cpp write.
 
 mod maps;
 mod measuring;
 mod mixes;
+mod size;
 
 use maps::{Locked, Pairs};
 use measuring::{measure_all, Options};
@@ -11,7 +13,7 @@ use std::process::ExitCode;
 
 fn main() -> ExitCode {
     let Some(options) = Options::from_words(std::env::args().skip(1)) else {
-        eprintln!("usage: btree [--operations N] [--seconds S] calls|keys|crowd");
+        eprintln!("usage: btree [--operations N] [--seconds S] [--only SERIES] calls|keys|crowd|crowded\n{}", measuring::SIZE_USAGE);
         return ExitCode::from(2);
     };
     measure_all(&options, "BTreeMap under Mutex", |_| Locked::<std::sync::Mutex<Pairs>>::default());

@@ -1,8 +1,12 @@
 //! Threads that make drawn operations on one map, timed: a line for each cell of a subject.
 
 use crate::mixes::{Draws, Load, Mix, MostlyGets, Op, Uniform};
+use crate::size::{measure_size, Size};
 use std::thread;
 use std::time::{Duration, Instant};
+
+/// Its words for one map of many pairs.
+pub const SIZE_USAGE: &str = "       [--operations N] [--pairs N] [--threads N] [--only SERIES] size";
 
 /// A map that threads share.
 pub trait Map: Sync {
@@ -30,27 +34,43 @@ pub enum Subject {
     Calls,
     Keys,
     Crowd,
+    Crowded,
+    Size,
 }
 
-#[derive(Clone, Copy)]
+#[derive(Clone)]
 pub struct Options {
     pub subject: Subject,
     /// Of each thread.
     pub operations: u64,
     /// A cell ends when it has passed.
     pub limit: Duration,
+    /// The series that is measured, or all.
+    pub only: Option<String>,
+    pub size: Size,
 }
 
 impl Options {
     pub fn from_words(mut words: impl Iterator<Item = String>) -> Option<Options> {
-        let mut options = Options { subject: Subject::Calls, operations: 100_000, limit: Duration::from_secs(1) };
+        let mut options = Options {
+            subject: Subject::Calls,
+            operations: 100_000,
+            limit: Duration::from_secs(1),
+            only: None,
+            size: Size { pairs: 1_000_000, threads: 1 },
+        };
         while let Some(word) = words.next() {
             match word.as_str() {
                 "--operations" => options.operations = words.next()?.parse().ok()?,
                 "--seconds" => options.limit = Duration::try_from_secs_f64(words.next()?.parse().ok()?).ok()?,
+                "--only" => options.only = Some(words.next()?),
+                "--pairs" => options.size.pairs = words.next()?.parse().ok()?,
+                "--threads" => options.size.threads = words.next()?.parse().ok().filter(|threads| *threads > 0)?,
                 "calls" => options.subject = Subject::Calls,
                 "keys" => options.subject = Subject::Keys,
                 "crowd" => options.subject = Subject::Crowd,
+                "crowded" => options.subject = Subject::Crowded,
+                "size" => options.subject = Subject::Size,
                 _ => return None,
             }
         }
@@ -116,6 +136,9 @@ fn measure(map: &impl Map, name: &str, mix: impl Mix, threads: u64, options: &Op
 
 /// Measures all cells of the subject, each on a map of its own.
 pub fn measure_all<M: Map>(options: &Options, name: &str, make: impl Fn(Room) -> M) {
+    if options.only.as_ref().map_or(false, |only| only != name) {
+        return;
+    }
     match options.subject {
         Subject::Calls => {
             measure_crews(options, name, &make, Uniform::<90, 20_000>);
@@ -136,6 +159,14 @@ pub fn measure_all<M: Map>(options: &Options, name: &str, make: impl Fn(Room) ->
                 measure_crew(options, name, &make, Uniform::<90, 20_000>, threads);
             }
         }
+        // More threads than processors.
+        Subject::Crowded => {
+            for threads in [4, 16, 64] {
+                measure_crew(options, name, &make, Uniform::<90, 20_000>, threads);
+                measure_crew(options, name, &make, Uniform::<50, 1_000>, threads);
+            }
+        }
+        Subject::Size => measure_size(options, name, make),
     }
 }
 

@@ -1,10 +1,13 @@
 //! The crate `citrus_map`, with each waiter.
-//! `rust_map [--operations N] [--seconds S] calls|keys|crowd` writes the lines that the programs of bench/cpp write.
+//! `rust_map [--operations N] [--seconds S] [--only SERIES] calls|keys|crowd|crowded` and `rust_map [--operations N] [--pairs N] [--threads N]
+//! [--only SERIES] size` write the lines that the programs of bench/cpp write.
 
 #[path = "../../btree/src/measuring.rs"]
 mod measuring;
 #[path = "../../btree/src/mixes.rs"]
 mod mixes;
+#[path = "../../btree/src/size.rs"]
+mod size;
 
 use citrus_map::{Handle, Index, Waiter};
 use measuring::{measure_all, Client, Map, Options, Room};
@@ -44,7 +47,7 @@ fn main() -> ExitCode {
     let options = match Options::from_words(std::env::args().skip(1)) {
         Some(options) => options,
         None => {
-            eprintln!("usage: rust_map [--operations N] [--seconds S] calls|keys|crowd");
+            eprintln!("usage: rust_map [--operations N] [--seconds S] [--only SERIES] calls|keys|crowd|crowded\n{}", measuring::SIZE_USAGE);
             return ExitCode::from(2);
         }
     };
