@@ -28,7 +28,8 @@ programs=("$out/embed" "$out/same")
 ! build_btree || programs+=("$out/btree")
 
 # What isn't measured of a program: other waiters, and the locks of std where those of parking_lot are there.
-series=('C library first waiter' 'C library first waiter in turn' 'C++ first waiter' 'TBB map' 'BTreeMap under parking_lot Mutex' 'BTreeMap under parking_lot RwLock')
+series=('C library first waiter' 'C library first waiter in turn' 'C++ first waiter' 'TBB map'
+    'BTreeMap under parking_lot Mutex' 'BTreeMap under parking_lot RwLock')
 measured_here "$rounds rounds, cells of $seconds s" >"$out/crowded.csv"
 : >"$out/crowded_cells"
 for ((round = 1; round <= rounds; round++)); do

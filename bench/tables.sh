@@ -131,6 +131,12 @@ size() {
         awk -F, '{ printf "| %s | %s | %s | %s | %s | %s | %s | %.0f | %.0f | %.0f |\n", $1, $2, $3, $4, $5, $6, $7, $8, $9, $10 }'
 }
 
+# What open handles that do nothing cost the one that calls.
+handles() {
+    head_of waiter handles 'MB' 'to open, µs' 'ns a share' 'a reopen' 'an insert' 'a remove' 'a wait for a key' 'for all keys'
+    awk -F, '/^#/ || /^waiter/ { next } { printf "| %s | %s | %s | %s | %s | %s | %s | %s | %s | %s |\n", $1, $2, $3, $4, $5, $6, $7, $8, $9, $10 }' "$1"
+}
+
 shapes() {
     head_of 'keys come' keys threads 'ns a put' 'slots of a way' 'times log2 of the keys' 'longest way'
     awk -F, '/^#/ || /^order/ { next } { printf "| %s | %s | %s | %s | %s | %s | %s |\n", $1, $2, $3, $4, $5, $6, $7 }' "$1"
@@ -274,8 +280,9 @@ if [ $# -gt 0 ]; then
 fi
 out=$top/bench/out
 mkdir -p "$out"
-for name in tree waits lists writers shapes threads text limits cookies embed crowded size rust_map server; do
-    [ -e "$results/$name.csv" ] && grep -qxF "<!-- $name -->" "$top/docs/BENCHMARKS.md" "$top/bench/TABLES.md" || continue
+for name in tree waits lists writers shapes threads text limits cookies embed crowded size handles rust_map server; do
+    [ -e "$results/$name.csv" ] || continue
+    grep -qxF "<!-- $name -->" "$top/docs/BENCHMARKS.md" "$top/bench/TABLES.md" || continue
     { echo; table "$name"; echo; } >"$out/table"
     put_in "$name" "$out/table"
 done

@@ -85,9 +85,9 @@ static inline citrus_handle citrus_closed_handle(void) {
 /* 2^57: what the first handle of an index has. At a million updates a second, 16 tickets each, they last 280 years. */
 #define CITRUS_ALL_TICKETS 144115188075855872u
 
-/* How a remove waits for the readers that may still stand on what it takes out. CITRUS_EER looks at each handle: begin with it.
- * CITRUS_DOMAIN counts readers by key modulo 64, so its waits cost the same with many handles. CITRUS_DEER has a stamp for each handle and
- * each key modulo 64, and its lookups store once less. */
+/* How a remove waits for the readers that may still stand on what it takes out. CITRUS_EER looks at the place of each handle, open or not:
+ * begin with it. CITRUS_DOMAIN counts readers by key modulo 64, so its waits cost the same with many handles: try it with hundreds.
+ * CITRUS_DEER has a stamp for each handle and each key modulo 64, and its lookups store once less. */
 enum { CITRUS_EER = 0, CITRUS_DOMAIN = 1, CITRUS_DEER = 2 };
 
 /* What a call answers. Those below 0 say that the call did nothing, but for CITRUS_LOST, and for the tickets that an upsert's rounds used
@@ -141,8 +141,10 @@ typedef struct { uint64_t key, value; } citrus_pair;
  *            may have taken out of the index and not yet given back
  *   handles  1 to CITRUS_MAX_HANDLES: how many there can be at once. Each has a place, and a closed one leaves it to a reopen
  *   waiter   CITRUS_EER, CITRUS_DOMAIN or CITRUS_DEER
- * It takes all memory of the index, and twice as much until it comes back; only a list, a tidy, a share or a reopen takes more later. Its
- * time grows with the pairs.
+ * It takes all memory of the index, 72 bytes for each pair and some 6 kB for each handle; only a list, a tidy, a share or a reopen takes more
+ * later. The index is made from a list of its words: so it takes twice as much until it comes back, and writes all of it. 10,000,000 pairs
+ * keep 720 MB, and take 1.44 GB for a moment. Where the system promises memory that it hasn't, as Linux does, it may end the program in this
+ * call instead of NO_MEMORY.
  * DONE; BAD_ARGUMENT or NO_MEMORY, and then the handle is as it was. */
 CITRUS_STATUS_MATTERS int32_t citrus_open(citrus_handle *handle, uint32_t pairs, uint32_t handles, uint32_t waiter);
 
@@ -176,9 +178,10 @@ CITRUS_STATUS_MATTERS int32_t citrus_get(citrus_handle *handle, uint64_t key, ui
 
 /* The updates. Each searches as a get does, locks the few nodes that it changes, and begins again where another thread changed them first.
  * Where another thread holds one of these locks it spins, since the library can't yield the processor: take no more threads that update
- * than there are processors. It waits for a list that keeps updates off, and for readers, who are inside a call or a section, only as said
- * below. It needs 4 tickets and uses 4 at most, an insert that turns nodes up to 12 more; and so does each replace and insert of an upsert.
- * */
+ * than there are processors, or let updates take turns by a mutex of yours. A thread that is in a section never waits for that, since whoever
+ * has it may wait for the section. An update waits for a list that keeps updates off, and for readers, who are inside a call or a section,
+ * only as said below. It needs 4 tickets and uses 4 at most, an insert that turns nodes up to 12 more; and so does each replace and insert
+ * of an upsert. */
 
 /* Adds the pair, where the key is absent. Where no slot is free it first waits for all readers, to give back slots of its own.
  * Where it went deep to add the pair, and has 12 tickets left, it then turns nodes on the way, in four attempts at most, so that the tree

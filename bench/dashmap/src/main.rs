@@ -1,6 +1,6 @@
 //! The crate `dashmap`, a hash map of shards under locks of their own: it has no order, so no ranges.
-//! `dashmap_bench [--operations N] [--seconds S] [--only SERIES] calls|keys|crowd|crowded` and `dashmap_bench [--operations N] [--pairs N] [--threads N]
-//! [--only SERIES] size` write the lines that the programs of bench/cpp write.
+//! `dashmap_bench [--operations N] [--seconds S] [--only SERIES] calls|keys|crowd|crowded` and `dashmap_bench [--operations N] [--pairs N]
+//! [--threads N] [--only SERIES] size` write the lines that the programs of bench/cpp write.
 
 #[path = "../../btree/src/measuring.rs"]
 mod measuring;
