@@ -94,18 +94,23 @@ static void each_steps_beside_lists(uint32_t waiter) {
     close_all();
 }
 
-/* A wait for all keys is over when the last of all sections has been left, whichever handle that is of. */
-static void each_keeps_a_wait_up(uint32_t waiter) {
+/* A wait for all keys that begins while each handle is in a section is over when the last section has been left, which is of this one. */
+static void is_over_behind(uint32_t last) {
     uint64_t cookie = 0;
+    for (uint32_t i = 1; i < THREADS; i++) WANT(citrus_enter(&members[i].handle, 7 * i), CITRUS_DONE);
+    WANT(citrus_begin(&members[0].handle, 0, UINT64_MAX, &cookie), CITRUS_DONE);
+    for (uint32_t i = 1; i < THREADS; i++)
+        if (i != last) WANT(citrus_release(&members[i].handle), CITRUS_DONE);
+    WANT(citrus_poll(&members[0].handle, cookie), CITRUS_UNCHANGED);
+    WANT(citrus_release(&members[last].handle), CITRUS_DONE);
+    WANT(citrus_poll(&members[0].handle, cookie), CITRUS_DONE);
+}
+
+static void each_keeps_a_wait_up(uint32_t waiter) {
     open_all(waiter, NULL);
-    for (uint32_t last = 1; last < THREADS; last += last < 64 ? 1 : 61) {
-        for (uint32_t i = 1; i < THREADS; i++) WANT(citrus_enter(&members[i].handle, 7 * i), CITRUS_DONE);
-        WANT(citrus_begin(&members[0].handle, 0, UINT64_MAX, &cookie), CITRUS_DONE);
-        for (uint32_t i = 1; i < THREADS; i++)
-            if (i != last) WANT(citrus_release(&members[i].handle), CITRUS_DONE);
-        WANT(citrus_poll(&members[0].handle, cookie), CITRUS_UNCHANGED);
-        WANT(citrus_release(&members[last].handle), CITRUS_DONE);
-        WANT(citrus_poll(&members[0].handle, cookie), CITRUS_DONE);
+    for (uint32_t i = 1; i <= 64; i++) {
+        is_over_behind(i);
+        is_over_behind(THREADS - i);
     }
     close_all();
 }
