@@ -141,7 +141,7 @@ typedef struct { uint64_t key, value; } citrus_pair;
  *            may have taken out of the index and not yet given back
  *   handles  1 to CITRUS_MAX_HANDLES: how many there can be at once. Each has a place, and a closed one leaves it to a reopen
  *   waiter   CITRUS_EER, CITRUS_DOMAIN or CITRUS_DEER
- * It takes all memory of the index, 72 bytes for each pair and some 6 kB for each handle; only a list, a tidy, a share or a reopen takes more
+ * It takes all memory of the index, 72 bytes for each pair and some 7 kB for each handle; only a list, a tidy, a share or a reopen takes more
  * later. The index is made from a list of its words: so it takes twice as much until it comes back, and writes all of it. 10,000,000 pairs
  * keep 720 MB, and take 1.44 GB for a moment. Where the system promises memory that it hasn't, as Linux does, it may end the program in this
  * call instead of NO_MEMORY.

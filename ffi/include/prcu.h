@@ -54,7 +54,7 @@ enum { PRCU_EER = CITRUS_EER, PRCU_DOMAIN = CITRUS_DOMAIN, PRCU_DEER = CITRUS_DE
 /* Each call answers as the one of citrus.h that it is made of, with the same causes. */
 
 /* Opens a domain with so many places, 1 to PRCU_MAX_PLACES, and all tickets, of which each wait and each begin uses one. It is an index for
- * one pair, which stays empty; each place takes some 6 kB. DONE; BAD_ARGUMENT; NO_MEMORY. */
+ * one pair, which stays empty; each place takes some 7 kB. DONE; BAD_ARGUMENT; NO_MEMORY. */
 static inline int32_t prcu_open(prcu_place *place, uint32_t places, uint32_t waiter) { return citrus_open(place, 1, places, waiter); }
 
 /* Makes `other` a second place of the domain, with so many of the places that are left to the first one, and so many of its tickets. */
