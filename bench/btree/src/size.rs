@@ -26,7 +26,7 @@ fn key_of_number(number: u64) -> u64 {
 /// In MB of 1,000,000 bytes what the system says under this name.
 fn memory(name: &str) -> u64 {
     let status = read_to_string("/proc/self/status").unwrap_or_default();
-    let kib = status.lines().find_map(|line| line.strip_prefix(name)?.split_whitespace().nth(1)?.parse::<u64>().ok());
+    let kib = status.lines().find_map(|line| line.strip_prefix(name)?.split_whitespace().next()?.parse::<u64>().ok());
     kib.unwrap_or(0) * 1024 / 1_000_000
 }
 
