@@ -7,7 +7,7 @@
 //     mine.insert(5, 50);
 //     std::optional<uint64_t> value = mine.get(5);
 //
-// Where values are objects of yours take citrus_map.hpp, or see `hold`.
+// Where values are objects of yours take citrus_map.hpp, or see `hold`. For many more threads that update than processors see citrus_turns.hpp.
 #ifndef CITRUS_HPP
 #define CITRUS_HPP
 
