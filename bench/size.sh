@@ -13,16 +13,21 @@ set -eu
 . "$(dirname "$0")/peers.sh"
 # shellcheck source=bench/results.sh
 . "$top/bench/results.sh"
+usage() {
+    echo 'usage: size.sh [--pairs N]... [--threads N]... [--pages small|huge]... [--series NAME]... [--operations N] [--archive FILE]' >&2
+    exit 2
+}
+
 sizes=() crews=() pages=() series=() operations=2000000 archive=()
 while [ $# -gt 0 ]; do
     case $1 in
         --pairs) sizes+=("$2") ;;
         --threads) crews+=("$2") ;;
-        --pages) pages+=("$2") ;;
+        --pages) case ${2:-} in small | huge) pages+=("$2") ;; *) usage ;; esac ;;
         --series) series+=("$2") ;;
         --operations) operations=$2 ;;
         --archive) archive=("$2") ;;
-        *) sed -n '5,6s/^# //p' "$0" >&2; exit 2 ;;
+        *) usage ;;
     esac
     shift 2
 done
@@ -37,23 +42,16 @@ programs=("$out/embed")
 ! build_with oneapi/tbb/concurrent_map.h libtbb-dev tbb tbb || programs+=("$out/tbb")
 ! build_btree || programs+=("$out/btree")
 
-# Runs words with pages of a kind.
-with_pages() {
-    case $1 in
-        small) GLIBC_TUNABLES=glibc.malloc.hugetlb=0 "${@:2}" ;;
-        huge) GLIBC_TUNABLES=glibc.malloc.hugetlb=1 "${@:2}" ;;
-        *) echo "pages are small or huge, not $1" >&2; exit 2 ;;
-    esac
-}
-
-grep -q '\[never\]' /sys/kernel/mm/transparent_hugepage/enabled 2>/dev/null && echo 'this system gives no huge pages' >&2
+# Whether malloc asks for huge pages: 0 or 1.
+declare -A asks=([small]=0 [huge]=1)
+! grep -q '\[never\]' /sys/kernel/mm/transparent_hugepage/enabled 2>/dev/null || echo 'this system gives no huge pages' >&2
 : >"$out/size_rows"
 for count in "${sizes[@]}"; do
     for crew in "${crews[@]}"; do
         for kind in "${pages[@]}"; do
             for name in "${series[@]}"; do
                 for program in "${programs[@]}"; do
-                    with_pages "$kind" "$program" --operations "$operations" --pairs "$count" --threads "$crew" --only "$name" size
+                    GLIBC_TUNABLES=glibc.malloc.hugetlb=${asks[$kind]} "$program" --operations "$operations" --pairs "$count" --threads "$crew" --only "$name" size
                 done | sed "s/ waiter//; s/^/$kind,/" >>"$out/size_rows"
             done
             echo "$count pairs, $crew threads, $kind pages, after $SECONDS s" >&2
