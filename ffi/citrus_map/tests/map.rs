@@ -2,7 +2,7 @@
 
 mod common;
 
-use citrus_map::{Error, Guard, Index, Map, MapHandle, Refused, Waiter, MOST_RETIRED};
+use citrus_map::{Builder, Error, Guard, Index, Map, MapHandle, Refused, Waiter, MOST_RETIRED};
 use common::draws_of;
 use std::panic::{catch_unwind, AssertUnwindSafe};
 use std::sync::atomic::{AtomicBool, AtomicUsize, Ordering::SeqCst};
@@ -506,20 +506,31 @@ fn work_on_shared_keys(handle: &mut MapHandle<Counted>, thread: u64, keys: u64, 
     read
 }
 
+fn read_and_update(builder: Builder, keys: u64) {
+    const THREADS: u64 = 4;
+    let count = Arc::new(AtomicUsize::new(0));
+    let map = Map::build(builder).unwrap();
+    let read: usize = thread::scope(|scope| {
+        let (map, count) = (&map, &count);
+        let start = |thread| scope.spawn(move || work_on_shared_keys(&mut map.handle().unwrap(), thread, keys, count));
+        let started: Vec<_> = (0..THREADS).map(start).collect();
+        started.into_iter().map(|thread| thread.join().unwrap()).sum()
+    });
+    assert!(read > 0);
+    drop(map);
+    assert_eq!(count.load(SeqCst), 0);
+}
+
 #[test]
 fn threads_read_what_is_there() {
-    const THREADS: u64 = 4;
     for (waiter, keys) in waiters().into_iter().flat_map(|waiter| [(waiter, 4), (waiter, 300)]) {
-        let count = Arc::new(AtomicUsize::new(0));
-        let map = Map::build(Index::builder(600, THREADS as u32).waiter(waiter)).unwrap();
-        let read: usize = thread::scope(|scope| {
-            let (map, count) = (&map, &count);
-            let start = |thread| scope.spawn(move || work_on_shared_keys(&mut map.handle().unwrap(), thread, keys, count));
-            let started: Vec<_> = (0..THREADS).map(start).collect();
-            started.into_iter().map(|thread| thread.join().unwrap()).sum()
-        });
-        assert!(read > 0);
-        drop(map);
-        assert_eq!(count.load(SeqCst), 0);
+        read_and_update(Index::builder(600, 4).waiter(waiter), keys);
+    }
+}
+
+#[test]
+fn threads_read_while_updates_take_turns() {
+    for (waiter, keys) in waiters().into_iter().flat_map(|waiter| [(waiter, 4), (waiter, 300)]) {
+        read_and_update(Index::builder(600, 4).waiter(waiter).updates_in_turn(true), keys);
     }
 }
