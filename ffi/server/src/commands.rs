@@ -1,14 +1,27 @@
-//! From requests to commands, and from commands to replies.
+//! From requests to commands.
 
 use crate::parser::Request;
-use crate::replies::Replies;
-use citrus_map::{Error, Handle};
 use std::fmt;
 
-/// So many pairs a `RANGE` tells where it has no limit.
+/// So many pairs a `RANGE` or `REVRANGE` tells where it has no limit.
 pub const DEFAULT_LIMIT: usize = 1_000;
 /// The greatest limit of a `RANGE`.
 pub const MAX_LIMIT: usize = 65_536;
+/// The greatest limit of a `REVRANGE`, which searches for each pair.
+pub const MAX_LIMIT_DOWN: usize = 8_192;
+
+/// Which pairs a `RANGE` or `REVRANGE` tells.
+#[derive(Clone, Copy, Debug, PartialEq, Eq)]
+pub struct Range {
+    /// The least key.
+    pub low: u64,
+    /// The greatest key.
+    pub high: u64,
+    /// So many pairs at most, and one at least.
+    pub limit: usize,
+    /// Whether it begins at the greatest key.
+    pub is_down: bool,
+}
 
 /// What a request asks for. Keys and values are numbers by then.
 #[derive(Clone, Debug, PartialEq, Eq)]
@@ -19,12 +32,30 @@ pub enum Command<'a> {
     Echo(&'a [u8]),
     /// The key's value.
     Get(u64),
+    /// The values of these keys, one after another.
+    GetMany(Vec<u64>),
     /// The key gets this value.
     Set {
         /// The key.
         key: u64,
         /// Its value from now on.
         value: u64,
+    },
+    /// Each of these keys gets the value beside it, one after another.
+    SetMany(Vec<(u64, u64)>),
+    /// The key gets this value, and the one before is told.
+    Exchange {
+        /// The key.
+        key: u64,
+        /// Its value from now on.
+        value: u64,
+    },
+    /// So much is added to the key's value, from 0 where it is absent.
+    Add {
+        /// The key.
+        key: u64,
+        /// What is added, or taken away where it is below 0.
+        amount: i64,
     },
     /// The key gets this value where it is absent.
     SetIfAbsent {
@@ -35,17 +66,16 @@ pub enum Command<'a> {
     },
     /// These keys are taken out, one after another.
     Delete(Vec<u64>),
+    /// The key is taken out, and its value told.
+    Take(u64),
     /// How many of these keys are present, one after another.
     Exist(Vec<u64>),
-    /// The first pairs with keys from `low` to `high`.
-    Range {
-        /// The least key.
-        low: u64,
-        /// The greatest key.
-        high: u64,
-        /// So many pairs at most, and one at least.
-        limit: usize,
-    },
+    /// Pairs in the order of their keys.
+    Range(Range),
+    /// How many pairs there are.
+    Size,
+    /// All pairs are taken out.
+    Clear,
     /// Which commands there are. Redis's tools ask this when they start, and make do with no answer.
     Commands,
     /// A setting.
@@ -70,12 +100,14 @@ pub enum Refusal {
         /// The command's name.
         name: String,
     },
-    /// A key or a value isn't decimal digits, or is above 2^64 - 1.
+    /// A key or a value isn't decimal digits or is above 2^64 - 1, or an amount isn't from -2^63 to 2^63 - 1.
     Number,
+    /// An amount to take away is -2^63, which can't be added.
+    Decrement,
     /// A word stands where none of the command's may.
     Syntax,
-    /// A limit isn't from 1 to [`MAX_LIMIT`].
-    Limit,
+    /// A limit isn't from 1 to this.
+    Limit(usize),
 }
 
 impl fmt::Display for Refusal {
@@ -88,8 +120,9 @@ impl fmt::Display for Refusal {
             }
             Refusal::Arguments { name } => write!(text, "ERR wrong number of arguments for '{name}' command"),
             Refusal::Number => text.write_str("ERR value is not an integer or out of range"),
+            Refusal::Decrement => text.write_str("ERR decrement would overflow"),
             Refusal::Syntax => text.write_str("ERR syntax error"),
-            Refusal::Limit => write!(text, "ERR LIMIT is out of range, must be from 1 to {MAX_LIMIT}"),
+            Refusal::Limit(most) => write!(text, "ERR LIMIT is out of range, must be from 1 to {most}"),
         }
     }
 }
@@ -105,9 +138,51 @@ fn number(word: &[u8]) -> Result<u64, Refusal> {
     digits.and_then(|text| text.parse().ok()).ok_or(Refusal::Number)
 }
 
+/// Decimal digits, with a minus before them or not.
+fn amount(word: &[u8]) -> Result<i64, Refusal> {
+    let digits = std::str::from_utf8(word).ok().filter(|text| !text.starts_with('+'));
+    digits.and_then(|text| text.parse().ok()).ok_or(Refusal::Number)
+}
+
+/// What is added where this is to be taken away.
+fn negative(word: &[u8]) -> Result<i64, Refusal> {
+    amount(word)?.checked_neg().ok_or(Refusal::Decrement)
+}
+
 fn numbers(words: &[&[u8]]) -> Result<Vec<u64>, Refusal> {
     words.iter().map(|word| number(word)).collect()
 }
+
+/// The pairs of an `MSET`, where their number is even and there is one.
+fn pairs(words: &[&[u8]]) -> Result<Vec<(u64, u64)>, Refusal> {
+    if words.is_empty() || words.len() % 2 != 0 {
+        return Err(Refusal::Arguments { name: "mset".into() });
+    }
+    words.chunks_exact(2).map(|pair| Ok((number(pair[0])?, number(pair[1])?))).collect()
+}
+
+impl Range {
+    /// The ends are numbers, or `-` for the least key and `+` for the greatest.
+    fn of(low: &[u8], high: &[u8], rest: &[&[u8]], is_down: bool) -> Result<Range, Refusal> {
+        let end = |word: &[u8]| match word {
+            b"-" => Ok(0),
+            b"+" => Ok(u64::MAX),
+            _ => number(word),
+        };
+        let most = if is_down { MAX_LIMIT_DOWN } else { MAX_LIMIT };
+        let limit = match rest {
+            [] => DEFAULT_LIMIT,
+            [word, limit] if word.eq_ignore_ascii_case(b"LIMIT") => {
+                usize::try_from(number(limit)?).ok().filter(|limit| (1..=most).contains(limit)).ok_or(Refusal::Limit(most))?
+            }
+            _ => return Err(Refusal::Syntax),
+        };
+        Ok(Range { low: end(low)?, high: end(high)?, limit, is_down })
+    }
+}
+
+/// The longest name of a command.
+const LONGEST_NAME: usize = 8;
 
 impl<'a> Command<'a> {
     /// The command that a request is.
@@ -117,270 +192,66 @@ impl<'a> Command<'a> {
     pub fn of(request: &'a Request) -> Result<Command<'a>, Refusal> {
         let words = request.words();
         let (name, arguments) = words.split_first().ok_or(Refusal::Syntax)?;
-        let mut upper = [0; 8];
+        let mut upper = [0; LONGEST_NAME];
         let upper = upper.get_mut(..name.len()).unwrap_or_default();
         upper.iter_mut().zip(*name).for_each(|(place, byte)| *place = byte.to_ascii_uppercase());
-        match (&*upper, arguments) {
-            (b"GET", [key]) => Ok(Command::Get(number(key)?)),
-            (b"SET", [key, value]) => Ok(Command::Set { key: number(key)?, value: number(value)? }),
-            (b"SET", [_, _, _, ..]) => Err(Refusal::Syntax),
-            (b"SETNX", [key, value]) => Ok(Command::SetIfAbsent { key: number(key)?, value: number(value)? }),
-            (b"DEL", [_, ..]) => Ok(Command::Delete(numbers(arguments)?)),
-            (b"EXISTS", [_, ..]) => Ok(Command::Exist(numbers(arguments)?)),
-            (b"RANGE", [low, high, rest @ ..]) => Command::range(low, high, rest),
-            (b"PING", []) => Ok(Command::Ping(None)),
-            (b"PING", [word]) => Ok(Command::Ping(Some(word))),
-            (b"ECHO", [word]) => Ok(Command::Echo(word)),
-            (b"COMMAND", _) => Ok(Command::Commands),
-            (b"CONFIG", [get, name]) if get.eq_ignore_ascii_case(b"GET") => Ok(Command::Setting(name)),
-            (b"CONFIG", [_, ..]) => Err(Refusal::Syntax),
-            (b"QUIT", _) => Ok(Command::Quit),
-            (b"POST" | b"HOST:", _) => Ok(Command::Http),
-            (b"GET" | b"SET" | b"SETNX" | b"DEL" | b"EXISTS" | b"RANGE" | b"PING" | b"ECHO" | b"CONFIG", _) => {
-                Err(Refusal::Arguments { name: shown(name).to_ascii_lowercase() })
-            }
-            _ => Err(Refusal::Unknown { words: words.iter().take(5).map(|word| shown(word)).collect() }),
+        if let Some(command) = Command::with_keys(upper, arguments)? {
+            return Ok(command);
         }
+        Command::without_keys(upper, arguments)?.ok_or_else(|| refused(&words, upper))
     }
 
-    /// The ends are numbers, or `-` for the least key and `+` for the greatest.
-    fn range(low: &[u8], high: &[u8], rest: &[&[u8]]) -> Result<Command<'a>, Refusal> {
-        let end = |word: &[u8]| match word {
-            b"-" => Ok(0),
-            b"+" => Ok(u64::MAX),
-            _ => number(word),
-        };
-        let limit = match rest {
-            [] => DEFAULT_LIMIT,
-            [word, limit] if word.eq_ignore_ascii_case(b"LIMIT") => {
-                usize::try_from(number(limit)?).ok().filter(|limit| (1..=MAX_LIMIT).contains(limit)).ok_or(Refusal::Limit)?
-            }
-            _ => return Err(Refusal::Syntax),
-        };
-        Ok(Command::Range { low: end(low)?, high: end(high)?, limit })
+    /// A command on pairs. The name is in capitals.
+    fn with_keys(name: &[u8], arguments: &[&[u8]]) -> Result<Option<Command<'a>>, Refusal> {
+        Ok(Some(match (name, arguments) {
+            (b"GET", [key]) => Command::Get(number(key)?),
+            (b"MGET", [_, ..]) => Command::GetMany(numbers(arguments)?),
+            (b"SET", [key, value]) => Command::Set { key: number(key)?, value: number(value)? },
+            (b"SET", [_, _, _, ..]) => return Err(Refusal::Syntax),
+            (b"MSET", _) => Command::SetMany(pairs(arguments)?),
+            (b"SETNX", [key, value]) => Command::SetIfAbsent { key: number(key)?, value: number(value)? },
+            (b"GETSET", [key, value]) => Command::Exchange { key: number(key)?, value: number(value)? },
+            (b"INCR", [key]) => Command::Add { key: number(key)?, amount: 1 },
+            (b"DECR", [key]) => Command::Add { key: number(key)?, amount: -1 },
+            (b"INCRBY", [key, more]) => Command::Add { key: number(key)?, amount: amount(more)? },
+            (b"DECRBY", [key, less]) => Command::Add { key: number(key)?, amount: negative(less)? },
+            (b"DEL", [_, ..]) => Command::Delete(numbers(arguments)?),
+            (b"GETDEL", [key]) => Command::Take(number(key)?),
+            (b"EXISTS", [_, ..]) => Command::Exist(numbers(arguments)?),
+            (b"RANGE", [low, high, rest @ ..]) => Command::Range(Range::of(low, high, rest, false)?),
+            (b"REVRANGE", [high, low, rest @ ..]) => Command::Range(Range::of(low, high, rest, true)?),
+            _ => return Ok(None),
+        }))
+    }
+
+    /// A command on the index as a whole, or on the connection.
+    fn without_keys(name: &[u8], arguments: &[&'a [u8]]) -> Result<Option<Command<'a>>, Refusal> {
+        Ok(Some(match (name, arguments) {
+            (b"DBSIZE", []) => Command::Size,
+            (b"FLUSHALL", []) => Command::Clear,
+            (b"FLUSHALL", [_, ..]) => return Err(Refusal::Syntax),
+            (b"PING", []) => Command::Ping(None),
+            (b"PING", [word]) => Command::Ping(Some(word)),
+            (b"ECHO", [word]) => Command::Echo(word),
+            (b"COMMAND", _) => Command::Commands,
+            (b"CONFIG", [get, name]) if get.eq_ignore_ascii_case(b"GET") => Command::Setting(name),
+            (b"CONFIG", [_, ..]) => return Err(Refusal::Syntax),
+            (b"QUIT", _) => Command::Quit,
+            (b"POST" | b"HOST:", _) => Command::Http,
+            _ => return Ok(None),
+        }))
     }
 }
 
-/// What the index says where it has no answer, as clients tell errors apart.
-fn words_of(error: Error) -> String {
-    let kind = match error {
-        Error::Full => "FULL",
-        Error::Moved => "TRYAGAIN",
-        Error::NoMemory => "OOM",
-        Error::Spent => "SPENT",
-        Error::Lost => "LOST",
-        _ => "ERR",
-    };
-    format!("{kind} {error}")
-}
-
-/// Does what the command says, and adds one reply.
-pub fn answer(command: &Command, handle: &Handle, replies: &mut Replies) {
-    if let Err(error) = try_answer(command, handle, replies) {
-        replies.error(&words_of(error));
-    }
-}
-
-/// Adds one reply, or where it fails none.
-fn try_answer(command: &Command, handle: &Handle, replies: &mut Replies) -> Result<(), Error> {
-    match command {
-        Command::Get(key) => replies.number_or_nil(handle.get(*key)?),
-        Command::Set { key, value } => {
-            handle.upsert(*key, *value)?;
-            replies.status("OK");
-        }
-        Command::SetIfAbsent { key, value } => replies.count(handle.insert(*key, *value)?.into()),
-        Command::Delete(keys) => replies.count(how_many(keys, |key| Ok(handle.remove(key)?.is_some()))?),
-        Command::Exist(keys) => replies.count(how_many(keys, |key| handle.contains_key(key))?),
-        Command::Range { low, high, limit } => {
-            let page = handle.page(low..=high, *limit)?;
-            replies.array(2);
-            replies.number_or_nil(page.next);
-            replies.array(2 * page.pairs.len());
-            for (key, value) in page.pairs {
-                replies.number(key);
-                replies.number(value);
-            }
-        }
-        Command::Ping(None) => replies.status("PONG"),
-        Command::Ping(Some(word)) | Command::Echo(word) => replies.bulk(word),
-        Command::Commands => replies.array(0),
-        Command::Setting(name) => setting(name, replies),
-        Command::Quit => replies.status("OK"),
-        Command::Http => {}
-    }
-    Ok(())
-}
-
-fn how_many(keys: &[u64], mut is_so: impl FnMut(u64) -> Result<bool, Error>) -> Result<u64, Error> {
-    keys.iter().try_fold(0, |count, key| Ok(count + u64::from(is_so(*key)?)))
-}
-
-/// The settings for which `redis-benchmark` asks: nothing is saved.
-fn setting(name: &[u8], replies: &mut Replies) {
-    let value: &[u8] = match name.to_ascii_lowercase().as_slice() {
-        b"save" => b"",
-        b"appendonly" => b"no",
-        _ => return replies.array(0),
-    };
-    replies.array(2);
-    replies.bulk(name);
-    replies.bulk(value);
-}
-
-#[cfg(test)]
-mod tests {
-    use super::*;
-    use crate::parser::Parser;
-    use citrus_map::Index;
-
-    /// What the server says to a line.
-    fn told(handle: &Handle, line: &str) -> String {
-        let mut parser = Parser::default();
-        parser.feed(line.as_bytes());
-        parser.feed(b"\n");
-        let request = parser.request().expect("the tests have good lines alone").expect("a line is a request");
-        let mut replies = Replies::default();
-        match Command::of(request) {
-            Ok(command) => answer(&command, handle, &mut replies),
-            Err(refusal) => replies.error(&refusal.to_string()),
-        }
-        String::from_utf8_lossy(replies.bytes()).replace("\r\n", " ")
-    }
-
-    fn new_handle(pairs: u32) -> Handle {
-        Index::new(pairs, 1).and_then(|index| index.handle()).expect("there is memory")
-    }
-
-    fn check(pairs: u32, session: &[(&str, &str)]) {
-        check_at(&new_handle(pairs), session);
-    }
-
-    fn check_at(handle: &Handle, session: &[(&str, &str)]) {
-        for (line, reply) in session {
-            assert_eq!(told(handle, line).trim_end(), *reply, "{line}");
-        }
-    }
-
-    #[test]
-    fn keys_get_values_and_lose_them() {
-        check(
-            100,
-            &[
-                ("GET 5", "$-1"),
-                ("SET 5 50", "+OK"),
-                ("get 5", "$2 50"),
-                ("SET 05 0051", "+OK"),
-                ("GET 000000000000000000000000005", "$2 51"),
-                ("SETNX 5 52", ":0"),
-                ("SETNX 18446744073709551615 0", ":1"),
-                ("EXISTS 5 6 5 18446744073709551615", ":3"),
-                ("DEL 5 5 6", ":1"),
-                ("GET 5", "$-1"),
-            ],
-        );
-    }
-
-    #[test]
-    fn ranges_come_in_pages() {
-        check(
-            100,
-            &[
-                ("RANGE - +", "*2 $-1 *0"),
-                ("SET 1 10", "+OK"),
-                ("SET 2 20", "+OK"),
-                ("SET 3 30", "+OK"),
-                ("RANGE 1 2", "*2 $-1 *4 $1 1 $2 10 $1 2 $2 20"),
-                ("RANGE - + LIMIT 1", "*2 $1 2 *2 $1 1 $2 10"),
-                ("range 3 + limit 1", "*2 $-1 *2 $1 3 $2 30"),
-                ("RANGE 3 1", "*2 $-1 *0"),
-                ("SET 18446744073709551615 40", "+OK"),
-                ("RANGE 4 +", "*2 $-1 *2 $20 18446744073709551615 $2 40"),
-                ("RANGE 1 2 LIMIT 0", "-ERR LIMIT is out of range, must be from 1 to 65536"),
-                ("RANGE 1 2 LIMIT 65537", "-ERR LIMIT is out of range, must be from 1 to 65536"),
-                ("RANGE 1 2 COUNT 1", "-ERR syntax error"),
-                ("RANGE 1 2 LIMIT", "-ERR syntax error"),
-                ("RANGE 1", "-ERR wrong number of arguments for 'range' command"),
-            ],
-        );
-    }
-
-    #[test]
-    fn bad_requests_change_nothing() {
-        const NO_NUMBER: &str = "-ERR value is not an integer or out of range";
-        check(
-            100,
-            &[
-                ("SET 5 50", "+OK"),
-                ("DEL 5 x", NO_NUMBER),
-                ("GET 5", "$2 50"),
-                ("GET \"\"", NO_NUMBER),
-                ("GET +5", NO_NUMBER),
-                ("GET -5", NO_NUMBER),
-                ("GET 5.0", NO_NUMBER),
-                ("SET 5 18446744073709551616", NO_NUMBER),
-                ("SET key:000000000001 1", NO_NUMBER),
-                ("SET 5 60 EX 10", "-ERR syntax error"),
-                ("SET 5", "-ERR wrong number of arguments for 'set' command"),
-                ("Get", "-ERR wrong number of arguments for 'get' command"),
-                ("GET 5 6", "-ERR wrong number of arguments for 'get' command"),
-                ("FLUSHALL \"a\\nb\" 5", "-ERR unknown command 'FLUSHALL', with args beginning with: 'a b' '5'"),
-                ("getgetget", "-ERR unknown command 'getgetget', with args beginning with:"),
-                ("GET 5", "$2 50"),
-            ],
-        );
-    }
-
-    #[test]
-    fn a_full_index_has_an_error_of_its_own() {
-        let handle = new_handle(2);
-        // Beside those for its pairs it has 68 slots for what its handle may keep back.
-        for key in 100..100 + 68 {
-            assert_eq!(told(&handle, &format!("SET {key} 0")).trim_end(), "+OK");
-        }
-        check_at(
-            &handle,
-            &[
-                ("SET 1 1", "+OK"),
-                ("SET 2 2", "+OK"),
-                ("SET 3 3", "-FULL the index is full"),
-                ("SETNX 3 3", "-FULL the index is full"),
-                ("SET 2 4", "+OK"),
-                ("SETNX 2 5", ":0"),
-                ("GET 2", "$1 4"),
-            ],
-        );
-    }
-
-    #[test]
-    fn tools_are_answered_when_they_start() {
-        check(
-            1,
-            &[
-                ("PING", "+PONG"),
-                ("PING \"a b\"", "$3 a b"),
-                ("ECHO hello", "$5 hello"),
-                ("COMMAND", "*0"),
-                ("COMMAND DOCS", "*0"),
-                ("CONFIG GET save", "*2 $4 save $0"),
-                ("CONFIG GET appendonly", "*2 $10 appendonly $2 no"),
-                ("CONFIG GET port", "*0"),
-                ("CONFIG SET save 1", "-ERR syntax error"),
-                ("QUIT", "+OK"),
-            ],
-        );
-    }
-
-    #[test]
-    fn lines_of_http_are_told_from_commands() {
-        check(
-            10,
-            &[
-                ("POST / HTTP/1.1", ""),
-                ("Host: localhost", ""),
-                ("hOsT:", ""),
-                ("HOST", "-ERR unknown command 'HOST', with args beginning with:"),
-            ],
-        );
+/// Why words are no command: there is none of this name, or it takes another number of words.
+fn refused(words: &[&[u8]], upper: &[u8]) -> Refusal {
+    const NAMES: [&[u8]; 18] = [
+        b"GET", b"MGET", b"SET", b"SETNX", b"GETSET", b"INCR", b"DECR", b"INCRBY", b"DECRBY", b"DEL", b"GETDEL", b"EXISTS", b"RANGE",
+        b"REVRANGE", b"DBSIZE", b"PING", b"ECHO", b"CONFIG",
+    ];
+    if NAMES.contains(&upper) {
+        Refusal::Arguments { name: String::from_utf8_lossy(upper).to_ascii_lowercase() }
+    } else {
+        Refusal::Unknown { words: words.iter().take(5).map(|word| shown(word)).collect() }
     }
 }

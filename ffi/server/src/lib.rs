@@ -1,14 +1,22 @@
 //! An index of numbers that speaks a part of Redis's protocol, over `citrus_map`. The README says which commands there are.
 //!
-//! [`parser`] makes requests of bytes, [`commands`] makes commands of requests and answers them, [`replies`] makes bytes of answers,
-//! [`handles`] lends what the answers come by, and [`server`] has the connections, each with a thread of its own.
+//! [`parser`] makes requests of bytes, [`commands`] makes commands of requests, [`answers`] answers them by a [`store`], which has a handle
+//! of the index, and [`replies`] makes bytes of answers. [`server`] hands connections over to workers: each is a thread with a handle and
+//! many connections, for which it waits by [`epoll`], the only module with unsafe code.
 
-#![forbid(unsafe_code)]
+#![deny(unsafe_code)]
 #![deny(missing_docs)]
 
+pub mod answers;
 pub mod commands;
-pub mod handles;
+mod connection;
+#[allow(unsafe_code)]
+pub mod epoll;
+pub mod files;
 pub mod inline;
 pub mod parser;
 pub mod replies;
 pub mod server;
+pub mod store;
+mod warnings;
+mod worker;

@@ -1,37 +1,57 @@
-//! `citrus_server [--bind ADDRESS] [--port N] [--pairs N] [--connections N] [--timeout SECONDS] [--waiter eer|domain|deer]`
+//! `citrus_server [--bind ADDRESS] [--port N] [--pairs N] [--workers N] [--connections N] [--timeout SECONDS] [--waiter eer|domain|deer]`
 
-use citrus_map::{Index, Waiter, MAX_PAIRS};
+use citrus_map::{Index, Waiter, MAX_HANDLES, MAX_PAIRS};
+use citrus_server::files;
 use citrus_server::server::{Limits, Server};
 use std::process::ExitCode;
+use std::thread::available_parallelism;
 use std::time::Duration;
 
-const USAGE: &str =
-    "usage: citrus_server [--bind ADDRESS] [--port N] [--pairs N] [--connections N] [--timeout SECONDS] [--waiter eer|domain|deer]";
-/// So many requests are answered at once, which is more than a machine has processors for.
-const HANDLES: u32 = 64;
-/// Each connection has a thread.
-const MAX_CONNECTIONS: usize = 10_000;
+const USAGE: &str = "usage: citrus_server [--bind ADDRESS] [--port N] [--pairs N] [--workers N] [--connections N] [--timeout SECONDS] \
+                     [--waiter eer|domain|deer]";
+/// Where the system doesn't say how many processors there are.
+const SOME_WORKERS: usize = 4;
+/// Above that the times of a worker's connections take it too long to look through.
+const MAX_CONNECTIONS: usize = 1_000_000;
 
 struct Options {
     bind: String,
     port: u16,
     pairs: u32,
-    limits: Limits,
+    workers: u32,
+    /// What was asked for.
+    connections: Option<usize>,
+    idle: Option<Duration>,
     waiter: Waiter,
+}
+
+impl Default for Options {
+    fn default() -> Options {
+        let processors = available_parallelism().map_or(SOME_WORKERS, |count| count.get());
+        Options {
+            bind: "127.0.0.1".into(),
+            port: 6380,
+            pairs: 1_000_000,
+            workers: u32::try_from(processors).map_or(MAX_HANDLES, |count| count.min(MAX_HANDLES)),
+            connections: None,
+            idle: Limits::default().idle,
+            waiter: Waiter::Eer,
+        }
+    }
 }
 
 impl Options {
     fn of(mut words: impl Iterator<Item = String>) -> Option<Options> {
-        let mut options =
-            Options { bind: "127.0.0.1".into(), port: 6380, pairs: 1_000_000, limits: Limits::default(), waiter: Waiter::Eer };
+        let mut options = Options::default();
         while let Some(word) = words.next() {
             let value = words.next()?;
             match word.as_str() {
                 "--bind" => options.bind = value,
                 "--port" => options.port = value.parse().ok()?,
                 "--pairs" => options.pairs = value.parse().ok()?,
-                "--connections" => options.limits.connections = value.parse().ok()?,
-                "--timeout" => options.limits.idle = Some(Duration::from_secs(value.parse().ok()?)).filter(|time| !time.is_zero()),
+                "--workers" => options.workers = value.parse().ok()?,
+                "--connections" => options.connections = Some(value.parse().ok()?),
+                "--timeout" => options.idle = Some(Duration::from_secs(value.parse().ok()?)).filter(|time| !time.is_zero()),
                 "--waiter" => options.waiter = waiter(&value)?,
                 _ => return None,
             }
@@ -39,16 +59,40 @@ impl Options {
         Some(options)
     }
 
-    /// A server whose index isn't full before it has so many pairs.
-    fn server(&self) -> Result<Server, String> {
-        if !(1..=MAX_CONNECTIONS).contains(&self.limits.connections) {
-            return Err(format!("--connections is from 1 to {MAX_CONNECTIONS}"));
+    /// As many as were asked for; or where nothing was said as many as usual, or as the open files allow.
+    fn connections(&self) -> Result<usize, String> {
+        let workers = self.workers as usize;
+        let allowed = files::allowed().map_or(MAX_CONNECTIONS, |files| files::connections_of(files, workers));
+        let connections = self.connections.unwrap_or_else(|| Limits::default().connections.min(allowed));
+        if connections > allowed {
+            let needed = files::needed(workers, connections);
+            return Err(format!("{connections} connections need {needed} open files; the process may have fewer (ulimit -n {needed})"));
+        }
+        if !(1..=MAX_CONNECTIONS).contains(&connections) {
+            return Err(format!("--connections is from 1 to {MAX_CONNECTIONS}, and there is one open file for each (ulimit -n)"));
+        }
+        Ok(connections)
+    }
+
+    /// A server whose index isn't full before it has so many pairs, and what it says of itself.
+    fn server(&self) -> Result<(Server, String), String> {
+        if !(1..=MAX_HANDLES).contains(&self.workers) {
+            return Err(format!("--workers is from 1 to {MAX_HANDLES}"));
         }
         if !(1..=MAX_PAIRS).contains(&self.pairs) {
             return Err(format!("--pairs is from 1 to {MAX_PAIRS}"));
         }
-        let index = Index::builder(self.pairs, HANDLES).waiter(self.waiter).build().map_err(|error| error.to_string())?;
-        Server::bind((self.bind.as_str(), self.port), index, self.limits).map_err(|error| format!("{}:{}: {error}", self.bind, self.port))
+        let limits = Limits { connections: self.connections()?, idle: self.idle };
+        let index = Index::builder(self.pairs, self.workers).waiter(self.waiter).build().map_err(|error| error.to_string())?;
+        let at = |error| format!("{}:{}: {error}", self.bind, self.port);
+        let server = Server::bind((self.bind.as_str(), self.port), index, limits).map_err(at)?;
+        let address = server.address().map_err(at)?;
+        let Options { pairs, workers, .. } = self;
+        let says = format!(
+            "citrus_server listens at {address}: up to {pairs} pairs and {} connections, {workers} workers",
+            limits.connections
+        );
+        Ok((server, says))
     }
 }
 
@@ -69,10 +113,9 @@ fn main() -> ExitCode {
             return ExitCode::from(2);
         }
     };
-    let started = options.server().and_then(|server| Ok((server.address().map_err(|error| error.to_string())?, server)));
-    match started {
-        Ok((address, server)) => {
-            println!("citrus_server listens at {address}: up to {} pairs and {} connections", options.pairs, options.limits.connections);
+    match options.server() {
+        Ok((server, says)) => {
+            println!("{says}");
             server.run()
         }
         Err(cause) => {

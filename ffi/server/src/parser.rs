@@ -3,6 +3,7 @@
 
 use crate::inline::{words_of, UnbalancedQuotes};
 use std::fmt;
+use std::mem::size_of;
 
 /// A request has at most so many words.
 pub const MAX_WORDS: usize = 16_384;
@@ -113,6 +114,19 @@ impl Parser {
         self.bytes.extend_from_slice(bytes);
     }
 
+    /// Gives memory back but for some `room` bytes, while a next request is awaited. A part of one that came stays.
+    pub fn shrink_to(&mut self, room: usize) {
+        if self.read == self.bytes.len() {
+            self.feed(&[]);
+            self.bytes.shrink_to(room);
+        }
+        if matches!(self.expected, Expected::Request) {
+            self.request.clear();
+            self.request.text.shrink_to(room);
+            self.request.ends.shrink_to(room / size_of::<usize>());
+        }
+    }
+
     /// The next request, where all of it has come. Empty lines and empty arrays are none.
     ///
     /// # Errors
@@ -218,6 +232,7 @@ mod tests {
         let mut parser = Parser::default();
         let mut requests = Vec::new();
         for piece in pieces {
+            parser.shrink_to(0);
             parser.feed(piece);
             loop {
                 match parser.request() {
@@ -289,5 +304,52 @@ mod tests {
         assert_eq!(read(&[&words(17)]).1, Some(Broken::TooMuch));
         let many = [b"*16384\r\n".to_vec(), b"$1\r\n5\r\n".repeat(MAX_WORDS)].concat();
         assert_eq!(read(&[&many]).0[0].len(), 2 * MAX_WORDS - 1);
+    }
+
+    /// Numbers that look drawn, the same in each run.
+    struct Drawn(u64);
+
+    impl Drawn {
+        fn below(&mut self, end: usize) -> usize {
+            self.0 = self.0.wrapping_mul(6_364_136_223_846_793_005).wrapping_add(1_442_695_040_888_963_407);
+            (self.0 >> 33) as usize % end
+        }
+    }
+
+    /// Pieces of requests and of bytes that are none, as drawn.
+    fn made(drawn: &mut Drawn) -> Vec<u8> {
+        const PARTS: [&[u8]; 16] =
+            [b"*1\r\n", b"*2\r\n", b"$4\r\nPING\r\n", b"$0\r\n\r\n", b"\r\n", b"\n", b"\r", b"get 5\r\n", b"*", b"$", b"\"", b"7", b" ", b"*-1\n", b"'a b'", b"\0\xff"];
+        (0..drawn.below(12)).flat_map(|_| PARTS[drawn.below(PARTS.len())]).copied().collect()
+    }
+
+    #[test]
+    fn whatever_comes_is_read_the_same_in_pieces() {
+        let mut drawn = Drawn(1);
+        let (mut whole_ones, mut broken_ones) = (0, 0);
+        for round in 0..20_000 {
+            let bytes = made(&mut drawn);
+            let whole = read(&[&bytes]);
+            whole_ones += whole.0.len();
+            broken_ones += usize::from(whole.1.is_some());
+            let single: Vec<&[u8]> = bytes.chunks(1).collect();
+            assert_eq!(read(&single), whole, "{round}: {bytes:?}");
+            let middle = drawn.below(bytes.len() + 1);
+            assert_eq!(read(&[&bytes[..middle], &bytes[middle..]]), whole, "{round}, {middle}: {bytes:?}");
+        }
+        assert!(whole_ones > 5_000 && broken_ones > 5_000, "{whole_ones} requests, {broken_ones} broken");
+    }
+
+    #[test]
+    fn memory_is_given_back_between_requests() {
+        let mut parser = Parser::default();
+        parser.feed(&[b"ECHO ".to_vec(), vec![b'a'; 60_000], b"\r\nPI".to_vec()].concat());
+        assert!(matches!(parser.request(), Ok(Some(_))));
+        parser.shrink_to(100);
+        assert!(parser.bytes.capacity() > 60_000 && parser.request.text.capacity() <= 100);
+        parser.feed(b"NG\r\n");
+        assert!(matches!(parser.request(), Ok(Some(request)) if request.words() == [b"PING"]));
+        parser.shrink_to(100);
+        assert!(parser.bytes.capacity() <= 100);
     }
 }

@@ -1,21 +1,30 @@
 //! From answers to the bytes of RESP2.
 
-/// Replies that haven't been sent.
+/// Replies, and how far they have been sent.
 #[derive(Debug, Default)]
 pub struct Replies {
     bytes: Vec<u8>,
+    sent: usize,
 }
 
 impl Replies {
-    /// All of them.
-    pub fn bytes(&self) -> &[u8] {
-        &self.bytes
+    /// What hasn't been sent.
+    pub fn unsent(&self) -> &[u8] {
+        &self.bytes[self.sent..]
     }
 
-    /// Forgets them, when they were sent.
-    pub fn clear(&mut self) {
-        self.bytes.clear();
-        self.bytes.shrink_to(1 << 20);
+    /// So many bytes of that were sent.
+    pub fn were_sent(&mut self, count: usize) {
+        self.sent += count;
+        if self.unsent().is_empty() {
+            self.bytes.clear();
+            self.sent = 0;
+        }
+    }
+
+    /// Gives memory back but for so many bytes, where all was sent.
+    pub fn shrink_to(&mut self, room: usize) {
+        self.bytes.shrink_to(room);
     }
 
     /// A word that says how it went.
@@ -29,7 +38,7 @@ impl Replies {
         self.line(b'-', &text);
     }
 
-    /// A number that counts.
+    /// A number that counts. Clients take it for one of at most 2^63 - 1.
     pub fn count(&mut self, number: u64) {
         self.line(b':', Decimal::of(number).digits());
     }
@@ -110,6 +119,22 @@ mod tests {
         replies.bulk(b"");
         replies.number(345);
         replies.number_or_nil(None);
-        assert_eq!(replies.bytes(), b"+OK\r\n-ERR a  b\r\n:12\r\n*3\r\n$0\r\n\r\n$3\r\n345\r\n$-1\r\n");
+        assert_eq!(replies.unsent(), b"+OK\r\n-ERR a  b\r\n:12\r\n*3\r\n$0\r\n\r\n$3\r\n345\r\n$-1\r\n");
+    }
+
+    #[test]
+    fn what_was_sent_is_forgotten_when_all_was() {
+        let mut replies = Replies::default();
+        replies.status("OK");
+        replies.were_sent(2);
+        assert_eq!(replies.unsent(), b"K\r\n");
+        replies.count(1);
+        replies.were_sent(3);
+        assert_eq!(replies.unsent(), b":1\r\n");
+        replies.were_sent(4);
+        assert_eq!(replies.unsent(), b"");
+        replies.shrink_to(0);
+        replies.count(2);
+        assert_eq!(replies.unsent(), b":2\r\n");
     }
 }

@@ -1,0 +1,373 @@
+//! From commands to replies.
+
+use crate::commands::{Command, Range};
+use crate::replies::Replies;
+use crate::store::{Store, Uncounted};
+use citrus_map::Error;
+
+/// A `FLUSHALL` that isn't through. It goes in pieces, so that the worker's other connections have their turns.
+#[derive(Debug)]
+pub struct Clearing {
+    /// The pairs below this key have been taken out.
+    from: u64,
+}
+
+impl Clearing {
+    /// Takes out some more pairs. Where none are left it adds the reply, and else it tells what to go on with.
+    pub fn go_on(self, store: &Store, replies: &mut Replies) -> Option<Clearing> {
+        match store.clear_some(self.from) {
+            Ok(Some(from)) => return Some(Clearing { from }),
+            Ok(None) => replies.status("OK"),
+            Err(error) => replies.error(&words_of(error)),
+        }
+        None
+    }
+}
+
+/// Does what the command says, and adds one reply; or, where it takes longer, tells what to go on with, which adds the reply at its end.
+pub fn answer(command: &Command, store: &Store, replies: &mut Replies) -> Option<Clearing> {
+    if *command == Command::Clear {
+        return Some(Clearing { from: 0 });
+    }
+    if let Err(error) = try_answer(command, store, replies) {
+        replies.error(&words_of(error));
+    }
+    None
+}
+
+/// What the index says where it has no answer, as clients tell errors apart.
+fn words_of(error: Error) -> String {
+    let kind = match error {
+        Error::Full => "FULL",
+        Error::Moved => "TRYAGAIN",
+        Error::NoMemory => "OOM",
+        Error::Spent => "SPENT",
+        Error::Lost => "LOST",
+        _ => "ERR",
+    };
+    format!("{kind} {error}")
+}
+
+/// Adds one reply, or where it fails none.
+fn try_answer(command: &Command, store: &Store, replies: &mut Replies) -> Result<(), Error> {
+    match command {
+        Command::Get(key) => replies.number_or_nil(store.get(*key)?),
+        Command::GetMany(keys) => {
+            let values = keys.iter().map(|key| store.get(*key)).collect::<Result<Vec<_>, _>>()?;
+            replies.array(values.len());
+            values.into_iter().for_each(|value| replies.number_or_nil(value));
+        }
+        Command::Set { key, value } => {
+            store.set(*key, *value)?;
+            replies.status("OK");
+        }
+        Command::SetMany(pairs) => {
+            pairs.iter().try_for_each(|(key, value)| store.set(*key, *value).map(|_| ()))?;
+            replies.status("OK");
+        }
+        Command::SetIfAbsent { key, value } => replies.count(store.set_if_absent(*key, *value)?.into()),
+        Command::Exchange { key, value } => replies.number_or_nil(store.set(*key, *value)?),
+        Command::Add { key, amount } => add(*key, *amount, store, replies)?,
+        Command::Delete(keys) => replies.count(how_many(keys, |key| Ok(store.remove(key)?.is_some()))?),
+        Command::Take(key) => replies.number_or_nil(store.remove(*key)?),
+        Command::Exist(keys) => replies.count(how_many(keys, |key| Ok(store.get(key)?.is_some()))?),
+        Command::Range(range) => tell(*range, store, replies)?,
+        Command::Size => replies.count(store.size()),
+        Command::Ping(None) => replies.status("PONG"),
+        Command::Ping(Some(word)) | Command::Echo(word) => replies.bulk(word),
+        Command::Commands => replies.array(0),
+        Command::Setting(name) => setting(name, replies),
+        Command::Quit => replies.status("OK"),
+        Command::Clear | Command::Http => {}
+    }
+    Ok(())
+}
+
+fn how_many(keys: &[u64], mut is_so: impl FnMut(u64) -> Result<bool, Error>) -> Result<u64, Error> {
+    keys.iter().try_fold(0, |count, key| Ok(count + u64::from(is_so(*key)?)))
+}
+
+/// A number that can't be counted is told in Redis's words.
+fn add(key: u64, amount: i64, store: &Store, replies: &mut Replies) -> Result<(), Error> {
+    match store.add(key, amount) {
+        Ok(sum) => replies.count(sum),
+        Err(Uncounted::TooLarge) => replies.error("ERR value is not an integer or out of range"),
+        Err(Uncounted::Overflow) => replies.error("ERR increment or decrement would overflow"),
+        Err(Uncounted::Index(error)) => return Err(error),
+    }
+    Ok(())
+}
+
+/// The key to go on from, and the pairs.
+fn tell(Range { low, high, limit, is_down }: Range, store: &Store, replies: &mut Replies) -> Result<(), Error> {
+    let page = if is_down { store.page_down(low, high, limit)? } else { store.page(low, high, limit)? };
+    replies.array(2);
+    replies.number_or_nil(page.next);
+    replies.array(2 * page.pairs.len());
+    for (key, value) in page.pairs {
+        replies.number(key);
+        replies.number(value);
+    }
+    Ok(())
+}
+
+/// The settings for which `redis-benchmark` asks: nothing is saved.
+fn setting(name: &[u8], replies: &mut Replies) {
+    let value: &[u8] = match name.to_ascii_lowercase().as_slice() {
+        b"save" => b"",
+        b"appendonly" => b"no",
+        _ => return replies.array(0),
+    };
+    replies.array(2);
+    replies.bulk(name);
+    replies.bulk(value);
+}
+
+#[cfg(test)]
+mod tests {
+    use super::*;
+    use crate::parser::Parser;
+    use citrus_map::Index;
+
+    /// What the server says to a line.
+    fn told(store: &Store, line: &str) -> String {
+        let mut parser = Parser::default();
+        parser.feed(line.as_bytes());
+        parser.feed(b"\n");
+        let request = parser.request().expect("the tests have good lines alone").expect("a line is a request");
+        let mut replies = Replies::default();
+        match Command::of(request) {
+            Ok(command) => {
+                let mut rest = answer(&command, store, &mut replies);
+                while let Some(clearing) = rest {
+                    rest = clearing.go_on(store, &mut replies);
+                }
+            }
+            Err(refusal) => replies.error(&refusal.to_string()),
+        }
+        String::from_utf8_lossy(replies.unsent()).replace("\r\n", " ")
+    }
+
+    fn new_store(pairs: u32) -> Store {
+        let handle = Index::new(pairs, 1).and_then(|index| index.handle()).expect("there is memory");
+        Store::all(vec![handle]).expect("an empty index is counted").remove(0)
+    }
+
+    fn check(pairs: u32, session: &[(&str, &str)]) {
+        check_at(&new_store(pairs), session);
+    }
+
+    fn check_at(store: &Store, session: &[(&str, &str)]) {
+        for (line, reply) in session {
+            assert_eq!(told(store, line).trim_end(), *reply, "{line}");
+        }
+    }
+
+    #[test]
+    fn keys_get_values_and_lose_them() {
+        check(
+            100,
+            &[
+                ("GET 5", "$-1"),
+                ("SET 5 50", "+OK"),
+                ("get 5", "$2 50"),
+                ("SET 05 0051", "+OK"),
+                ("GET 000000000000000000000000005", "$2 51"),
+                ("SETNX 5 52", ":0"),
+                ("SETNX 18446744073709551615 0", ":1"),
+                ("EXISTS 5 6 5 18446744073709551615", ":3"),
+                ("DEL 5 5 6", ":1"),
+                ("GET 5", "$-1"),
+            ],
+        );
+    }
+
+    #[test]
+    fn many_keys_go_in_one_request() {
+        check(
+            100,
+            &[
+                ("MSET 1 10 2 20 1 11", "+OK"),
+                ("MGET 1 3 2 1", "*4 $2 11 $-1 $2 20 $2 11"),
+                ("GETSET 1 12", "$2 11"),
+                ("GETSET 3 30", "$-1"),
+                ("GETDEL 3", "$2 30"),
+                ("GETDEL 3", "$-1"),
+                ("DBSIZE", ":2"),
+                ("mget 1", "*1 $2 12"),
+            ],
+        );
+    }
+
+    #[test]
+    fn counters_stay_from_0_to_the_greatest_integer_of_the_protocol() {
+        const OVERFLOW: &str = "-ERR increment or decrement would overflow";
+        const NO_INTEGER: &str = "-ERR value is not an integer or out of range";
+        check(
+            100,
+            &[
+                ("INCR 1", ":1"),
+                ("INCRBY 1 41", ":42"),
+                ("GET 1", "$2 42"),
+                ("DECRBY 1 40", ":2"),
+                ("DECR 1", ":1"),
+                ("INCRBY 1 -1", ":0"),
+                ("DECR 1", OVERFLOW),
+                ("DECR 2", OVERFLOW),
+                ("EXISTS 2", ":0"),
+                ("DECRBY 2 -9223372036854775807", ":9223372036854775807"),
+                ("INCR 2", OVERFLOW),
+                ("INCRBY 1 9223372036854775808", NO_INTEGER),
+                ("INCRBY 1 -9223372036854775808", OVERFLOW),
+                ("DECRBY 1 -9223372036854775808", "-ERR decrement would overflow"),
+                ("SET 3 9223372036854775808", "+OK"),
+                ("DECR 3", NO_INTEGER),
+                ("GET 3", "$19 9223372036854775808"),
+                ("MGET 1 2", "*2 $1 0 $19 9223372036854775807"),
+            ],
+        );
+    }
+
+    #[test]
+    fn all_pairs_can_be_taken_out() {
+        let store = new_store(2_000);
+        for key in 0..2_000u64 {
+            assert_eq!(told(&store, &format!("SET {} {key}", key.reverse_bits())).trim_end(), "+OK");
+        }
+        check_at(
+            &store,
+            &[("DBSIZE", ":2000"), ("FLUSHALL", "+OK"), ("DBSIZE", ":0"), ("RANGE - +", "*2 $-1 *0"), ("flushall", "+OK")],
+        );
+    }
+
+    #[test]
+    fn ranges_go_down_too() {
+        check(
+            100,
+            &[
+                ("REVRANGE + -", "*2 $-1 *0"),
+                ("MSET 0 5 1 10 2 20 18446744073709551615 40", "+OK"),
+                ("REVRANGE + -", "*2 $-1 *8 $20 18446744073709551615 $2 40 $1 2 $2 20 $1 1 $2 10 $1 0 $1 5"),
+                ("REVRANGE 2 1", "*2 $-1 *4 $1 2 $2 20 $1 1 $2 10"),
+                ("revrange + - limit 2", "*2 $1 1 *4 $20 18446744073709551615 $2 40 $1 2 $2 20"),
+                ("REVRANGE 1 1 LIMIT 1", "*2 $-1 *2 $1 1 $2 10"),
+                ("REVRANGE 1 2", "*2 $-1 *0"),
+                ("REVRANGE 2 1 LIMIT 8193", "-ERR LIMIT is out of range, must be from 1 to 8192"),
+                ("REVRANGE 2", "-ERR wrong number of arguments for 'revrange' command"),
+            ],
+        );
+    }
+
+    #[test]
+    fn ranges_come_in_pages() {
+        check(
+            100,
+            &[
+                ("RANGE - +", "*2 $-1 *0"),
+                ("SET 1 10", "+OK"),
+                ("SET 2 20", "+OK"),
+                ("SET 3 30", "+OK"),
+                ("RANGE 1 2", "*2 $-1 *4 $1 1 $2 10 $1 2 $2 20"),
+                ("RANGE - + LIMIT 1", "*2 $1 2 *2 $1 1 $2 10"),
+                ("range 3 + limit 1", "*2 $-1 *2 $1 3 $2 30"),
+                ("RANGE 3 1", "*2 $-1 *0"),
+                ("SET 18446744073709551615 40", "+OK"),
+                ("RANGE 4 +", "*2 $-1 *2 $20 18446744073709551615 $2 40"),
+                ("RANGE 1 2 LIMIT 0", "-ERR LIMIT is out of range, must be from 1 to 65536"),
+                ("RANGE 1 2 LIMIT 65537", "-ERR LIMIT is out of range, must be from 1 to 65536"),
+                ("RANGE 1 2 COUNT 1", "-ERR syntax error"),
+                ("RANGE 1 2 LIMIT", "-ERR syntax error"),
+                ("RANGE 1", "-ERR wrong number of arguments for 'range' command"),
+            ],
+        );
+    }
+
+    #[test]
+    fn bad_requests_change_nothing() {
+        const NO_NUMBER: &str = "-ERR value is not an integer or out of range";
+        check(
+            100,
+            &[
+                ("SET 5 50", "+OK"),
+                ("DEL 5 x", NO_NUMBER),
+                ("GET 5", "$2 50"),
+                ("GET \"\"", NO_NUMBER),
+                ("GET +5", NO_NUMBER),
+                ("GET -5", NO_NUMBER),
+                ("GET 5.0", NO_NUMBER),
+                ("SET 5 18446744073709551616", NO_NUMBER),
+                ("SET key:000000000001 1", NO_NUMBER),
+                ("SET 5 60 EX 10", "-ERR syntax error"),
+                ("SET 5", "-ERR wrong number of arguments for 'set' command"),
+                ("Get", "-ERR wrong number of arguments for 'get' command"),
+                ("GET 5 6", "-ERR wrong number of arguments for 'get' command"),
+                ("FLUSHING \"a\\nb\" 5", "-ERR unknown command 'FLUSHING', with args beginning with: 'a b' '5'"),
+                ("FLUSHALL NOW", "-ERR syntax error"),
+                ("MSET 5 60 6", "-ERR wrong number of arguments for 'mset' command"),
+                ("MSET", "-ERR wrong number of arguments for 'mset' command"),
+                ("MSET 5 60 6 x", NO_NUMBER),
+                ("MGET 5 x", NO_NUMBER),
+                ("MGET", "-ERR wrong number of arguments for 'mget' command"),
+                ("INCR", "-ERR wrong number of arguments for 'incr' command"),
+                ("INCRBY 5 1.5", NO_NUMBER),
+                ("INCRBY 5 +1", NO_NUMBER),
+                ("DBSIZE 5", "-ERR wrong number of arguments for 'dbsize' command"),
+                ("getgetget", "-ERR unknown command 'getgetget', with args beginning with:"),
+                ("GET 5", "$2 50"),
+            ],
+        );
+    }
+
+    #[test]
+    fn a_full_index_has_an_error_of_its_own() {
+        let store = new_store(2);
+        // Beside those for its pairs it has 68 slots for what its handle may keep back.
+        for key in 100..100 + 68 {
+            assert_eq!(told(&store, &format!("SET {key} 0")).trim_end(), "+OK");
+        }
+        check_at(
+            &store,
+            &[
+                ("SET 1 1", "+OK"),
+                ("SET 2 2", "+OK"),
+                ("SET 3 3", "-FULL the index is full"),
+                ("SETNX 3 3", "-FULL the index is full"),
+                ("SET 2 4", "+OK"),
+                ("SETNX 2 5", ":0"),
+                ("GET 2", "$1 4"),
+            ],
+        );
+    }
+
+    #[test]
+    fn tools_are_answered_when_they_start() {
+        check(
+            1,
+            &[
+                ("PING", "+PONG"),
+                ("PING \"a b\"", "$3 a b"),
+                ("ECHO hello", "$5 hello"),
+                ("COMMAND", "*0"),
+                ("COMMAND DOCS", "*0"),
+                ("CONFIG GET save", "*2 $4 save $0"),
+                ("CONFIG GET appendonly", "*2 $10 appendonly $2 no"),
+                ("CONFIG GET port", "*0"),
+                ("CONFIG SET save 1", "-ERR syntax error"),
+                ("QUIT", "+OK"),
+            ],
+        );
+    }
+
+    #[test]
+    fn lines_of_http_are_told_from_commands() {
+        check(
+            10,
+            &[
+                ("POST / HTTP/1.1", ""),
+                ("Host: localhost", ""),
+                ("hOsT:", ""),
+                ("HOST", "-ERR unknown command 'HOST', with args beginning with:"),
+            ],
+        );
+    }
+}

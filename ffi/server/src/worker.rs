@@ -1,0 +1,210 @@
+//! A worker: a thread with a handle of the index and with connections of its own.
+
+use crate::connection::{Connection, Next, CHUNK};
+use crate::epoll::{Epoll, Interest};
+use crate::store::Store;
+use crate::warnings::Warnings;
+use std::collections::HashMap;
+use std::io::{self, Read, Write};
+use std::net::TcpStream;
+use std::os::unix::net::UnixStream;
+use std::sync::atomic::{AtomicUsize, Ordering::Relaxed};
+use std::sync::mpsc::{channel, Receiver, Sender, TryRecvError};
+use std::sync::Arc;
+use std::thread;
+use std::time::{Duration, Instant};
+
+/// It looks for connections that are to end at least so often, and no oftener than the other.
+const LONGEST_BETWEEN_SWEEPS: Duration = Duration::from_millis(500);
+const SHORTEST_BETWEEN_SWEEPS: Duration = Duration::from_millis(10);
+/// The token of the socket by which a worker is woken. Connections have greater ones.
+const WAKE: u64 = 0;
+
+/// The way by which a worker gets connections. Where it is dropped the worker ends, with all its connections.
+#[derive(Debug)]
+pub(crate) struct Employed {
+    connections: Sender<TcpStream>,
+    wake: UnixStream,
+    load: Arc<AtomicUsize>,
+}
+
+impl Employed {
+    /// Starts a worker.
+    ///
+    /// # Errors
+    /// Where there is no file or no thread for it.
+    pub(crate) fn start(store: Store, idle: Option<Duration>, warnings: Arc<Warnings>) -> io::Result<Employed> {
+        let (connections, handed_over) = channel();
+        let (wake, woken) = UnixStream::pair()?;
+        wake.set_nonblocking(true)?;
+        woken.set_nonblocking(true)?;
+        let epoll = Epoll::new()?;
+        epoll.add(&woken, WAKE, Interest::Read)?;
+        let load = Arc::new(AtomicUsize::new(0));
+        let its_load = Arc::clone(&load);
+        thread::Builder::new().name("citrus worker".into()).spawn(move || {
+            let worker = Worker {
+                epoll,
+                handed_over,
+                woken,
+                connections: HashMap::new(),
+                last_token: WAKE,
+                behind: Vec::new(),
+                chunk: vec![0; CHUNK],
+                store,
+                idle,
+                swept: Instant::now(),
+                load: its_load,
+                warnings,
+            };
+            if let Err(error) = worker.run() {
+                // It has no means to tell its connections any more.
+                eprintln!("a worker ended, with its connections: {error}");
+            }
+        })?;
+        Ok(Employed { connections, wake, load })
+    }
+
+    /// How many connections it has.
+    pub(crate) fn load(&self) -> usize {
+        self.load.load(Relaxed)
+    }
+
+    /// Hands a connection over.
+    ///
+    /// # Errors
+    /// Gives it back where the worker has ended.
+    pub(crate) fn hand_over(&self, stream: TcpStream) -> Result<(), TcpStream> {
+        self.load.fetch_add(1, Relaxed);
+        self.connections.send(stream).map_err(|refused| refused.0)?;
+        // Where there is no room for one more byte it will be woken by those before.
+        let _ = (&self.wake).write(&[0]);
+        Ok(())
+    }
+}
+
+/// A connection, and what is waited for at it.
+struct Watched {
+    connection: Connection,
+    interest: Interest,
+}
+
+struct Worker {
+    epoll: Epoll,
+    handed_over: Receiver<TcpStream>,
+    woken: UnixStream,
+    connections: HashMap<u64, Watched>,
+    last_token: u64,
+    /// The tokens of those that go on without anything that they wait for.
+    behind: Vec<u64>,
+    /// Where bytes are read to.
+    chunk: Vec<u8>,
+    store: Store,
+    idle: Option<Duration>,
+    /// When it last looked for connections that are to end.
+    swept: Instant,
+    load: Arc<AtomicUsize>,
+    warnings: Arc<Warnings>,
+}
+
+impl Worker {
+    /// Serves until nobody can hand over connections any more.
+    fn run(mut self) -> io::Result<()> {
+        let mut due = Vec::new();
+        loop {
+            self.epoll.wait(self.time_to_sweep(), &mut due)?;
+            due.append(&mut self.behind);
+            due.sort_unstable();
+            due.dedup();
+            let now = Instant::now();
+            for token in due.drain(..) {
+                if token != WAKE {
+                    self.turn(token, now);
+                } else if !self.welcome(now) {
+                    return Ok(());
+                }
+            }
+            self.sweep(now);
+        }
+    }
+
+    /// How long it may wait: not at all where connections go on, and for ever where there are none.
+    fn time_to_sweep(&self) -> Option<Duration> {
+        if !self.behind.is_empty() {
+            Some(Duration::ZERO)
+        } else if self.connections.is_empty() {
+            None
+        } else {
+            Some(self.between_sweeps().saturating_sub(self.swept.elapsed()))
+        }
+    }
+
+    fn between_sweeps(&self) -> Duration {
+        let wanted = self.idle.map_or(LONGEST_BETWEEN_SWEEPS, |idle| idle / 8);
+        wanted.clamp(SHORTEST_BETWEEN_SWEEPS, LONGEST_BETWEEN_SWEEPS)
+    }
+
+    /// Takes the connections that were handed over, and says whether there may be more.
+    fn welcome(&mut self, now: Instant) -> bool {
+        // Whoever hands one over wakes it after that.
+        let _ = self.woken.read(&mut [0; 256]);
+        loop {
+            match self.handed_over.try_recv() {
+                Ok(stream) => self.watch(stream, now),
+                Err(TryRecvError::Empty) => return true,
+                Err(TryRecvError::Disconnected) => return false,
+            }
+        }
+    }
+
+    /// Has a connection from now on, unless its client is gone.
+    fn watch(&mut self, stream: TcpStream, now: Instant) {
+        self.last_token += 1;
+        let is_ready = stream.set_nonblocking(true).and_then(|()| stream.set_nodelay(true));
+        if is_ready.and_then(|()| self.epoll.add(&stream, self.last_token, Interest::Read)).is_ok() {
+            let watched = Watched { connection: Connection::new(stream, now), interest: Interest::Read };
+            self.connections.insert(self.last_token, watched);
+        } else {
+            self.load.fetch_sub(1, Relaxed);
+        }
+    }
+
+    fn turn(&mut self, token: u64, now: Instant) {
+        let watched = match self.connections.get_mut(&token) {
+            Some(watched) => watched,
+            None => return,
+        };
+        let interest = match watched.connection.turn(&self.store, &mut self.chunk, now) {
+            Ok(Next::Read) => Interest::Read,
+            Ok(Next::Write) => Interest::Write,
+            Ok(Next::Turn) => return self.behind.push(token),
+            Ok(Next::EndOfHttp) => {
+                self.warnings.spoke_http(watched.connection.peer());
+                return self.end(token);
+            }
+            Ok(Next::End) | Err(_) => return self.end(token),
+        };
+        if interest != watched.interest {
+            watched.interest = interest;
+            if self.epoll.change(watched.connection.stream(), token, interest).is_err() {
+                self.end(token);
+            }
+        }
+    }
+
+    fn end(&mut self, token: u64) {
+        self.connections.remove(&token);
+        self.load.fetch_sub(1, Relaxed);
+    }
+
+    /// Ends the connections that have been quiet for too long.
+    fn sweep(&mut self, now: Instant) {
+        if now.saturating_duration_since(self.swept) < self.between_sweeps() {
+            return;
+        }
+        self.swept = now;
+        let (before, idle) = (self.connections.len(), self.idle);
+        self.connections.retain(|_, watched| !watched.connection.is_over(now, idle));
+        self.load.fetch_sub(before - self.connections.len(), Relaxed);
+    }
+}
