@@ -55,7 +55,9 @@ fn try_answer(command: &Command, store: &Store, replies: &mut Replies) -> Result
         Command::GetMany(keys) => {
             let values = keys.iter().map(|key| store.get(*key)).collect::<Result<Vec<_>, _>>()?;
             replies.array(values.len());
-            values.into_iter().for_each(|value| replies.number_or_nil(value));
+            for value in values {
+                replies.number_or_nil(value);
+            }
         }
         Command::Set { key, value } => {
             store.set(*key, *value)?;
@@ -234,10 +236,7 @@ mod tests {
         for key in 0..2_000u64 {
             assert_eq!(told(&store, &format!("SET {} {key}", key.reverse_bits())).trim_end(), "+OK");
         }
-        check_at(
-            &store,
-            &[("DBSIZE", ":2000"), ("FLUSHALL", "+OK"), ("DBSIZE", ":0"), ("RANGE - +", "*2 $-1 *0"), ("flushall", "+OK")],
-        );
+        check_at(&store, &[("DBSIZE", ":2000"), ("FLUSHALL", "+OK"), ("DBSIZE", ":0"), ("RANGE - +", "*2 $-1 *0"), ("flushall", "+OK")]);
     }
 
     #[test]

@@ -245,11 +245,28 @@ impl<'a> Command<'a> {
 
 /// Why words are no command: there is none of this name, or it takes another number of words.
 fn refused(words: &[&[u8]], upper: &[u8]) -> Refusal {
-    const NAMES: [&[u8]; 18] = [
-        b"GET", b"MGET", b"SET", b"SETNX", b"GETSET", b"INCR", b"DECR", b"INCRBY", b"DECRBY", b"DEL", b"GETDEL", b"EXISTS", b"RANGE",
-        b"REVRANGE", b"DBSIZE", b"PING", b"ECHO", b"CONFIG",
-    ];
-    if NAMES.contains(&upper) {
+    let is_name = matches!(
+        upper,
+        b"GET"
+            | b"MGET"
+            | b"SET"
+            | b"SETNX"
+            | b"GETSET"
+            | b"INCR"
+            | b"DECR"
+            | b"INCRBY"
+            | b"DECRBY"
+            | b"DEL"
+            | b"GETDEL"
+            | b"EXISTS"
+            | b"RANGE"
+            | b"REVRANGE"
+            | b"DBSIZE"
+            | b"PING"
+            | b"ECHO"
+            | b"CONFIG"
+    );
+    if is_name {
         Refusal::Arguments { name: String::from_utf8_lossy(upper).to_ascii_lowercase() }
     } else {
         Refusal::Unknown { words: words.iter().take(5).map(|word| shown(word)).collect() }

@@ -88,10 +88,8 @@ impl Options {
         let server = Server::bind((self.bind.as_str(), self.port), index, limits).map_err(at)?;
         let address = server.address().map_err(at)?;
         let Options { pairs, workers, .. } = self;
-        let says = format!(
-            "citrus_server listens at {address}: up to {pairs} pairs and {} connections, {workers} workers",
-            limits.connections
-        );
+        let says =
+            format!("citrus_server listens at {address}: up to {pairs} pairs and {} connections, {workers} workers", limits.connections);
         Ok((server, says))
     }
 }

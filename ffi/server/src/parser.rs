@@ -318,9 +318,9 @@ mod tests {
 
     /// Pieces of requests and of bytes that are none, as drawn.
     fn made(drawn: &mut Drawn) -> Vec<u8> {
-        const PARTS: [&[u8]; 16] =
-            [b"*1\r\n", b"*2\r\n", b"$4\r\nPING\r\n", b"$0\r\n\r\n", b"\r\n", b"\n", b"\r", b"get 5\r\n", b"*", b"$", b"\"", b"7", b" ", b"*-1\n", b"'a b'", b"\0\xff"];
-        (0..drawn.below(12)).flat_map(|_| PARTS[drawn.below(PARTS.len())]).copied().collect()
+        const PARTS: &[u8] = b"*1\r\n|*2\r\n|$4\r\nPING\r\n|$0\r\n\r\n|\r\n|\n|\r|get 5\r\n|*|$|\"|7| |*-1\n|'a b'|\0\xff";
+        let parts: Vec<&[u8]> = PARTS.split(|byte| *byte == b'|').collect();
+        (0..drawn.below(12)).flat_map(|_| parts[drawn.below(parts.len())]).copied().collect()
     }
 
     #[test]

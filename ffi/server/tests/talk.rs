@@ -130,14 +130,16 @@ fn connections_that_send_nothing_whole_lock_nobody_out() {
 
 #[test]
 fn clients_that_read_no_reply_lock_nobody_out() {
-    let address = server(10_000, 2);
+    // One worker has them all.
+    let address = server(10_000, 1);
     let stream = client(address);
     for key in 0..10_000u64 {
         (&stream).write_all(format!("SET {key} {key}\n").as_bytes()).unwrap();
     }
     expect(&stream, b"", &b"+OK\r\n".repeat(10_000));
-    let asked = b"RANGE - + LIMIT 10000\n".repeat(400);
-    let silent: Vec<TcpStream> = (0..8).map(|_| client(address)).collect();
+    // They are more than the system keeps on the way.
+    let asked = b"RANGE - + LIMIT 10000\n".repeat(80);
+    let silent: Vec<TcpStream> = (0..4).map(|_| client(address)).collect();
     for mut stream in &silent {
         stream.write_all(&asked).unwrap();
     }
@@ -145,6 +147,73 @@ fn clients_that_read_no_reply_lock_nobody_out() {
     for _ in 0..100 {
         expect(&stream, b"GET 7\n", b"$1\r\n7\r\n");
     }
+    // Whoever reads after all gets every reply.
+    let mut late = &silent[0];
+    late.shutdown(Shutdown::Write).unwrap();
+    let mut told = Vec::new();
+    late.read_to_end(&mut told).unwrap();
+    let begin = b"*2\r\n$-1\r\n*20000\r\n";
+    assert_eq!(told.windows(begin.len()).filter(|bytes| bytes == begin).count(), 80);
+    assert!(told.ends_with(b"$4\r\n9999\r\n$4\r\n9999\r\n"));
+}
+
+#[test]
+fn nothing_more_is_read_of_a_client_that_reads_nothing() {
+    const MOST: usize = 64 << 20;
+    let address = server(10, 1);
+    let stream = client(address);
+    stream.set_write_timeout(Some(Duration::from_millis(500))).unwrap();
+    let asked = [b"*2\r\n$4\r\nECHO\r\n$60000\r\n".to_vec(), vec![b'x'; 60_000], b"\r\n".to_vec()].concat();
+    let mut sent = 0;
+    while sent < MOST {
+        match (&stream).write(&asked[sent % asked.len()..]) {
+            Ok(count) => sent += count,
+            Err(_) => break,
+        }
+    }
+    assert!(sent < MOST, "it takes whatever comes");
+    expect(&client(address), b"PING\n", b"+PONG\r\n");
+    let reply = [b"$60000\r\n".to_vec(), vec![b'x'; 60_000], b"\r\n".to_vec()].concat();
+    for _ in 0..sent / asked.len() {
+        expect(&stream, b"", &reply);
+    }
+}
+
+#[test]
+fn a_crowd_that_is_idle_costs_nobody() {
+    // Both ends of a connection are files of this process.
+    let most = citrus_server::files::allowed().map_or(2_000, |files| 2_000.min(files.saturating_sub(400) / 2));
+    let address = server(10, 3);
+    let crowd: Vec<TcpStream> = (0..most).map(|_| client(address)).collect();
+    for stream in &crowd {
+        expect(stream, b"INCR 5\n", b":");
+    }
+    expect(&client(address), b"GET 5\n", format!("${}\r\n{most}\r\n", most.to_string().len()).as_bytes());
+}
+
+#[test]
+fn a_request_may_come_byte_by_byte() {
+    let address = server(10, 1);
+    let (slow, other) = (client(address), client(address));
+    expect(&other, b"SET 5 50\n", b"+OK\r\n");
+    for byte in b"*3\r\n$4\r\nMGET\r\n$1\r\n5\r\n$1\r\n6\r\n" {
+        (&slow).write_all(&[*byte]).unwrap();
+        expect(&other, b"PING\n", b"+PONG\r\n");
+    }
+    expect(&slow, b"", b"*2\r\n$2\r\n50\r\n$-1\r\n");
+}
+
+#[test]
+fn the_last_replies_come_before_the_end() {
+    let stream = client(server(10, 1));
+    let reply = [b"$60000\r\n".to_vec(), vec![b'x'; 60_000], b"\r\n".to_vec()].concat();
+    let mut sender = stream.try_clone().unwrap();
+    let sending = thread::spawn(move || {
+        let asked = [b"*2\r\n$4\r\nECHO\r\n$60000\r\n".to_vec(), vec![b'x'; 60_000], b"\r\n".to_vec()].concat();
+        sender.write_all(&[asked.repeat(100), b"QUIT\r\nSET 5 50\r\n".to_vec()].concat()).unwrap();
+    });
+    assert!(rest(&stream).into_bytes() == [reply.repeat(100), b"+OK\r\n".to_vec()].concat());
+    sending.join().unwrap();
 }
 
 /// Whether the server ends the connection, and when.
@@ -156,7 +225,7 @@ fn time_to_its_end(stream: &TcpStream) -> Duration {
 
 #[test]
 fn a_quiet_connection_is_ended() {
-    let idle = Duration::from_millis(400);
+    let idle = Duration::from_secs(1);
     let address = server_with(10, 2, Limits { idle: Some(idle), ..Limits::default() });
     assert!(time_to_its_end(&client(address)) >= idle / 2);
     let stream = client(address);
@@ -220,7 +289,7 @@ fn what_a_web_page_sends_is_no_command() {
 
 #[test]
 fn clients_that_work_at_once_lose_nothing() {
-    let address = server(8_000, 9);
+    let address = server(8_000, 3);
     thread::scope(|scope| {
         for who in 0..8 {
             scope.spawn(move || {
@@ -236,4 +305,46 @@ fn clients_that_work_at_once_lose_nothing() {
     let stream = client(address);
     (&stream).write_all(b"RANGE - + LIMIT 8001\n").unwrap();
     expect(&stream, b"", b"*2\r\n$-1\r\n*16000\r\n");
+}
+
+#[test]
+fn counters_lose_no_step_of_any_client() {
+    let address = server(10, 4);
+    thread::scope(|scope| {
+        for step in 1..=8 {
+            scope.spawn(move || {
+                let stream = client(address);
+                (&stream).write_all(format!("INCRBY 7 {step}\nDECRBY 7 -1\n").repeat(500).as_bytes()).unwrap();
+                stream.shutdown(Shutdown::Write).unwrap();
+                assert_eq!(rest(&stream).lines().filter(|line| line.starts_with(':')).count(), 1_000);
+            });
+        }
+    });
+    // 36 for the eight steps, and 1 for each client.
+    expect(&client(address), b"GET 7\nDBSIZE\n", b"$5\r\n22000\r\n:1\r\n");
+}
+
+#[test]
+fn all_pairs_go_while_others_are_served() {
+    let address = server(50_000, 1);
+    let (one, other) = (client(address), client(address));
+    let asked: String = (0..50_000u64).map(|key| format!("SET {} 1\n", key.reverse_bits() >> 32)).collect();
+    let mut sender = one.try_clone().unwrap();
+    let sending = thread::spawn(move || sender.write_all(asked.as_bytes()).unwrap());
+    expect(&one, b"", &b"+OK\r\n".repeat(50_000));
+    sending.join().unwrap();
+    expect(&other, b"DBSIZE\n", b":50000\r\n");
+    (&one).write_all(b"FLUSHALL\nDBSIZE\n").unwrap();
+    for _ in 0..20 {
+        expect(&other, b"PING\n", b"+PONG\r\n");
+    }
+    expect(&one, b"", b"+OK\r\n:0\r\n");
+    expect(&other, b"RANGE - +\n", b"*2\r\n$-1\r\n*0\r\n");
+}
+
+#[test]
+fn an_index_without_a_handle_has_no_server() {
+    let index = Index::new(10, 1).unwrap();
+    let _taken = index.handle().unwrap();
+    assert!(Server::bind("127.0.0.1:0", index, Limits::default()).is_err());
 }
