@@ -2,6 +2,7 @@
 
 use crate::replies::Replies;
 use crate::store::Store;
+use crate::system::let_wait;
 use crate::warnings::Warnings;
 use crate::worker::Employed;
 use citrus_map::Index;
@@ -13,6 +14,8 @@ use std::time::Duration;
 
 /// So long no connection is taken where the system couldn't take one.
 const REST: Duration = Duration::from_millis(10);
+/// So many connections may wait until they are taken.
+const QUEUE: u16 = 4_096;
 
 /// What a server bears.
 #[derive(Clone, Copy, Debug, PartialEq, Eq)]
@@ -46,6 +49,7 @@ impl Server {
     /// can't be counted.
     pub fn bind(address: impl ToSocketAddrs, index: Index, limits: Limits) -> io::Result<Server> {
         let listener = TcpListener::bind(address)?;
+        let_wait(&listener, QUEUE)?;
         let handles = std::iter::from_fn(|| index.handle().ok()).collect();
         let stores = Store::all(handles).map_err(|error| io::Error::new(ErrorKind::Other, error))?;
         let warnings = Arc::new(Warnings::default());

@@ -1,8 +1,8 @@
 //! A worker: a thread with a handle of the index and with connections of its own.
 
 use crate::connection::{Connection, Next, CHUNK};
-use crate::epoll::{Epoll, Interest};
 use crate::store::Store;
+use crate::system::{Epoll, Interest};
 use crate::warnings::Warnings;
 use std::collections::HashMap;
 use std::io::{self, Read, Write};

@@ -1,13 +1,14 @@
-//! Linux's epoll, by which a worker waits for all its connections at once. std has no such call, so this module declares the three that the
-//! C library has, and is the only one with unsafe code.
+//! What Linux has and std doesn't: epoll, by which a worker waits for all its connections at once, and a longer queue of those that come.
+//! This module declares the calls that the C library has for it, and is the only one with unsafe code.
 
 use std::io::{self, ErrorKind};
+use std::net::TcpListener;
 use std::os::raw::c_int;
 use std::os::unix::io::{AsRawFd, FromRawFd, OwnedFd};
 use std::time::Duration;
 
 /// So many events are told at a time. Those that are left are told by the next call.
-const ROOM: usize = 256;
+const ROOM: c_int = 256;
 
 const CLOSE_ON_EXEC: c_int = 0o2_000_000;
 const ADD: c_int = 1;
@@ -37,12 +38,23 @@ extern "C" {
     fn epoll_create1(flags: c_int) -> c_int;
     fn epoll_ctl(epoll: c_int, operation: c_int, source: c_int, event: *mut Event) -> c_int;
     fn epoll_wait(epoll: c_int, events: *mut Event, room: c_int, milliseconds: c_int) -> c_int;
+    fn listen(socket: c_int, queue: c_int) -> c_int;
+}
+
+/// Lets so many connections wait until they are taken, or as many as the system has as its limit. std asks for 128, which a busy machine
+/// can't take in the time in which they come; whoever finds the queue full tries again a second later.
+///
+/// # Errors
+/// What the system says.
+pub fn let_wait(listener: &TcpListener, connections: u16) -> io::Result<()> {
+    // SAFETY: the call takes no memory of ours. On a socket that listens already it changes the length of the queue alone.
+    told(unsafe { listen(listener.as_raw_fd(), connections.into()) }).map(|_| ())
 }
 
 /// Sources that are waited for, each under a token. One that is closed is forgotten by the system.
 pub struct Epoll {
     own: OwnedFd,
-    events: [Event; ROOM],
+    events: [Event; ROOM as usize],
 }
 
 impl Epoll {
@@ -55,7 +67,7 @@ impl Epoll {
         let made = told(unsafe { epoll_create1(CLOSE_ON_EXEC) })?;
         // SAFETY: the call has just made it, so nobody else has it.
         let own = unsafe { OwnedFd::from_raw_fd(made) };
-        Ok(Epoll { own, events: [Event { kinds: 0, token: 0 }; ROOM] })
+        Ok(Epoll { own, events: [Event { kinds: 0, token: 0 }; ROOM as usize] })
     }
 
     /// Waits for a source too, from the next [`wait`](Epoll::wait) on.
@@ -91,7 +103,7 @@ impl Epoll {
     /// What the system says.
     pub fn wait(&mut self, limit: Option<Duration>, tokens: &mut Vec<u64>) -> io::Result<()> {
         // SAFETY: the call writes to at most as many events as there is room for.
-        let waited = told(unsafe { epoll_wait(self.own.as_raw_fd(), self.events.as_mut_ptr(), ROOM as c_int, milliseconds(limit)) });
+        let waited = told(unsafe { epoll_wait(self.own.as_raw_fd(), self.events.as_mut_ptr(), ROOM, milliseconds(limit)) });
         let count = match waited {
             Ok(count) => count as usize,
             Err(error) if error.kind() == ErrorKind::Interrupted => 0,
@@ -163,5 +175,14 @@ mod tests {
         assert_eq!(milliseconds(Some(Duration::from_nanos(1))), 1);
         assert_eq!(milliseconds(Some(Duration::from_millis(3))), 3);
         assert_eq!(milliseconds(Some(Duration::MAX)), c_int::MAX);
+    }
+
+    #[test]
+    fn a_socket_that_listens_goes_on_with_a_longer_queue() {
+        let listener = TcpListener::bind("127.0.0.1:0").expect("a port is free");
+        let_wait(&listener, 1_000).expect("it listens");
+        let address = listener.local_addr().expect("it has one");
+        let _crowd: Vec<_> = (0..200).map(|_| std::net::TcpStream::connect(address).expect("there is room")).collect();
+        assert!(listener.accept().is_ok());
     }
 }
