@@ -1,22 +1,26 @@
 #!/usr/bin/env bash
 # Measures the index server of ffi/server beside redis-server, both asked by redis-benchmark with drawn keys of 100,000, at 1, 4 and 16
-# connections: `server.sh [--rounds N] [--requests N] [--pipeline N] [--threads N]`, with so many requests under way a connection, and so
-# many threads of redis-benchmark. One thread of it may be slower than a server; with more it takes the time by quarters of a second, so
-# many requests are to be made. The best and the median of the rounds go to bench/results/server.csv. Where Debian's redis-server or
-# redis-tools isn't installed it is left out, with a word. It stands outside the gate.
+# connections: `server.sh [--rounds N] [--requests N] [--pipeline N] [--threads N] [--workers N] [--idle N]`, with so many requests under way
+# a connection, so many threads of redis-benchmark, so many workers of the index server (its own choice where nothing is said), and so many
+# more connections to each server that ask nothing. One thread of redis-benchmark may be slower than a server; with more it takes the time by
+# quarters of a second, so many requests are to be made. The best and the median of the rounds go to bench/results/server.csv; the memory
+# that the idle connections take is told. Where Debian's redis-server or redis-tools isn't installed it is left out, with a word. It stands
+# outside the gate.
 set -eu
 # shellcheck source=bench/library.sh
 . "$(dirname "$0")/library.sh"
 # shellcheck source=bench/results.sh
 . "$top/bench/results.sh"
-rounds=5 requests=500000 pipeline=16 threads=1
+rounds=5 requests=500000 pipeline=16 threads=1 idle=0 workers=()
 while [ $# -gt 0 ]; do
     case $1 in
         --rounds) rounds=$2 ;;
         --requests) requests=$2 ;;
         --pipeline) pipeline=$2 ;;
         --threads) threads=$2 ;;
-        *) echo "usage: server.sh [--rounds N] [--requests N] [--pipeline N] [--threads N]" >&2; exit 2 ;;
+        --workers) workers=(--workers "$2") ;;
+        --idle) idle=$2 ;;
+        *) echo "usage: server.sh [--rounds N] [--requests N] [--pipeline N] [--threads N] [--workers N] [--idle N]" >&2; exit 2 ;;
     esac
     shift 2
 done
@@ -41,16 +45,41 @@ answers() {
 # A port that nobody has at this moment.
 free_port() { python3 -c 'import socket; s = socket.socket(); s.bind(("127.0.0.1", 0)); print(s.getsockname()[1])'; }
 
+# Has connections to a server that were answered once and ask no more, and tells what memory it has for them: `stand_idle NAME PORT PROCESS`.
+# Each is a file of both processes.
+stand_idle() {
+    [ "$idle" != 0 ] || return 0
+    mkfifo "$out/$1_stands"
+    python3 - "$@" "$idle" >"$out/$1_stands" <<'END' &
+import socket, sys, time
+name, port, process, count = sys.argv[1], int(sys.argv[2]), sys.argv[3], int(sys.argv[4])
+def memory():
+    with open(f"/proc/{process}/status") as status:
+        return next(int(line.split()[1]) for line in status if line.startswith("VmRSS"))
+before = memory()
+crowd = [socket.create_connection(("127.0.0.1", port)) for _ in range(count)]
+for one in crowd:
+    one.sendall(b"PING\r\n")
+for one in crowd:
+    assert one.recv(100) == b"+PONG\r\n"
+print(f"{name}: {count} idle connections take {(memory() - before) * 1024 // count} bytes each", flush=True)
+time.sleep(1e6)
+END
+    started+=($!)
+    head -n 1 "$out/$1_stands" >&2
+    rm "$out/$1_stands"
+}
+
 servers=()
 port=$(free_port)
-"$out/citrus_server" --port "$port" --pairs 200000 >"$out/citrus_server_says" &
+"$out/citrus_server" --port "$port" --pairs 200000 "${workers[@]}" >"$out/citrus_server_says" &
 started+=($!)
-! answers "$port" || servers+=("citrus_server $port")
+! answers "$port" || { servers+=("citrus_server $port") && stand_idle citrus_server "$port" $!; }
 if hash redis-server 2>/dev/null; then
     port=$(free_port)
     redis-server --port "$port" --bind 127.0.0.1 --save '' --appendonly no --dir "$out" >"$out/redis_server_says" &
     started+=($!)
-    ! answers "$port" || servers+=("redis-server $port")
+    ! answers "$port" || { servers+=("redis-server $port") && stand_idle redis-server "$port" $!; }
 else
     left_out "redis-server, which Debian's package of that name has"
 fi
@@ -65,8 +94,8 @@ rate() {
         awk -F '","' 'END { print $2 }'
 }
 
-measured_here "$rounds rounds of $requests requests, $pipeline under way a connection, $threads threads of redis-benchmark" \
-    >"$out/server.csv"
+how="$pipeline under way a connection, $threads threads of redis-benchmark, $idle idle connections"
+measured_here "$rounds rounds of $requests requests, $how" >"$out/server.csv"
 : >"$out/server_cells"
 for ((round = 1; round <= rounds; round++)); do
     for server in "${servers[@]}"; do
