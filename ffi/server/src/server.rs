@@ -39,6 +39,8 @@ pub struct Server {
     listener: TcpListener,
     workers: Vec<Employed>,
     limits: Limits,
+    /// Of connections that couldn't be taken.
+    warnings: Warnings,
 }
 
 impl Server {
@@ -52,13 +54,13 @@ impl Server {
         let_wait(&listener, QUEUE)?;
         let handles = std::iter::from_fn(|| index.handle().ok()).collect();
         let stores = Store::all(handles).map_err(|error| io::Error::new(ErrorKind::Other, error))?;
-        let warnings = Arc::new(Warnings::default());
-        let employed = stores.into_iter().map(|store| Employed::start(store, limits.idle, Arc::clone(&warnings)));
+        let of_http = Arc::new(Warnings::default());
+        let employed = stores.into_iter().map(|store| Employed::start(store, limits.idle, Arc::clone(&of_http)));
         let workers = employed.collect::<io::Result<Vec<_>>>()?;
         if workers.is_empty() {
             return Err(io::Error::new(ErrorKind::Other, citrus_map::Error::NoHandle));
         }
-        Ok(Server { listener, workers, limits })
+        Ok(Server { listener, workers, limits, warnings: Warnings::default() })
     }
 
     /// Where it listens: the port is the system's choice where none was asked for.
@@ -75,7 +77,7 @@ impl Server {
             match self.listener.accept() {
                 Ok((stream, _)) => self.welcome(stream),
                 Err(error) => {
-                    eprintln!("no connection could be taken: {error}");
+                    self.warnings.say(|| format!("a connection couldn't be taken: {error}"));
                     thread::sleep(REST);
                 }
             }

@@ -1,26 +1,42 @@
-//! What is told of connections on standard error, now and then.
+//! What is told on standard error, now and then.
 
-use std::net::SocketAddr;
 use std::sync::{Mutex, PoisonError};
 use std::time::{Duration, Instant};
 
-/// Connections that spoke HTTP are told of once in so long.
+/// What happens often is told of once in so long.
 const BETWEEN_WARNINGS: Duration = Duration::from_secs(60);
 
-/// When something was told last.
+/// When one kind of thing was told of last.
 #[derive(Debug, Default)]
 pub(crate) struct Warnings {
-    at: Mutex<Option<Instant>>,
+    told: Mutex<Option<Instant>>,
 }
 
 impl Warnings {
-    /// Says that somebody spoke HTTP, which a web page may have a browser do.
-    pub(crate) fn spoke_http(&self, whose: Option<SocketAddr>) {
-        let mut at = self.at.lock().unwrap_or_else(PoisonError::into_inner);
-        if at.map_or(true, |at| at.elapsed() >= BETWEEN_WARNINGS) {
-            *at = Some(Instant::now());
-            let whose = whose.map_or_else(|| "somebody".into(), |address| address.to_string());
-            eprintln!("a connection of {whose} was closed, since it spoke HTTP: a web page may try to write here by a browser");
+    /// Says it, unless the like was said a short while ago.
+    pub(crate) fn say(&self, text: impl FnOnce() -> String) {
+        let mut told = self.told.lock().unwrap_or_else(PoisonError::into_inner);
+        if told.map_or(true, |at| at.elapsed() >= BETWEEN_WARNINGS) {
+            *told = Some(Instant::now());
+            eprintln!("{}", text());
         }
+    }
+}
+
+#[cfg(test)]
+mod tests {
+    use super::*;
+    use std::cell::Cell;
+
+    #[test]
+    fn the_like_is_not_said_twice_in_a_short_while() {
+        let (warnings, said) = (Warnings::default(), Cell::new(0));
+        for _ in 0..3 {
+            warnings.say(|| {
+                said.set(said.get() + 1);
+                "a test says this once".into()
+            });
+        }
+        assert_eq!(said.get(), 1);
     }
 }

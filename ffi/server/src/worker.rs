@@ -179,7 +179,9 @@ impl Worker {
             Ok(Next::Write) => Interest::Write,
             Ok(Next::Turn) => return self.behind.push(token),
             Ok(Next::EndOfHttp) => {
-                self.warnings.spoke_http(watched.connection.peer());
+                let whose = watched.connection.peer().map_or_else(|| "somebody".into(), |address| address.to_string());
+                let why = "was closed, since it spoke HTTP: a web page may try to write here by a browser";
+                self.warnings.say(|| format!("a connection of {whose} {why}"));
                 return self.end(token);
             }
             Ok(Next::End) | Err(_) => return self.end(token),
@@ -206,5 +208,54 @@ impl Worker {
         let (before, idle) = (self.connections.len(), self.idle);
         self.connections.retain(|_, watched| !watched.connection.is_over(now, idle));
         self.load.fetch_sub(before - self.connections.len(), Relaxed);
+    }
+}
+
+#[cfg(test)]
+mod tests {
+    use super::*;
+    use citrus_map::Index;
+    use std::net::TcpListener;
+
+    fn worker() -> Employed {
+        let handle = Index::new(10, 1).and_then(|index| index.handle()).expect("there is memory");
+        let store = Store::all(vec![handle]).expect("an empty index is counted").remove(0);
+        Employed::start(store, None, Arc::default()).expect("there are files and a thread")
+    }
+
+    /// A client, and the connection with it.
+    fn connected() -> (TcpStream, TcpStream) {
+        let listener = TcpListener::bind("127.0.0.1:0").expect("a port is free");
+        let client = TcpStream::connect(listener.local_addr().expect("it has one")).expect("it listens");
+        client.set_read_timeout(Some(Duration::from_secs(20))).expect("it is above 0");
+        (client, listener.accept().expect("one came").0)
+    }
+
+    #[test]
+    fn a_worker_counts_its_connections() {
+        let worker = worker();
+        let (mut client, stream) = connected();
+        worker.hand_over(stream).expect("the worker is there");
+        assert_eq!(worker.load(), 1);
+        client.write_all(b"PING\n").expect("it is open");
+        client.read_exact(&mut [0; 7]).expect("there is a reply");
+        assert_eq!(worker.load(), 1);
+        drop(client);
+        let is_free = || {
+            thread::sleep(Duration::from_millis(10));
+            worker.load() == 0
+        };
+        assert!((0..2_000).any(|_| is_free()));
+    }
+
+    #[test]
+    fn connections_end_with_their_worker_and_a_worker_with_its_way() {
+        let worker = worker();
+        let (mut client, stream) = connected();
+        worker.hand_over(stream).expect("the worker is there");
+        client.write_all(b"PING\n").expect("it is open");
+        client.read_exact(&mut [0; 7]).expect("there is a reply");
+        drop(worker);
+        assert_eq!(client.read(&mut [0]).expect("the end is no error"), 0);
     }
 }

@@ -348,3 +348,21 @@ fn an_index_without_a_handle_has_no_server() {
     let _taken = index.handle().unwrap();
     assert!(Server::bind("127.0.0.1:0", index, Limits::default()).is_err());
 }
+
+#[test]
+fn the_server_stands_whatever_comes() {
+    const PARTS: &[u8] =
+        b"*3\r\n|$3\r\nSET\r\n|$1\r\n5\r\n|*1\r\n|$9\r\n|MGET 1 2 x\n|\"|\n|INCRBY 5 -\n|*-5\r\n|\0\xff\n|REVRANGE 9 1 LIMIT\n|$";
+    let parts: Vec<&[u8]> = PARTS.split(|byte| *byte == b'|').collect();
+    let address = server(10, 1);
+    let mut drawn = 1u64;
+    for _ in 0..300 {
+        let mut stream = client(address);
+        for _ in 0..20 {
+            drawn = drawn.wrapping_mul(6_364_136_223_846_793_005).wrapping_add(1_442_695_040_888_963_407);
+            // The server may have ended it by then.
+            let _ = stream.write_all(parts[(drawn >> 33) as usize % parts.len()]);
+        }
+    }
+    expect(&client(address), b"PING\n", b"+PONG\r\n");
+}
