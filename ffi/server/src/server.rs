@@ -4,7 +4,7 @@ use crate::replies::Replies;
 use crate::store::Store;
 use crate::system::let_wait;
 use crate::warnings::Warnings;
-use crate::worker::Employed;
+use crate::worker::Inbox;
 use citrus_map::Index;
 use std::io::{self, ErrorKind, Read, Write};
 use std::net::{Shutdown, SocketAddr, TcpListener, TcpStream, ToSocketAddrs};
@@ -37,7 +37,7 @@ impl Default for Limits {
 #[derive(Debug)]
 pub struct Server {
     listener: TcpListener,
-    workers: Vec<Employed>,
+    workers: Vec<Inbox>,
     limits: Limits,
     /// Of connections that couldn't be taken.
     warnings: Warnings,
@@ -55,8 +55,8 @@ impl Server {
         let handles = std::iter::from_fn(|| index.handle().ok()).collect();
         let stores = Store::all(handles).map_err(|error| io::Error::new(ErrorKind::Other, error))?;
         let of_http = Arc::new(Warnings::default());
-        let employed = stores.into_iter().map(|store| Employed::start(store, limits.idle, Arc::clone(&of_http)));
-        let workers = employed.collect::<io::Result<Vec<_>>>()?;
+        let inboxes = stores.into_iter().map(|store| Inbox::start(store, limits.idle, Arc::clone(&of_http)));
+        let workers = inboxes.collect::<io::Result<Vec<_>>>()?;
         if workers.is_empty() {
             return Err(io::Error::new(ErrorKind::Other, citrus_map::Error::NoHandle));
         }
@@ -86,7 +86,7 @@ impl Server {
 
     /// Gives the connection to a worker, or tells it why it has none. This thread alone adds connections.
     fn welcome(&self, stream: TcpStream) {
-        let all: usize = self.workers.iter().map(Employed::load).sum();
+        let all: usize = self.workers.iter().map(Inbox::load).sum();
         if all >= self.limits.connections {
             return turn_away(&stream, "ERR max number of clients reached");
         }

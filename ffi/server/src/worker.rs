@@ -22,18 +22,18 @@ const WAKE: u64 = 0;
 
 /// The way by which a worker gets connections. Where it is dropped the worker ends, with all its connections.
 #[derive(Debug)]
-pub(crate) struct Employed {
+pub(crate) struct Inbox {
     connections: Sender<TcpStream>,
     wake: UnixStream,
     load: Arc<AtomicUsize>,
 }
 
-impl Employed {
+impl Inbox {
     /// Starts a worker.
     ///
     /// # Errors
     /// Where there is no file or no thread for it.
-    pub(crate) fn start(store: Store, idle: Option<Duration>, warnings: Arc<Warnings>) -> io::Result<Employed> {
+    pub(crate) fn start(store: Store, idle: Option<Duration>, warnings: Arc<Warnings>) -> io::Result<Inbox> {
         let (connections, handed_over) = channel();
         let (wake, woken) = UnixStream::pair()?;
         wake.set_nonblocking(true)?;
@@ -62,7 +62,7 @@ impl Employed {
                 eprintln!("a worker ended, with its connections: {error}");
             }
         })?;
-        Ok(Employed { connections, wake, load })
+        Ok(Inbox { connections, wake, load })
     }
 
     /// How many connections it has.
@@ -217,10 +217,10 @@ mod tests {
     use citrus_map::Index;
     use std::net::TcpListener;
 
-    fn worker() -> Employed {
+    fn worker() -> Inbox {
         let handle = Index::new(10, 1).and_then(|index| index.handle()).expect("there is memory");
         let store = Store::all(vec![handle]).expect("an empty index is counted").remove(0);
-        Employed::start(store, None, Arc::default()).expect("there are files and a thread")
+        Inbox::start(store, None, Arc::default()).expect("there are files and a thread")
     }
 
     /// A client, and the connection with it.

@@ -152,9 +152,9 @@ fn clients_that_read_no_reply_lock_nobody_out() {
     late.shutdown(Shutdown::Write).unwrap();
     let mut told = Vec::new();
     late.read_to_end(&mut told).unwrap();
-    let begin = b"*2\r\n$-1\r\n*20000\r\n";
-    assert_eq!(told.windows(begin.len()).filter(|bytes| bytes == begin).count(), 80);
-    assert!(told.ends_with(b"$4\r\n9999\r\n$4\r\n9999\r\n"));
+    let pairs = (0..10_000u64).map(|key| format!("${0}\r\n{key}\r\n", key.to_string().len()).repeat(2));
+    let reply = format!("*2\r\n$-1\r\n*20000\r\n{}", pairs.collect::<String>());
+    assert!(told == reply.repeat(80).into_bytes());
 }
 
 #[test]
@@ -326,14 +326,14 @@ fn counters_lose_no_step_of_any_client() {
 
 #[test]
 fn all_pairs_go_while_others_are_served() {
-    let address = server(50_000, 1);
+    let address = server(20_000, 1);
     let (one, other) = (client(address), client(address));
-    let asked: String = (0..50_000u64).map(|key| format!("SET {} 1\n", key.reverse_bits() >> 32)).collect();
+    let asked: String = (0..20_000u64).map(|key| format!("SET {} 1\n", key.reverse_bits() >> 32)).collect();
     let mut sender = one.try_clone().unwrap();
     let sending = thread::spawn(move || sender.write_all(asked.as_bytes()).unwrap());
-    expect(&one, b"", &b"+OK\r\n".repeat(50_000));
+    expect(&one, b"", &b"+OK\r\n".repeat(20_000));
     sending.join().unwrap();
-    expect(&other, b"DBSIZE\n", b":50000\r\n");
+    expect(&other, b"DBSIZE\n", b":20000\r\n");
     (&one).write_all(b"FLUSHALL\nDBSIZE\n").unwrap();
     for _ in 0..20 {
         expect(&other, b"PING\n", b"+PONG\r\n");
