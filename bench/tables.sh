@@ -86,19 +86,19 @@ lists() {
 
 # Lists of the C library beside writers, and where a library from before was measured too, what it did.
 writers() {
-    head_of 'pairs of a list' writers 'lists a second' 'that failed' 'updates a second' '999 of 1,000 took, µs' 'the longest, µs' \
-        'before: lists' 'that failed' updates '999 of 1,000' 'the longest'
+    head_of 'pairs of a list' writers tries 'lists a second' 'that failed' 'updates a second' '999 of 1,000 took, µs' 'the longest, µs' \
+        'before: tries' lists 'that failed' updates '999 of 1,000' 'the longest'
     awk -F, '/^#/ || /^series/ { next }
         {
-            row = $2 "," $3
+            row = $3 "," $4
             if (!(row in seen)) { seen[row]; order[++rows] = row }
-            cells[$1, row] = ($2 ? $4 " | " $5 : "- | -") " | " $6 " | " $7 " | " $8
+            cells[$1, row] = ($3 ? $2 " | " $5 " | " $6 : "- | - | -") " | " $7 " | " $8 " | " $9
         }
         END {
             for (i = 1; i <= rows; i++) {
                 split(order[i], part, ",")
                 past = cells["before", order[i]]
-                print "| " (part[1] ? part[1] : "none") " | " part[2] " | " cells["now", order[i]] " | " (past ? past : "- | - | - | - | -") " |"
+                print "| " (part[1] ? part[1] : "none") " | " part[2] " | " cells["now", order[i]] " | " (past ? past : "- | - | - | - | - | -") " |"
             }
         }' "$1"
 }

@@ -2,7 +2,7 @@
  * beside so many threads that update drawn keys; with LIST 0 nobody lists. It writes a line
  * `LIST,WRITERS,LISTS,FAILED,UPDATES,P999,LONGEST`: how many lists came in a second and how many failed, the updates in a second of all
  * writers together, and how many microseconds 999 of 1,000 of them took at most, and the longest one. A library whose lists may answer
- * CITRUS_MOVED is measured too: these have failed. */
+ * CITRUS_MOVED is measured too: these have failed. It ends with status 1 where a list, or the index at the end, isn't as it must be. */
 #include <citrus.h>
 #include <pthread.h>
 #include <stdatomic.h>
@@ -13,7 +13,7 @@
 enum { PAIRS = 131072, MOST_WRITERS = 16, OWN_KEYS = 1024, BUCKETS = 512 };
 
 static uint64_t keys[PAIRS];
-static citrus_pair listed[CITRUS_MAX_ROOM];
+static citrus_pair listed[PAIRS];
 static _Atomic int is_over;
 
 struct writer {
@@ -39,6 +39,11 @@ static uint64_t nanoseconds(void) {
     return (uint64_t)now.tv_sec * 1000000000u + (uint64_t)now.tv_nsec;
 }
 
+/* The value that a writer puts under the key in its turn, and whether a value was put under the key at all: keys have 56 scattered bits. */
+static uint64_t value_for(uint64_t key, uint64_t turn) { return key ^ turn; }
+
+static int is_of(uint64_t key, uint64_t value) { return (key ^ value) >> 32 == 0; }
+
 static void must(int holds, const char *what) {
     if (holds) return;
     fprintf(stderr, "writers: %s\n", what);
@@ -61,11 +66,14 @@ static uint64_t end_of(size_t bucket) {
 static void update(struct writer *me, uint64_t turn) {
     const uint64_t own = mixed(PAIRS + OWN_KEYS * me->number + turn / 4 % OWN_KEYS);
     uint64_t old = 0;
-    int32_t status;
-    if (turn % 2) status = citrus_replace(&me->handle, keys[draw(&me->state) % PAIRS], turn, &old);
-    else if (turn % 4) status = citrus_remove(&me->handle, own, &old);
-    else status = citrus_insert(&me->handle, own, turn);
-    must(status == CITRUS_DONE, "an update wasn't made");
+    if (turn % 2) {
+        const uint64_t key = keys[draw(&me->state) % PAIRS];
+        must(citrus_replace(&me->handle, key, value_for(key, turn), &old) == CITRUS_DONE, "a value wasn't replaced");
+        must(is_of(key, old), "a value was another key's");
+    } else if (turn % 4) {
+        must(citrus_remove(&me->handle, own, &old) == CITRUS_DONE, "a pair wasn't taken out");
+        must(old == value_for(own, turn - 2), "a pair that was taken out had another value");
+    } else must(citrus_insert(&me->handle, own, value_for(own, turn)) == CITRUS_DONE, "a pair wasn't put in");
 }
 
 static void *write_without_rest(void *writer) {
@@ -82,19 +90,37 @@ static void *write_without_rest(void *writer) {
     return NULL;
 }
 
-/* Lists until the time is over: how many lists came. Each has as many pairs as it is to have, keys ascending. */
+/* Whether the keys of so many listed pairs ascend, and each has a value that was put under it. */
+static int are_pairs(size_t count) {
+    for (size_t i = 0; i < count; i++)
+        if ((i && listed[i - 1].key >= listed[i].key) || !is_of(listed[i].key, listed[i].value)) return 0;
+    return 1;
+}
+
+/* Lists until the time is over: how many lists came. Each has as many pairs as it is to have. */
 static uint64_t list_for(citrus_handle *index, size_t list, uint64_t end, uint64_t *failed) {
     uint64_t came = 0, next = 0, state = 88172645463325252u;
     while (nanoseconds() < end) {
+        const uint64_t low = keys[draw(&state) % (PAIRS - list)];
         size_t count = 0;
-        const int32_t status = citrus_list(index, keys[draw(&state) % (PAIRS - list)], UINT64_MAX, listed, list, &count, &next);
+        const int32_t status = citrus_list(index, low, UINT64_MAX, listed, list, &count, &next);
         *failed += status == CITRUS_MOVED;
         if (status == CITRUS_MOVED) continue;
         must((status == CITRUS_DONE || status == CITRUS_MORE) && count == list, "a list is too short");
-        for (size_t i = 1; i < count; i++) must(listed[i - 1].key < listed[i].key, "keys of a list don't ascend");
+        must(listed[0].key == low && are_pairs(count), "pairs of a list aren't those that were put in");
+        must(status == CITRUS_DONE || next > listed[count - 1].key, "the key after a list is in it");
         came++;
     }
     return came;
+}
+
+/* Once all writers have ended: just the pairs are there with which the index was filled, under whatever values. */
+static void check_all(citrus_handle *index) {
+    size_t count = 0;
+    uint64_t next = 0;
+    must(citrus_list(index, 0, UINT64_MAX, listed, PAIRS, &count, &next) == CITRUS_DONE && count == PAIRS && are_pairs(count),
+         "the index has other pairs at the end");
+    for (size_t i = 0; i < PAIRS; i++) must(listed[i].key == keys[i], "the index has another key at the end");
 }
 
 static int ascends(const void *one, const void *other) {
@@ -106,7 +132,7 @@ static void fill(citrus_handle *index, uint32_t handles) {
     must(citrus_open(index, PAIRS + MOST_WRITERS * OWN_KEYS, handles, CITRUS_EER) == CITRUS_DONE, "no index was opened");
     for (uint64_t i = 0; i < PAIRS; i++) {
         keys[i] = mixed(i);
-        must(citrus_insert(index, keys[i], i) == CITRUS_DONE, "a pair wasn't put in");
+        must(citrus_insert(index, keys[i], value_for(keys[i], 0)) == CITRUS_DONE, "a pair wasn't put in");
     }
     qsort(keys, PAIRS, sizeof keys[0], ascends);
 }
@@ -149,6 +175,7 @@ int main(int words_count, char **words) {
         citrus_close(&writers[i].handle);
     }
     const double passed = (double)(nanoseconds() - began) / 1e9;
+    check_all(&index);
     citrus_close(&index);
     printf("%zu,%u,%.0f,%llu,%.0f,%.1f,%.1f\n", list, (unsigned)count, (double)came / passed, (unsigned long long)failed,
            (double)updates / passed, most_of(writers, count, longest, 0.999), (double)longest / 1000);
