@@ -81,7 +81,7 @@ static inline citrus_handle citrus_closed_handle(void) {
 /* 2^30, less the 68 slots that are set aside for each of 1,024 handles. */
 #define CITRUS_MAX_PAIRS 1073672192u
 #define CITRUS_MAX_HANDLES 1024u
-#define CITRUS_MAX_ROOM 1048576u
+#define CITRUS_MAX_ROOM 1073741824u
 /* 2^57: what the first handle of an index has. At a million updates a second, 16 tickets each, they last 280 years. */
 #define CITRUS_ALL_TICKETS 144115188075855872u
 

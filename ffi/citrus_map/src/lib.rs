@@ -106,7 +106,7 @@ pub const MAX_PAIRS: u32 = 1_073_672_192;
 /// The greatest number of handles of an index.
 pub const MAX_HANDLES: u32 = 1_024;
 /// The greatest number of pairs that one list tells.
-pub const MAX_ROOM: usize = 1_048_576;
+pub const MAX_ROOM: usize = 1 << 30;
 
 /// The tickets of an index; an update uses at most 16 of them.
 const ALL_TICKETS: u64 = 1 << 57;

@@ -85,7 +85,8 @@ impl Handle {
             Some(ends) => ends,
             None => return Ok(Vec::new()),
         };
-        for room in [1 << 8, 1 << 12, 1 << 16, MAX_ROOM] {
+        // Each time there is room for sixteen times as many.
+        for room in (8..30).step_by(4).map(|bits| 1 << bits).chain([MAX_ROOM]) {
             let page = self.list_from(low, high, room)?;
             if page.next.is_none() {
                 return Ok(page.pairs);
@@ -95,7 +96,8 @@ impl Handle {
     }
 
     /// The first pairs with keys in the range, as they were at one moment of the call, keys ascending: as many as there is room for, and
-    /// the key after them. Room for 0 pairs is taken as 1, and for more than [`MAX_ROOM`] as that.
+    /// the key after them. Room for 0 pairs is taken as 1, and for more than [`MAX_ROOM`] as that. All of the room is asked of the system in
+    /// advance, twice.
     ///
     /// Page by page a range of any length can be read, as [`range`](Handle::range) does. Each page is exact at a moment of its own, later
     /// than that of the page before.
