@@ -40,6 +40,7 @@ PICTURES = {
         "tree_handles": "indexes by handles",
         "citrus_tree": "get, put, del, remove, set",
         "exact_list": "lists of a key range",
+        "many_gets": "many lookups at once",
         "tree_lift": "turns on a key's way",
         "tree_turn": "a node and its child turned",
         "node_slots": "slots and locks",
