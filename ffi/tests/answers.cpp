@@ -234,7 +234,7 @@ static void sections(uint32_t waiter) {
 
 static void refusals() {
     WANT(is_refused(citrus::fault::bad_argument, [] { citrus::handle(0, 1); }), true);
-    WANT(is_refused(citrus::fault::bad_argument, [] { citrus::handle(1, 65); }), true);
+    WANT(is_refused(citrus::fault::bad_argument, [] { citrus::handle(1, CITRUS_MAX_HANDLES + 1); }), true);
     WANT(is_refused(citrus::fault::bad_argument, [] { citrus::handle(1, 1, citrus::waiter{3}); }), true);
     citrus::handle full(1, 1), index(1, 2);
     for (uint64_t key = 0; key < 1 + 68; key++) full.insert(key, 10);
