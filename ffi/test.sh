@@ -54,7 +54,7 @@ compile_cpp() { g++ -std=c++17 "${strict[@]}" "$here/tests/$1.cpp" -L"$prefix/li
 
 compile_all() {
     compile_c answers && compile_c misuse && compile_c own_keys && compile_c moments && compile_c reopened && compile_c tidy && compile_c version &&
-        compile_c always && compile_c many_handles && compile_c counters &&
+        compile_c always && compile_c many_handles && compile_c counters && compile_c lanes &&
         compile_c memory -Wl,--wrap=malloc,--wrap=realloc,--wrap=free && compile_cpp answers && compile_cpp order &&
         compile_c holds && compile_c begun && compile_c objects && compile_c prcu && compile_cpp map && compile_debug
 }
@@ -239,7 +239,7 @@ case_is 'the cache in C++' example '5: five' g++ -std=c++17 -Wall -Wextra -Werro
 if hash pkg-config 2>/dev/null; then case_is "the page's program by pkg-config" with_pkg_config; else echo 'left out: pkg-config'; fi
 case_is 'the tests compile' compile_all
 [ -x "$room/order_cpp" ] || end
-for program in answers misuse memory moments own_keys always many_handles counters reopened tidy version answers_cpp; do cases_of "$room/$program"; done
+for program in answers misuse memory moments own_keys always many_handles counters reopened lanes tidy version answers_cpp; do cases_of "$room/$program"; done
 for program in holds begun objects prcu debug map_cpp; do cases_of "$room/$program"; done
 if has_thread_sanitizer; then hand_overs; else echo 'left out: ThreadSanitizer'; fi
 if has_sanitizer; then values_under_a_sanitizer; else echo 'left out: AddressSanitizer'; fi

@@ -307,6 +307,53 @@ CITRUS_STATUS_MATTERS int32_t citrus_begin(citrus_handle *handle, uint64_t low, 
  * took its place: then begin again; CLOSED; HOLDS; LOST. */
 CITRUS_STATUS_MATTERS int32_t citrus_poll(citrus_handle *handle, uint64_t cookie);
 
+/* Many lookups at once.
+ *
+ * A lookup in a large index waits for one word of memory after another. Lanes are up to 8 places of an index by which one thread makes as many
+ * lookups beside each other: while one waits for its word the others' come too. They only look up, and use no ticket. What a caller owes of
+ * them is what it owes of a handle: closed or as the last call left them, moved and never copied, one call at a time.
+ *
+ *     citrus_lanes lanes = CITRUS_CLOSED_LANES;
+ *     citrus_open_lanes(&mine, &lanes, 8);            // `mine` has 8 unused handles or more
+ *     citrus_get_many(&lanes, keys, 1000, answers, 1000);
+ *     citrus_close_lanes(&lanes);
+ *
+ * Each wait for readers looks at the places of lanes too, as it looks at a handle's. */
+typedef struct { void *at; } citrus_lanes;
+
+/* Closed lanes: the first to begin with, the second for an assignment. */
+#ifdef __cplusplus
+#define CITRUS_CLOSED_LANES {}
+#else
+#define CITRUS_CLOSED_LANES { NULL }
+#endif
+
+static inline citrus_lanes citrus_closed_lanes(void) {
+    citrus_lanes closed = CITRUS_CLOSED_LANES;
+    return closed;
+}
+
+#define CITRUS_MAX_LANES 8u
+
+/* What was found of a key: `found` is 1 where it is present, and else 0, and then `value` is 0 too. */
+typedef struct { uint64_t value, found; } citrus_answer;
+
+/* Opens so many lanes (1 to CITRUS_MAX_LANES) of the handle's index. Each gets one of the handles that could be shared from it, and no ticket.
+ * It waits for nobody, and takes memory: some 1.5 KB for each lane.
+ * DONE; CLOSED; BAD_ARGUMENT where the lanes are open, the number is out of range, or the handle has fewer handles left; NO_MEMORY; HOLDS; LOST.
+ * At all but DONE both are as they were. */
+CITRUS_STATUS_MATTERS int32_t citrus_open_lanes(citrus_handle *handle, citrus_lanes *lanes, uint32_t count);
+
+/* Looks up `count` keys (0 or more), and writes the answer of each at its index in `answers`, which has room for `room` of them. Each key's
+ * answer was so at a moment of the call, as if citrus_get had been called for each; no two need be of one moment. A key may stand there twice.
+ * It takes no lock and waits for nobody, and takes 16 bytes a key for the time of the call.
+ * DONE; CLOSED; BAD_ARGUMENT where room is less than count; NO_MEMORY; LOST. Answers are written at DONE alone, and no more than `count`. */
+CITRUS_STATUS_MATTERS int32_t citrus_get_many(citrus_lanes *lanes, const uint64_t *keys, size_t count, citrus_answer *answers, size_t room);
+
+/* Closes the lanes; closed ones may be closed again. Each place is left to citrus_reopen, as a handle with no ticket, unless the lanes are lost.
+ * The index lives as long as one of its handles or lanes. */
+void citrus_close_lanes(citrus_lanes *lanes);
+
 #ifdef __cplusplus
 }
 #endif

@@ -22,6 +22,9 @@
 #include <stdexcept>
 #include <utility>
 #include <vector>
+#if __cplusplus >= 202002L
+#include <span>
+#endif
 
 namespace citrus {
 
@@ -128,6 +131,7 @@ private:
 };
 
 class pair_range;
+class lanes;
 
 // What became of a wait that was begun: each of its readers has left, some are left, or another wait of the handle took its place.
 enum class progress { over, not_yet, displaced };
@@ -358,6 +362,10 @@ public:
     // Waits for each section with a key from low to high that was entered before. Throws bad_argument where low is above high.
     void wait(uint64_t low, uint64_t high) { refuse_unless_done(citrus_wait(&at_, low, high)); }
 
+    // So many lanes of the index (1 to CITRUS_MAX_LANES), each with one of the handles left to this one, to look up many keys at once. Throws
+    // bad_argument where there are fewer, or no_memory. Never throws spent.
+    [[nodiscard]] lanes open_lanes(uint32_t count = CITRUS_MAX_LANES);
+
     // Begins such a wait: the cookie to ask by. Throws bad_argument.
     uint64_t begin(uint64_t low, uint64_t high) {
         uint64_t cookie = 0;
@@ -492,6 +500,71 @@ private:
         return false;
     }
 };
+
+// Up to 8 places of an index by which one thread looks up many keys beside each other, for one thread at a time: see citrus.h. The index lives
+// as long as one of its handles or lanes.
+class alignas(128) lanes {
+public:
+    // Closed lanes, which refuse each call by fault::closed.
+    lanes() noexcept = default;
+
+    lanes(lanes &&other) noexcept : at_(std::exchange(other.at_, closed)) {}
+
+    lanes &operator=(lanes &&other) noexcept {
+        if (this != &other) {
+            close();
+            at_ = std::exchange(other.at_, closed);
+        }
+        return *this;
+    }
+
+    lanes(const lanes &) = delete;
+    lanes &operator=(const lanes &) = delete;
+
+    ~lanes() { citrus_close_lanes(&at_); }
+
+    void close() noexcept { citrus_close_lanes(&at_); }
+
+    bool is_open() const noexcept { return at_.at != nullptr; }
+
+    // Looks up so many keys, and writes the answer of each at its index. Each was so at a moment of the call. Throws closed, no_memory or lost.
+    void get_many(const uint64_t *keys, size_t count, citrus_answer *answers) {
+        if (!is_open()) throw error(fault::closed);
+        if (count == 0) return; // then there may be no memory of keys
+        const int32_t status = citrus_get_many(&at_, keys, count, answers, count);
+        if (status != CITRUS_DONE) throw error(static_cast<fault>(status));
+    }
+
+    // The same of a list of keys: the value of each, where it is present.
+    std::vector<std::optional<uint64_t>> get_many(const std::vector<uint64_t> &keys) {
+        std::vector<citrus_answer> answers(keys.size());
+        get_many(keys.data(), keys.size(), answers.data());
+        std::vector<std::optional<uint64_t>> values(keys.size());
+        for (size_t i = 0; i < keys.size(); i++)
+            if (answers[i].found) values[i] = answers[i].value;
+        return values;
+    }
+
+#ifdef __cpp_lib_span
+    // The same of spans. Throws bad_argument where there is room for fewer answers than keys.
+    void get_many(std::span<const uint64_t> keys, std::span<citrus_answer> answers) {
+        if (answers.size() < keys.size()) throw error(fault::bad_argument);
+        get_many(keys.data(), keys.size(), answers.data());
+    }
+#endif
+
+private:
+    friend class handle;
+    static constexpr citrus_lanes closed = CITRUS_CLOSED_LANES;
+
+    citrus_lanes at_ = closed;
+};
+
+inline lanes handle::open_lanes(uint32_t count) {
+    lanes opened;
+    refuse_unless_done(citrus_open_lanes(&at_, &opened.at_, count));
+    return opened;
+}
 
 inline pair_range handle::range(uint64_t low, uint64_t high, size_t room) { return pair_range(*this, low, high, room); }
 

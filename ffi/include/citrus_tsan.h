@@ -101,6 +101,20 @@ static inline int32_t citrus_tsan_list(citrus_handle *handle, uint64_t low, uint
     return status;
 }
 
+static inline int32_t citrus_tsan_get_many(citrus_lanes *lanes, const uint64_t *keys, size_t count, citrus_answer *answers, size_t room) {
+    const int32_t status = citrus_get_many(lanes, keys, count, answers, room);
+    size_t i;
+    for (i = 0; status == CITRUS_DONE && i < count; i++)
+        if (answers[i].found) citrus_tsan_is_told(keys[i], answers[i].value);
+    return status;
+}
+
+static inline void citrus_tsan_close_lanes(citrus_lanes *lanes) {
+    __tsan_acquire(&citrus_tsan_closed);
+    citrus_close_lanes(lanes);
+    __tsan_release(&citrus_tsan_closed);
+}
+
 static inline int32_t citrus_tsan_release(citrus_handle *handle) {
     __tsan_release(&citrus_tsan_sections);
     return citrus_release(handle);
@@ -145,6 +159,8 @@ static inline int32_t citrus_tsan_poll(citrus_handle *handle, uint64_t cookie) {
 #define citrus_last citrus_tsan_last
 #define citrus_compare citrus_tsan_compare
 #define citrus_list citrus_tsan_list
+#define citrus_get_many citrus_tsan_get_many
+#define citrus_close_lanes citrus_tsan_close_lanes
 #define citrus_release citrus_tsan_release
 #define citrus_close citrus_tsan_close
 #define citrus_reopen citrus_tsan_reopen

@@ -335,6 +335,35 @@ static void keys_in_order_make_no_path() {
     WANT(load_seconds(1) < 20 * scattered + 0.5, true);
 }
 
+static_assert(!std::is_copy_constructible_v<citrus::lanes> && std::is_nothrow_move_assignable_v<citrus::lanes>);
+
+static void lanes_look_up_many(uint32_t waiter) {
+    citrus::handle index(100, 6, static_cast<citrus::waiter>(waiter));
+    for (uint64_t key = 0; key < 50; key++) index.insert(key * 2, key);
+    citrus::lanes lanes = index.open_lanes(4);
+    WANT(index.left().handles, 1);
+    std::vector<uint64_t> keys;
+    for (uint64_t key = 0; key < 100; key++) keys.push_back(key);
+    const std::vector<std::optional<uint64_t>> values = lanes.get_many(keys);
+    WANT(values.size(), 100);
+    for (uint64_t key = 0; key < 100; key++) {
+        WANT(values[key].has_value(), key % 2 == 0);
+        WANT(values[key].value_or(0), key % 2 ? 0 : key / 2);
+    }
+    WANT(lanes.get_many(std::vector<uint64_t>()).size(), 0);
+    WANT(is_refused(citrus::fault::bad_argument, [&] { (void)index.open_lanes(2); }), true);
+    citrus::lanes moved = std::move(lanes);
+    WANT(lanes.is_open(), false);
+    WANT(is_refused(citrus::fault::closed, [&] { lanes.get_many(keys); }), true);
+    WANT(is_refused(citrus::fault::closed, [&] { lanes.get_many(std::vector<uint64_t>()); }), true);
+    WANT(moved.get_many(std::vector<uint64_t>{4})[0].value_or(0), 2);
+    moved = index.open_lanes(1);
+    WANT(index.reopen().has_value(), true);
+    WANT(moved.get_many(std::vector<uint64_t>{4})[0].value_or(0), 2);
+    index.close();
+    WANT(moved.get_many(std::vector<uint64_t>{6})[0].value_or(0), 3);
+}
+
 static const waiter_case waiter_cases[] = {
     {"C++: answers", answers},
     {"C++: compares", compares},
@@ -345,6 +374,7 @@ static const waiter_case waiter_cases[] = {
     {"C++: ranges go on at the next key", ranges_go_on_at_the_next_key},
     {"C++: tidies", tidies},
     {"C++: sections", sections},
+    {"C++: lanes look up many keys", lanes_look_up_many},
 };
 
 static const plain_case plain_cases[] = {

@@ -17,12 +17,18 @@ int hand_on(uint64_t key);
 int hand_on(uint64_t key) {
     citrus_handle mine = CITRUS_CLOSED_HANDLE;
     prcu_place place = PRCU_CLOSED_PLACE;
+    citrus_lanes lanes = CITRUS_CLOSED_LANES;
+    citrus_answer answer;
     uint64_t value = 0;
     int32_t status = citrus_open(&mine, 100, 2, CITRUS_EER);
     kept = citrus_closed_handle();
     if (status == CITRUS_DONE) status = citrus_insert(&mine, key, 50);
     if (status == CITRUS_DONE) status = citrus_hold(&mine, key, &value);
     citrus_release(&mine);
+    lanes = citrus_closed_lanes();
+    if (status == CITRUS_DONE) status = citrus_open_lanes(&mine, &lanes, 1);
+    if (status == CITRUS_DONE) status = citrus_get_many(&lanes, &key, 1, &answer, 1);
+    citrus_close_lanes(&lanes);
     citrus_close(&mine);
     prcu_leave(&place);
     return citrus_status_name(status)[0] + citrus_version()[0] + CITRUS_VERSION[0] + CITRUS_VERSION_MINOR;

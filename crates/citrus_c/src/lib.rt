@@ -12,13 +12,14 @@ ghost use Rattle.tree_handles.specs.Begun.{Begins, Polls};
 ghost use Rattle.tree_handles.specs.Calls.{ComparesOut, Gets, Inserts, Replaces, Upserts, Removes};
 ghost use Rattle.tree_handles.specs.Holding.{Makes};
 ghost use Rattle.tree_handles.specs.Holds.{HoldsValue, Enters, LeavesSection, Waits};
+ghost use Rattle.tree_handles.specs.Lanes.{ManyGets, OpensLanes, lanes_in};
 ghost use Rattle.tree_handles.specs.Lists.{ListsOut, Firsts, Lasts};
 ghost use Rattle.tree_handles.specs.Opening.{Opens, Shares, Reopens, HasLeft};
 ghost use Rattle.tree_handles.specs.Tidying.{Tidies};
 ghost use Rattle.citrus_c.specs.Numbers.{Says};
 
 use std::alloc::Global;
-use tree_handles::{Handle, Pair};
+use tree_handles::{Answer, Handle, Lanes, Pair};
 
 /// [`Handle::open`].
 #[unsafe(no_mangle)]
@@ -288,4 +289,41 @@ pub extern "C" fn citrus_tidy(
     ensures closed { handle.old.held ≡ None → (made.new ≡ 0) × (next.new ≡ next.old) }
 {
     handle.tidy(alloc, low, high, turns, made, next).code()
+}
+
+/// [`Handle::lanes`].
+#[unsafe(no_mangle)]
+pub extern "C" fn citrus_open_lanes(
+    alloc: Global,
+    handle: &mut Handle,
+    lanes: &mut Lanes,
+    count: u32,
+) -> i32
+    ensures opened { Says result (λ status. Makes (λ c d. OpensLanes c count (lanes_in lanes.old.held) status d
+        (lanes_in lanes.new.held)) handle.old.held status handle.new.held) }
+    ensures closed { handle.old.held ≡ None → lanes.new.held ≡ lanes.old.held }
+{
+    handle.lanes(alloc, count, lanes).code()
+}
+
+/// [`Lanes::get_many`].
+#[unsafe(no_mangle)]
+pub extern "C" fn citrus_get_many(
+    alloc: Global,
+    lanes: &mut Lanes,
+    keys: &[u64],
+    answers: &mut [Answer],
+) -> i32
+    ensures got { Says result (λ status. ManyGets (lanes_in lanes.old.held) keys.now answers.old status answers.new
+        (lanes_in lanes.new.held)) }
+{
+    lanes.get_many(alloc, keys, answers).code()
+}
+
+/// [`Lanes::close`].
+#[unsafe(no_mangle)]
+pub extern "C" fn citrus_close_lanes(alloc: Global, lanes: &mut Lanes)
+    ensures closed { lanes.new.held ≡ None }
+{
+    lanes.close(alloc);
 }

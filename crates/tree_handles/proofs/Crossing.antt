@@ -21,6 +21,8 @@ use Rattle.tree_handles.specs.contracts.shared.Left as Left
 use Rattle.tree_handles.specs.contracts.shared.Shared as Shared
 use Rattle.tree_handles.specs.contracts.caller.Caller as Caller
 use Rattle.tree_handles.specs.contracts.any_caller.AnyCaller as AnyCaller
+use Rattle.tree_handles.specs.contracts.lane_seats.LaneSeats as LaneSeats
+use Rattle.tree_handles.specs.contracts.lane_room.LaneRoom as LaneRoom
 use Rattle.tree_handles.proofs.shared.Left.TheSendSync as left
 use Rattle.tree_handles.proofs.shared.Shared.TheSendSync as shared
 
@@ -54,5 +56,11 @@ module _ (W : RattleType) (p : Part.Ghosts W.Denot) (w : Words.Ghosts W.Denot) w
   caller_send : IsSend (Caller.the_row W p w)
   caller_send = let y = shared_sync in search (sendable, heap.Arc-send, shared.the_send, seat.the_send, cookie.the_send) depth 30
 
+  lanes_send : IsSend (LaneSeats.the_row W p w)
+  lanes_send = let y = shared_sync in search (sendable, heap.Arc-send, heap.Vec-send, shared.the_send, seat.the_send) depth 30
+
 pub caller : IsSend AnyCaller.the_row
 caller = search (sendable, caller_send) depth 20
+
+pub lanes : IsSend LaneRoom.the_row
+lanes = search (sendable, lanes_send, option.the_send) depth 20

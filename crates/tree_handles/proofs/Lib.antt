@@ -5,6 +5,9 @@ pub mod Crossing
 pub mod Filling
 pub mod Finding
 pub mod Inside
+pub mod LaneLists
+pub mod LanesAsBox
+pub mod LanesValues
 pub mod Tidied
 pub mod TidyMarks
 pub mod Values

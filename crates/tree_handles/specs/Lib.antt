@@ -10,3 +10,6 @@ pub mod Tidying
 pub mod Opening
 pub mod Handles
 pub mod Holding
+pub mod Lanes
+pub mod LaneWaiters
+pub mod LaneHandles

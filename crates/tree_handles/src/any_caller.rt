@@ -5,10 +5,12 @@ ghost use Rattle.tree_handles.specs.Begun.{HasStarted, Polls};
 ghost use Rattle.tree_handles.specs.Callers.{MayGoOn, IsFresh, IsShared, IsReopened};
 ghost use Rattle.tree_handles.specs.Calls.{IsCalled, IsCompared, IsLost, TakesOut, CausedBy, IsHinderedBy, IsStoppedBy};
 ghost use Rattle.tree_handles.specs.Holds.{HasHeld, HasOutwaited, IsEntered, LeavesSection};
+ghost use Rattle.tree_handles.specs.Lanes.{HasLanes};
 ghost use Rattle.tree_handles.specs.Lists.{Lists, Seeks};
 ghost use Rattle.tree_handles.specs.Opening.{FailsToReopen, most_pairs};
 ghost use Rattle.tree_handles.specs.Tidying.{GivesBack, HasNoneBack, LiftsWay};
 
+use crate::any_lanes::{AnyLanes, LanesByWaiter};
 use crate::caller::Caller;
 use crate::spinning::GaveUp;
 use crate::status::Status;
@@ -289,6 +291,28 @@ impl AnyCaller {
             }),
             ByWaiter::Deer(caller) => Some(AnyCaller {
                 caller: ByWaiter::Deer(caller.share(handles, tickets)?),
+            }),
+        }
+    }
+
+    /// So many lanes, each with one of the unused handles and no ticket; or none, where memory is short, or the table has as many owners as can
+    /// be counted, and then nothing has changed.
+    pub(crate) fn lanes(&mut self, alloc: Global, count: u32) -> Option<AnyLanes>
+        requires may { MayGoOn self.old }
+        requires count { (1 ≤ count) × (count ≤ 8) }
+        requires handles { count < self.old.seat.view.allowance.places }
+        ensures none { IfNone result (self.new ≡ self.old) }
+        ensures opened { IfSome result (λ lanes. HasLanes self.old count self.new lanes) }
+    {
+        match &mut self.caller {
+            ByWaiter::Eer(caller) => Some(AnyLanes {
+                lanes: LanesByWaiter::Eer(caller.lanes(alloc, count)?),
+            }),
+            ByWaiter::Domain(caller) => Some(AnyLanes {
+                lanes: LanesByWaiter::Domain(caller.lanes(alloc, count)?),
+            }),
+            ByWaiter::Deer(caller) => Some(AnyLanes {
+                lanes: LanesByWaiter::Deer(caller.lanes(alloc, count)?),
             }),
         }
     }

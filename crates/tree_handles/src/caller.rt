@@ -9,9 +9,11 @@ ghost use Rattle.tree_handles.specs.Callers.{IsSameCaller, MayGoOn, IsFresh, IsS
 ghost use Rattle.tree_handles.specs.Opening.{FailsToReopen, most_pairs};
 ghost use Rattle.tree_handles.specs.Calls.{ComesBehind, IsCalled, IsCompared, IsLost, TakesOut, CausedBy, IsHinderedBy, IsStoppedBy};
 ghost use Rattle.tree_handles.specs.Holds.{HasHeld, HasOutwaited, IsEntered, LeavesSection};
+ghost use Rattle.tree_handles.specs.Lanes.{HasLanes};
 ghost use Rattle.tree_handles.specs.Lists.{Lists, Seeks};
 ghost use Rattle.tree_handles.specs.Tidying.{GivesBack, HasNoneBack, LiftsWay};
 
+use crate::lane_seats::LaneSeats;
 use crate::shared::Shared;
 use crate::spinning::{GaveUp, Spinning};
 use crate::status::Status;
@@ -36,6 +38,11 @@ pub(crate) const TICKETS: u64 = 4;
 
 /// How many tickets a wait uses.
 const WAIT_TICKETS: u64 = 1;
+
+/// What a lane gets of the handles and tickets of its caller.
+const ONE_HANDLE: u32 = 1;
+
+const NO_TICKET: u64 = 0;
 
 /// How often a lift tries to turn a node.
 const ATTEMPTS: u32 = 4;
@@ -492,18 +499,54 @@ impl<W: WaitPart> Caller<W> {
         let Ok(shared) = Arc::try_clone(&self.shared) else {
             return None;
         };
-        let gift = Gift {
-            table: shared.table(),
-            handles,
-            tickets,
-        };
-        let seat = replace_with(&mut self.seat, gift, divide);
+        let seat = self.split_off(handles, tickets);
         Some(Caller {
             shared,
             seat,
             lost: false,
             cookie: None,
         })
+    }
+
+    // Splits off a seat, which gets so many of the unused handles and tickets.
+    fn split_off(&mut self, handles: u32, tickets: u64) -> Seat<W>
+        requires may { MayGoOn self.old }
+        requires handles { (1 ≤ handles) × (handles < self.old.seat.view.allowance.places) }
+        requires tickets { tickets ≤ self.old.seat.view.allowance.tickets }
+        ensures index { IsSameCaller self.old self.new }
+        ensures first { self.new.seat.view ≡ first_of handles tickets self.old.seat.view }
+        ensures first_may { MayGoOn self.new }
+        ensures second { result.view ≡ second_of handles tickets self.old.seat.view }
+        ensures table { result.table ≡ self.old.table }
+        ensures quiet { IsQuietSeat result }
+    {
+        let gift = Gift {
+            table: self.shared.table(),
+            handles,
+            tickets,
+        };
+        replace_with(&mut self.seat, gift, divide)
+    }
+
+    /// So many lanes, each with one of the unused handles and no ticket; or none, where memory is short, or the table has as many owners as can
+    /// be counted, and then nothing has changed.
+    pub(crate) fn lanes(&mut self, alloc: Global, count: u32) -> Option<LaneSeats<W>>
+        requires may { MayGoOn self.old }
+        requires count { (1 ≤ count) × (count ≤ 8) }
+        requires handles { count < self.old.seat.view.allowance.places }
+        ensures none { IfNone result (self.new ≡ self.old) }
+        ensures opened { IfSome result (λ lanes. HasLanes self.old count self.new lanes) }
+    {
+        let Ok(shared) = Arc::try_clone(&self.shared) else {
+            return None;
+        };
+        let Ok(mut seats) = Vec::with_capacity(alloc, count as usize) else {
+            return None;
+        };
+        for given in 0..count {
+            seats.push_reserved(self.split_off(ONE_HANDLE, NO_TICKET));
+        }
+        Some(LaneSeats::new(shared, seats))
     }
 
     /// Another caller on the same table, with a seat that a caller left.

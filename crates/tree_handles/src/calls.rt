@@ -5,14 +5,16 @@ ghost use Rattle.tree_handles.specs.Begun.{Begins, Polls};
 ghost use Rattle.tree_handles.specs.Calls.{ComparesOut, Gets, Inserts, Replaces, Upserts, Removes};
 ghost use Rattle.tree_handles.specs.Holding.{Makes};
 ghost use Rattle.tree_handles.specs.Holds.{HoldsValue, Enters, LeavesSection, Waits};
+ghost use Rattle.tree_handles.specs.Lanes.{OpensLanes, lanes_in};
 ghost use Rattle.tree_handles.specs.Lists.{ListsOut, Firsts, Lasts};
 ghost use Rattle.tree_handles.specs.Opening.{Shares, Reopens, HasLeft};
 ghost use Rattle.tree_handles.specs.Tidying.{Tidies};
 
 use crate::handle::Handle;
+use crate::lanes::Lanes;
 use crate::lists::Pair;
 use crate::status::Status;
-use crate::{reopening, sharing};
+use crate::{opening_lanes, reopening, sharing};
 use prcu_marks::Side;
 use std::alloc::Global;
 
@@ -28,8 +30,8 @@ impl Handle {
     /// Makes `other` a second handle of the index, with so many of this one's unused handles (itself among them) and tickets. What it was
     /// open on before is closed.
     ///
-    /// `Done`; `Closed`; `Lost`; `Holds`; `BadArgument` where this one hasn't so many, or no handle is asked for; `NoMemory`. But at `Done`
-    /// both are as they were.
+    /// `Done`; `Closed`; `Lost`; `Holds`; `BadArgument` where this one hasn't so many, or no handle is asked for; `NoMemory`. At each
+    /// answer but `Done` both are as they were.
     pub fn share(&mut self, alloc: Global, handles: u32, tickets: u64, other: &mut Handle) -> Status
         ensures shared { Makes (λ c d. Shares c handles tickets other.old.held result d other.new.held) self.old.held result self.new.held }
         ensures closed { self.old.held ≡ None → other.new.held ≡ other.old.held }
@@ -45,8 +47,8 @@ impl Handle {
     /// Makes `other`, which is closed, a handle of the index, with the places and tickets that a handle had which was closed. Whose they
     /// were isn't told.
     ///
-    /// `Done`; `Unchanged` where none wait; `Closed`; `Lost`; `Holds`; `BadArgument` where `other` is open; `NoMemory`. But at `Done` both are
-    /// as they were.
+    /// `Done`; `Unchanged` where none wait; `Closed`; `Lost`; `Holds`; `BadArgument` where `other` is open; `NoMemory`. At each answer
+    /// but `Done` both are as they were.
     pub fn reopen(&mut self, alloc: Global, other: &mut Handle) -> Status
         ensures reopened { Makes (λ c d. Reopens c other.old.held result d other.new.held) self.old.held result self.new.held }
         ensures closed { self.old.held ≡ None → other.new.held ≡ other.old.held }
@@ -55,6 +57,24 @@ impl Handle {
             return Status::Closed;
         };
         let status = reopening::reopen(alloc, &caller, other);
+        *self = Handle::of(caller);
+        status
+    }
+
+    /// Makes `lanes`, which are closed, so many lanes of the index (1 to 8), each with one of this handle's unused handles and no ticket:
+    /// [`Lanes::get_many`] looks up many keys by them.
+    ///
+    /// `Done`; `Closed`; `Lost`; `Holds`; `BadArgument` where lanes are open there, the number is out of range, or this handle hasn't so many;
+    /// `NoMemory`. At each answer but `Done` both are as they were.
+    pub fn lanes(&mut self, alloc: Global, count: u32, lanes: &mut Lanes) -> Status
+        ensures opened { Makes (λ c d. OpensLanes c count (lanes_in lanes.old.held) result d (lanes_in lanes.new.held))
+            self.old.held result self.new.held }
+        ensures closed { self.old.held ≡ None → lanes.new.held ≡ lanes.old.held }
+    {
+        let Some(mut caller) = self.take(alloc) else {
+            return Status::Closed;
+        };
+        let status = opening_lanes::open_lanes(alloc, &mut caller, count, lanes);
         *self = Handle::of(caller);
         status
     }
@@ -124,7 +144,8 @@ impl Handle {
     /// have had another value meanwhile, or have been absent.
     ///
     /// `Done`; `Different` where the key had another value at a moment of the call, which is told; `Unchanged` where the key is absent;
-    /// `Closed`; `Lost`; `Holds`; `Spent`. But at `Done` no pair has changed. Only at `Different` the value found is written.
+    /// `Closed`; `Lost`; `Holds`; `Spent`. At each answer but `Done` no pair has changed. Only at `Different` the value
+    /// found is written.
     pub fn compare(
         &mut self,
         alloc: Global,

@@ -4,15 +4,21 @@
 //! No call has a `requires`: each misuse that a handle or an argument shows is answered with a status.
 #![tactic(auto)]
 
+mod answers;
 mod any_caller;
+mod any_lanes;
 mod begun;
 mod caller;
 mod calls;
 mod handle;
 mod holds;
+mod lane_room;
+mod lane_seats;
+mod lanes;
 pub mod laws;
 mod lists;
 mod opening;
+mod opening_lanes;
 mod parts;
 mod reopening;
 mod shared;
@@ -22,6 +28,8 @@ mod status;
 mod tidying;
 mod updates;
 
+pub use answers::Answer;
 pub use handle::Handle;
+pub use lanes::Lanes;
 pub use lists::Pair;
 pub use status::Status;

@@ -24,7 +24,8 @@ impl Handle {
     /// looks at each reader, 1 counts readers by class, 2 looks at readers by class. The handle has all 2^57 tickets. What it was open on
     /// before is closed. The index has a slot for each pair, and 68 for each handle, which may keep back so many.
     ///
-    /// `Done`; `BadArgument` where a number is out of range; `NoMemory`. But at `Done` the handle is as it was.
+    /// `Done`; `BadArgument` where a number is out of range; `NoMemory`. At each answer but `Done` the handle is as
+    /// it was.
     pub fn open(&mut self, alloc: Global, pairs: u32, handles: u32, waiter: u32) -> Status
         ensures opened { Opens pairs handles waiter self.old.held result self.new.held }
     {

@@ -1,5 +1,6 @@
 use crate::handle::Handle;
-use crate::library::{citrus_open, citrus_share, status, RawHandle};
+use crate::lanes::{open_sets, Lanes, LANES};
+use crate::library::{citrus_open, citrus_share, status, RawHandle, RawLanes};
 use crate::sections::Sections;
 use crate::turns::Turns;
 use crate::{Error, ALL_TICKETS, MAX_HANDLES, MAX_PAIRS};
@@ -17,6 +18,8 @@ pub(crate) struct Placed {
 pub(crate) struct Pool {
     /// The handles that nobody has.
     free: Mutex<Vec<Placed>>,
+    /// The lanes that nobody has.
+    free_lanes: Mutex<Vec<RawLanes>>,
     /// The threads that are in sections of the index.
     pub(crate) sections: Sections,
     /// The turns of updates, where they take turns.
@@ -26,15 +29,24 @@ pub(crate) struct Pool {
 }
 
 impl Pool {
-    fn new(handles: Vec<RawHandle>, turns: Option<Turns>) -> Pool {
+    fn new(handles: Vec<RawHandle>, lanes: Vec<RawLanes>, turns: Option<Turns>) -> Pool {
         static NEXT: AtomicU64 = AtomicU64::new(0);
         let sections = Sections::new(handles.len());
         let free = handles.into_iter().enumerate().map(|(place, raw)| Placed { raw, place }).collect();
-        Pool { free: Mutex::new(free), sections, turns, number: NEXT.fetch_add(1, Relaxed) }
+        Pool { free: Mutex::new(free), free_lanes: Mutex::new(lanes), sections, turns, number: NEXT.fetch_add(1, Relaxed) }
     }
 
     fn free(&self) -> MutexGuard<'_, Vec<Placed>> {
         self.free.lock().unwrap_or_else(PoisonError::into_inner)
+    }
+
+    fn free_lanes(&self) -> MutexGuard<'_, Vec<RawLanes>> {
+        self.free_lanes.lock().unwrap_or_else(PoisonError::into_inner)
+    }
+
+    /// Takes lanes back, for which there is room as for handles.
+    pub(crate) fn put_lanes_back(&self, raw: RawLanes) {
+        self.free_lanes().push(raw);
     }
 
     /// Takes a handle back. There is room for it, since it was here before.
@@ -82,9 +94,16 @@ pub struct Builder {
     handles: u32,
     waiter: Waiter,
     in_turn: bool,
+    lane_sets: u32,
 }
 
 impl Builder {
+    /// So many sets of eight lanes, for [`Index::lanes`]; none where nothing is said. Each takes the places of eight handles, and
+    /// [`MAX_HANDLES`] is the most of both together.
+    pub fn lanes(self, sets: u32) -> Builder {
+        Builder { lane_sets: sets, ..self }
+    }
+
     /// The way in which removals wait; [`Waiter::Eer`] where nothing is said. All three answer the same.
     pub fn waiter(self, waiter: Waiter) -> Builder {
         Builder { waiter, ..self }
@@ -113,16 +132,20 @@ impl Builder {
 
     /// The same with so many tickets in all, which its handles share.
     pub(crate) fn build_with(self, tickets: u64) -> Result<Index, Error> {
-        let Builder { pairs, handles, waiter, in_turn } = self;
+        let Builder { pairs, handles, waiter, in_turn, lane_sets } = self;
         if !(1..=MAX_PAIRS).contains(&pairs) {
             return Err(Error::Pairs);
         }
         if !(1..=MAX_HANDLES).contains(&handles) {
             return Err(Error::Handles);
         }
+        if lane_sets > (MAX_HANDLES - handles) / LANES {
+            return Err(Error::Handles);
+        }
         let mut first = RawHandle::CLOSED;
         // SAFETY: `first` is a closed handle of our own.
-        done(unsafe { citrus_open(&mut first, pairs, handles, waiter.number()) })?;
+        done(unsafe { citrus_open(&mut first, pairs, handles + lane_sets * LANES, waiter.number()) })?;
+        let lanes = open_sets(&mut first, lane_sets)?;
         let mut all = Vec::with_capacity(handles as usize);
         for _ in 1..handles {
             let mut other = RawHandle::CLOSED;
@@ -131,7 +154,7 @@ impl Builder {
             all.push(other);
         }
         all.push(first);
-        Ok(Index { pairs, handles, pool: Arc::new(Pool::new(all, in_turn.then(Turns::default))) })
+        Ok(Index { pairs, handles, pool: Arc::new(Pool::new(all, lanes, in_turn.then(Turns::default))) })
     }
 }
 
@@ -177,7 +200,7 @@ impl Index {
 
     /// The same as [`Index::new`], with more to say before the index is made.
     pub fn builder(pairs: u32, handles: u32) -> Builder {
-        Builder { pairs, handles, waiter: Waiter::default(), in_turn: false }
+        Builder { pairs, handles, waiter: Waiter::default(), in_turn: false, lane_sets: 0 }
     }
 
     /// A handle for a thread. It goes back to the index when it is dropped.
@@ -200,6 +223,15 @@ impl Index {
     pub fn handle(&self) -> Result<Handle, Error> {
         let placed = self.pool.free().pop().ok_or(Error::NoHandle)?;
         Ok(Handle::new(placed, Arc::clone(&self.pool)))
+    }
+
+    /// Eight lanes, by which a thread looks up many keys at once. They go back to the index when they are dropped.
+    ///
+    /// # Errors
+    /// [`Error::NoHandle`] where all lanes are out: the index has those that [`Builder::lanes`] said.
+    pub fn lanes(&self) -> Result<Lanes, Error> {
+        let raw = self.pool.free_lanes().pop().ok_or(Error::NoHandle)?;
+        Ok(Lanes::new(raw, Arc::clone(&self.pool)))
     }
 
     /// How many handles there are, out or not.

@@ -31,6 +31,40 @@ pub(crate) struct RawPair {
     pub(crate) value: u64,
 }
 
+/// What C calls `citrus_lanes`: closed, or open on an index. They are closed when they are dropped.
+#[repr(C)]
+pub(crate) struct RawLanes {
+    at: *mut c_void,
+}
+
+impl RawLanes {
+    pub(crate) const CLOSED: RawLanes = RawLanes { at: null_mut() };
+}
+
+// SAFETY: as of a handle.
+unsafe impl Send for RawLanes {}
+
+impl Drop for RawLanes {
+    fn drop(&mut self) {
+        // SAFETY: as of a handle.
+        unsafe { citrus_close_lanes(self) }
+    }
+}
+
+/// What C calls a `citrus_answer`.
+#[repr(C)]
+#[derive(Clone, Copy, Default)]
+pub(crate) struct RawAnswer {
+    value: u64,
+    found: u64,
+}
+
+impl RawAnswer {
+    pub(crate) fn value(self) -> Option<u64> {
+        (self.found != 0).then_some(self.value)
+    }
+}
+
 pub(crate) mod status {
     pub(crate) const DONE: i32 = 0;
     pub(crate) const UNCHANGED: i32 = 1;
@@ -75,4 +109,7 @@ extern "C" {
     pub(crate) fn citrus_begin(handle: *mut RawHandle, low: u64, high: u64, cookie: *mut u64) -> i32;
     pub(crate) fn citrus_poll(handle: *mut RawHandle, cookie: u64) -> i32;
     pub(crate) fn citrus_tidy(handle: *mut RawHandle, low: u64, high: u64, turns: u32, made: *mut u32, next: *mut u64) -> i32;
+    pub(crate) fn citrus_open_lanes(handle: *mut RawHandle, lanes: *mut RawLanes, count: u32) -> i32;
+    pub(crate) fn citrus_get_many(lanes: *mut RawLanes, keys: *const u64, count: usize, answers: *mut RawAnswer, room: usize) -> i32;
+    pub(crate) fn citrus_close_lanes(lanes: *mut RawLanes);
 }

@@ -1,6 +1,6 @@
 use Rattle.std.proofs.Common.{rules}
 use Rattle.tree_handles.proofs.Cookies.{cookie_shared}
-use Rattle.tree_handles.proofs.caller.Caller.share.Goals as goal
+use Rattle.tree_handles.proofs.caller.Caller.split_off.Goals as goal
 
 -- the cookie is good still
 pub invariant_of-self : goal.invariant_of-self

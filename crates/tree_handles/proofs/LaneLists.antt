@@ -1,0 +1,86 @@
+-- Seats that are split off one after another, and what many lookups leave of lanes.
+use Rattle.std.proofs.Common.{◌≡◌, ℕ, zero, suc, ◌+◌, ◌<◌, ◌≤◌, List, [], ◌∷◌, ◌++◌, length, map, take, drop, slice_set, Option, Some, None, option_to_list, refl, sym, ap, subst, ◌∙◌, arith}
+use mathlib.Core.Option.{some}
+use lib.ListN.{get_elem?, get_or}
+use Rattle.core_state.specs.declared.view.View.{View}
+use Rattle.core_state.specs.steps.Seating.{first_of, second_of}
+use Rattle.list_laws.specs.Counts.{Each}
+use Rattle.many_gets.specs.Many.{AreKept}
+use Rattle.seat_table.specs.Seats.{SeatAt, TableAt}
+use Rattle.tree_handles.specs.Lanes.{AreSeated, AreSplitOff, answer_of}
+use Rattle.tree_handles.specs.declared.answers.Answer.{Answer}
+
+-- what holds of each element, and of one more behind them
+pub each_more : {A : Type 0} (P : A → Type 0) (xs : List A) (x : A) → Each xs P → P x → Each (xs ++ x ∷ []) P
+each_more P [] x each holds zero a at = (let e : x ≡ a = cc in subst P e holds)
+each_more P [] x each holds (suc i) a at = absurd (cc)
+each_more P (y ∷ ys) x each holds zero a at = each zero a at
+each_more P (y ∷ ys) x each holds (suc i) a at = each_more P ys x (λ j b there. each (suc j) b there) holds i a at
+
+-- one more seat is split off
+pub split_one_more : (v : View) (seats : List SeatAt) (w : View) (s : SeatAt) → AreSplitOff v seats w → s.view ≡ second_of 1 0 w
+    → AreSplitOff v (seats ++ s ∷ []) (first_of 1 0 w)
+split_one_more v [] w s split is = (subst (λ (z : View). s.view ≡ second_of 1 0 z) split is, ap (first_of 1 0) split)
+split_one_more v (t ∷ seats) w s split is = (split.0, split_one_more (first_of 1 0 v) seats w s split.1 is)
+
+-- where there are elements of one list there are those of another that is as long
+there_too : {A B : Type 0} (xs : List A) (ys : List B) (i : ℕ) (y : B) → length xs ≡ length ys → get_elem? ys i ≡ some y
+    → (x : A) × (get_elem? xs i ≡ some x)
+there_too [] [] i y same at = absurd (cc)
+there_too [] (z ∷ ys) i y same at = absurd (omega (arith, same))
+there_too (x ∷ xs) [] i y same at = absurd (omega (arith, same))
+there_too (x ∷ xs) (z ∷ ys) zero y same at = (x, refl)
+there_too (x ∷ xs) (z ∷ ys) (suc i) y same at = there_too xs ys i y (omega (arith, same)) at
+
+-- a list that was lent whole comes back as the new one
+pub refilled : {A : Type 0} (old new : List A) (n : ℕ) → length old ≡ n → length new ≡ length old → take n (new ++ drop (length new) old) ≡ new
+refilled [] [] zero is same = refl
+refilled [] [] (suc n) is same = absurd (omega (arith, is))
+refilled [] (y ∷ ys) n is same = absurd (omega (arith, same))
+refilled (x ∷ xs) [] n is same = absurd (omega (arith, same))
+refilled (x ∷ xs) (y ∷ ys) zero is same = absurd (omega (arith, is))
+refilled (x ∷ xs) (y ∷ ys) (suc n) is same = ap (λ zs. y ∷ zs) (refilled xs ys n (omega (arith, is)) (omega (arith, same)))
+
+-- seats that were kept are of the table still
+pub kept_tables : (table : TableAt) (before after : List SeatAt) → length before ≡ length after → AreKept before after
+    → Each before (λ (s : SeatAt). s.table ≡ table) → Each after (λ (s : SeatAt). s.table ≡ table)
+kept_tables table before after same kept each i t at =
+    let was = there_too before after i t same at in
+    (kept i was.0 t was.1 at).0 ∙ each i was.0 was.1
+
+pub kept_seated : (table : TableAt) (before after : List SeatAt) → length before ≡ length after → AreKept before after
+    → AreSeated table before → AreSeated table after
+kept_seated table before after same kept seated =
+    let least = seated.some in
+    let most = seated.few in record {
+      some = omega arith;
+      few = omega arith;
+      tables = kept_tables table before after same kept seated.tables;
+    }
+
+module _ {A : Type 0} (P : A → Type 0) where
+  each_first : (xs ys : List A) → Each (xs ++ ys) P → Each xs P
+  each_first [] ys each i a at = absurd (cc)
+  each_first (x ∷ xs) ys each zero a at = each zero a at
+  each_first (x ∷ xs) ys each (suc i) a at = each_first xs ys (λ j b there. each (suc j) b there) i a at
+
+  each_end : (xs : List A) (x : A) → Each (xs ++ x ∷ []) P → P x
+  each_end [] x each = each zero x refl
+  each_end (y ∷ ys) x each = each_end ys x (λ j b there. each (suc j) b there)
+
+  -- what holds of each element holds of the last one, which is taken off, and of those that are left
+  pub each_left : (old new : List A) (last : Option A) → old ≡ new ++ option_to_list last → Each old P → Each new P
+  each_left old new last is each = each_first new (option_to_list last) (subst (λ (xs : List A). Each xs P) is each)
+
+  pub each_taken : (old new : List A) (last : Option A) (x : A) → old ≡ new ++ option_to_list last → last ≡ Some x → Each old P → P x
+  each_taken old new last x is there each = each_end new x (subst (λ (o : Option A). Each (new ++ option_to_list o) P) there
+      (subst (λ (xs : List A). Each xs P) is each))
+
+-- one more answer is written
+pub answer_next : (xs : List (Option ℕ)) (ys : List Answer) (i : ℕ) → i < length xs → length xs ≤ length ys
+    → slice_set (map answer_of (take i xs) ++ drop i ys) i (answer_of (get_or xs i None)) ≡ map answer_of (take (suc i) xs) ++ drop (suc i) ys
+answer_next [] ys i inside room = absurd (omega (arith, inside))
+answer_next (p ∷ ps) [] i inside room = absurd (omega (arith, room))
+answer_next (p ∷ ps) (q ∷ qs) zero inside room = refl
+answer_next (p ∷ ps) (q ∷ qs) (suc i) inside room = ap (λ zs. answer_of p ∷ zs) (answer_next ps qs i (omega (arith, inside))
+    (omega (arith, room)))

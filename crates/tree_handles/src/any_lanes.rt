@@ -1,0 +1,96 @@
+//! Lanes, whatever their waiter.
+ghost use Rattle.std.specs.Prelude.{◌≡◌, ◌≤◌, false, length, IfOk, IfErr};
+ghost use Rattle.tree_handles.specs.Lanes.{AreLost, GetsMany, HaveLookedUp, MayLookUp};
+
+use crate::answers::{Answer, write_answers};
+use crate::lane_seats::LaneSeats;
+use crate::spinning::GaveUp;
+use crate::status::Status;
+use d_wait::Domain;
+use deer_wait::Deer;
+use eer_wait::Eer;
+use std::alloc::Global;
+use std::marker::Model;
+
+/// Lanes, by their waiter.
+#[derive(Drop)]
+pub(crate) enum LanesByWaiter {
+    Eer(LaneSeats<Eer>),
+    Domain(LaneSeats<Domain>),
+    Deer(LaneSeats<Deer>),
+}
+
+/// Lanes with one of the three waiters.
+#[derive(Drop)]
+pub struct AnyLanes {
+    pub(crate) lanes: LanesByWaiter,
+}
+
+impl Model for AnyLanes {
+    ghost use Rattle.tree_handles.specs.Lanes.{LanesAt};
+    ghost use Rattle.tree_handles.specs.LaneWaiters.{lanes_of};
+
+    ghost Value = { LanesAt };
+
+    ghost view = { λ l. lanes_of l.lanes };
+}
+
+impl AnyLanes {
+    // Whether a call gave up in its midst.
+    fn is_lost(&self) -> bool
+        ensures lost { result ≡ self.now.lost }
+        ensures may { result ≡ false → MayLookUp self.now }
+    {
+        match &self.lanes {
+            LanesByWaiter::Eer(lanes) => lanes.is_lost(),
+            LanesByWaiter::Domain(lanes) => lanes.is_lost(),
+            LanesByWaiter::Deer(lanes) => lanes.is_lost(),
+        }
+    }
+
+    // Looks up each of the keys, and notes its value, or `None`, at its index.
+    fn look_up(&mut self, keys: &[u64], found: &mut [Option<u64>]) -> Result<(), GaveUp>
+        requires may { MayLookUp self.old }
+        requires room { length found.old ≡ length keys.now }
+        ensures looked_up { IfOk result (λ _. HaveLookedUp self.old keys.now found.new self.new) }
+        ensures lost { IfErr result (λ _. AreLost self.old self.new) }
+    {
+        match &mut self.lanes {
+            LanesByWaiter::Eer(lanes) => lanes.get_many(keys, found),
+            LanesByWaiter::Domain(lanes) => lanes.get_many(keys, found),
+            LanesByWaiter::Deer(lanes) => lanes.get_many(keys, found),
+        }
+    }
+
+    // Looks up each of the keys, and writes the answers. What was found is noted before.
+    fn answer(&mut self, keys: &[u64], found: &mut [Option<u64>], answers: &mut [Answer]) -> Status
+        requires may { MayLookUp self.old }
+        requires noted { length found.old ≡ length keys.now }
+        requires room { length keys.now ≤ length answers.old }
+        ensures { GetsMany self.old keys.now answers.old result answers.new self.new }
+    {
+        match self.look_up(keys, found) {
+            Ok(()) => {
+                write_answers(found, answers);
+                Status::Done
+            }
+            Err(GaveUp) => Status::Lost,
+        }
+    }
+
+    /// Tells the values of the keys, at the same indices.
+    pub(crate) fn get_many(&mut self, alloc: Global, keys: &[u64], answers: &mut [Answer]) -> Status
+        ensures { GetsMany self.old keys.now answers.old result answers.new self.new }
+    {
+        if self.is_lost() {
+            return Status::Lost;
+        }
+        if answers.len() < keys.len() {
+            return Status::BadArgument;
+        }
+        let Ok(mut found) = Vec::from_elem(alloc, None, keys.len()) else {
+            return Status::NoMemory;
+        };
+        self.answer(keys, found.as_mut_slice(), answers)
+    }
+}
