@@ -102,10 +102,11 @@ enum {
                                  get through; poll: the wait is no longer the handle's latest, or its end was told */
     CITRUS_NEW = 5,           /* upsert: the pair was added */
     CITRUS_DIFFERENT = 6,     /* compare: the key has another value than the expected one */
-    CITRUS_CLOSED = -1,       /* the handle is closed */
-    CITRUS_BAD_ARGUMENT = -2, /* a number is out of its range; reopen: the other handle is open */
-    CITRUS_NO_MEMORY = -3,    /* malloc gave none; open, share, reopen, list and tidy alone take memory */
-    CITRUS_SPENT = -4,        /* the handle has fewer than 4 tickets (get, updates, tidy), or none (wait, begin): lists, holds and shares are left */
+    CITRUS_CLOSED = -1,       /* the handle is closed, or the lanes are */
+    CITRUS_BAD_ARGUMENT = -2, /* a number is out of its range; reopen: the other handle is open; open_lanes: the lanes are */
+    CITRUS_NO_MEMORY = -3,    /* malloc gave none; open, share, reopen, list, tidy, open_lanes and get_many alone take memory */
+    CITRUS_SPENT = -4,        /* the handle has fewer than 4 tickets (get, updates, tidy), or none (wait, begin). All other calls are left to it,
+                                 as list, first, last, hold, share, reopen and lanes */
     CITRUS_LOST = -5,         /* a call with this handle gave up after 2^64 - 1 rounds of waiting: the handle can only be closed */
     CITRUS_HOLDS = -6         /* the handle is in a section: release, left and close alone are left to it */
 };

@@ -1,6 +1,6 @@
 // Citrus for C++17: handles that close themselves, answers as std::optional, refusals as exceptions. Header only, over citrus.h, which says
 // what each call does, waits for and costs, and what a caller owes. What is left to owe here: one call at a time with one handle; no call
-// from a signal handler, nor from the child of a fork of a program with threads.
+// from a signal handler, nor from the child of a fork of a program with threads; malloc, realloc and free of one allocator.
 //
 //     citrus::handle mine(100000, 2);             // for 100,000 pairs and two handles
 //     citrus::handle other = mine.share();        // for the second thread
