@@ -137,6 +137,25 @@ handles() {
     awk -F, '/^#/ || /^waiter/ { next } { printf "| %s | %s | %s | %s | %s | %s | %s | %s | %s | %s |\n", $1, $2, $3, $4, $5, $6, $7, $8, $9, $10 }' "$1"
 }
 
+# Lookups one by one, and by lanes at once.
+many() {
+    head_of pairs 'one by one' '1 lane' '2 lanes' 4 8 'a wait beside no lanes' 'beside 8 idle ones' 'beside 8 busy ones'
+    awk -F, '/^#/ || /^what/ { next }
+        {
+            if (!($3 in seen)) { seen[$3]; order[++rows] = $3 }
+            ns[$1, $2, $3] = sprintf("%.0f", $4)
+        }
+        END {
+            for (i = 1; i <= rows; i++) {
+                pairs = order[i]
+                row = "| " pairs " | " ns["look up", 0, pairs]
+                for (lanes = 1; lanes <= 8; lanes *= 2) row = row " | " ns["look up at once", lanes, pairs]
+                print row " | " ns["wait beside no lanes", 0, pairs] " | " ns["wait beside idle lanes", 8, pairs] " | " \
+                    ns["wait beside busy lanes", 8, pairs] " |"
+            }
+        }' "$1"
+}
+
 shapes() {
     head_of 'keys come' keys threads 'ns a put' 'slots of a way' 'times log2 of the keys' 'longest way'
     awk -F, '/^#/ || /^order/ { next } { printf "| %s | %s | %s | %s | %s | %s | %s |\n", $1, $2, $3, $4, $5, $6, $7 }' "$1"
@@ -280,7 +299,7 @@ if [ $# -gt 0 ]; then
 fi
 out=$top/bench/out
 mkdir -p "$out"
-for name in tree waits lists writers shapes threads text limits cookies embed crowded size handles rust_map server; do
+for name in tree waits lists writers shapes threads text limits cookies embed many crowded size handles rust_map server; do
     [ -e "$results/$name.csv" ] || continue
     grep -qxF "<!-- $name -->" "$top/docs/BENCHMARKS.md" "$top/bench/TABLES.md" || continue
     { echo; table "$name"; echo; } >"$out/table"
