@@ -107,7 +107,7 @@ in_rust() {
 # The library shows what citrus.h declares, and no more, in the archive and in the shared library.
 shows_the_calls_alone() {
     local declared
-    declared=$(grep -o '^[A-Za-z_0-9 *]*\bcitrus_[a-z_]*(' "$2" | grep -v 'static' | grep -o 'citrus_[a-z_]*(' | tr -d '(' | sort -u)
+    declared=$(grep -v '^ \*' "$2" | grep -o '^[A-Za-z_0-9 *]*\bcitrus_[a-z_]*(' | grep -v 'static' | grep -o 'citrus_[a-z_]*(' | tr -d '(' | sort -u)
     [ "$(nm -D --defined-only "$1/libcitrus.so.${version%%.*}" | awk '$2 == "T" { sub(/@.*/, "", $3); print $3 }' | sort)" = "$declared" ] &&
         [ "$(nm --defined-only --extern-only "$1/libcitrus.a" | awk 'NF == 3 { print $3 }' | sort)" = "$declared" ] &&
         readelf -d "$1/libcitrus.so.${version%%.*}" | grep -q "SONAME.*libcitrus.so.${version%%.*}\]" &&
