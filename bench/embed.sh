@@ -34,9 +34,9 @@ has_ours || with_ours=
 measured_here "$rounds rounds of $operations operations a thread" >"$out/embed.csv"
 : >"$out/embed_cells"
 for ((round = 1; round <= rounds; round++)); do
-    [ -z "$with_ours" ] || timeout 300 "$ours" times calls "$operations" | cells 'proved ' >>"$out/embed_cells"
+    [ -z "$with_ours" ] || add_cells "$out/embed_cells" 'proved ' timeout 300 "$ours" times calls "$operations"
     for peer in "${peers[@]}"; do
-        "$peer" --operations "$operations" --seconds "$seconds" calls | cells '' >>"$out/embed_cells"
+        add_cells "$out/embed_cells" '' "$peer" --operations "$operations" --seconds "$seconds" calls
     done
     echo "round $round of $rounds, after $SECONDS s" >&2
 done

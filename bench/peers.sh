@@ -26,11 +26,27 @@ build_with() {
     build_cpp "$3" "$4"
 }
 
-# Installs the C library, the proved one or that of an archive, and builds the program over it: `build_library [ARCHIVE]`.
+# Installs the C library, the proved one or that of an archive, unless that stands there: `install_library PREFIX [ARCHIVE]`. What stands
+# there is told by a sum of the archive and of what was made of it.
+install_library() {
+    local sum
+    sum=$(cat "${@:2}" "$1/lib/libcitrus.a" 2>/dev/null | cksum)
+    if [ $# = 1 ] || [ "$sum" != "$(cat "$1.of" 2>/dev/null)" ] || [ -n "$(find "$top/ffi" -type f -newer "$1.of" -print -quit)" ]; then
+        "$top/ffi/install.sh" "$@"
+        cat "${@:2}" "$1/lib/libcitrus.a" | cksum >"$1.of"
+    fi
+}
+
+# Builds bench/cpp/NAME.cpp over a library that was installed: `build_over PREFIX NAME PROGRAM`.
+build_over() {
+    { is_newest "$out/$3" "$top/bench/cpp" && [ "$out/$3" -nt "$1.of" ]; } ||
+        g++ -O2 -std=c++17 -pthread "-I$1/include" "$top/bench/cpp/$2.cpp" "-L$1/lib" '-DLIBRARY="C library"' -lcitrus -o "$out/$3"
+}
+
+# Installs the C library and builds the program over it: `build_library [ARCHIVE]`.
 build_library() {
-    "$top/ffi/install.sh" "$out/installed" "$@"
-    g++ -O2 -std=c++17 -pthread "-I$out/installed/include" "$top/bench/cpp/embed.cpp" "-L$out/installed/lib" '-DLIBRARY="C library"' -lcitrus \
-        -o "$out/embed"
+    install_library "$out/installed" "$@"
+    build_over "$out/installed" embed embed
 }
 
 # Builds the program on BTreeMap, with the locks of parking_lot where Debian's sources of it are there.

@@ -30,17 +30,43 @@ cells() {
     }'
 }
 
-# Of the cells that stand in a file, the minimum and the median of each.
+# How many ticks the processors were busy since the machine began, and how many of these the host gave to others: in `busy` and `stolen`.
+read_ticks() {
+    local ticks
+    read -r -a ticks </proc/stat
+    stolen=${ticks[8]}
+    busy=$((ticks[1] + ticks[2] + ticks[3] + ticks[6] + ticks[7] + stolen))
+}
+
+# Runs a command that writes lines as above, and adds its cells to a file, each with `steal`: of 100 of the time that the processors were
+# busy meanwhile, how much the host gave to others. Above 5 the cells are left out: `add_cells FILE WORD COMMAND..`.
+add_cells() {
+    local file=$1 word=$2 busy stolen busy_before stolen_before steal
+    shift 2
+    read_ticks
+    busy_before=$busy stolen_before=$stolen
+    "$@" | cells "$word" >"$file.now"
+    read_ticks
+    steal=$((1000 * (stolen - stolen_before) / (busy - busy_before + 1)))
+    steal=$((steal / 10)).$((steal % 10))
+    if [ "${steal%.*}" -lt 5 ]; then sed "s/\$/,$steal/" "$file.now" >>"$file"; else echo "left out: $*, steal $steal %" >&2; fi
+    rm "$file.now"
+}
+
+# Of the cells that stand in a file, the minimum and the median of each, and the mean of `steal` where it is told.
 summary() {
-    echo 'series,mix,keys,threads,places,minimum_ns,median_ns,runs'
+    echo 'series,mix,keys,threads,places,minimum_ns,median_ns,runs,steal'
     sort -t, -k 1,1 -k 2,2 -k 3,3n -k 4,4n -k 5,5n -k 6,6n "$1" | awk -F, '
         function flush() {
-            if (count) printf "%s,%.1f,%.1f,%d\n", cell, ns[1], (ns[int((count + 1) / 2)] + ns[int((count + 2) / 2)]) / 2, count
+            if (!count) return
+            printf "%s,%.1f,%.1f,%d,%s\n", cell, ns[1], (ns[int((count + 1) / 2)] + ns[int((count + 2) / 2)]) / 2, count,
+                told ? sprintf("%.1f", steal / count) : ""
         }
         {
             now = $1 "," $2 "," $3 "," $4 "," $5
-            if (now != cell) { flush(); cell = now; count = 0 }
+            if (now != cell) { flush(); cell = now; count = steal = told = 0 }
             ns[++count] = $6
+            if ($8 != "") { told = 1; steal += $8 }
         }
         END { flush() }'
 }

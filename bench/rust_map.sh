@@ -36,7 +36,7 @@ measured_here "$rounds rounds of $operations operations a thread" >"$out/rust_ma
 : >"$out/rust_map_cells"
 for ((round = 1; round <= rounds; round++)); do
     for program in "${programs[@]}"; do
-        "$out/$program" --operations "$operations" --seconds "$seconds" calls | cells '' >>"$out/rust_map_cells"
+        add_cells "$out/rust_map_cells" '' "$out/$program" --operations "$operations" --seconds "$seconds" calls
     done
     echo "round $round of $rounds, after $SECONDS s" >&2
 done

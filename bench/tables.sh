@@ -240,6 +240,13 @@ cookies() {
         printf "| %s | %s | %s | %s | %s | %s | %s | %d of %d | %d of %d |\n", $1, $3, $4, $5, $6, $7, $8, $9, $10, $11, $12 }' "$1"
 }
 
+# Programs in turns: of each row the first one's least, and how many times that the others take.
+ratios() {
+    head_of pages 'gets of 100, keys' threads what 'least, ns' 'times the first' 'median of rounds' 'rounds' 'steal, %'
+    awk -F, '/^#/ || /^pages/ { next } {
+        printf "| %s | %s | %s | %s | %s | %s | %s | %s of %s | %s |\n", $1, $2, $3, $4, $5, $6, $7, $8, $9, $10 }' "$1"
+}
+
 # Medians through the C library; and by how much its minima are above those of the tree's own calls.
 embed() {
     head_of gets keys threads first second third 'more than the tree, first' second third 'best std::map under a lock' TBB
@@ -299,7 +306,7 @@ if [ $# -gt 0 ]; then
 fi
 out=$top/bench/out
 mkdir -p "$out"
-for name in tree waits lists writers shapes threads text limits cookies embed many crowded size handles rust_map server; do
+for name in tree waits lists writers shapes threads text limits cookies embed many ratios crowded size handles rust_map server; do
     [ -e "$results/$name.csv" ] || continue
     grep -qxF "<!-- $name -->" "$top/docs/BENCHMARKS.md" "$top/bench/TABLES.md" || continue
     { echo; table "$name"; echo; } >"$out/table"

@@ -1,8 +1,9 @@
 #!/usr/bin/env bash
 # Measures an operation on the search tree, for each waiter and mix at one, two and four threads, beside the same steps in C++ and other
 # dictionaries: `tree.sh [--rounds N] [--operations N] [--seconds S] [--beside PROGRAM]`. In each round every program runs once; a thread
-# makes so many operations, and a cell of the peers ends after so many seconds. `--beside` is a tree_benches of another commit. Minima and
-# medians go to bench/results/tree.csv. Where tree_benches isn't built, the peers run alone. It stands outside the gate.
+# makes so many operations, and a cell of the peers ends after so many seconds. `--beside` is a tree_benches of another commit. A run beside
+# which the host gave more than 5 % to others is left out. Minima and medians go to bench/results/tree.csv. Where tree_benches isn't built,
+# the peers run alone. bench/ratios.sh measures by shorter turns. It stands outside the gate.
 set -eu
 # shellcheck source=bench/peers.sh
 . "$(dirname "$0")/peers.sh"
@@ -33,11 +34,11 @@ has_ours || with_ours=
 measured_here "$rounds rounds of $operations operations a thread" >"$out/tree.csv"
 : >"$out/tree_cells"
 for ((round = 1; round <= rounds; round++)); do
-    [ -z "$with_ours" ] || proved_lines "$ours" | cells 'proved ' >>"$out/tree_cells"
-    [ -z "$beside" ] || proved_lines "$beside" | cells 'before ' >>"$out/tree_cells"
+    [ -z "$with_ours" ] || add_cells "$out/tree_cells" 'proved ' proved_lines "$ours"
+    [ -z "$beside" ] || add_cells "$out/tree_cells" 'before ' proved_lines "$beside"
     for peer in "${peers[@]}"; do
         # shellcheck disable=SC2086
-        $peer --operations "$operations" --seconds "$seconds" calls | cells '' >>"$out/tree_cells"
+        add_cells "$out/tree_cells" '' $peer --operations "$operations" --seconds "$seconds" calls
     done
     echo "round $round of $rounds, after $SECONDS s" >&2
 done

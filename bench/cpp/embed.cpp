@@ -1,39 +1,8 @@
 // The C library, as a program that links it sees it: an index for each waiter, and a handle for each place. Where more threads than
 // processors are measured there is one more series, of updates that take turns.
-#include "client.hpp"
+#include "handle_places.hpp"
 #include "measuring.hpp"
-#include <citrus.hpp>
 #include <citrus_turns.hpp>
-#include <optional>
-
-struct NoTurns {
-    void lock() {}
-    void unlock() {}
-};
-
-template <class Turns> struct HandlePlace {
-    citrus::handle &handle;
-    Turns &turns;
-
-    std::optional<uint64_t> get(uint64_t key) { return handle.get(key); }
-
-    bool put(uint64_t key, uint64_t value) {
-        const std::lock_guard<Turns> turn(turns);
-        return handle.insert(key, value);
-    }
-
-    bool del(uint64_t key) {
-        const std::lock_guard<Turns> turn(turns);
-        return handle.remove(key).has_value();
-    }
-};
-
-template <class Turns> struct HandleClient {
-    HandlePlace<Turns> place;
-
-    bool may_call() const { return true; }
-    uint64_t call(const Op &op) { return PlainClient<HandlePlace<Turns>>{place}.call(op); }
-};
 
 // An index with room for each key.
 template <class Turns> class IndexOfRoom {

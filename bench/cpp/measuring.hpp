@@ -5,6 +5,7 @@
 #pragma once
 #include "mixes.hpp"
 #include "size.hpp"
+#include "turns.hpp"
 #include <algorithm>
 #include <chrono>
 #include <cinttypes>
@@ -17,7 +18,7 @@
 
 using Clock = std::chrono::steady_clock;
 
-enum class Subject { Calls, Keys, Places, Crowd, Crowded, Size };
+enum class Subject { Calls, Keys, Places, Crowd, Crowded, Size, Turns };
 
 struct Options {
     Subject subject = Subject::Calls;
@@ -26,10 +27,18 @@ struct Options {
     bool packed = false;
     std::string only; // the series that is measured, or all
     Size size;
+    Turns turns;
 };
+
+inline Turns turns_of(const std::string &mix, uint64_t keys) {
+    if (mix == "load") return {Turns::What::Load, 0, Load::keys};
+    if (mix == "fill") return {Turns::What::Fill, 0, keys};
+    return {Turns::What::Mix, std::strtoull(mix.c_str(), nullptr, 10), keys};
+}
 
 inline Options options_of(int count, char **words) {
     Options options;
+    std::string mix = "100";
     for (int i = 1; i < count; i++) {
         const std::string word = words[i];
         const auto number = [&] { return ++i < count ? strtod(words[i], nullptr) : 0; };
@@ -38,6 +47,7 @@ inline Options options_of(int count, char **words) {
         else if (word == "--packed") options.packed = true;
         else if (word == "--only") options.only = ++i < count ? words[i] : "";
         else if (word == "--pairs") options.size.pairs = uint64_t(number());
+        else if (word == "--mix") mix = ++i < count ? words[i] : "";
         else if (word == "--threads") options.size.threads = std::max(uint32_t(number()), 1u);
         else if (word == "calls") options.subject = Subject::Calls;
         else if (word == "keys") options.subject = Subject::Keys;
@@ -45,15 +55,18 @@ inline Options options_of(int count, char **words) {
         else if (word == "crowd") options.subject = Subject::Crowd;
         else if (word == "crowded") options.subject = Subject::Crowded;
         else if (word == "size") options.subject = Subject::Size;
+        else if (word == "turns") options.subject = Subject::Turns;
         else {
             fprintf(stderr,
                     "usage: %s [--operations N] [--seconds S] [--packed] [--only SERIES] calls|keys|places|crowd|crowded\n"
-                    "       %s [--operations N] [--pairs N] [--threads N] [--only SERIES] size\n",
-                    words[0], words[0]);
+                    "       %s [--operations N] [--pairs N] [--threads N] [--only SERIES] size\n"
+                    "       %s [--mix GETS|load|fill] [--pairs N] [--threads N] --only SERIES turns\n",
+                    words[0], words[0], words[0]);
             exit(2);
         }
     }
     options.size.operations = options.operations;
+    options.turns = turns_of(mix, options.size.pairs);
     return options;
 }
 
@@ -61,15 +74,6 @@ struct Done {
     uint64_t operations = 0, sum = 0;
     bool cut = false;
 };
-
-// Puts keys before the work begins, where the mix has them put.
-template <class Client, class Mix> void fill(Client &client, const Mix &mix) {
-    Draws draws{12345};
-    for (uint64_t i = 0; i < mix.first_puts && client.may_call(); i++) {
-        const uint64_t key = draws.next() % mix.keys;
-        client.call({Kind::Put, key, draws.state});
-    }
-}
 
 template <class Client, class Mix>
 __attribute__((noinline)) Done work(Client &client, const Mix &mix, uint32_t place, uint32_t operations, Clock::time_point end) {
@@ -127,6 +131,16 @@ struct Room {
     uint32_t places, operations;
 };
 
+// Takes turns until the input ends, so the tickets of a place are never used up.
+template <class Make> void measure_turns(const Turns &turns, uint32_t threads, const Make &make) {
+    const auto made = [&] { return make(Room{turns.keys, threads, UINT32_MAX}); };
+    switch (turns.what) {
+    case Turns::What::Fill: take_fills(made, turns.keys, threads); break;
+    case Turns::What::Load: take_turns(*made(), Load{}, threads); break;
+    case Turns::What::Mix: take_turns(*made(), Drawn{turns.gets, turns.keys}, threads); break;
+    }
+}
+
 // Measures all cells of the subject, each on a dictionary of its own: `make(room)`.
 template <class Make> void measure_all(const std::string &name, const Options &options, const Make &make) {
     if (!options.only.empty() && options.only != name) return;
@@ -160,5 +174,6 @@ template <class Make> void measure_all(const std::string &name, const Options &o
     case Subject::Size:
         measure_size(name, options.size, [&](uint64_t pairs) { return make(Room{pairs, options.size.threads, 2 * options.operations}); });
         break;
+    case Subject::Turns: measure_turns(options.turns, options.size.threads, make); break;
     }
 }
