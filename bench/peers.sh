@@ -32,7 +32,7 @@ install_library() {
     local sum
     sum=$(cat "${@:2}" "$1/lib/libcitrus.a" 2>/dev/null | cksum)
     if [ $# = 1 ] || [ "$sum" != "$(cat "$1.of" 2>/dev/null)" ] || [ -n "$(find "$top/ffi" -type f -newer "$1.of" -print -quit)" ]; then
-        "$top/ffi/install.sh" "$@"
+        "$top/ffi/install.sh" "$@" || return
         cat "${@:2}" "$1/lib/libcitrus.a" | cksum >"$1.of"
     fi
 }
@@ -45,8 +45,8 @@ build_over() {
 
 # Installs the C library and builds the program over it: `build_library [ARCHIVE]`.
 build_library() {
-    install_library "$out/installed" "$@"
-    build_over "$out/installed" embed embed
+    install_library "$out/installed" "$@" &&
+        build_over "$out/installed" embed embed
 }
 
 # Builds the program on BTreeMap, with the locks of parking_lot where Debian's sources of it are there.

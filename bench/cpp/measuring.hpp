@@ -129,11 +129,15 @@ void measure(Dictionary &dictionary, const std::string &name, const Mix &mix, Cr
 struct Room {
     uint64_t keys;
     uint32_t places, operations;
+    uint32_t kept_back = 15; // slots that a place of the same steps in C++ keeps back
 };
+
+// As many as a handle of the C library does.
+constexpr uint32_t kept_by_handles = 63;
 
 // Takes turns until the input ends, so the tickets of a place are never used up.
 template <class Make> void measure_turns(const Turns &turns, uint32_t threads, const Make &make) {
-    const auto made = [&] { return make(Room{turns.keys, threads, UINT32_MAX}); };
+    const auto made = [&] { return make(Room{turns.keys, threads, UINT32_MAX, kept_by_handles}); };
     switch (turns.what) {
     case Turns::What::Fill: take_fills(made, turns.keys, threads); break;
     case Turns::What::Load: take_turns(*made(), Load{}, threads); break;

@@ -28,7 +28,8 @@ private:
 template <class W> class TreeOfRoom {
 public:
     explicit TreeOfRoom(const Room &room)
-        : tree_(room.keys + 20 * room.places, room.places), tickets_(4 * (room.operations + room.keys)) {}
+        : tree_(room.keys + (room.kept_back + 5) * room.places, room.places, room.kept_back),
+          tickets_(4 * (room.operations + room.keys)) {}
 
     TreeClient<W> client(uint32_t place) { return {tree_, tree_.seat(place, tickets_)}; }
 

@@ -13,10 +13,12 @@ struct TreeSeat : Seat {
 template <class W> class TreeSlots {
 public:
     using L = typename W::Layout;
-    static constexpr size_t most_retired = 15, most_freed = 64;
+    static constexpr size_t most_freed = 64;
 
-    TreeSlots(uint32_t slots, uint32_t places)
-        : slots_(slots), places_(places), base_(W::end(places)), words_(base_ + 9 * (uint64_t(slots) + places + 1)) {
+    // A place keeps back so many retired slots before it waits for all readers.
+    TreeSlots(uint32_t slots, uint32_t places, uint32_t most_retired)
+        : slots_(slots), places_(places), most_retired_(most_retired), base_(W::end(places)),
+          words_(base_ + 9 * (uint64_t(slots) + places + 1)) {
         W::set_up(words_, places);
         words_[L::free_count] = slots;
         for (uint32_t slot = 0; slot <= places; slot++) state(slot) = 1;
@@ -29,7 +31,7 @@ public:
         seat.spare = place + 1;
         seat.free = slots_;
         seat.looked = places_ + uint64_t(place) * slots_ / places_;
-        seat.retired.reserve(most_retired + 1);
+        seat.retired.reserve(most_retired_ + 1);
         seat.freed.reserve(most_freed);
         return seat;
     }
@@ -61,7 +63,7 @@ protected:
 
     // Before a delete: a spare slot for the copy, and room for what is retired.
     void make_room(TreeSeat &seat) {
-        if (seat.retired.size() >= most_retired) return reclaim(seat);
+        if (seat.retired.size() >= most_retired_) return reclaim(seat);
         if (seat.spare != 0) return;
         if (!take(seat)) return reclaim(seat);
         at(seat.hand, Life).load();
@@ -135,7 +137,7 @@ private:
         seat.retired.clear();
     }
 
-    uint32_t slots_, places_;
+    uint32_t slots_, places_, most_retired_;
     uint64_t base_;
     Words words_;
 };
