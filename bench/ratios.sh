@@ -42,7 +42,8 @@ done
 [ ${#rows[@]} != 0 ] || rows=(100/20000 100/200000 100/2000000 100/10000000 98/200000 90/20000 50/1000 load/16384 fill/20000 fill/200000)
 [ ${#crews[@]} != 0 ] || crews=(1)
 [ ${#pages[@]} != 0 ] || pages=(small)
-[ ${#series[@]} != 0 ] || series=('C library' 'C library before' 'C++' 'plain CITRUS' 'TBB map' '4 lanes' '8 lanes')
+[ ${#series[@]} != 0 ] ||
+    series=('C library' 'C library before' 'C++' 'plain CITRUS' 'TBB map' '4 lanes' '8 lanes' 'C++ 4 lanes' 'C++ 8 lanes')
 
 # Builds the program of a series, and notes by which word it runs that series: `make_ready SERIES`. TBB's is left out where TBB isn't there.
 declare -A program=() word=()
@@ -59,6 +60,7 @@ make_ready() {
             install_library "$out/installed" "${archive[@]}" && build_over "$out/installed" lanes lanes
             program[$1]=$out/lanes
             ;;
+        'C++ 4 lanes' | 'C++ 8 lanes') build_cpp same_lanes && program[$1]=$out/same_lanes ;;
         'C++') build_cpp same && program[$1]=$out/same word[$1]='C++ first waiter' ;;
         'plain CITRUS') build_cpp citrus && program[$1]=$out/citrus ;;
         'std::map under mutex') build_cpp locked && program[$1]=$out/locked ;;

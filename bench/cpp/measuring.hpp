@@ -145,6 +145,15 @@ template <class Make> void measure_turns(const Turns &turns, uint32_t threads, c
     }
 }
 
+// Takes turns with gets alone, for clients that make many at once.
+template <class Make> void measure_many(const std::string &name, const Options &options, const Make &make) {
+    if (options.subject != Subject::Turns || options.turns.what != Turns::What::Mix || options.turns.gets != 100) {
+        fprintf(stderr, "only with the words --mix 100 turns\n");
+        exit(2);
+    }
+    if (options.only == name) measure_turns(options.turns, options.size.threads, make);
+}
+
 // Measures all cells of the subject, each on a dictionary of its own: `make(room)`.
 template <class Make> void measure_all(const std::string &name, const Options &options, const Make &make) {
     if (!options.only.empty() && options.only != name) return;

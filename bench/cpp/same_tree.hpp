@@ -36,7 +36,6 @@ constexpr bool is_life(uint64_t life, uint64_t generation) { return life % 2 == 
 
 template <class W> class SameTree : public TreeSlots<W> {
     using Slots = TreeSlots<W>;
-    using Slots::at;
 
 public:
     using Slots::Slots;
@@ -93,14 +92,22 @@ public:
         }
     }
 
+protected:
+    using Slots::at;
+
+    // Both links are loaded, and one of them is taken.
+    uint32_t child(uint32_t slot, Field side) {
+        const uint64_t left = at(slot, Left).load(), right = at(slot, Right).load();
+        return side == Left ? left : right;
+    }
+
 private:
     Descent descend(TreeSeat &seat, uint64_t key) {
         this->enter(seat, key);
         uint32_t slot = 0;
         Field side = Right;
         for (;;) {
-            const uint64_t left = at(slot, Left).load(), right = at(slot, Right).load();
-            const uint32_t child = side == Left ? left : right;
+            const uint32_t child = this->child(slot, side);
             if (child == 0) return {false, slot, 0, side};
             const uint64_t found = at(child, Key).load();
             if (found == key) return {true, child, slot, side};
