@@ -16,10 +16,11 @@ head_of() {
 # The minima of the proved tree, and how many times those of C++ they are; then medians.
 tree() {
     head_of gets keys threads first second third 'first, times C++' second third \
-        'first, median' 'best map under a lock' TBB 'skip list' Ellen 'plain CITRUS'
+        'first, median' 'best map under a lock' TBB 'skip list' Ellen 'plain CITRUS' 'steal, %'
     with_best "$1" | awk -F, '
         BEGIN { split("90 50 load 98 100", mixes, " "); split("1 2 4", crews, " "); split("first second third", waiters, " ") }
         { least[$1, $2, $4] = $6; median[$1, $2, $4] = $7; keys[$2] = $3 }
+        $9 != "" && $9 + 0 >= steal[$2, $4] + 0 { steal[$2, $4] = $9 }
         function ns(value) { return value == "" ? "-" : sprintf("%.0f", value) }
         function times(ours, theirs) { return ours == "" || theirs == "" ? "-" : sprintf("%.2f", ours / theirs) }
         END {
@@ -30,7 +31,8 @@ tree() {
                 for (w = 1; w <= 3; w++) row = row " | " times(least["proved " waiters[w], mix, crew], least["C++ " waiters[w], mix, crew])
                 print row " | " ns(median["proved first", mix, crew]) " | " ns(median["best under a lock", mix, crew]) " | " \
                     ns(median["TBB map", mix, crew]) " | " ns(median["libcds skip list", mix, crew]) " | " \
-                    ns(median["libcds Ellen tree", mix, crew]) " | " ns(median["plain CITRUS", mix, crew]) " |"
+                    ns(median["libcds Ellen tree", mix, crew]) " | " ns(median["plain CITRUS", mix, crew]) " | " \
+                    (steal[mix, crew] == "" ? "-" : steal[mix, crew]) " |"
             }
         }'
 }
