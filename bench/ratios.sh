@@ -83,7 +83,7 @@ trap 'stop_all; rm -rf "$room"' EXIT
 
 # Starts a program, which makes its dictionary: `start NAME MIX KEYS THREADS PAGES`.
 start() {
-    local i=${#names[@]} ask tell huge=0
+    local ask tell huge=0
     [ "$5" != huge ] || huge=1
     mkfifo "$room/ask" "$room/tell"
     exec {ask}<>"$room/ask" {tell}<>"$room/tell"
@@ -91,23 +91,22 @@ start() {
     GLIBC_TUNABLES=glibc.malloc.hugetlb=$huge "${program[$1]}" --only "${word[$1]}" --mix "$2" --pairs "$3" --threads "$4" turns \
         <&"$ask" >&"$tell" &
     names+=("$1") pids+=($!) asks+=("$ask") tells+=("$tell")
-    [ "${#names[@]}" -gt "$i" ]
 }
 
-# What a program answers is in `answer`. A dictionary of 10,000,000 keys is made in some minutes.
+# Waits so many seconds for what a program answers: `hear NUMBER SECONDS`. It is in `answer`.
 hear() {
-    read -r -t 900 -u "${tells[$1]}" -a answer || { echo "${names[$1]} doesn't answer" >&2; exit 1; }
+    read -r -t "$2" -u "${tells[$1]}" -a answer || { echo "${names[$1]} doesn't answer" >&2; exit 1; }
 }
 
 # Has each program make so many operations, beginning with another one each time: `take_turns OPERATIONS FIRST`. What they answer is in
-# `nanos`, of one operation, and in `sums`.
+# `picos`, the picoseconds of one operation, and in `sums`.
 take_turns() {
     local i k
     for ((k = 0; k < ${#names[@]}; k++)); do
         i=$((($2 + k) % ${#names[@]}))
         echo "$1" >&"${asks[i]}"
-        hear "$i"
-        nanos[i]=$(((answer[1] * 1000) / answer[0])) sums[i]=${answer[2]}
+        hear "$i" 60
+        picos[i]=$(((answer[1] * 1000) / answer[0])) sums[i]=${answer[2]}
     done
 }
 
@@ -119,26 +118,27 @@ take_round() {
     take_turns "$2" "$3"
     read_ticks
     for i in "${!names[@]}"; do
-        echo "$1,$3,$((busy - before_busy)),$((stolen - before_stolen)),${names[i]},${nanos[i]},${sums[i]}"
+        echo "$1,$3,$((busy - before_busy)),$((stolen - before_stolen)),${names[i]},${picos[i]},${sums[i]}"
     done
 }
 
 # A row: `measure MIX KEYS THREADS PAGES`.
 measure() {
-    local name i operations=3000 nanos=() sums=() answer=()
+    local name i operations=3000 picos=() sums=() answer=()
     for name in "${series[@]}"; do
         case $name in *lanes) [ "$1" = 100 ] || continue ;; esac
         [ -z "${program[$name]:-}" ] || start "$name" "$@"
     done
     for i in "${!names[@]}"; do
-        hear "$i"
+        # A dictionary of 10,000,000 keys is made in some minutes.
+        hear "$i" 900
         # One processor for all, so that none has a better one.
         [ "$3" != 1 ] || taskset -cp "$(($(nproc) - 1))" "${pids[i]}" >/dev/null
     done
     # Two thirds of a cell are timed.
     for i in 1 2; do
         take_turns "$operations" 0
-        operations=$((cell * 1500000000 / (nanos[0] + 1)))
+        operations=$((cell * 1500000000 / (picos[0] + 1)))
     done
     for ((i = 1; i <= rounds; i++)); do take_round "$4,$1/$2,$3" "$operations" "$i"; done
     stop_all
