@@ -53,7 +53,7 @@ fn try_answer(command: &Command, store: &Store, replies: &mut Replies) -> Result
     match command {
         Command::Get(key) => replies.number_or_nil(store.get(*key)?),
         Command::GetMany(keys) => {
-            let values = keys.iter().map(|key| store.get(*key)).collect::<Result<Vec<_>, _>>()?;
+            let values = store.get_many(keys)?;
             replies.array(values.len());
             for value in values {
                 replies.number_or_nil(value);
@@ -72,7 +72,7 @@ fn try_answer(command: &Command, store: &Store, replies: &mut Replies) -> Result
         Command::Add { key, amount } => add(*key, *amount, store, replies)?,
         Command::Delete(keys) => replies.count(how_many(keys, |key| Ok(store.remove(key)?.is_some()))?),
         Command::Take(key) => replies.number_or_nil(store.remove(*key)?),
-        Command::Exist(keys) => replies.count(how_many(keys, |key| Ok(store.get(key)?.is_some()))?),
+        Command::Exist(keys) => replies.count(store.get_many(keys)?.into_iter().flatten().count() as u64),
         Command::Range(range) => tell(*range, store, replies)?,
         Command::Size => replies.count(store.size()),
         Command::Ping(None) => replies.status("PONG"),
@@ -151,8 +151,8 @@ mod tests {
     }
 
     fn new_store(pairs: u32) -> Store {
-        let handle = Index::new(pairs, 1).and_then(|index| index.handle()).expect("there is memory");
-        Store::all(vec![handle]).expect("an empty index is counted").remove(0)
+        let index = Index::builder(pairs, 1).lanes(1).build().expect("there is memory");
+        Store::all(&index).expect("an empty index is counted").remove(0)
     }
 
     fn check(pairs: u32, session: &[(&str, &str)]) {
