@@ -150,13 +150,13 @@ mod tests {
         String::from_utf8_lossy(replies.unsent()).replace("\r\n", " ")
     }
 
-    fn new_store(pairs: u32) -> Store {
-        let index = Index::builder(pairs, 1).lanes(1).build().expect("there is memory");
+    fn new_store(pairs: u32, lanes: u32) -> Store {
+        let index = Index::builder(pairs, 1).lanes(lanes).build().expect("there is memory");
         Store::all(&index).expect("an empty index is counted").remove(0)
     }
 
     fn check(pairs: u32, session: &[(&str, &str)]) {
-        check_at(&new_store(pairs), session);
+        check_at(&new_store(pairs, 1), session);
     }
 
     fn check_at(store: &Store, session: &[(&str, &str)]) {
@@ -232,7 +232,7 @@ mod tests {
 
     #[test]
     fn all_pairs_can_be_taken_out() {
-        let store = new_store(2_000);
+        let store = new_store(2_000, 1);
         for key in 0..2_000u64 {
             assert_eq!(told(&store, &format!("SET {} {key}", key.reverse_bits())).trim_end(), "+OK");
         }
@@ -319,7 +319,7 @@ mod tests {
 
     #[test]
     fn a_full_index_has_an_error_of_its_own() {
-        let store = new_store(2);
+        let store = new_store(2, 0);
         // Beside those for its pairs it has 68 slots for what its handle may keep back.
         for key in 100..100 + 68 {
             assert_eq!(told(&store, &format!("SET {key} 0")).trim_end(), "+OK");
