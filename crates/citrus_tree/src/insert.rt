@@ -1,4 +1,14 @@
 //! A pair is added.
+//!
+//! The way of a put leads through these files, from its caller down to the steps:
+//!
+//! - `any_caller.rt` and `caller.rt` of `tree_handles`, or `client.rt` and `calling.rt` of `tree_client`: the caller, and the lift behind it;
+//! - `steadfast.rt` for callers that never give up, and `patient.rt` for all: which call an operation asks for;
+//! - this one: a search, a slot, a lock and a link, and all over again where another caller was first;
+//! - `descent.rt`: the section and the way down; `search.rt`: what is recorded of the empty side, and the section's end;
+//! - `taking.rt` and `slots.rt` of `node_slots`: a free slot, or a slot put back; `reclaiming.rt`: the retired ones, given back;
+//! - `lives.rt`: a life compared under the lock; `commit.rt`: the front, odd for the link's store alone; `answer.rt`: the reply;
+//! - `steps.rt` and `steps/waiters.rt` of `seat_table`, the latter called by the waiter's crate: each atomic step, made in `access.rt`.
 ghost use Rattle.std.specs.Prelude.{◌≡◌, ℕ, ◌+◌, ◌*◌, ◌≤◌, true, false, ◌∷◌, [], Some, None, IfOk, IfErr};
 ghost use Rattle.core_points.specs.declared.stage.Aim.TheVariants.{Leaf};
 ghost use Rattle.core_points.specs.declared.stage.Spot.{Spot};

@@ -22,6 +22,8 @@ use seat_table::{CitrusTable, Seat, WaitPart};
 
 /// Makes the operation by its own call: `put`, `get`, `del` or `set`. There it is said what it waits for. The depth is `put`'s, and 0
 /// of the others.
+// A call would hand the operation and its answer through memory.
+#[inline(always)]
 pub fn call<P: Patience, W: WaitPart, G: Gate>(
     patience: &P,
     table: &CitrusTable<W>,

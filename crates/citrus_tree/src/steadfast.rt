@@ -197,6 +197,8 @@ pub fn remove<R: Wait, W: WaitPart, G: Gate>(
 
 /// Makes the operation by its own call: `put`, `get`, `del` or `set`. There it is said what it waits for. The depth is `put`'s, and 0
 /// of the others.
+// A call would hand the operation and its answer through memory.
+#[inline(always)]
 pub fn call<R: Wait, W: WaitPart, G: Gate>(
     rt: &R,
     table: &CitrusTable<W>,

@@ -27,6 +27,8 @@ const SALT: u64 = 0x9e37_79b9_7f4a_7c15;
 /// returns what the put was told. A way is deep where it leads over more slots than `most_depth` allows for as many keys as the table has
 /// slots: that bounds the pairs, and it is known without a step. Where half of the way would be deep already, the lift may stand still
 /// for all readers, since it needs room for two more retired slots. What the call itself waits for is said at `put`, `get`, `del` and `set`.
+// A call would hand the operation and its answer through memory.
+#[inline(always)]
 pub fn call_and_lift<R: Wait, W: WaitPart, G: Gate>(
     rt: &R,
     table: &CitrusTable<W>,
@@ -55,6 +57,7 @@ pub fn call_and_lift<R: Wait, W: WaitPart, G: Gate>(
 }
 
 // Lifts nodes on the way to the key, where the way was deep.
+#[inline(always)]
 fn lift_if_deep<R: Wait, W: WaitPart>(
     rt: &R,
     table: &CitrusTable<W>,

@@ -63,6 +63,8 @@ enum Attempt {
 /// something changed meanwhile, comes to nothing. Each turn retires two slots and spends up to three tickets: for the two slots that it takes,
 /// and for itself. It waits for nobody, except where it is asked to stand still and the place has no room for two more retired slots: then
 /// it waits for all open sections once, and gives the retired slots back.
+// Most puts need none: their own code stays small.
+#[inline(never)]
 pub fn lift<P: Patience, W: WaitPart>(
     patience: &P,
     table: &CitrusTable<W>,

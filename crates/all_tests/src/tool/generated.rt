@@ -49,7 +49,7 @@ fn short_scripts(alloc: Global, mut state: u64) -> Result<String, Fail> {
     Ok(text)
 }
 
-// Many scripts of twelve lines each, which share a few keys, most of them of one class.
+// 2 to 64 scripts of twelve lines each, by the number, which share a few keys, most of them of one class.
 fn long_scripts(alloc: Global, number: u64) -> Result<String, Fail> {
     let mut text = String::new(alloc);
     let mut state = number;
@@ -89,14 +89,38 @@ fn what_is_written_is_checked_as_true(rt: HostRuntime) -> Result<(), Fail> {
     Ok(())
 }
 
-#[test]
-fn what_the_hash_dictionary_writes_is_checked_as_true(rt: HostRuntime) -> Result<(), Fail> {
-    for number in 0..300 {
-        let text = long_scripts(rt.alloc(), number / 3)?;
-        let input = text.as_bytes();
-        assert_checked_as_true(&rt, rt.alloc(), "citrus hash", "citrus check", input)?;
+// That the accounts of every third of a hundred long texts on the hash dictionary are true ones, from the text of this number on.
+fn assert_long_ones<R: Threads + Wait + Sync + Abort>(
+    rt: &R,
+    alloc: Global,
+    first: u32,
+) -> Result<(), Fail> {
+    for number in 0..34u64 {
+        let text = long_scripts(alloc, 3 * number + u64::from(first))?;
+        assert_checked_as_true(rt, alloc, "citrus hash", "citrus check", text.as_bytes())?;
     }
     Ok(())
+}
+
+#[test]
+fn what_the_hash_dictionary_writes_of_a_third_of_the_texts_is_checked_as_true(
+    rt: HostRuntime,
+) -> Result<(), Fail> {
+    assert_long_ones(&rt, rt.alloc(), 0)
+}
+
+#[test]
+fn what_the_hash_dictionary_writes_of_the_next_third_is_checked_as_true(
+    rt: HostRuntime,
+) -> Result<(), Fail> {
+    assert_long_ones(&rt, rt.alloc(), 1)
+}
+
+#[test]
+fn what_the_hash_dictionary_writes_of_the_last_third_is_checked_as_true(
+    rt: HostRuntime,
+) -> Result<(), Fail> {
+    assert_long_ones(&rt, rt.alloc(), 2)
 }
 
 // 64 scripts with a put each.

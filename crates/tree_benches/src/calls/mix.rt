@@ -66,6 +66,8 @@ impl Row {
 
 impl Mix {
     /// The operation that is drawn at a state, for the thread of a place; and the state after it.
+    // A call would hand it through memory, and each program that this one is measured beside draws in its loop.
+    #[inline(always)]
     pub fn draw(self, place: u32, state: u64) -> (Op, u64) {
         match self {
             Mix::MostlyGets => draw_of(90, 20_000, state),
@@ -78,6 +80,7 @@ impl Mix {
 }
 
 // So many of 100 are gets, the others puts and dels.
+#[inline(always)]
 fn draw_of(gets: u64, keys: u64, state: u64) -> (Op, u64)
     requires some { 1 ≤ keys }
 {
@@ -95,6 +98,7 @@ fn draw_of(gets: u64, keys: u64, state: u64) -> (Op, u64)
 }
 
 // An operation of the command `load`.
+#[inline(always)]
 fn draw_of_load(place: u32, state: u64) -> (Op, u64) {
     let first = next_state(state);
     let second = next_state(first);
