@@ -12,6 +12,8 @@ use prcu_model::{Reply, Told};
 use seat_table::{CitrusTable, Seat, WaitPart};
 
 // What a hold finds, with its section left.
+// A call would hand its answer through memory.
+#[inline(always)]
 fn look_up<P: Patience, W: WaitPart, G: Gate>(
     patience: &P,
     table: &CitrusTable<W>,
