@@ -1,6 +1,5 @@
 -- One lane: how its search begins, goes on and ends.
-use Rattle.std.proofs.Common.{◌≡◌, ◌≢◌, ℕ, ◌<◌, ◌≤◌, List, length, set, slice_index, slice_index_or, Option, Some, None, ⊎_elim, refl, sym, ap, subst, ◌∙◌, arith, get_or-set_same}
-use Rattle.std.proofs.lemmas.Bool.{cases_lt}
+use Rattle.std.proofs.Common.{◌≡◌, ◌≢◌, ℕ, ◌<◌, ◌≤◌, List, length, set, slice_index, Option, Some, None, refl, sym, ap, subst, ◌∙◌, arith, get_or-set_same}
 use Rattle.prcu_marks.specs.declared.mark.Side.{Side}
 use Rattle.prcu_marks.specs.declared.mark.Side.TheVariants.{Right}
 use Rattle.core_state.specs.declared.shape.Shape.{Shape}
@@ -24,11 +23,10 @@ use Rattle.citrus_tree.specs.Hops.{Loads}
 use Rattle.citrus_tree.specs.Lookups.{IsSearching, Looked}
 use Rattle.citrus_tree.proofs.Rounds.{links_steps}
 use Rattle.citrus_tree.proofs.searches.Searching.{root_is, begun, needs_value, valued, in_section, looked_found, looked_missed}
-use Rattle.many_gets.specs.Many.{LooksUpAt}
 use Rattle.many_gets.specs.declared.lane.Lane.{Lane}
 use Rattle.many_gets.specs.declared.lane.Stage.{Stage}
 use Rattle.many_gets.specs.declared.lane.Stage.TheVariants as stage
-use Rattle.many_gets.specs.Lanes.{IsInside, StandsAt, search_of, IsAt, HasGot}
+use Rattle.many_gets.specs.Lanes.{IsInside, StandsAt, search_of, IsAt, IsSettled, HasGot}
 
 -- whatever a hop came to, it made a step
 pub hop_steps : (k : Shape) (v : View) (key s : ℕ) (b : Side) (step : Step) (w : View) → Loads k v key s b step w → HasStepped v w
@@ -38,19 +36,13 @@ hop_steps k v key s b (Found c) w (some_slot, (u, links, read)) =
     let first = links_steps links in let last = told_steps read in omega (arith, first, last)
 hop_steps k v key s b Ended w links = links_steps links
 
--- a seat that looked up a key, or did nothing, is as quiet as before
+-- a seat that looked up a key is as quiet as before
 pub quiet_after : (keys : List ℕ) (answers : List (Option ℕ)) (index : ℕ) (s t : SeatAt) → HasGot keys answers index s t → IsQuietSeat s
     → IsQuietSeat t
-quiet_after keys answers index s t got quiet = ⊎_elim
-    (λ (within : index < length keys).
-    let e = (got.looked_up.looked within).others in
+quiet_after keys answers index s t got quiet =
+    let e = got.looked_up.looked.others in
     still_quiet s t (ap (λ (z : View). z.section) e ∙ sym quiet.view.section) (ap (λ (z : View). z.locks) e)
-    (ap (λ (z : View). z.hands) e) (ap (λ (z : View). z.moving) e) (ap (λ (z : View). z.commit) e) got.same_list quiet)
-    (λ (past : length keys ≤ index).
-    let e = got.looked_up.rested past in
-    still_quiet s t (ap (λ (z : View). z.section) e) (ap (λ (z : View). z.locks) e) (ap (λ (z : View). z.hands) e)
-    (ap (λ (z : View). z.moving) e) (ap (λ (z : View). z.commit) e) got.same_list quiet)
-    (cases_lt index (length keys))
+    (ap (λ (z : View). z.hands) e) (ap (λ (z : View). z.moving) e) (ap (λ (z : View). z.commit) e) got.same_list quiet
 
 module _ (way : ℕ) (table : TableAt) (keys : List ℕ) (index : ℕ) (s : SeatAt) where
   abbrev k : Shape
@@ -93,10 +85,9 @@ module _ (way : ℕ) (table : TableAt) (keys : List ℕ) (index : ℕ) (s : Seat
       same_table = same_table ∙ i.same_table;
       same_list = same_list ∙ i.same_list;
       looked_up = record {
-        looked = λ within.
-            subst (λ (z : ℕ × Option ℕ). Looked s.view z.0 z.1 u.view)
+        within = i.within;
+        looked = let within = i.within in subst (λ (z : ℕ × Option ℕ). Looked s.view z.0 z.1 u.view)
             (λ l. (i.key_is l, sym (get_or-set_same answers index answer None (omega (arith, room, within))) l)) looked;
-        rested = λ past. let within = i.within in absurd (omega (arith, past, within));
       };
     }
 
@@ -126,17 +117,6 @@ module _ (way : ℕ) (table : TableAt) (keys : List ℕ) (index : ℕ) (s : Seat
       noted key (at.Missed slot side) t i answers room x same_table same_list None
       (looked_missed k s.view key slot side t.view x.view i.searching left)
 
-  -- there is no such key, and nothing was done
-  pub got_nothing : (answers : List (Option ℕ)) (t : SeatAt) → length keys ≤ index → t ≡ s → HasGot keys answers index s t
-  got_nothing answers t past same = record {
-    same_table = ap (λ (z : SeatAt). z.table) same;
-    same_list = ap (λ (z : SeatAt). z.listed) same;
-    looked_up = record {
-      looked = λ within. absurd (omega (arith, past, within));
-      rested = λ _. ap (λ (z : SeatAt). z.view) same;
-    };
-  }
-
 -- what is known of a lane, by its stage
 module _ (way : ℕ) (table : TableAt) (keys : List ℕ) (index : ℕ) (s : SeatAt) (lane : Lane) where
   at_stage : (t : SeatAt) (it : Stage) → lane.stage ≡ it → IsAt way table keys index s lane t
@@ -155,14 +135,13 @@ module _ (way : ℕ) (table : TableAt) (keys : List ℕ) (index : ℕ) (s : Seat
   at_nothing past is =
       subst (λ z. StandsAt way table keys index s lane.key (search_of z lane.slot lane.side) s) (sym is) (past, refl)
 
--- an answer that is noted at another index leaves what a seat got
-pub still_got : (keys : List ℕ) (answers answers' : List (Option ℕ)) (index : ℕ) (s t : SeatAt)
-    → slice_index_or answers' index None ≡ slice_index_or answers index None → HasGot keys answers index s t → HasGot keys answers' index s t
-still_got keys answers answers' index s t same got = record {
-  same_table = got.same_table;
-  same_list = got.same_list;
-  looked_up = record {
-    looked = λ within. subst (λ z. Looked s.view (slice_index keys index) z t.view) (sym same) (got.looked_up.looked within);
-    rested = got.looked_up.rested;
-  };
-}
+pub settled_outside : (it : Stage) → IsSettled it → it ≢ stage.Searching → it ≡ stage.Outside
+settled_outside stage.Outside settled over = refl
+settled_outside stage.Searching settled over = absurd (over refl)
+settled_outside (stage.Found holder) settled over = absurd settled
+settled_outside stage.Ended settled over = absurd settled
+
+pub at_outside : (way : ℕ) (table : TableAt) (keys : List ℕ) (index : ℕ) (s : SeatAt) (lane : Lane) (t : SeatAt) → lane.stage ≡ stage.Outside
+    → IsAt way table keys index s lane t → (length keys ≤ index) × (t ≡ s)
+at_outside way table keys index s lane t is at_lane =
+    subst (λ z. StandsAt way table keys index s lane.key (search_of z lane.slot lane.side) t) is at_lane

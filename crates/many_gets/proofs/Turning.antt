@@ -11,9 +11,10 @@ use Rattle.seat_table.specs.Rounds.{HasStepped}
 use Rattle.seat_table.specs.Seats.{SeatAt, TableAt, IsQuietSeat}
 use Rattle.many_gets.specs.declared.lane.Lane.{Lane}
 use Rattle.many_gets.specs.declared.lane.Stage.TheVariants.{Searching}
-use Rattle.many_gets.specs.Many.{AreKept, steps_of}
-use Rattle.many_gets.specs.Lanes.{IsAt, AreAt, AreOver, HasGot, HaveGot}
-use Rattle.many_gets.proofs.Hopping.{still_got}
+use Rattle.many_gets.specs.Many.{LooksUpEach, LooksUpAll, AreKept, steps_of}
+use Rattle.many_gets.specs.Lanes.{IsSettled, IsLane, AreLanes, AreOver}
+use Rattle.many_gets.proofs.Hopping.{settled_outside, at_outside}
+use Rattle.many_gets.proofs.Going.{lane_other}
 
 -- ---- lists
 
@@ -88,7 +89,7 @@ module _ (seats : List SeatAt) (n : ℕ) (t u : SeatAt) (there : get_elem? seats
 
 -- ---- lanes
 
--- no search of the first ones goes on, and neither does that of the next
+-- no search of the first ones is under way, and neither is that of the next
 pub over_more : (n : ℕ) (lanes : List Lane) (lane : Lane) → AreOver n lanes → lane.stage ≢ Searching → n < length lanes
     → AreOver (n + 1) (set lanes n lane)
 over_more n lanes lane over ended inside i other before at_i = dite (ℕ_discrete i n)
@@ -98,57 +99,90 @@ over_more n lanes lane over ended inside i other before at_i = dite (ℕ_discret
     subst (λ (z : Lane). z.stage ≢ Searching) is ended)
     (λ ne. over i other (omega (arith, before, ne)) (sym (set_else lanes n i lane ne) ∙ at_i))
 
-module _ (way : ℕ) (table : TableAt) (keys : List ℕ) (first : ℕ) (before : List SeatAt) where
-  -- the lane of that number, from the seat that it had before the round
-  pub lane_is : (lanes : List Lane) (after : List SeatAt) → AreAt way table keys first before lanes after
-      → (n : ℕ) (lane : Lane) (t : SeatAt) → get_elem? lanes n ≡ some lane → get_elem? after n ≡ some t
-      → (s : SeatAt) × IsAt way table keys (first + n) s lane t
-  lane_is lanes after m n lane t at_lane at_t =
+pub settled_set : (lanes : List Lane) (n : ℕ) (lane : Lane) → IsSettled lane.stage
+    → ((i : ℕ) (l : Lane) → get_elem? lanes i ≡ some l → IsSettled l.stage)
+    → (i : ℕ) (l : Lane) → get_elem? (set lanes n lane) i ≡ some l → IsSettled l.stage
+settled_set lanes n lane here all = each_set (λ i (l : Lane). IsSettled l.stage) lanes n lane here (λ i l other at_l. all i l at_l)
+
+-- one more lane has begun
+module _ (P : ℕ → SeatAt → Lane → SeatAt → Type 0) (before : List SeatAt) where
+  pub begun_set : (lanes : List Lane) (after : List SeatAt) (n : ℕ) (lane old : Lane) (t u : SeatAt) → get_elem? lanes n ≡ some old
+      → get_elem? after n ≡ some t
+      → ((i : ℕ) (s : SeatAt) → n ≤ i → get_elem? after i ≡ some s → get_elem? before i ≡ some s) → P n t lane u
+      → ((i : ℕ) (s : SeatAt) (l : Lane) (v : SeatAt) → i < n → get_elem? before i ≡ some s → get_elem? lanes i ≡ some l
+      → get_elem? after i ≡ some v → P i s l v)
+      → (i : ℕ) (s : SeatAt) (l : Lane) (v : SeatAt) → i < n + 1 → get_elem? before i ≡ some s → get_elem? (set lanes n lane) i ≡ some l
+      → get_elem? (set after n u) i ≡ some v → P i s l v
+  begun_set lanes after n lane old t u at_old at_t untouched here begun i s l v inside at_s at_l at_v = both_set
+      (λ j x y. (s : SeatAt) → j < n + 1 → get_elem? before j ≡ some s → P j s x y)
+      lanes after n old lane t u at_old at_t
+      (λ s _ at_s. subst (λ z. P n z lane u) (at_one before n t s (untouched n t (omega arith) at_t) at_s) here)
+      (λ j x y other at_x at_y s before_n at_s. begun j s x y (omega (arith, other, before_n)) at_s at_x at_y) i l v at_l at_v s inside at_s
+
+-- the same number of seats
+pub counted : (way : ℕ) (table : TableAt) (keys : List ℕ) (answers : List (Option ℕ)) (seats seats' number : ℕ) (s : SeatAt) (lane : Lane)
+    (t : SeatAt) → seats ≡ seats' → IsLane way table keys answers seats number s lane t → IsLane way table keys answers seats' number s lane t
+counted way table keys answers seats seats' number s lane t same = subst (λ z. IsLane way table keys answers z number s lane t) same
+
+module _ (way : ℕ) (table : TableAt) (keys : List ℕ) (answers : List (Option ℕ)) (before : List SeatAt) (lanes : List Lane)
+    (after : List SeatAt) (m : AreLanes way table keys answers before lanes after) where
+  -- the lane of that number, from the seat that it had at first
+  pub lane_is : (n : ℕ) (lane : Lane) (t : SeatAt) → get_elem? lanes n ≡ some lane → get_elem? after n ≡ some t
+      → (s : SeatAt) × (n < length before) × IsLane way table keys answers (length before) n s lane t
+  lane_is n lane t at_lane at_t =
       let inside = at_below after n t at_t in
       let same = m.same_count in
       let s = got before n (omega (arith, inside, same)) in
-      (s.0, m.each n s.0 lane t s.1 at_lane at_t)
+      (s.0, omega (arith, inside, same), m.each n s.0 lane t s.1 at_lane at_t)
 
   -- one lane went on
-  pub at_set : (lanes : List Lane) (after : List SeatAt) → AreAt way table keys first before lanes after
-      → (n : ℕ) (lane lane' : Lane) (t u : SeatAt) → get_elem? lanes n ≡ some lane → get_elem? after n ≡ some t
-      → ((s : SeatAt) → IsAt way table keys (first + n) s lane t → IsAt way table keys (first + n) s lane' u)
-      → AreAt way table keys first before (set lanes n lane') (set after n u)
-  at_set lanes after m n lane lane' t u at_lane at_t on = record {
-    same_count = m.same_count ∙ sym (length-set after n u);
-    each = λ i s l v at_s at_l at_v. both_set
-        (λ j x y. (s : SeatAt) → get_elem? before j ≡ some s → IsAt way table keys (first + j) s x y)
-        lanes after n lane lane' t u at_lane at_t
-        (λ s at_s. on s (m.each n s lane t at_s at_lane at_t))
-        (λ j x y other at_x at_y s at_s. m.each j s x y at_s at_x at_y) i l v at_l at_v s at_s;
-  }
+  pub lanes_set : (n : ℕ) (lane lane' : Lane) (t u : SeatAt) (answers' : List (Option ℕ)) → get_elem? lanes n ≡ some lane
+      → get_elem? after n ≡ some t → length answers' ≡ length keys → IsSettled lane'.stage
+      → ((i : ℕ) → i ≢ lane.index → slice_index_or answers' i None ≡ slice_index_or answers i None)
+      → ((s : SeatAt) → n < length before → IsLane way table keys answers (length before) n s lane t
+      → IsLane way table keys answers' (length before) n s lane' u)
+      → AreLanes way table keys answers' before (set lanes n lane') (set after n u)
+  lanes_set n lane lane' t u answers' at_lane at_t room settled others on =
+      let here = lane_is n lane t at_lane at_t in record {
+        same_count = m.same_count ∙ sym (length-set after n u);
+        room = room;
+        settled = settled_set lanes n lane' settled m.settled;
+        each = λ i s l v at_s at_l at_v. both_set
+            (λ j x y. (s : SeatAt) → get_elem? before j ≡ some s → IsLane way table keys answers' (length before) j s x y)
+            lanes after n lane lane' t u at_lane at_t
+            (λ s at_s. on s here.1 (m.each n s lane t at_s at_lane at_t))
+            (λ j x y other at_x at_y s at_s. lane_other way table keys answers answers' (length before) j s x y
+            (m.each j s x y at_s at_x at_y) lane.index n here.2.count here.2.index_is other (at_below before j s at_s) here.1 others)
+            i l v at_l at_v s at_s;
+      }
 
-  -- one more lane has begun
-  pub begun_set : (lanes : List Lane) (after : List SeatAt) (n : ℕ) (lane old : Lane) (t u : SeatAt) → get_elem? lanes n ≡ some old
-      → get_elem? after n ≡ some t
-      → ((i : ℕ) (s : SeatAt) → n ≤ i → get_elem? after i ≡ some s → get_elem? before i ≡ some s)
-      → IsAt way table keys (first + n) t lane u
-      → ((i : ℕ) (s : SeatAt) (l : Lane) (v : SeatAt) → i < n → get_elem? before i ≡ some s → get_elem? lanes i ≡ some l
-      → get_elem? after i ≡ some v → IsAt way table keys (first + i) s l v)
-      → (i : ℕ) (s : SeatAt) (l : Lane) (v : SeatAt) → i < n + 1 → get_elem? before i ≡ some s → get_elem? (set lanes n lane) i ≡ some l
-      → get_elem? (set after n u) i ≡ some v → IsAt way table keys (first + i) s l v
-  begun_set lanes after n lane old t u at_old at_t untouched here begun i s l v inside at_s at_l at_v = both_set
-      (λ j x y. (s : SeatAt) → j < n + 1 → get_elem? before j ≡ some s → IsAt way table keys (first + j) s x y)
-      lanes after n old lane t u at_old at_t
-      (λ s _ at_s. subst (λ z. IsAt way table keys (first + n) z lane u)
-      (at_one before n t s (untouched n t (omega arith) at_t) at_s) here)
-      (λ j x y other at_x at_y s before_n at_s. begun j s x y (omega (arith, other, before_n)) at_s at_x at_y) i l v at_l at_v s inside at_s
+  -- ---- at the end
 
--- one more seat has got its answer
-module _ (keys : List ℕ) (first : ℕ) (before after : List SeatAt) (answers answers' : List (Option ℕ)) (n : ℕ) where
-  pub got_set : (t u : SeatAt) → get_elem? after n ≡ some t
-      → ((i : ℕ) → i ≢ first + n → slice_index_or answers' i None ≡ slice_index_or answers i None)
-      → ((s : SeatAt) → get_elem? before n ≡ some s → HasGot keys answers' (first + n) s u)
-      → ((i : ℕ) (s v : SeatAt) → i < n → get_elem? before i ≡ some s → get_elem? after i ≡ some v → HasGot keys answers (first + i) s v)
-      → (i : ℕ) (s v : SeatAt) → i < n + 1 → get_elem? before i ≡ some s → get_elem? (set after n u) i ≡ some v
-      → HasGot keys answers' (first + i) s v
-  got_set t u at_t others here earlier i s v inside at_s at_v =
-      each_set (λ j (x : SeatAt). (s : SeatAt) → j < n + 1 → get_elem? before j ≡ some s → HasGot keys answers' (first + j) s x) after n u
-      (λ s _ at_s. here s at_s)
-      (λ j x other at_x s before_n at_s. still_got keys answers answers' (first + j) s x
-      (others (first + j) (λ same. other (omega (arith, same)))) (earlier j s x (omega (arith, other, before_n)) at_s at_x)) i v at_v s inside at_s
+  module _ (over : AreOver (length after) lanes) (enough : length after ≤ length lanes) where
+    ended : (n : ℕ) (s t : SeatAt) → get_elem? before n ≡ some s → get_elem? after n ≡ some t
+        → (lane : Lane) × (p : IsLane way table keys answers (length before) n s lane t) × (length keys ≤ lane.index) × (t ≡ p.last)
+    ended n s t at_s at_t =
+        let inside = at_below after n t at_t in
+        let lane = got lanes n (omega (arith, inside, enough)) in
+        let p = m.each n s lane.0 t at_s lane.1 at_t in
+        let out = at_outside way table keys lane.0.index p.last lane.0 t
+        (settled_outside lane.0.stage (m.settled n lane.0 lane.1) (over n lane.0 inside lane.1)) p.at in
+        (lane.0, p, out.0, out.1)
+
+    pub all_looked_up : LooksUpAll keys answers before after
+    all_looked_up n s t at_s at_t =
+        let e = ended n s t at_s at_t in
+        let none_left = e.2 in
+        let index_is = e.1.index_is in (
+          e.1.count,
+          omega (arith, none_left, index_is),
+          subst (λ (z : SeatAt). LooksUpEach keys answers (length before) n e.1.count s.view z.view) (sym e.3) e.1.looked_up,
+        )
+
+    pub all_quiet : Each after IsQuietSeat
+    all_quiet n t at_t =
+        let inside = at_below after n t at_t in
+        let same = m.same_count in
+        let s = got before n (omega (arith, inside, same)) in
+        let e = ended n s.0 t s.1 at_t in
+        subst IsQuietSeat (sym e.3) e.1.quiet

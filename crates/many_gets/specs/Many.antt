@@ -8,23 +8,22 @@ use Rattle.list_laws.specs.Counts.{total}
 use Rattle.seat_table.specs.Seats.{SeatAt}
 use Rattle.citrus_tree.specs.Lookups.{Looked}
 
--- The key of that index was looked up, and its answer stands there. Beyond the last key nothing was done.
+-- The key of that index was looked up, and its answer stands there.
 pub record LooksUpAt (keys : List ℕ) (answers : List (Option ℕ)) (index : ℕ) (v w : View) : Type 0 where
-  pub looked : index < length keys → Looked v (slice_index keys index) (slice_index_or answers index None) w
-  pub rested : length keys ≤ index → w ≡ v
+  pub within : index < length keys
+  pub looked : Looked v (slice_index keys index) (slice_index_or answers index None) w
 
--- In so many rounds of as many keys as there are seats, a seat looked up one key after another: in each round the one that has its number.
-abbrev pub LooksUpIn : List ℕ → List (Option ℕ) → ℕ → ℕ → ℕ → View → View → Type 0
-LooksUpIn keys answers seats number zero v w = w ≡ v
-LooksUpIn keys answers seats number (suc rounds) v w =
-    (u : View) × LooksUpIn keys answers seats number rounds v u × LooksUpAt keys answers (rounds * seats + number) u w
+-- So many keys were looked up one after another: the first at the seat's number, and each as many further on as there are seats.
+abbrev pub LooksUpEach : List ℕ → List (Option ℕ) → ℕ → ℕ → ℕ → View → View → Type 0
+LooksUpEach keys answers seats number zero v w = w ≡ v
+LooksUpEach keys answers seats number (suc count) v w =
+    (u : View) × LooksUpEach keys answers seats number count v u × LooksUpAt keys answers (count * seats + number) u w
 
--- Each key was looked up once: in its round, by the seat of its number.
-pub record LooksUpAll (keys : List ℕ) (answers : List (Option ℕ)) (before after : List SeatAt) : Type 0 where
-  pub rounds : ℕ
-  pub all : length keys ≤ rounds * length before
-  pub each : (number : ℕ) (s t : SeatAt) → get_elem? before number ≡ some s → get_elem? after number ≡ some t
-      → LooksUpIn keys answers (length before) number rounds s.view t.view
+-- Each seat looked up all keys of its own. So each key was looked up by one of them, once.
+abbrev pub LooksUpAll : List ℕ → List (Option ℕ) → List SeatAt → List SeatAt → Type 0
+LooksUpAll keys answers before after = (number : ℕ) (s t : SeatAt) → get_elem? before number ≡ some s → get_elem? after number ≡ some t
+    → (count : ℕ) × (length keys ≤ count * length before + number)
+    × LooksUpEach keys answers (length before) number count s.view t.view
 
 -- The seats are still of their tables, with the retired slots that they listed.
 abbrev pub AreKept : List SeatAt → List SeatAt → Type 0

@@ -1,9 +1,9 @@
 //! One of the lookups that are made beside each other.
-ghost use Rattle.std.specs.Prelude.{◌≡◌, ◌≢◌, ℕ, ◌≤◌, false, true, List, None, length, slice_index_or};
+ghost use Rattle.std.specs.Prelude.{◌≡◌, ◌≢◌, ℕ, ◌<◌, ◌≤◌, false, true, List, None, length, slice_index_or};
 ghost use Rattle.seat_table.specs.Rounds.{HasStepped};
 ghost use Rattle.seat_table.specs.Seats.{SeatAt, IsQuietSeat};
 ghost use Rattle.many_gets.specs.declared.lane.Stage.TheVariants.{Outside, Searching};
-ghost use Rattle.many_gets.specs.Lanes.{HasGot, IsAt};
+ghost use Rattle.many_gets.specs.Lanes.{HasEnded, HasGot, IsAt, IsLane, IsSettled};
 
 use citrus_tree::{Step, go_down};
 use prcu_marks::Side;
@@ -22,9 +22,10 @@ pub(crate) enum Stage {
     Ended,
 }
 
-/// The key that a seat looks up, the slot and the side to which its search has gone on, and what it came to.
+/// The key that a seat looks up, at which index it stands, the slot and the side to which the search has gone on, and what it came to.
 #[derive(Clone, Copy)]
 pub(crate) struct Lane {
+    index: usize,
     key: u64,
     slot: u32,
     side: Side,
@@ -32,11 +33,13 @@ pub(crate) struct Lane {
 }
 
 impl Lane {
-    /// Of a seat that is outside a section.
-    pub(crate) fn outside() -> Lane
-        ensures { result.stage ≡ Outside }
+    /// Of a seat that is outside a section, where there is no key at the index.
+    pub(crate) fn outside(index: usize) -> Lane
+        ensures index { result.index ≡ index }
+        ensures stage { result.stage ≡ Outside }
     {
         Lane {
+            index,
             key: 0,
             slot: 0,
             side: Side::Right,
@@ -55,14 +58,18 @@ pub(crate) fn enter<W: WaitPart>(
     requires table { seat.old.table ≡ table.now }
     requires quiet { IsQuietSeat seat.old }
     ensures seat { (seat.new.table ≡ seat.old.table) × (seat.new.listed ≡ seat.old.listed) }
+    ensures index { result.index ≡ index }
     ensures at { IsAt W.WAY table.now keys.now index seat.old result seat.new }
+    ensures settled { IsSettled result.stage }
+    ensures more { length seat.old.view.trail.steps ≤ length seat.new.view.trail.steps }
 {
     if index >= keys.len() {
-        return Lane::outside();
+        return Lane::outside(index);
     }
     let key = keys[index];
     W::enter(table, seat, key);
     Lane {
+        index,
         key,
         slot: 0,
         side: Side::Right,
@@ -70,26 +77,21 @@ pub(crate) fn enter<W: WaitPart>(
     }
 }
 
-/// Goes down by a hop where the search goes on. It answers whether it goes on still.
+/// Goes down by a hop, and answers whether the search goes on.
 // A call would hand its answer through memory.
 #[inline(always)]
-pub(crate) fn go_on<W: WaitPart>(
-    table: &CitrusTable<W>,
-    seat: &mut Seat<W>,
-    lane: &mut Lane,
-) -> bool
+fn go_on<W: WaitPart>(table: &CitrusTable<W>, seat: &mut Seat<W>, lane: &mut Lane) -> bool
     requires table { seat.old.table ≡ table.now }
+    requires searching { lane.old.stage ≡ Searching }
     requires at { (keys : List ℕ) × (index : ℕ) × (s : SeatAt) × IsAt W.WAY table.now keys index s lane.old seat.old }
     ensures seat { (seat.new.table ≡ seat.old.table) × (seat.new.listed ≡ seat.old.listed) }
     ensures at { (keys : List ℕ) (index : ℕ) (s : SeatAt) → IsAt W.WAY table.now keys index s lane.old seat.old
         → IsAt W.WAY table.now keys index s lane.new seat.new }
-    ensures over { result ≡ false → lane.new.stage ≢ Searching }
-    ensures stepped { result ≡ true → HasStepped seat.old.view seat.new.view }
-    ensures more { length seat.old.view.trail.steps ≤ length seat.new.view.trail.steps }
+    ensures index { lane.new.index ≡ lane.old.index }
+    ensures on { result ≡ true → lane.new.stage ≡ Searching }
+    ensures over { result ≡ false → HasEnded lane.new.stage }
+    ensures stepped { HasStepped seat.old.view seat.new.view }
 {
-    let Stage::Searching = lane.stage else {
-        return false;
-    };
     match go_down(table, seat, lane.key, lane.slot, lane.side) {
         Step::Moved { slot, side } => {
             lane.slot = slot;
@@ -107,9 +109,8 @@ pub(crate) fn go_on<W: WaitPart>(
     }
 }
 
-/// Loads the value that was found, if one was, leaves the section, and notes the answer at the key's index. Where no section is open it does
-/// nothing.
-pub(crate) fn leave<W: WaitPart>(
+/// Loads the value that was found, if one was, leaves the section, and notes the answer at the key's index.
+fn leave<W: WaitPart>(
     table: &CitrusTable<W>,
     seat: &mut Seat<W>,
     lane: &Lane,
@@ -117,12 +118,13 @@ pub(crate) fn leave<W: WaitPart>(
     index: usize,
 )
     requires table { seat.old.table ≡ table.now }
-    requires over { lane.now.stage ≢ Searching }
+    requires ended { HasEnded lane.now.stage }
     requires at { (keys : List ℕ) × (s : SeatAt) × (length answers.old ≡ length keys) × IsAt W.WAY table.now keys index s lane.now seat.old }
     ensures seat { (seat.new.table ≡ seat.old.table) × (seat.new.listed ≡ seat.old.listed) }
     ensures got { (keys : List ℕ) (s : SeatAt) → length answers.old ≡ length keys → IsAt W.WAY table.now keys index s lane.now seat.old
         → HasGot keys answers.new index s seat.new }
     ensures others { (i : ℕ) → i ≢ index → slice_index_or answers.new i None ≡ slice_index_or answers.old i None }
+    ensures more { length seat.old.view.trail.steps ≤ length seat.new.view.trail.steps }
 {
     match lane.stage {
         Stage::Found { slot } => {
@@ -136,6 +138,71 @@ pub(crate) fn leave<W: WaitPart>(
             W::leave(table, seat);
             answers[index] = None;
         }
-        Stage::Outside | Stage::Searching => (),
+        Stage::Outside | Stage::Searching => unreachable!(),
     }
+}
+
+/// Leaves the section and notes the answer, and enters the next one with the key that stands `count` further on, if there is one.
+// Out of the way of the hops.
+#[cold]
+#[inline(never)]
+fn take_next<W: WaitPart>(
+    table: &CitrusTable<W>,
+    seat: &mut Seat<W>,
+    lane: &mut Lane,
+    keys: &[u64],
+    answers: &mut [Option<u64>],
+    count: usize,
+)
+    requires table { seat.old.table ≡ table.now }
+    requires ended { HasEnded lane.old.stage }
+    requires few { count ≤ 8 }
+    requires is { (number : ℕ) × (s : SeatAt) × (number < count) × (length answers.old ≡ length keys.now)
+        × IsLane W.WAY table.now keys.now answers.old count number s lane.old seat.old }
+    ensures seat { (seat.new.table ≡ seat.old.table) × (seat.new.listed ≡ seat.old.listed) }
+    ensures is { (number : ℕ) (s : SeatAt) → number < count → length answers.old ≡ length keys.now
+        → IsLane W.WAY table.now keys.now answers.old count number s lane.old seat.old
+        → IsLane W.WAY table.now keys.now answers.new count number s lane.new seat.new }
+    ensures settled { IsSettled lane.new.stage }
+    ensures others { (i : ℕ) → i ≢ lane.old.index → slice_index_or answers.new i None ≡ slice_index_or answers.old i None }
+    ensures more { length seat.old.view.trail.steps ≤ length seat.new.view.trail.steps }
+{
+    let index = lane.index;
+    leave(table, seat, lane, answers, index);
+    *lane = enter(table, seat, keys, index + count);
+}
+
+/// A hop of the search that is under way; where it was the last one, the next lookup begins. It answers whether there was something to do.
+// A call would hand its answer through memory.
+#[inline(always)]
+pub(crate) fn take_turn<W: WaitPart>(
+    table: &CitrusTable<W>,
+    seat: &mut Seat<W>,
+    lane: &mut Lane,
+    keys: &[u64],
+    answers: &mut [Option<u64>],
+    count: usize,
+) -> bool
+    requires table { seat.old.table ≡ table.now }
+    requires few { count ≤ 8 }
+    requires settled { IsSettled lane.old.stage }
+    requires is { (number : ℕ) × (s : SeatAt) × (number < count) × (length answers.old ≡ length keys.now)
+        × IsLane W.WAY table.now keys.now answers.old count number s lane.old seat.old }
+    ensures seat { (seat.new.table ≡ seat.old.table) × (seat.new.listed ≡ seat.old.listed) }
+    ensures is { (number : ℕ) (s : SeatAt) → number < count → length answers.old ≡ length keys.now
+        → IsLane W.WAY table.now keys.now answers.old count number s lane.old seat.old
+        → IsLane W.WAY table.now keys.now answers.new count number s lane.new seat.new }
+    ensures settled { IsSettled lane.new.stage }
+    ensures others { (i : ℕ) → i ≢ lane.old.index → slice_index_or answers.new i None ≡ slice_index_or answers.old i None }
+    ensures over { result ≡ false → lane.new.stage ≢ Searching }
+    ensures stepped { result ≡ true → HasStepped seat.old.view seat.new.view }
+    ensures more { length seat.old.view.trail.steps ≤ length seat.new.view.trail.steps }
+{
+    let Stage::Searching = lane.stage else {
+        return false;
+    };
+    if !go_on(table, seat, lane) {
+        take_next(table, seat, lane, keys, answers, count);
+    }
+    true
 }

@@ -1,44 +1,41 @@
-use Rattle.std.proofs.Common.{suc, arith}
-use Rattle.many_gets.proofs.Rounding.{one_more, kept_after, tables_after, all_quiet}
-use Rattle.many_gets.proofs.Turning.{kept_both}
+use Rattle.std.proofs.Common.{arith}
+use Rattle.many_gets.proofs.Turning.{kept_both, all_looked_up, all_quiet}
 use Rattle.many_gets.proofs.many.get_many.Goals as goal
 
-pub returns-in_err-search_all-clause-kept : goal.returns-in_err-search_all-clause-kept
-returns-in_err-search_all-clause-kept g c =
-    let begun = c.loop-first.auto.seats in let entered = c.enter_all.auto.seats in
-    kept_both c.args.seats.now c.enter_all.new.seats c.search_all.new.seats (omega (arith, begun, entered))
-    (kept_both c.args.seats.now c.loop-first.seats c.enter_all.new.seats (omega (arith, begun)) c.loop-first.invariant.kept
-    c.enter_all.ensures.kept) c.search_all.ensures.kept
+pub returns-then-not-take_turns-clause-kept : goal.returns-then-not-take_turns-clause-kept
+returns-then-not-take_turns-clause-kept g c =
+    let count = c.loop-turn.auto.seats in
+    kept_both c.args.seats.now c.loop-turn.seats c.take_turns.new.seats (omega (arith, count)) c.loop-turn.invariant.kept
+    c.take_turns.ensures.kept
 
-pub leave_all-requires-clause-at : goal.leave_all-requires-clause-at
-leave_all-requires-clause-at g c =
-    let room = c.requires.room in let answers = c.loop-first.auto.answers in (
-      c.args.keys.now,
-      c.loop-first.seats,
-      omega (arith, room, answers),
-      c.search_all.ensures.at c.args.keys.now c.loop-first.first c.loop-first.seats c.enter_all.ensures.at,
-    )
+pub returns-then-not-take_turns-clause-looked_up : goal.returns-then-not-take_turns-clause-looked_up
+returns-then-not-take_turns-clause-looked_up g c =
+    let enough = c.loop-turn.invariant.enough in
+    let seats = c.take_turns.auto.seats in let still = c.take_turns.auto.lanes in
+    all_looked_up g.W.WaitWords.WAY c.args.table.now c.args.keys.now c.take_turns.new.answers c.args.seats.now c.take_turns.new.lanes
+    c.take_turns.new.seats (c.take_turns.ensures.are c.args.seats.now c.loop-turn.invariant.are)
+    (c.take_turns.ensures.over c.if-not-take_turns.true) (omega (arith, enough, seats, still))
 
-pub loop-first-preserved : goal.loop-first-preserved
-loop-first-preserved g c =
-    let room = c.requires.room in let answers = c.loop-first.auto.answers in
-    let begun = c.loop-first.auto.seats in let entered = c.enter_all.auto.seats in
-    let searched = c.search_all.auto.seats in let left = c.leave_all.auto.seats in
-    let first_is = c.loop-first.invariant.first_is in
-    let keys = c.args.keys.now in
-    let seats = c.loop-first.seats in
-    let after = c.leave_all.new.seats in
-    let noted = c.leave_all.new.answers in
-    let got_all = c.leave_all.ensures.got keys seats (omega (arith, room, answers))
-    (c.search_all.ensures.at keys c.loop-first.first seats c.enter_all.ensures.at) in
+pub returns-then-not-take_turns-clause-quiet : goal.returns-then-not-take_turns-clause-quiet
+returns-then-not-take_turns-clause-quiet g c =
+    let enough = c.loop-turn.invariant.enough in
+    let seats = c.take_turns.auto.seats in let still = c.take_turns.auto.lanes in
+    all_quiet g.W.WaitWords.WAY c.args.table.now c.args.keys.now c.take_turns.new.answers c.args.seats.now c.take_turns.new.lanes
+    c.take_turns.new.seats (c.take_turns.ensures.are c.args.seats.now c.loop-turn.invariant.are)
+    (c.take_turns.ensures.over c.if-not-take_turns.true) (omega (arith, enough, seats, still))
+
+pub loop-turn-preserved : goal.loop-turn-preserved
+loop-turn-preserved g c =
+    let count = c.loop-turn.auto.seats in
+    let made = c.loop-turn.invariant.made in
+    let grown = c.take_turns.ensures.stepped c.if-not-take_turns.false in
     record {
-      rounds = suc c.loop-first.invariant.rounds;
-      first_is = omega (arith, first_is, begun, entered, searched, left);
-      each = one_more keys c.loop-first.answers noted c.loop-first.invariant.rounds c.loop-first.first c.args.seats.now seats after first_is
-          (omega (arith, begun)) got_all c.leave_all.ensures.earlier c.loop-first.invariant.each;
-      tables = tables_after keys noted c.loop-first.first seats after (omega (arith, entered, searched, left)) got_all c.args.table.now
-          c.loop-first.invariant.tables;
-      kept = kept_both c.args.seats.now seats after (omega (arith, begun)) c.loop-first.invariant.kept
-          (kept_after keys noted c.loop-first.first seats after (omega (arith, entered, searched, left)) got_all);
-      quiet = all_quiet keys noted c.loop-first.first seats after (omega (arith, entered, searched, left)) got_all c.loop-first.invariant.quiet;
+      tables = c.take_turns.ensures.table;
+      kept = kept_both c.args.seats.now c.loop-turn.seats c.take_turns.new.seats (omega (arith, count)) c.loop-turn.invariant.kept
+          c.take_turns.ensures.kept;
+      are = c.take_turns.ensures.are c.args.seats.now c.loop-turn.invariant.are;
+      enough =
+          let enough = c.loop-turn.invariant.enough in
+          let seats = c.take_turns.auto.seats in let still = c.take_turns.auto.lanes in omega (arith, enough, seats, still);
+      made = omega (arith, made, grown);
     }
