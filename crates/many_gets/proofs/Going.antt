@@ -84,7 +84,8 @@ module _ (way : ℕ) (table : TableAt) (keys : List ℕ) (answers answers' : Lis
         looked_up = (
           p.last.view,
           still_looked_up keys answers answers' seats number p.count s.view p.last.view
-              (λ row before. others (row * seats + number) (λ same. own_apart seats row p.count number less before (same ∙ is))) p.looked_up,
+              (λ row before. others (row * seats + number) (λ same. own_apart seats row p.count number less before (same ∙ is)))
+              p.looked_up,
           subst (λ z. LooksUpAt keys answers' z p.last.view x.view) is got.looked_up,
         );
         at = subst (λ z. IsAt way table keys z x lane' u) (sym next) at_next;

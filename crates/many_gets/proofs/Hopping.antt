@@ -141,7 +141,8 @@ settled_outside stage.Searching settled over = absurd (over refl)
 settled_outside (stage.Found holder) settled over = absurd settled
 settled_outside stage.Ended settled over = absurd settled
 
-pub at_outside : (way : ℕ) (table : TableAt) (keys : List ℕ) (index : ℕ) (s : SeatAt) (lane : Lane) (t : SeatAt) → lane.stage ≡ stage.Outside
+pub at_outside : (way : ℕ) (table : TableAt) (keys : List ℕ) (index : ℕ) (s : SeatAt) (lane : Lane) (t : SeatAt)
+    → lane.stage ≡ stage.Outside
     → IsAt way table keys index s lane t → (length keys ≤ index) × (t ≡ s)
 at_outside way table keys index s lane t is at_lane =
     subst (λ z. StandsAt way table keys index s lane.key (search_of z lane.slot lane.side) t) is at_lane

@@ -64,7 +64,8 @@ kept_both first second third same one two n s u at_s at_u =
 module _ (seats : List SeatAt) (n : ℕ) (t u : SeatAt) (there : get_elem? seats n ≡ some t) where
   pub tables_set : (table : TableAt) → Each seats (λ (s : SeatAt). s.table ≡ table) → u.table ≡ t.table
       → Each (set seats n u) (λ (s : SeatAt). s.table ≡ table)
-  tables_set table each same = each_set (λ i (s : SeatAt). s.table ≡ table) seats n u (same ∙ each n t there) (λ i s other at_s. each i s at_s)
+  tables_set table each same = each_set (λ i (s : SeatAt). s.table ≡ table) seats n u (same ∙ each n t there)
+      (λ i s other at_s. each i s at_s)
 
   pub kept_set : (before : List SeatAt) → AreKept before seats → u.table ≡ t.table → u.listed ≡ t.listed → AreKept before (set seats n u)
   kept_set before kept same_table same_list i s v at_s at_v =
@@ -121,7 +122,8 @@ module _ (P : ℕ → SeatAt → Lane → SeatAt → Type 0) (before : List Seat
 
 -- the same number of seats
 pub counted : (way : ℕ) (table : TableAt) (keys : List ℕ) (answers : List (Option ℕ)) (seats seats' number : ℕ) (s : SeatAt) (lane : Lane)
-    (t : SeatAt) → seats ≡ seats' → IsLane way table keys answers seats number s lane t → IsLane way table keys answers seats' number s lane t
+    (t : SeatAt) → seats ≡ seats' → IsLane way table keys answers seats number s lane t
+    → IsLane way table keys answers seats' number s lane t
 counted way table keys answers seats seats' number s lane t same = subst (λ z. IsLane way table keys answers z number s lane t) same
 
 module _ (way : ℕ) (table : TableAt) (keys : List ℕ) (answers : List (Option ℕ)) (before : List SeatAt) (lanes : List Lane)

@@ -37,14 +37,14 @@ HasEnded (Found holder) = Unit {0}
 HasEnded Ended = Unit {0}
 
 -- From the seat s a section was entered with the key of that index, and its search stands there.
-pub record IsInside (way : ℕ) (table : TableAt) (keys : List ℕ) (index : ℕ) (s : SeatAt) (key : ℕ) (search : SearchState) (t : SeatAt) : Type 0
-  where
-    pub within : index < length keys
-    pub key_is : key ≡ slice_index keys index
-    pub same_table : t.table ≡ s.table
-    pub same_list : t.listed ≡ s.listed
-    pub slot : IsSlot (shape_of way table) (state_slot search)
-    pub searching : IsSearching s.view key search t.view
+pub record IsInside (way : ℕ) (table : TableAt) (keys : List ℕ) (index : ℕ) (s : SeatAt) (key : ℕ) (search : SearchState)
+    (t : SeatAt) : Type 0 where
+  pub within : index < length keys
+  pub key_is : key ≡ slice_index keys index
+  pub same_table : t.table ≡ s.table
+  pub same_list : t.listed ≡ s.listed
+  pub slot : IsSlot (shape_of way table) (state_slot search)
+  pub searching : IsSearching s.view key search t.view
 
 -- The same; or there is no such key, and nothing was done.
 abbrev pub StandsAt : ℕ → TableAt → List ℕ → ℕ → SeatAt → ℕ → Option SearchState → SeatAt → Type 0

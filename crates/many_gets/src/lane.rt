@@ -119,7 +119,8 @@ fn leave<W: WaitPart>(
 )
     requires table { seat.old.table ≡ table.now }
     requires ended { HasEnded lane.now.stage }
-    requires at { (keys : List ℕ) × (s : SeatAt) × (length answers.old ≡ length keys) × IsAt W.WAY table.now keys index s lane.now seat.old }
+    requires at { (keys : List ℕ) × (s : SeatAt) × (length answers.old ≡ length keys)
+        × IsAt W.WAY table.now keys index s lane.now seat.old }
     ensures seat { (seat.new.table ≡ seat.old.table) × (seat.new.listed ≡ seat.old.listed) }
     ensures got { (keys : List ℕ) (s : SeatAt) → length answers.old ≡ length keys → IsAt W.WAY table.now keys index s lane.now seat.old
         → HasGot keys answers.new index s seat.new }

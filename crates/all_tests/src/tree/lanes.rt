@@ -38,13 +38,7 @@ fn find<R: Wait, W: WaitPart>(
     ensures quiet { Each seats.new IsQuietSeat }
 {
     let mut answers = [None; KEYS];
-    match get_many(
-        &Steadfast::new(rt),
-        table,
-        seats,
-        &SOUGHT,
-        &mut answers,
-    ) {
+    match get_many(&Steadfast::new(rt), table, seats, &SOUGHT, &mut answers) {
         Ok(()) => answers,
         Err(never) => match never {},
     }
@@ -55,15 +49,7 @@ fn one_lane_finds_what_is_there(rt: HostRuntime) -> Result<(), Fail> {
     let (table, seat) = CitrusTable::<Eer>::new(rt.alloc(), 4, 1, 256)?;
     let calls = [call!(put 5 50 new 1), call!(put 2 20 new 2)];
     let mut lanes = [run(&rt, &table, seat, "two keys", &calls)];
-    let wanted = [
-        Some(20),
-        Some(50),
-        None,
-        None,
-        Some(50),
-        None,
-        Some(20),
-    ];
+    let wanted = [Some(20), Some(50), None, None, Some(50), None, Some(20)];
     assert_same(&rt, find(&rt, &table, &mut lanes), wanted, "one lane");
     Ok(())
 }
@@ -105,7 +91,10 @@ fn look_up<R: Abort + Wait, W: WaitPart>(
     for round in 0..ROUNDS {
         let found = find(rt, table, &mut lanes);
         for at in [2, 5] {
-            assert!(rt; found[at] == None || found[at] == Some(70), "what the third key never had");
+            assert!(rt;
+                found[at] == None || found[at] == Some(70),
+                "what the third key never had"
+            );
         }
         let stays = [found[0], found[1], found[3], found[4], found[6]];
         let wanted = [Some(20), Some(50), None, Some(50), Some(20)];

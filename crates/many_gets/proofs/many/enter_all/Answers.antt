@@ -33,12 +33,14 @@ loop-n-preserved g c =
     let t = slice_index_or c.loop-n.seats c.loop-n.n c.index-seats-n.result in
     let there = is_there c.loop-n.seats c.loop-n.n c.index-seats-n.result (omega (arith, before_end, end, count)) in
     record {
-      tables = tables_set c.loop-n.seats c.loop-n.n t c.enter.new.seat there c.args.table.now c.loop-n.invariant.tables c.enter.ensures.seat.0;
+      tables = tables_set c.loop-n.seats c.loop-n.n t c.enter.new.seat there c.args.table.now c.loop-n.invariant.tables
+          c.enter.ensures.seat.0;
       kept = kept_set c.loop-n.seats c.loop-n.n t c.enter.new.seat there c.args.seats.now c.loop-n.invariant.kept c.enter.ensures.seat.0
           c.enter.ensures.seat.1;
       untouched = untouched_set c.loop-n.seats c.loop-n.n t c.enter.new.seat there c.args.seats.now c.loop-n.invariant.untouched;
       settled = settled_set c.loop-n.lanes c.loop-n.n c.enter.result c.enter.ensures.settled c.loop-n.invariant.settled;
-      begun = begun_set (λ i s lane t. (lane.index ≡ i) × IsAt g.W.WaitWords.WAY c.args.table.now c.args.keys.now i s lane t) c.args.seats.now
+      begun = begun_set (λ i s lane t. (lane.index ≡ i) × IsAt g.W.WaitWords.WAY c.args.table.now c.args.keys.now i s lane t)
+          c.args.seats.now
           c.loop-n.lanes c.loop-n.seats c.loop-n.n c.enter.result (slice_index_or c.loop-n.lanes c.loop-n.n c.enter.result) t
           c.enter.new.seat (is_there c.loop-n.lanes c.loop-n.n c.enter.result (omega (arith, before_end, end, count, lanes, enough))) there
           c.loop-n.invariant.untouched (c.enter.ensures.index, c.enter.ensures.at) c.loop-n.invariant.begun;

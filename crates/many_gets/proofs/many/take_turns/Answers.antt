@@ -24,14 +24,16 @@ take_turn-busy-requires-clause-is g c =
     let m = c.loop-n.invariant.are before c.requires.are.1 in
     let t = slice_index_or c.loop-n.seats c.loop-n.n c.index-seats-n.result in
     let same = m.same_count in
-    let lane = lane_is g.W.WaitWords.WAY c.args.table.now c.args.keys.now c.loop-n.answers before c.loop-n.lanes c.loop-n.seats m c.loop-n.n _ t
+    let lane = lane_is g.W.WaitWords.WAY c.args.table.now c.args.keys.now c.loop-n.answers before c.loop-n.lanes c.loop-n.seats m c.loop-n.n
+    _ t
     (is_there c.loop-n.lanes c.loop-n.n _ (omega (arith, before_end, end, count, lanes, enough)))
     (is_there c.loop-n.seats c.loop-n.n c.index-seats-n.result (omega (arith, before_end, end, count))) in (
       c.loop-n.n,
       lane.0,
       omega (arith, before_end, end, count),
       m.room,
-      counted g.W.WaitWords.WAY c.args.table.now c.args.keys.now c.loop-n.answers (length before) (length c.args.seats.now) c.loop-n.n lane.0 _ t
+      counted g.W.WaitWords.WAY c.args.table.now c.args.keys.now c.loop-n.answers (length before) (length c.args.seats.now) c.loop-n.n
+          lane.0 _ t
           (omega (arith, same, count)) lane.2,
     )
 
@@ -59,7 +61,8 @@ loop-n-preserved g c =
           (λ s _ p. counted g.W.WaitWords.WAY c.args.table.now c.args.keys.now c.take_turn-busy.new.answers (length c.args.seats.now)
           (length before) c.loop-n.n s c.take_turn-busy.new.lane u (omega (arith, same, count))
           (c.take_turn-busy.ensures.is c.loop-n.n s (omega (arith, before_end, end, count)) room
-          (counted g.W.WaitWords.WAY c.args.table.now c.args.keys.now c.loop-n.answers (length before) (length c.args.seats.now) c.loop-n.n s _ t
+          (counted g.W.WaitWords.WAY c.args.table.now c.args.keys.now c.loop-n.answers (length before) (length c.args.seats.now)
+          c.loop-n.n s _ t
           (omega (arith, same, count)) p)));
       over = λ none.
           let both = or_parts c.loop-n.busy c.take_turn-busy.result none in
