@@ -45,6 +45,7 @@ mod compares;
 mod cookies;
 mod exact;
 mod histories;
+mod lanes;
 mod lifted;
 mod lists;
 mod nearest;
