@@ -3,9 +3,9 @@
  * A thread that is in a section (citrus_hold, citrus_enter) by one handle makes an update or a wait by another. Without this the call may wait
  * for its own thread, and then nothing goes on.
  *
- * Two threads call with one handle at a time, or a signal handler does so within a call. Without this calls are answered CITRUS_CLOSED that the
- * handle isn't, or the program ends by a signal, or another's answer is told. It is seen where both are in a call at one moment, but for rare
- * cases in which many handles are.
+ * Two threads call with one handle, or with the same lanes, at a time, or a signal handler does so within a call. Without this calls are
+ * answered CITRUS_CLOSED that the handle isn't, or the program ends by a signal, or another's answer is told. It is seen where both are in a
+ * call at one moment, but for rare cases in which many handles are.
  *
  * It knows the sections of a thread, and not of which index a handle is. So it aborts where the other handle is of another index too: that may
  * go well where a program orders its indexes as one orders locks, and such a program can't be tested so. A section is left in the thread that
@@ -34,21 +34,29 @@ static inline void citrus_debug_abort(const char *call, const char *why) {
     abort();
 }
 
-/* The handles of calls that are under way, by where they stand: a call takes the member out of its handle until it ends. */
+/* The handles and lanes of calls that are under way, by where they stand: a call takes the member out of its handle until it ends. */
 __attribute__((weak)) void *citrus_debug_calls[CITRUS_DEBUG_CALLS];
 
-/* Where the handle is among them now, or null where there is no room. These accesses order nothing else. */
-static inline void **citrus_debug_begins(const char *call, const citrus_handle *handle) {
-    void *const at = (void *)(uintptr_t)handle;
+/* Where it is among them now, or null where there is no room. These accesses order nothing else. */
+static inline void **citrus_debug_begins_at(const char *call, const void *stands, const char *why) {
+    void *const at = (void *)(uintptr_t)stands;
     const uint64_t place = ((uint64_t)(uintptr_t)at * UINT64_C(0x9e3779b97f4a7c15)) >> 54;
     unsigned i;
     for (i = 0; i < CITRUS_DEBUG_TRIES; i++) {
         void **const word = &citrus_debug_calls[(place + i) % CITRUS_DEBUG_CALLS];
         void *found = CITRUS_DEBUG_NULL;
         if (__atomic_compare_exchange_n(word, &found, at, 0, __ATOMIC_RELAXED, __ATOMIC_RELAXED)) return word;
-        if (found == at) citrus_debug_abort(call, "another thread is in a call with this handle: each thread takes one of its own");
+        if (found == at) citrus_debug_abort(call, why);
     }
     return CITRUS_DEBUG_NULL;
+}
+
+static inline void **citrus_debug_begins(const char *call, const citrus_handle *handle) {
+    return citrus_debug_begins_at(call, handle, "another thread is in a call with this handle: each thread takes one of its own");
+}
+
+static inline void **citrus_debug_begins_by(const char *call, const citrus_lanes *lanes) {
+    return citrus_debug_begins_at(call, lanes, "another thread is in a call with these lanes: each thread takes its own");
 }
 
 static inline void citrus_debug_ends(void **word) {
@@ -221,6 +229,23 @@ static inline int32_t citrus_debug_poll(citrus_handle *handle, uint64_t cookie) 
     return citrus_debug_ended(word, citrus_poll(handle, cookie));
 }
 
+static inline int32_t citrus_debug_open_lanes(citrus_handle *handle, citrus_lanes *lanes, uint32_t count) {
+    void **const word = citrus_debug_begins("citrus_open_lanes", handle);
+    void **const other = citrus_debug_begins_by("citrus_open_lanes", lanes);
+    const int32_t status = citrus_debug_ended(word, citrus_open_lanes(handle, lanes, count));
+    return citrus_debug_ended(other, status);
+}
+
+static inline int32_t citrus_debug_get_many(citrus_lanes *lanes, const uint64_t *keys, size_t count, citrus_answer *answers, size_t room) {
+    void **const word = citrus_debug_begins_by("citrus_get_many", lanes);
+    return citrus_debug_ended(word, citrus_get_many(lanes, keys, count, answers, room));
+}
+
+static inline void citrus_debug_close_lanes(citrus_lanes *lanes) {
+    citrus_debug_ends(citrus_debug_begins_by("citrus_close_lanes", lanes));
+    citrus_close_lanes(lanes);
+}
+
 #ifdef __cplusplus
 }
 #endif
@@ -241,6 +266,8 @@ static inline int32_t citrus_debug_poll(citrus_handle *handle, uint64_t cookie) 
 #undef citrus_compare
 #undef citrus_poll
 #undef citrus_reopen
+#undef citrus_get_many
+#undef citrus_close_lanes
 #define citrus_hold citrus_debug_hold
 #define citrus_enter citrus_debug_enter
 #define citrus_release citrus_debug_release
@@ -262,5 +289,8 @@ static inline int32_t citrus_debug_poll(citrus_handle *handle, uint64_t cookie) 
 #define citrus_last citrus_debug_last
 #define citrus_begin citrus_debug_begin
 #define citrus_poll citrus_debug_poll
+#define citrus_open_lanes citrus_debug_open_lanes
+#define citrus_get_many citrus_debug_get_many
+#define citrus_close_lanes citrus_debug_close_lanes
 
 #endif

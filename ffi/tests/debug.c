@@ -1,5 +1,5 @@
 /* What citrus.h does where CITRUS_DEBUG is defined: an update or a wait of a thread that is in a section by another handle aborts the program, and
- * so does a call with a handle with which another thread is in a call. With OTHER_FILE this is a second file of it, which holds. */
+ * so does a call with a handle, or with lanes, with which another thread is in a call. With OTHER_FILE this is a second file of it, which holds. */
 #define CITRUS_DEBUG
 #include "cases.h"
 
@@ -200,6 +200,62 @@ static void one_handle_in_two_threads_aborts(uint32_t waiter) {
     close_both();
 }
 
+static citrus_lanes lanes = CITRUS_CLOSED_LANES;
+
+static void open_lanes_meanwhile(void) {
+    if (citrus_open_lanes(&second, &lanes, 1) != CITRUS_BAD_ARGUMENT) abort();
+}
+
+enum { MANY_KEYS = 4096, MANY_CALLS = 100000 };
+
+/* Calls by the same lanes, many times, also when another thread has closed them. */
+static void *get_many_again(void *by) {
+    static const uint64_t keys[MANY_KEYS];
+    citrus_answer *answers = malloc(MANY_KEYS * sizeof *answers);
+    if (!answers) _exit(3);
+    for (int i = 0; i < MANY_CALLS; i++) {
+        const int32_t status = citrus_get_many(by, keys, MANY_KEYS, answers, MANY_KEYS);
+        if (status != CITRUS_DONE && status != CITRUS_CLOSED) _exit(4);
+    }
+    free(answers);
+    return NULL;
+}
+
+static void get_many_in_two_threads(void) {
+    pthread_t id;
+    if (pthread_create(&id, NULL, get_many_again, &lanes)) _exit(3);
+    get_many_again(&lanes);
+    pthread_join(id, NULL);
+}
+
+static void close_lanes_meanwhile(void) {
+    pthread_t id;
+    if (pthread_create(&id, NULL, get_many_again, &lanes)) _exit(3);
+    usleep(200000);
+    for (int i = 0; i < MANY_CALLS; i++) citrus_close_lanes(&lanes);
+    pthread_join(id, NULL);
+}
+
+static void lanes_of_a_thread_go_on(void) {
+    uint64_t key = 5;
+    citrus_answer answer = {0, 0};
+    if (citrus_get_many(&lanes, &key, 1, &answer, 1) != CITRUS_DONE || answer.value != 50) abort();
+    citrus_close_lanes(&lanes);
+    if (citrus_open_lanes(&first, &lanes, 1) != CITRUS_BAD_ARGUMENT) abort();
+}
+
+static void the_same_lanes_in_two_threads_abort(uint32_t waiter) {
+    open_both(waiter);
+    WANT(citrus_open_lanes(&first, &lanes, 1), CITRUS_DONE);
+    WANT(aborts(lanes_of_a_thread_go_on), 0);
+    WANT(aborts(get_many_in_two_threads), 1);
+    WANT(aborts(close_lanes_meanwhile), 1);
+    citrus_close_lanes(&lanes);
+    meanwhile = open_lanes_meanwhile;
+    WANT(aborts(call_meanwhile), 1);
+    close_both();
+}
+
 static const struct waiter_case cases[] = {
     {"CITRUS_DEBUG: what may wait for its own thread aborts", what_may_wait_for_its_own_thread_aborts},
     {"CITRUS_DEBUG: what waits for nobody goes on", what_waits_for_nobody_goes_on},
@@ -207,6 +263,7 @@ static const struct waiter_case cases[] = {
     {"CITRUS_DEBUG: sections of all files are seen", sections_of_all_files_are_seen},
     {"CITRUS_DEBUG: other threads have sections of their own", other_threads_have_sections_of_their_own},
     {"CITRUS_DEBUG: one handle in two threads aborts", one_handle_in_two_threads_aborts},
+    {"CITRUS_DEBUG: the same lanes in two threads abort", the_same_lanes_in_two_threads_abort},
 };
 
 int main(void) {

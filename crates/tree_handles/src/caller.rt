@@ -205,7 +205,7 @@ impl<W: WaitPart> Caller<W> {
         None
     }
 
-    /// Makes the operation. While it waits for other threads it lets them run.
+    /// Makes the operation. While it waits for other threads it spins.
     pub(crate) fn call(&mut self, op: Op) -> Result<Told, Status>
         ensures called { IfOk result (λ told. IsCalled self.old op told self.new) }
         ensures cause { IfErr result (λ status. CausedBy status self.old self.new) }

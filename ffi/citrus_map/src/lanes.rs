@@ -5,8 +5,8 @@ use std::fmt;
 use std::mem::replace;
 use std::sync::Arc;
 
-/// How many lookups lanes make beside each other.
-pub(crate) const LANES: u32 = 8;
+/// So many lookups [`Lanes`] make beside each other, and so many handles' places they take.
+pub const LANES: u32 = 8;
 
 /// Eight places of an [`Index`](crate::Index) by which one thread looks up many keys at once: while one lookup waits for a word of a large
 /// index, the words of the others come too. They go back to the index when they are dropped.

@@ -98,7 +98,7 @@ pub use error::Error;
 pub use guards::{Held, Section};
 pub use handle::Handle;
 pub use index::{Builder, Index, Waiter};
-pub use lanes::Lanes;
+pub use lanes::{Lanes, LANES};
 pub use lists::{Page, Range};
 pub use map::{Guard, Map, MapHandle, Refused, MOST_RETIRED};
 pub use waits::{Cookie, GracePeriod, Tidied};

@@ -53,7 +53,7 @@ fn try_answer(command: &Command, store: &Store, replies: &mut Replies) -> Result
     match command {
         Command::Get(key) => replies.number_or_nil(store.get(*key)?),
         Command::GetMany(keys) => {
-            let values = keys.iter().map(|key| store.get(*key)).collect::<Result<Vec<_>, _>>()?;
+            let values = store.get_many(keys)?;
             replies.array(values.len());
             for value in values {
                 replies.number_or_nil(value);
@@ -72,7 +72,7 @@ fn try_answer(command: &Command, store: &Store, replies: &mut Replies) -> Result
         Command::Add { key, amount } => add(*key, *amount, store, replies)?,
         Command::Delete(keys) => replies.count(how_many(keys, |key| Ok(store.remove(key)?.is_some()))?),
         Command::Take(key) => replies.number_or_nil(store.remove(*key)?),
-        Command::Exist(keys) => replies.count(how_many(keys, |key| Ok(store.get(key)?.is_some()))?),
+        Command::Exist(keys) => replies.count(store.get_many(keys)?.into_iter().flatten().count() as u64),
         Command::Range(range) => tell(*range, store, replies)?,
         Command::Size => replies.count(store.size()),
         Command::Ping(None) => replies.status("PONG"),
@@ -150,13 +150,13 @@ mod tests {
         String::from_utf8_lossy(replies.unsent()).replace("\r\n", " ")
     }
 
-    fn new_store(pairs: u32) -> Store {
-        let handle = Index::new(pairs, 1).and_then(|index| index.handle()).expect("there is memory");
-        Store::all(vec![handle]).expect("an empty index is counted").remove(0)
+    fn new_store(pairs: u32, lanes: u32) -> Store {
+        let index = Index::builder(pairs, 1).lanes(lanes).build().expect("there is memory");
+        Store::all(&index).expect("an empty index is counted").remove(0)
     }
 
     fn check(pairs: u32, session: &[(&str, &str)]) {
-        check_at(&new_store(pairs), session);
+        check_at(&new_store(pairs, 1), session);
     }
 
     fn check_at(store: &Store, session: &[(&str, &str)]) {
@@ -232,7 +232,7 @@ mod tests {
 
     #[test]
     fn all_pairs_can_be_taken_out() {
-        let store = new_store(2_000);
+        let store = new_store(2_000, 1);
         for key in 0..2_000u64 {
             assert_eq!(told(&store, &format!("SET {} {key}", key.reverse_bits())).trim_end(), "+OK");
         }
@@ -319,7 +319,7 @@ mod tests {
 
     #[test]
     fn a_full_index_has_an_error_of_its_own() {
-        let store = new_store(2);
+        let store = new_store(2, 0);
         // Beside those for its pairs it has 68 slots for what its handle may keep back.
         for key in 100..100 + 68 {
             assert_eq!(told(&store, &format!("SET {key} 0")).trim_end(), "+OK");

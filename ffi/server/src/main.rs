@@ -1,6 +1,6 @@
 //! `citrus_server [--bind ADDRESS] [--port N] [--pairs N] [--workers N] [--connections N] [--timeout SECONDS] [--waiter eer|domain|deer]`
 
-use citrus_map::{Index, Waiter, MAX_HANDLES, MAX_PAIRS};
+use citrus_map::{Error, Index, Waiter, LANES, MAX_HANDLES, MAX_PAIRS};
 use citrus_server::files;
 use citrus_server::server::{Limits, Server};
 use std::process::ExitCode;
@@ -74,6 +74,12 @@ impl Options {
         Ok(connections)
     }
 
+    /// Each worker has lanes, as far as there are places for them.
+    fn index(&self) -> Result<Index, Error> {
+        let lanes = self.workers.min((MAX_HANDLES - self.workers) / LANES);
+        Index::builder(self.pairs, self.workers).lanes(lanes).waiter(self.waiter).build()
+    }
+
     /// A server whose index isn't full before it has so many pairs, and what it says of itself.
     fn server(&self) -> Result<(Server, String), String> {
         if !(1..=MAX_HANDLES).contains(&self.workers) {
@@ -83,7 +89,7 @@ impl Options {
             return Err(format!("--pairs is from 1 to {MAX_PAIRS}"));
         }
         let limits = Limits { connections: self.connections()?, idle: self.idle };
-        let index = Index::builder(self.pairs, self.workers).waiter(self.waiter).build().map_err(|error| error.to_string())?;
+        let index = self.index().map_err(|error| error.to_string())?;
         let at = |error| format!("{}:{}: {error}", self.bind, self.port);
         let server = Server::bind((self.bind.as_str(), self.port), index, limits).map_err(at)?;
         let address = server.address().map_err(at)?;

@@ -52,8 +52,7 @@ impl Server {
     pub fn bind(address: impl ToSocketAddrs, index: Index, limits: Limits) -> io::Result<Server> {
         let listener = TcpListener::bind(address)?;
         let_wait(&listener, QUEUE)?;
-        let handles = std::iter::from_fn(|| index.handle().ok()).collect();
-        let stores = Store::all(handles).map_err(|error| io::Error::new(ErrorKind::Other, error))?;
+        let stores = Store::all(&index).map_err(|error| io::Error::new(ErrorKind::Other, error))?;
         let of_http = Arc::new(Warnings::default());
         let inboxes = stores.into_iter().map(|store| Inbox::start(store, limits.idle, Arc::clone(&of_http)));
         let workers = inboxes.collect::<io::Result<Vec<_>>>()?;

@@ -1,6 +1,8 @@
 //! What a worker does with the index: by a handle of its own, and with a count of the pairs.
 
-use citrus_map::{Error, Handle, Page};
+use citrus_map::{Error, Handle, Index, Lanes, Page};
+use std::cell::RefCell;
+use std::iter::from_fn;
 use std::sync::atomic::{AtomicI64, Ordering::Relaxed};
 use std::sync::Arc;
 
@@ -41,26 +43,30 @@ impl From<Error> for Uncounted {
     }
 }
 
-/// A worker's handle, and its part of the count.
+/// A worker's handle, its lanes, and its part of the count.
 #[derive(Debug)]
 pub struct Store {
     handle: Handle,
+    /// Where the index has some for this worker.
+    lanes: Option<RefCell<Lanes>>,
     sizes: Arc<Sizes>,
     worker: usize,
 }
 
 impl Store {
-    /// One for each handle. They are all the handles of the index, and nobody else updates it.
+    /// One for each handle of the index that nobody has, each with lanes as far as there are some. Nobody else may update the index.
     ///
     /// # Errors
     /// Where the pairs that are there already can't be counted.
-    pub fn all(handles: Vec<Handle>) -> Result<Vec<Store>, Error> {
+    pub fn all(index: &Index) -> Result<Vec<Store>, Error> {
+        let handles: Vec<Handle> = from_fn(|| index.handle().ok()).collect();
         let there = handles.first().map_or(Ok(0), Handle::len)?;
         let sizes = Arc::new(Sizes(handles.iter().map(|_| Apart::default()).collect()));
         if let Some(first) = sizes.0.first() {
             first.0.store(i64::try_from(there).unwrap_or(i64::MAX), Relaxed);
         }
-        let store = |(worker, handle)| Store { handle, sizes: Arc::clone(&sizes), worker };
+        let lanes = || index.lanes().ok().map(RefCell::new);
+        let store = |(worker, handle)| Store { handle, lanes: lanes(), sizes: Arc::clone(&sizes), worker };
         Ok(handles.into_iter().enumerate().map(store).collect())
     }
 
@@ -81,6 +87,17 @@ impl Store {
     /// As [`Handle::get`].
     pub fn get(&self, key: u64) -> Result<Option<u64>, Error> {
         self.handle.get(key)
+    }
+
+    /// The value of each key, at its index. Lanes look several up beside each other; without any it is one after another.
+    ///
+    /// # Errors
+    /// As [`Lanes::get_many`] and [`Handle::get`].
+    pub fn get_many(&self, keys: &[u64]) -> Result<Vec<Option<u64>>, Error> {
+        match &self.lanes {
+            Some(lanes) if keys.len() > 1 => lanes.borrow_mut().get_many(keys),
+            _ => keys.iter().map(|key| self.get(*key)).collect(),
+        }
     }
 
     /// Gives the key this value, and tells the one before.
@@ -194,12 +211,27 @@ fn sum(value: u64, amount: i64) -> Result<u64, Uncounted> {
 #[cfg(test)]
 mod tests {
     use super::*;
-    use citrus_map::Index;
     use std::thread;
 
     fn stores(workers: u32) -> Vec<Store> {
-        let index = Index::new(10_000, workers).expect("there is memory");
-        Store::all((0..workers).map(|_| index.handle().expect("it is free")).collect()).expect("an empty index is counted")
+        Store::all(&Index::new(10_000, workers).expect("there is memory")).expect("an empty index is counted")
+    }
+
+    #[test]
+    fn lanes_and_lookups_one_by_one_tell_the_same() {
+        let index = Index::builder(1_000, 2).lanes(1).build().expect("there is memory");
+        let stores = Store::all(&index).expect("an empty index is counted");
+        assert_eq!(stores.iter().map(|store| store.lanes.is_some()).collect::<Vec<_>>(), [true, false]);
+        for key in 0..500 {
+            assert_eq!(stores[0].set(2 * key, key), Ok(None));
+        }
+        for count in [0, 1, 2, 7, 8, 9, 1_000] {
+            let keys: Vec<u64> = (0..count).map(|at| at * 7 % 1_000).collect();
+            let values: Vec<_> = keys.iter().map(|key| (key % 2 == 0).then(|| key / 2)).collect();
+            for store in &stores {
+                assert_eq!(store.get_many(&keys), Ok(values.clone()));
+            }
+        }
     }
 
     #[test]

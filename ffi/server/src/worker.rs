@@ -218,8 +218,8 @@ mod tests {
     use std::net::TcpListener;
 
     fn worker() -> Inbox {
-        let handle = Index::new(10, 1).and_then(|index| index.handle()).expect("there is memory");
-        let store = Store::all(vec![handle]).expect("an empty index is counted").remove(0);
+        let index = Index::new(10, 1).expect("there is memory");
+        let store = Store::all(&index).expect("an empty index is counted").remove(0);
         Inbox::start(store, None, Arc::default()).expect("there are files and a thread")
     }
 

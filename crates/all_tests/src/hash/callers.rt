@@ -17,7 +17,7 @@ use std::test::Fail;
 
 const CALLERS: u32 = 4;
 
-const CALLS: u32 = 4000;
+const CALLS: u32 = 1500;
 
 // Three keys of each of two classes, which have two slots each.
 const KEYS: [u64; 6] = [6, 70, 134, 7, 71, 135];

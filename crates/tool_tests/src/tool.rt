@@ -2,8 +2,6 @@
 //!
 //! A line is what a user types: the program's name and the words, each after one blank. In what is read or written `;` stands for a line's
 //! end.
-ghost use Rattle.std.specs.Prelude.{◌≤◌};
-
 use crate::same::assert_same;
 use citrus_tool::{Status, tool};
 use io_edge::{MemorySink, SteadySource};
@@ -17,7 +15,6 @@ use std::thread::Threads;
 mod gates;
 mod generated;
 mod left;
-mod lists;
 mod meetings;
 
 // The words of this line behind the program's name.
@@ -123,15 +120,25 @@ fn a_slot_is_used_again_and_again(rt: HostRuntime) -> Result<(), Fail> {
     )
 }
 
+// That a comment of so many bytes has this status and writes this text.
+fn assert_of_length<R: Threads + Wait + Sync + Abort>(
+    rt: &R,
+    alloc: Global,
+    length: usize,
+    status: Status,
+    text: &[u8],
+) -> Result<(), Fail> {
+    let comment = vec![in alloc; b'#'; length]?;
+    assert_written(rt, alloc, "citrus run", &comment, status, text)
+}
+
 #[test]
-fn an_input_is_too_long_from_one_byte_over_the_limit(rt: HostRuntime) -> Result<(), Fail> {
-    let cases: [(usize, Status, &[u8]); 2] = [
-        (16_777_216, Status::Done, b"history 0\nfinal 0\nend\n"),
-        (16_777_217, Status::TooLong, b""),
-    ];
-    for (length, status, text) in cases {
-        let comment = vec![in rt.alloc(); b'#'; length]?;
-        assert_written(&rt, rt.alloc(), "citrus run", &comment, status, text)?;
-    }
-    Ok(())
+fn an_input_as_long_as_the_limit_is_read(rt: HostRuntime) -> Result<(), Fail> {
+    let text = b"history 0\nfinal 0\nend\n";
+    assert_of_length(&rt, rt.alloc(), 16_777_216, Status::Done, text)
+}
+
+#[test]
+fn an_input_is_too_long_by_one_byte_over_the_limit(rt: HostRuntime) -> Result<(), Fail> {
+    assert_of_length(&rt, rt.alloc(), 16_777_217, Status::TooLong, b"")
 }

@@ -1,7 +1,6 @@
 //! Scripts that nobody chose, run and checked.
 use super::{answer, assert_written};
 use crate::same::assert_same;
-use crate::scripts::drawn;
 use citrus_tool::Status;
 use prcu_marks::OpenGate;
 use std::alloc::Global;
@@ -9,6 +8,7 @@ use std::process::Abort;
 use std::sync::Wait;
 use std::test::Fail;
 use std::thread::Threads;
+use workload::drawing::next_state;
 
 // That the account which the first line writes of these scripts is a true one by the second.
 fn assert_checked_as_true<R: Threads + Wait + Sync + Abort>(
@@ -40,23 +40,23 @@ fn line_of(alloc: Global, choice: u64, key: u64, value: u64) -> Result<String, F
 // Scripts of 39 lines together, one of six of which begins the next.
 fn short_scripts(alloc: Global, mut state: u64) -> Result<String, Fail> {
     let mut text = String::from_str(alloc, "script\n")?;
-    state = drawn(state);
+    state = next_state(state);
     for i in 1..40u64 {
-        state = drawn(state);
+        state = next_state(state);
         let line = line_of(alloc, (state >> 40) % 6, (state >> 33) % 5, i)?;
         text.push_str(&line)?;
     }
     Ok(text)
 }
 
-// Many scripts of twelve lines each, which share a few keys, most of them of one class.
+// 2 to 64 scripts of twelve lines each, by the number, which share a few keys, most of them of one class.
 fn long_scripts(alloc: Global, number: u64) -> Result<String, Fail> {
     let mut text = String::new(alloc);
     let mut state = number;
     for _ in 0..2 + number % 63 {
         text.push_str("script\n")?;
         for i in 0..12u64 {
-            state = drawn(state);
+            state = next_state(state);
             let key = (state >> 33) % 4 * ((state >> 40) % 2 * 63 + 1);
             let line = line_of(alloc, (state >> 50) % 5, key, i)?;
             text.push_str(&line)?;
@@ -89,14 +89,38 @@ fn what_is_written_is_checked_as_true(rt: HostRuntime) -> Result<(), Fail> {
     Ok(())
 }
 
-#[test]
-fn what_the_hash_dictionary_writes_is_checked_as_true(rt: HostRuntime) -> Result<(), Fail> {
-    for number in 0..300 {
-        let text = long_scripts(rt.alloc(), number / 3)?;
-        let input = text.as_bytes();
-        assert_checked_as_true(&rt, rt.alloc(), "citrus hash", "citrus check", input)?;
+// That the accounts of every third of a hundred long texts on the hash dictionary are true ones, from the text of this number on.
+fn assert_long_ones<R: Threads + Wait + Sync + Abort>(
+    rt: &R,
+    alloc: Global,
+    first: u32,
+) -> Result<(), Fail> {
+    for number in 0..34u64 {
+        let text = long_scripts(alloc, 3 * number + u64::from(first))?;
+        assert_checked_as_true(rt, alloc, "citrus hash", "citrus check", text.as_bytes())?;
     }
     Ok(())
+}
+
+#[test]
+fn what_the_hash_dictionary_writes_of_a_third_of_the_texts_is_checked_as_true(
+    rt: HostRuntime,
+) -> Result<(), Fail> {
+    assert_long_ones(&rt, rt.alloc(), 0)
+}
+
+#[test]
+fn what_the_hash_dictionary_writes_of_the_next_third_is_checked_as_true(
+    rt: HostRuntime,
+) -> Result<(), Fail> {
+    assert_long_ones(&rt, rt.alloc(), 1)
+}
+
+#[test]
+fn what_the_hash_dictionary_writes_of_the_last_third_is_checked_as_true(
+    rt: HostRuntime,
+) -> Result<(), Fail> {
+    assert_long_ones(&rt, rt.alloc(), 2)
 }
 
 // 64 scripts with a put each.
