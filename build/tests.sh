@@ -69,7 +69,7 @@ build tool_rows --seconds "$limit" <"$room/rows" &
 rows=$!
 build tool_tests --test </dev/null &
 tool=$!
-build all_tests --test </dev/null && wait "$tool" || exit 1
+build all_tests --test </dev/null && wait "$tool" || { kill "$rows" "$tool" 2>/dev/null; exit 1; }
 echo "built after $SECONDS s" >&2
 # It stops at what a proof excludes by an abort.
 watched=ASAN_OPTIONS=abort_on_error=1:allocator_may_return_null=1:detect_leaks=0

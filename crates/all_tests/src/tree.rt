@@ -45,7 +45,6 @@ mod compares;
 mod cookies;
 mod exact;
 mod histories;
-mod lanes;
 mod lifted;
 mod lists;
 mod nearest;

@@ -33,7 +33,7 @@ pub(crate) struct Lane {
 }
 
 impl Lane {
-    /// Of a seat that is outside a section, where there is no key at the index.
+    /// Of a seat that is outside a section.
     pub(crate) fn outside(index: usize) -> Lane
         ensures index { result.index ≡ index }
         ensures stage { result.stage ≡ Outside }

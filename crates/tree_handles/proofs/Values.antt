@@ -1,4 +1,4 @@
--- The machine values of a pointer to a box, as a handle and lanes are, and of its parts, and what it owns by whether it leads anywhere. Assumes
+-- The machine values of a pointer to a box and of its parts, and what it owns by whether it leads anywhere. Assumes
 -- `Logic`.
 use Rattle.std.proofs.Common.{◌≡◌, ℕ, List, [], ◌∷◌, ◌++◌, refl, subst, lit<}
 use mathlib.Core.Bool.{◌&&◌, true}

@@ -44,6 +44,8 @@ returns-in-Ok-clause-looked_up g c =
       table = ap (λ (z : LanesAt). z.table) c.self.view_is;
       before = c.requires.may;
       room = omega arith;
+      same_count = let there = ap (λ (xs : List SeatAt). length xs) back.0 in
+          let here = ap (λ (z : LanesAt). length z.seats) c.self.view_is in omega (arith, there, here, lent, held, still);
       looked_up = subst (λ (xs : List SeatAt). LooksUpAll c.args.keys.now c.get_many.new.answers c.args.self.now.seats xs) (sym back.0)
           (subst (λ (xs : List SeatAt). LooksUpAll c.args.keys.now c.get_many.new.answers xs c.get_many.new.seats)
           (c.as_mut_slice.ensures.value ∙ ap (λ (z : LanesAt). z.seats) c.self.view_is) c.in-Ok.ensures.looked_up);
