@@ -1,8 +1,8 @@
 #!/usr/bin/env bash
 # Runs all tests without proofs, for those who change the code: `tests.sh [WORD]`, or those alone whose names have the word in them. The tests
-# of all_tests and the rows of tool_rows are built side by side by `rt try`, which watches for what a proof excludes, and then run on all
-# processors. A test fails too where it takes longer than a third of the time that the toolchain gives it. Its last line is `N passed, M
-# failed`, and its status 1 where something failed.
+# of all_tests and of tool_tests and the rows of tool_rows are built side by side by `rt try`, which watches for what a proof excludes, and
+# then run on all processors. A test fails too where it takes longer than a third of the time that the toolchain gives it. Its last line is
+# `N passed, M failed`, and its status 1 where something failed.
 #
 # The gate proves these tests, and runs them as they are proved.
 set -u
@@ -26,11 +26,12 @@ build() {
     build_without_proofs "$room/$1" "$top/crates/$1" "${@:2}" || { cat "$room/$1/told" >&2; echo "tests.sh: $1 could not be built" >&2; return 1; }
 }
 
-# Runs one test: whether it passed, and how long it took. Beside other work that is its time on processors, if it is shorter.
+# Runs one test of a crate: whether it passed, and how long it took. Beside other work that is its time on processors, if it is shorter.
 run_test() {
-    local times whole user system took status=0 told=$room/$1.told TIMEFORMAT='%3R %3U %3S'
+    local times whole user system took status=0 program=$room/$2/program TIMEFORMAT='%3R %3U %3S'
+    local told=$room/$1.told
     mkdir -p "$room/$1"
-    times=$({ time timeout "$limit" env -C "$room/$1" -i "$watched" "$room/all_tests/program" "$1" >"$told" 2>&1; } 2>&1) || status=$?
+    times=$({ time timeout "$limit" env -C "$room/$1" -i "$watched" "$program" "$1" >"$told" 2>&1; } 2>&1) || status=$?
     read -r whole user system <<<"${times//./}"
     took=$((10#$user + 10#$system < 10#$whole ? 10#$user + 10#$system : 10#$whole))
     if [ "$status" != 0 ] || ! tail -n 1 "$told" | grep -qx 'test result: ok'; then
@@ -60,17 +61,22 @@ run_rows() {
     fi
 }
 
+# The tests of a crate whose names have the word in them, each with the crate behind it.
+tests_of() { "$room/$1/program" --list | sed -n 's/: test$//p' | { grep -F -e "$word" || true; } | sed "s/$/ $1/"; }
+
 rows_to_run >"$room/rows"
 build tool_rows --seconds "$limit" <"$room/rows" &
 rows=$!
-build all_tests --test </dev/null || exit 1
+build tool_tests --test </dev/null &
+tool=$!
+build all_tests --test </dev/null && wait "$tool" || { kill "$rows" "$tool" 2>/dev/null; exit 1; }
 echo "built after $SECONDS s" >&2
 # It stops at what a proof excludes by an abort.
 watched=ASAN_OPTIONS=abort_on_error=1:allocator_may_return_null=1:detect_leaks=0
 export room limit watched
 export -f run_test
-"$room/all_tests/program" --list | sed -n 's/: test$//p' | { grep -F -e "$word" || true; } >"$room/names"
-xargs -a "$room/names" -r -P "$processors" -I NAME bash -c 'run_test NAME' | tee "$room/lines"
+{ tests_of tool_tests && tests_of all_tests; } >"$room/names"
+xargs -a "$room/names" -r -P "$processors" -L 1 bash -c 'run_test "$@"' _ | tee "$room/lines"
 if [ -z "$word" ]; then
     wait "$rows" && run_rows | tee -a "$room/lines"
     [ -e "$room/tool_rows/program" ] || echo 'FAILED: tool_rows is built' | tee -a "$room/lines"

@@ -1,6 +1,6 @@
 //! Tests of the model, of intervals, of sources and sinks, of texts, of workers, of the machine, of the hash dictionary, of the tree's
-//! table and waiters, of the tree and its lifts, and of the top call. They stand here and not in the crates that they are of, since tests are proved
-//! together with all functions of their crate; and in one crate, since each reads what it needs of std anew.
+//! table and waiters, and of the tree and its lifts. They stand here and not in the crates that they are of, since tests are proved together with
+//! all functions of their crate; and in few crates, since each reads what it needs of std anew. Those of the top call are `tool_tests`.
 #![tactic(auto)]
 
 #[cfg(test)]
@@ -25,8 +25,6 @@ mod streams;
 mod table;
 #[cfg(test)]
 mod texts;
-#[cfg(test)]
-mod tool;
 #[cfg(test)]
 mod tree;
 #[cfg(test)]

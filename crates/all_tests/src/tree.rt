@@ -48,6 +48,7 @@ mod histories;
 mod lifted;
 mod lists;
 mod nearest;
+mod ranges;
 mod removes;
 mod scripts;
 mod searches;

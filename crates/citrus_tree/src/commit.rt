@@ -29,6 +29,8 @@ fn even_from(number: u64) -> u64
 }
 
 /// Makes the front odd, and answers the even number that it was. It waits while another caller's update is being stored.
+// A call would hand its answer through memory.
+#[inline(always)]
 pub(crate) fn open_front<P: Patience, W: WaitPart>(
     patience: &P,
     table: &CitrusTable<W>,

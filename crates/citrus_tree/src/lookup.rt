@@ -12,6 +12,8 @@ use prcu_model::{Reply, Told};
 use seat_table::{CitrusTable, Seat, WaitPart};
 
 // What a hold finds, with its section left.
+// A call would hand its answer through memory.
+#[inline(always)]
 fn look_up<P: Patience, W: WaitPart, G: Gate>(
     patience: &P,
     table: &CitrusTable<W>,
@@ -36,6 +38,8 @@ fn look_up<P: Patience, W: WaitPart, G: Gate>(
 
 /// The key's value, or `Absent`, as the dictionary gave it at some time of the call. It takes no lock and waits for nobody's step, but
 /// others' updates can make the search longer.
+// A call would hand its answer through memory.
+#[inline(always)]
 pub fn get<P: Patience, W: WaitPart, G: Gate>(
     patience: &P,
     table: &CitrusTable<W>,

@@ -1,3 +1,3 @@
 pub mod Hopping
-pub mod Stepping
+pub mod Going
 pub mod Turning

@@ -1,66 +1,86 @@
 -- Where the lanes stand while keys are being looked up.
 -- Source: docs/TREE_CALLS.md, "The calls".
-use Rattle.std.specs.Prelude.{◌≡◌, ℕ, ◌+◌, ◌<◌, ◌≤◌, ◌==◌, if◌then◌else◌, List, length, slice_index, slice_set, Option}
+use Rattle.std.specs.Prelude.{◌≡◌, ◌≢◌, ℕ, ◌+◌, ◌*◌, ◌<◌, ◌≤◌, List, length, slice_index, Option, Some, None}
 use mathlib.Core.Option.{some}
 use lib.ListN.{get_elem?}
 use Rattle.prcu_marks.specs.declared.mark.Side.{Side}
-use Rattle.core_state.specs.declared.shape.Shape.{Shape}
-use Rattle.core_state.specs.declared.view.SearchState.TheVariants.{At}
-use Rattle.core_state.specs.declared.view.View.{View}
-use Rattle.list_laws.specs.Counts.{times}
+use Rattle.core_state.specs.declared.view.SearchState.{SearchState}
+use Rattle.core_state.specs.declared.view.SearchState.TheVariants as at
+use Rattle.core_state.specs.parts.ReaderParts.{state_slot}
 use Rattle.seat_table.specs.Gains.{IsSlot}
 use Rattle.seat_table.specs.Seats.{SeatAt, TableAt, IsQuietSeat, shape_of}
-use Rattle.citrus_tree.specs.Lookups.{IsSearching, Looked}
+use Rattle.citrus_tree.specs.Lookups.{IsSearching}
 use Rattle.many_gets.specs.declared.lane.Lane.{Lane}
-use Rattle.many_gets.specs.declared.lane.Lane.TheVariants.{Outside, Searching}
-use Rattle.many_gets.specs.Many.{LooksUpEach}
+use Rattle.many_gets.specs.declared.lane.Stage.{Stage}
+use Rattle.many_gets.specs.declared.lane.Stage.TheVariants.{Outside, Searching, Found, Ended}
+use Rattle.many_gets.specs.Many.{LooksUpAt, LooksUpEach}
 
--- From the view v a section with the key of that index was entered, and its search stands there; or nothing was done.
-abbrev pub StandsAt : Shape → List ℕ → View → Lane → View → Type 0
-StandsAt k keys v Outside w = v ≡ w
-StandsAt k keys v (Searching index slot side) w =
-    (index < length keys) × IsSlot k slot × IsSearching v (slice_index keys index) (At slot side) w
+-- where the search of an open section stands that has gone on to that side of the slot, if a section is open
+abbrev pub search_of : Stage → ℕ → Side → Option SearchState
+search_of Outside slot side = None
+search_of Searching slot side = Some (at.At slot side)
+search_of (Found holder) slot side = Some (at.Found holder slot side None)
+search_of Ended slot side = Some (at.Missed slot side)
 
--- whether a lane is looking up the key of that index: 1 if so
-abbrev pub is_at : ℕ → Lane → ℕ
-is_at index Outside = 0
-is_at index (Searching i slot side) = if i == index then 1 else 0
+-- between two turns
+abbrev pub IsSettled : Stage → Type 0
+IsSettled Outside = Unit {0}
+IsSettled Searching = Unit {0}
+IsSettled (Found holder) = ⊥
+IsSettled Ended = ⊥
 
--- A step of a search that stood at that side of the slot: it went on; or it is over, its section was left, and the answer noted.
-abbrev pub GoesOn : Shape → List ℕ → ℕ → ℕ → Side → List (Option ℕ) → View → Lane → List (Option ℕ) → View → Type 0
-GoesOn k keys index slot side answers v (Searching i s b) answers' w = (i ≡ index) × (answers' ≡ answers) × IsSlot k s
-    × ((u : View) → IsSearching u (slice_index keys index) (At slot side) v → IsSearching u (slice_index keys index) (At s b) w)
-GoesOn k keys index slot side answers v Outside answers' w = (answer : Option ℕ) × (answers' ≡ slice_set answers index answer)
-    × ((u : View) → IsSearching u (slice_index keys index) (At slot side) v → Looked u (slice_index keys index) answer w)
+-- the search is over, and its section is open still
+abbrev pub HasEnded : Stage → Type 0
+HasEnded Outside = ⊥
+HasEnded Searching = ⊥
+HasEnded (Found holder) = Unit {0}
+HasEnded Ended = Unit {0}
 
--- A lane's seat was quiet in the state s. Since then it has looked up the keys of these indices, and is outside a section, or looks up
--- one key more. Just these keys were dealt to it, of those before the next one.
-pub record IsLane (way : ℕ) (table : TableAt) (keys : List ℕ) (answers : List (Option ℕ)) (lane_of : ℕ → ℕ) (next lane : ℕ)
-    (indices : List ℕ) (s : SeatAt) (state : Lane) (t : SeatAt) : Type 0 where
-  pub on_table : s.table ≡ table
-  pub quiet : IsQuietSeat s
+-- From the seat s a section was entered with the key of that index, and its search stands there.
+pub record IsInside (way : ℕ) (table : TableAt) (keys : List ℕ) (index : ℕ) (s : SeatAt) (key : ℕ) (search : SearchState)
+    (t : SeatAt) : Type 0 where
+  pub within : index < length keys
+  pub key_is : key ≡ slice_index keys index
   pub same_table : t.table ≡ s.table
   pub same_list : t.listed ≡ s.listed
-  pub between : View
-  pub looked_up : LooksUpEach keys answers indices s.view between
-  pub stands : StandsAt (shape_of way table) keys between state t.view
-  pub own : (index : ℕ) → 1 ≤ times index indices + is_at index state → (index < next) × (lane_of index ≡ lane)
-  pub once : (index : ℕ) → index < next → lane_of index ≡ lane → times index indices + is_at index state ≡ 1
+  pub slot : IsSlot (shape_of way table) (state_slot search)
+  pub searching : IsSearching s.view key search t.view
 
--- The keys before the next one were dealt to the lanes. The seats were quiet, and each lane has come so far.
-pub record AreUnderWay (way : ℕ) (table : TableAt) (keys : List ℕ) (answers : List (Option ℕ)) (next : ℕ) (before after : List SeatAt)
-    (states : List Lane) : Type 0 where
-  pub lane_of : ℕ → ℕ
-  pub indices : ℕ → List ℕ
-  pub each : (lane : ℕ) (t : SeatAt) (state : Lane) → get_elem? after lane ≡ some t → get_elem? states lane ≡ some state → (s : SeatAt)
-      → get_elem? before lane ≡ some s → IsLane way table keys answers lane_of next lane (indices lane) s state t
-  pub dealt : (index : ℕ) → index < next → lane_of index < length after
-  pub within : next ≤ length keys
+-- The same; or there is no such key, and nothing was done.
+abbrev pub StandsAt : ℕ → TableAt → List ℕ → ℕ → SeatAt → ℕ → Option SearchState → SeatAt → Type 0
+StandsAt way table keys index s key None t = (length keys ≤ index) × (t ≡ s)
+StandsAt way table keys index s key (Some search) t = IsInside way table keys index s key search t
+
+abbrev pub IsAt : ℕ → TableAt → List ℕ → ℕ → SeatAt → Lane → SeatAt → Type 0
+IsAt way table keys index s lane t = StandsAt way table keys index s lane.key (search_of lane.stage lane.slot lane.side) t
+
+-- The seat looked up the key of that index, and the answer stands there.
+pub record HasGot (keys : List ℕ) (answers : List (Option ℕ)) (index : ℕ) (s t : SeatAt) : Type 0 where
+  pub same_table : t.table ≡ s.table
+  pub same_list : t.listed ≡ s.listed
+  pub looked_up : LooksUpAt keys answers index s.view t.view
+
+-- Since it was s the seat of this number, of so many, has looked up some of its keys, and is at the next one now.
+pub record IsLane (way : ℕ) (table : TableAt) (keys : List ℕ) (answers : List (Option ℕ)) (seats number : ℕ) (s : SeatAt) (lane : Lane)
+    (t : SeatAt) : Type 0 where
+  pub count : ℕ
+  pub index_is : lane.index ≡ count * seats + number
+  pub last : SeatAt
+  pub quiet : IsQuietSeat last
+  pub same_table : last.table ≡ s.table
+  pub same_list : last.listed ≡ s.listed
+  pub looked_up : LooksUpEach keys answers seats number count s.view last.view
+  pub at : IsAt way table keys lane.index last lane t
+
+-- So it is of all seats, between two turns.
+pub record AreLanes (way : ℕ) (table : TableAt) (keys : List ℕ) (answers : List (Option ℕ)) (before : List SeatAt) (lanes : List Lane)
+    (after : List SeatAt) : Type 0 where
   pub same_count : length before ≡ length after
-  pub enough : length after ≤ length states
   pub room : length answers ≡ length keys
+  pub settled : (number : ℕ) (lane : Lane) → get_elem? lanes number ≡ some lane → IsSettled lane.stage
+  pub each : (number : ℕ) (s : SeatAt) (lane : Lane) (t : SeatAt) → get_elem? before number ≡ some s → get_elem? lanes number ≡ some lane
+      → get_elem? after number ≡ some t → IsLane way table keys answers (length before) number s lane t
 
--- A turn that made no step: no key is left, and the lane was outside a section.
-pub record Rests (keys : List ℕ) (at next : ℕ) (states : List Lane) : Type 0 where
-  pub none_left : length keys ≤ next
-  pub outside : get_elem? states at ≡ some Outside
+-- No search is under way, of so many lanes.
+abbrev pub AreOver : ℕ → List Lane → Type 0
+AreOver count lanes = (number : ℕ) (lane : Lane) → number < count → get_elem? lanes number ≡ some lane → lane.stage ≢ Searching

@@ -63,6 +63,8 @@ impl<'a, W: WaitPart, G: Gate> Client for TreeClient<'a, W, G> {
     /// What the operation is told, what may come after the answer, and that the seat is quiet and informed afterwards.
     ghost made = { HasCalled };
 
+    // As `call_and_lift`.
+    #[inline(always)]
     fn call<R: Wait>(&mut self, rt: &R, op: Op) -> Told {
         call_and_lift(rt, self.table, &mut self.seat, self.gate, op)
     }

@@ -1,5 +1,9 @@
 -- What a handle leads to may go to another thread. Nobody reads a seat that lies in a cell, so what callers share may be shared.
+use mir.Raw.{raw as raw_type}
+use base.Shift.{Keyless}
 use denote.RattleType.{RattleType}
+use denote.Memory.{lone}
+use denote.RawPtr.{Ptr}
 use denote.Struct.Struct.{Struct}
 use denote.Struct.Declared.{fields, shape}
 use denote.Param.Send.{IsSend, IsSync, AllSync, part_keyless, recorded_sync, struct_sync, sendable}
@@ -10,6 +14,10 @@ use Rattle.arrayvec.proofs.array_vec.ArrayVec.TheSendSync as array
 use Rattle.std.proofs.option.Option.TheSendSync as option
 use Rattle.std.proofs.sync.atomic.AtomicU64.TheSendSync as atomic
 use Rattle.std.proofs.Crossing as heap
+use Rattle.std_alloc.proofs.SendSync.{lies}
+use Rattle.std.specs.declared.alloc.Global.{Global}
+use Rattle.std.specs.declared.option.Option.{Option}
+use Rattle.std.specs.declared.option.Option.TheVariants.{None, Some}
 use Rattle.seat_table.specs.declared.wait.WaitPart as Part
 use Rattle.seat_table.specs.declared.waiter.WaitWords as Words
 use Rattle.seat_table.specs.contracts.seat.Seat.TheInside as Inside
@@ -17,6 +25,7 @@ use Rattle.seat_table.proofs.rule.Nothing.TheSendSync as nothing
 use Rattle.seat_table.proofs.seat.Seat.TheSendSync as seat
 use Rattle.seat_table.proofs.table.CitrusTable.TheSendSync as table
 use Rattle.grace_cookie.proofs.cookies.Cookie.TheSendSync as cookie
+use Rattle.tree_handles.specs.Ownership.{owns}
 use Rattle.tree_handles.specs.contracts.shared.Left as Left
 use Rattle.tree_handles.specs.contracts.shared.Shared as Shared
 use Rattle.tree_handles.specs.contracts.caller.Caller as Caller
@@ -64,3 +73,8 @@ caller = search (sendable, caller_send) depth 20
 
 pub lanes : IsSend LaneRoom.the_row
 lanes = search (sendable, lanes_send, option.the_send) depth 20
+
+-- What a pointer to a box owns goes with it, where the value may cross: any thread may free its block.
+pub owned_keyless : (R : RattleType) → IsSend R → (a : Global) (p : Ptr) (k : Option R.Denot) → Keyless (owns R a p k)
+owned_keyless R s a p None = tt
+owned_keyless R s a p (Some x) = (lies R s p x, heap.frees.frees a (raw_type (lone R.mir)) p)

@@ -58,6 +58,15 @@ kept_seated table before after same kept seated =
       tables = kept_tables table before after same kept seated.tables;
     }
 
+-- seats that were lent whole come back as they were kept, and are of the table still
+pub lent_back : (table : TableAt) (before lent after : List SeatAt) (n : ℕ) → lent ≡ before → length before ≡ n → length after ≡ length lent
+    → AreKept lent after → AreSeated table before → (take n (after ++ drop (length after) before) ≡ after) × AreSeated table after
+lent_back table before lent after n whole count same kept seated =
+    let lengths = ap (λ (xs : List SeatAt). length xs) whole in (
+      refilled before after n count (omega (arith, same, lengths)),
+      kept_seated table before after (omega (arith, same, lengths)) (subst (λ (xs : List SeatAt). AreKept xs after) whole kept) seated,
+    )
+
 module _ {A : Type 0} (P : A → Type 0) where
   each_first : (xs ys : List A) → Each (xs ++ ys) P → Each xs P
   each_first [] ys each i a at = absurd (cc)

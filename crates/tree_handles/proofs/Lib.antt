@@ -1,4 +1,3 @@
-pub mod AsBox
 pub mod Chains
 pub mod Cookies
 pub mod Crossing
@@ -6,8 +5,6 @@ pub mod Filling
 pub mod Finding
 pub mod Inside
 pub mod LaneLists
-pub mod LanesAsBox
-pub mod LanesValues
 pub mod Tidied
 pub mod TidyMarks
 pub mod Values

@@ -1,5 +1,5 @@
 -- A tidy leaves no mark of an update.
-use Rattle.std.proofs.Common.{◌≡◌, ℕ, zero, suc, ◌+◌, true, false, List, [], ◌∷◌, ◌++◌, Option, Some, None, inl, inr, refl, sym, ap, subst, ◌∙◌, ⊎_elim, append-nil, length}
+use Rattle.std.proofs.Common.{◌≡◌, ℕ, zero, suc, ◌+◌, true, false, List, [], ◌∷◌, ◌++◌, Option, inl, inr, refl, sym, ap, subst, ◌∙◌, ⊎_elim, append-nil, length}
 use Rattle.std.specs.List.{AllByRecursion}
 use Rattle.key_interval.specs.Keys.{Interval}
 use Rattle.prcu_model.proofs.ListFacts.{all_append}

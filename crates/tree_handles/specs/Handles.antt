@@ -1,18 +1,15 @@
--- What a handle owns: nothing at null, and else what a box owns.
-use base.Fml.{Fml, feq}
+-- What a handle owns.
+use base.Fml.{Fml}
 use base.Stored.{Coded}
-use denote.RawPtr.{Ptr, null_ptr}
+use denote.RawPtr.{Ptr}
 use Rattle.std.specs.declared.option.Option.{Option}
-use Rattle.std.specs.declared.option.Option.TheVariants.{None, Some}
 use Rattle.std.specs.Coded.{coded_option}
-use Rattle.std.specs.Box.Ownership.{box_owns}
 use Rattle.std.specs.Global.{Global}
-use Rattle.std.specs.contracts.impls.GlobalAllocator.TheImpl.{ghosts}
+use Rattle.tree_handles.specs.Ownership.{owns}
 use Rattle.tree_handles.specs.contracts.any_caller.AnyCaller.{the_row}
 
 abbrev pub handle_owns : Global → Ptr → Option the_row.Denot → Fml
-handle_owns alloc p None = feq Ptr p null_ptr
-handle_owns alloc p (Some x) = box_owns (ghosts.dealloc_token alloc) the_row p x
+handle_owns = owns the_row
 
 abbrev pub held_coded : Coded (Option the_row.Denot)
 held_coded = coded_option the_row.coded

@@ -74,6 +74,7 @@ pub record HaveLookedUp (l : LanesAt) (keys : List ℕ) (found : List (Option �
   pub table : m.table ≡ l.table
   pub before : MayLookUp l
   pub room : length found ≡ length keys
+  pub same_count : length m.seats ≡ length l.seats
   pub looked_up : LooksUpAll keys found l.seats m.seats
   pub after : MayLookUp m
 

@@ -8,6 +8,7 @@ pub mod Begun
 pub mod Lists
 pub mod Tidying
 pub mod Opening
+pub mod Ownership
 pub mod Handles
 pub mod Holding
 pub mod Lanes

@@ -110,6 +110,8 @@ impl AnyCaller {
     }
 
     /// Makes the operation. While it waits for other threads it spins.
+    // A call would hand the operation and its answer through memory.
+    #[inline(always)]
     pub(crate) fn call(&mut self, op: Op) -> Result<Told, Status>
         ensures called { IfOk result (λ told. IsCalled self.old op told self.new) }
         ensures cause { IfErr result (λ status. CausedBy status self.old self.new) }

@@ -206,6 +206,8 @@ impl<W: WaitPart> Caller<W> {
     }
 
     /// Makes the operation. While it waits for other threads it spins.
+    // A call would hand the operation and its answer through memory.
+    #[inline(always)]
     pub(crate) fn call(&mut self, op: Op) -> Result<Told, Status>
         ensures called { IfOk result (λ told. IsCalled self.old op told self.new) }
         ensures cause { IfErr result (λ status. CausedBy status self.old self.new) }
@@ -228,6 +230,7 @@ impl<W: WaitPart> Caller<W> {
 
     // Lifts nodes on the way to a key that was added, where the way was deep and there are tickets for it. What bounds the pairs is known
     // without a step: the slots. Where the lift gives up the caller is lost from now on.
+    #[inline(always)]
     fn lift_behind(&mut self, op: Op, called: Called)
         requires may { MayGoOn self.old }
         requires informed { IsInformed self.old.seat.view }

@@ -1,28 +1,15 @@
 -- A handle may cross threads: so may a caller, and any thread may free its block.
-use mir.Raw.{raw}
-use base.Shift.{Keyless}
-use denote.Memory.{lone}
-use denote.RawPtr.{Ptr}
 use denote.Struct.Struct.{exits_of}
 use denote.Struct.Owning.{shape, fields, to}
 use denote.Param.Send.{IsSend, AllSend, owning_send, struct_send, sendable}
-use Rattle.std.proofs.Crossing as heap
-use Rattle.std_alloc.proofs.SendSync.{quiet, lies}
+use Rattle.std_alloc.proofs.SendSync.{quiet}
 use Rattle.std.proofs.alloc.Global.TheSendSync as handle
-use Rattle.std.specs.declared.alloc.Global.{Global}
-use Rattle.std.specs.declared.option.Option.{Option}
-use Rattle.std.specs.declared.option.Option.TheVariants.{None, Some}
-use Rattle.tree_handles.specs.Handles.{handle_owns}
 use Rattle.tree_handles.specs.contracts.any_caller.AnyCaller as AnyCaller
-use Rattle.tree_handles.proofs.Crossing.{caller}
+use Rattle.tree_handles.proofs.Crossing.{caller, owned_keyless}
 use Rattle.tree_handles.specs.contracts.handle.Handle.{the_row, the_type}
-
-owned_keyless : (a : Global) (p : Ptr) (k : Option AnyCaller.the_row.Denot) → Keyless (handle_owns a p k)
-owned_keyless a p None = tt
-owned_keyless a p (Some x) = (lies AnyCaller.the_row caller p x, heap.frees.frees a (raw (lone AnyCaller.the_row.mir)) p)
 
 pub send : IsSend the_row
 send =
     let all : AllSend (fields the_type) = (search sendable, (handle.the_field_send, tt)) in
-    owning_send the_type all (λ d. owned_keyless d.alloc d.at d.held)
+    owning_send the_type all (λ d. owned_keyless AnyCaller.the_row caller d.alloc d.at d.held)
     (λ k. quiet (to the_type) (exits_of k (fields the_type)) ((struct_send (shape the_type) all).leaving k))

@@ -23,7 +23,9 @@ use Rattle.std.proofs.option.Made.{Some-of, none_of}
 use Rattle.std.proofs.ResultValues.{and_tt}
 use Rattle.std.specs.declared.option.Option.TheVariants.{None, Some}
 use Rattle.std.proofs.raw_atomic.Walks.{proved_at}
-use Rattle.tree_handles.proofs.Values.{both, both_good, ptr_good, handle_out, either_held, parts_in, H, P}
+use Rattle.tree_handles.proofs.Values.{both, both_good, ptr_good, pointer_out, either_held, parts_in, P}
+use Rattle.tree_handles.specs.contracts.any_caller.AnyCaller.{the_row as R}
+use Rattle.tree_handles.specs.contracts.handle.Handle.{the_row as H}
 use Rattle.tree_handles.specs.contracts.handle.Handle.into_parts.{ended, clauses}
 use Rattle.tree_handles.specs.contracts.handle.Handle.into_parts.Key.{name as #self}
 use Rattle.tree_handles.proofs.handle.Handle.into_parts.Statement.{statement}
@@ -38,7 +40,7 @@ into_parts_spec 𝓤 𝓛 𝓜 𝓡 wired =
     → SProp 𝓤 = λ ws. WpFn 𝓤 𝓛.H 𝓣.C 𝓣.Λ fn ws Post in let Out : RattleType = type_at En.signature.result z.0.0 in
     qed 𝓛 ((‵ ftrue ⊛ ‵ (owns (types_at En.signature.params z.0.0) z.0.3 z.0.4)) ∷ raw ((c z.0.0 z.0.3).requires z.1) ∷ []) ∵ split ! $
     move ! (1 ∷ []) $ fsplit ! $
-    handle_out ! d z.0.4.0 (λ h ws fits. keep ! (0 ∷ 1 ∷ []) $ either_held ! a d.at d.held
+    pointer_out R ! d.at d.alloc d.held z.0.4.0 (λ h ws fits. keep ! (0 ∷ 1 ∷ []) $ either_held R ! a d.at d.held
     (λ e k. let w : Val = both (ptr_val null_ptr) h in let is : z.0.4.0 ≡ w ∷ [] = subst (λ (q : Ptr). z.0.4.0 ≡ both (ptr_val q) h ∷
     []) e ws in
     suffices ! (Run (w ∷ [])) (subst (λ (us : List Val). ent 𝓤 (Run (w ∷ [])) (Run us)) (sym (λ i. is i ++ [])) (id⊢ 𝓤 (Run (w ∷ [])))) $
@@ -49,12 +51,12 @@ into_parts_spec 𝓤 𝓛 𝓜 𝓡 wired =
     sets ! (bin ! (get ! refl) (lit ! tt) tt) refl (tt, tt) $ first ! $ branches ! (get ! refl)
     (λ _. sets_last ! (agg ! (and_then ! (lit ! tt) (no_more !))) refl (tt, (record { fits = lit< tt }, tt)) $
     exec ! 𝓣.C 𝓣.Λ Ev (after 4 fn.body) (at_ret Ev Post) $ sets ! (of_opd ! (get ! refl)) refl (tt, (record { fits = lit< tt }, tt)) $
-    returns ! (look_at ! 0 refl) $ free_all ! refl $ use0 𝓛 (‵ (Out.own_val None (live 0 vnil ∷ []))) (none_of 𝓛 P) $
+    returns ! (look_at ! 0 refl) $ free_all ! refl $ use0 𝓛 (‵ (Out.own_val None (live 0 vnil ∷ []))) (none_of 𝓛 (P R)) $
     suffices ! _ (ends_at 𝓛 En hs c z (live 0 vnil) None (tt, tt) (tt, tt)) $ says ! k $ nothing ! $ nothing ! $ fjoin ! $ join ! $
     nothing ! $ join ! $ done !) (λ wrong. absurd wrong)))
     (λ b o x e k t. let p : Ptr = block_ptr b o in let w : Val = both (ptr_val p) h in let is : z.0.4.0 ≡ w ∷ [] = subst (λ (q : Ptr).
     z.0.4.0 ≡ both (ptr_val q) h ∷ []) e ws in
-    let typed = both_good p h fits in let made : P.Denot = record { ptr = p; alloc = a; value = x } in let v₁ : Val = live 1 (vcons w
+    let typed = both_good p h fits in let made : (P R).Denot = record { ptr = p; alloc = a; value = x } in let v₁ : Val = live 1 (vcons w
     vnil) in
     let good : Good (layout Out) v₁ = (and_tt _ typed.0, (record { fits = lit< tt }, (typed.1, tt))) in
     suffices ! (Run (w ∷ [])) (subst (λ (us : List Val). ent 𝓤 (Run (w ∷ [])) (Run us)) (sym (λ i. is i ++ [])) (id⊢ 𝓤 (Run (w ∷ [])))) $
@@ -66,6 +68,6 @@ into_parts_spec 𝓤 𝓛 𝓜 𝓡 wired =
     sets_last ! (agg ! (and_then ! (lit ! tt) (and_then ! (get ! refl) (no_more !)))) refl good $
     exec ! 𝓣.C 𝓣.Λ Ev (after 4 fn.body) (at_ret Ev Post) $ sets ! (of_opd ! (get ! refl)) refl good $ returns ! (look_at ! 0 refl) $
     free_all ! refl $
-    parts_in ! b o h a x $ use1 𝓛 (‵ (Out.own_val (Some made) (v₁ ∷ []))) (Some-of 𝓛 P made w) $
+    parts_in R ! b o h a x $ use1 𝓛 (‵ (Out.own_val (Some made) (v₁ ∷ []))) (Some-of 𝓛 (P R) made w) $
     suffices ! _ (ends_at 𝓛 En hs c z v₁ (Some made) (tt, tt) (tt, tt)) $ says ! k $ nothing ! $ nothing ! $ fjoin ! $ join ! $
     nothing ! $ join ! $ done !)))))

@@ -20,7 +20,8 @@ use Rattle.std.proofs.cell.Inside.{one}
 use Rattle.std.proofs.alloc.Global.TheLaws as heap_laws
 use Rattle.std.specs.declared.option.Option.TheVariants.{None}
 use Rattle.std.proofs.raw_atomic.Walks.{proved_at}
-use Rattle.tree_handles.proofs.LanesValues.{both, both_good, handle_in, Z}
+use Rattle.tree_handles.proofs.Values.{both, both_good, pointer_in, Z}
+use Rattle.tree_handles.specs.contracts.lane_room.LaneRoom.{the_row as R}
 use Rattle.tree_handles.specs.contracts.lanes.Lanes.closed.{ended, clauses}
 use Rattle.tree_handles.specs.contracts.lanes.Lanes.closed.Key.{name as #self}
 use Rattle.tree_handles.proofs.lanes.Lanes.closed.Statement.{statement}
@@ -43,6 +44,6 @@ closed_spec 𝓤 𝓛 𝓜 𝓡 wired =
     keep ! (0 ∷ []) $ enter ! 𝓣.C 𝓣.Λ fn (h.0 ∷ []) Post $ alloc_all ! (λ l. pass_all ! refl (h.2, tt) $
     sets ! (agg ! (and_then ! (lit ! tt) (and_then ! (get ! refl) (no_more !)))) refl (both_good null_ptr h.0 h.2) $
     returns ! (look_at ! 0 refl) $ free_all ! refl $
-    feq_i ! Ptr null_ptr null_ptr refl $ handle_in ! null_ptr h.0 a None $
+    feq_i ! Ptr null_ptr null_ptr refl $ pointer_in R ! null_ptr h.0 a None $
     suffices ! _ (ends_at 𝓛 En hs c z w (record { at = null_ptr; alloc = a; held = None }) (tt, tt) (tt, tt)) $ says ! refl $
     nothing ! $ nothing ! $ fjoin ! $ join ! $ nothing ! $ join ! $ done !))

@@ -2,8 +2,6 @@
 //!
 //! A line is what a user types: the program's name and the words, each after one blank. In what is read or written `;` stands for a line's
 //! end.
-ghost use Rattle.std.specs.Prelude.{◌≤◌};
-
 use crate::same::assert_same;
 use citrus_tool::{Status, tool};
 use io_edge::{MemorySink, SteadySource};
@@ -17,7 +15,6 @@ use std::thread::Threads;
 mod gates;
 mod generated;
 mod left;
-mod lists;
 mod meetings;
 
 // The words of this line behind the program's name.

@@ -1,7 +1,6 @@
 //! Scripts that nobody chose, run and checked.
 use super::{answer, assert_written};
 use crate::same::assert_same;
-use crate::scripts::drawn;
 use citrus_tool::Status;
 use prcu_marks::OpenGate;
 use std::alloc::Global;
@@ -9,6 +8,7 @@ use std::process::Abort;
 use std::sync::Wait;
 use std::test::Fail;
 use std::thread::Threads;
+use workload::drawing::next_state;
 
 // That the account which the first line writes of these scripts is a true one by the second.
 fn assert_checked_as_true<R: Threads + Wait + Sync + Abort>(
@@ -40,9 +40,9 @@ fn line_of(alloc: Global, choice: u64, key: u64, value: u64) -> Result<String, F
 // Scripts of 39 lines together, one of six of which begins the next.
 fn short_scripts(alloc: Global, mut state: u64) -> Result<String, Fail> {
     let mut text = String::from_str(alloc, "script\n")?;
-    state = drawn(state);
+    state = next_state(state);
     for i in 1..40u64 {
-        state = drawn(state);
+        state = next_state(state);
         let line = line_of(alloc, (state >> 40) % 6, (state >> 33) % 5, i)?;
         text.push_str(&line)?;
     }
@@ -56,7 +56,7 @@ fn long_scripts(alloc: Global, number: u64) -> Result<String, Fail> {
     for _ in 0..2 + number % 63 {
         text.push_str("script\n")?;
         for i in 0..12u64 {
-            state = drawn(state);
+            state = next_state(state);
             let key = (state >> 33) % 4 * ((state >> 40) % 2 * 63 + 1);
             let line = line_of(alloc, (state >> 50) % 5, key, i)?;
             text.push_str(&line)?;
