@@ -2,7 +2,7 @@
 # Measures dictionaries beside each other in a way that a busy host doesn't fool: each program makes its dictionary once, and then all take
 # turns, a cell of some milliseconds each, round after round. Of each it tells the least of all rounds, how many times the first program's
 # least that is, and the median of the same within rounds. Beside each row it tells `steal`, the share of the busy time that the host gave
-# to others (/proc/stat); rounds above 5 % are left out, and rows above 5 %.
+# to others (/proc/stat); rounds above 5 % are left out, and rows above 5 % or with fewer than five rounds.
 #
 # `ratios.sh [--row MIX/KEYS]... [--threads N]... [--pages small|huge]... [--series NAME]... [--rounds N] [--cell MS] [--archive FILE]
 # [--beside FILE]`. A mix is a number of gets of 100, `load`, or `fill`, which fills a new dictionary in each cell. Without --row it
@@ -27,7 +27,10 @@ named=
 while [ $# -gt 0 ]; do
     [ $# -ge 2 ] || usage
     case $1 in
-        --row) rows+=("$2") named=yes ;;
+        --row)
+            [[ $2 =~ ^([0-9]+|load|fill)/[1-9][0-9]*$ ]] || usage
+            rows+=("$2") named=yes
+            ;;
         --threads) crews+=("$2") named=yes ;;
         --pages) pages+=("$2") named=yes ;;
         --series) series+=("$2") named=yes ;;
@@ -53,12 +56,11 @@ make_ready() {
         'C library') build_library "${archive[@]}" && program[$1]=$out/embed word[$1]='C library first waiter' ;;
         'C library before')
             [ ${#beside[@]} != 0 ] || return 0
-            install_library "$out/before" "${beside[@]}" && build_over "$out/before" embed embed_before
-            program[$1]=$out/embed_before word[$1]='C library first waiter'
+            install_library "$out/before" "${beside[@]}" && build_over "$out/before" embed embed_before &&
+                program[$1]=$out/embed_before word[$1]='C library first waiter'
             ;;
         '4 lanes' | '8 lanes')
-            install_library "$out/installed" "${archive[@]}" && build_over "$out/installed" lanes lanes
-            program[$1]=$out/lanes
+            install_library "$out/installed" "${archive[@]}" && build_over "$out/installed" lanes lanes && program[$1]=$out/lanes
             ;;
         'C++ 4 lanes' | 'C++ 8 lanes') build_cpp same_lanes && program[$1]=$out/same_lanes ;;
         'C++') build_cpp same && program[$1]=$out/same word[$1]='C++ first waiter' ;;
@@ -191,6 +193,13 @@ ratios() {
         }' "$out/ratio_cells"
 }
 
+# All have answered the same, where that doesn't depend on how threads take turns.
+awk -F, '$3 == 1 || $2 ~ /^(100|fill)\// {
+    round = $1 "," $2 "," $3 "," $4
+    if (!(round in sum)) { sum[round] = $9 ""; first[round] = $7 }
+    else if (sum[round] != $9 "") { print "not the same answers at " round ": " first[round] " and " $7 > "/dev/stderr"; bad = 1 }
+} END { exit bad }' "$out/ratio_cells"
+
 ratios >"$out/ratio_rows"
 if [ -z "$named" ] || [ ! -e "$results/ratios.csv" ]; then
     measured_here "up to $rounds rounds a row, cells of $cell ms" >"$results/ratios.csv"
@@ -201,9 +210,3 @@ awk -F, 'NR == FNR { now[$1, $2, $3]; next } /^#/ || !(($1, $2, $3) in now)' "$o
 cat "$out/ratio_rows" >>"$out/ratios.csv"
 cp "$out/ratios.csv" "$results/ratios.csv"
 "$top/bench/tables.sh" ratios
-# All have answered the same, where that doesn't depend on how threads take turns.
-awk -F, '$3 == 1 || $2 ~ /^(100|fill)\// {
-    round = $1 "," $2 "," $3 "," $4
-    if (!(round in sum)) { sum[round] = $9 ""; first[round] = $7 }
-    else if (sum[round] != $9 "") { print "not the same answers at " round ": " first[round] " and " $7 > "/dev/stderr"; bad = 1 }
-} END { exit bad }' "$out/ratio_cells"

@@ -1,15 +1,20 @@
 // Many lookups at once: the atomic accesses of crates/many_gets on the same words, in the same order.
 #pragma once
 #include "same_tree.hpp"
+#include <array>
 
 template <class W> class SameLanes : public SameTree<W> {
 public:
     using SameTree<W>::SameTree;
 
-    // The sum of the values of the keys that are there. Each seat looks up one key after another, and the seats take turns, hop by hop.
+    static constexpr size_t most_lanes = 8;
+
+    // The sum of the values of the keys that are there. Each seat looks up keys of its own, each so much further on as there are seats. All
+    // enter with their first key; then they take turns, and a turn is one hop of a search.
     uint64_t look_up(std::vector<TreeSeat> &seats, const uint64_t *keys, size_t count) {
-        Round round{keys, count, 0, 0};
+        Round round{keys, count, seats.size(), 0};
         std::array<Lane, most_lanes> lanes{};
+        for (size_t i = 0; i < seats.size(); i++) begin(seats[i], lanes[i], round, i);
         for (bool busy = true; busy;) {
             busy = false;
             for (size_t i = 0; i < seats.size(); i++) busy |= take_turn(seats[i], lanes[i], round);
@@ -17,48 +22,44 @@ public:
         return round.sum;
     }
 
-    static constexpr size_t most_lanes = 8;
-
 private:
-    // What is left to look up, and what was found.
+    // What is looked up, how far a seat's keys stand apart, and what was found.
     struct Round {
         const uint64_t *keys;
-        size_t count, next;
+        size_t count, step;
         uint64_t sum;
     };
 
-    // Where a search stands, if there is one.
+    // The key that a seat looks up, at which index it stands, and where the search has gone on to, if there is one.
     struct Lane {
+        size_t index;
         uint64_t key;
         uint32_t slot;
         Field side;
         bool searches;
     };
 
-    // A hop of a search, or the beginning of the next. Whether there was something to do.
+    // Enters with the key of that index. Where there is no such key the seat stays outside.
+    void begin(TreeSeat &seat, Lane &lane, const Round &round, size_t index) {
+        lane = {index, 0, 0, Right, index < round.count};
+        if (!lane.searches) return;
+        lane.key = round.keys[index];
+        this->enter(seat, lane.key);
+    }
+
+    // A hop. Where the search ends it leaves, and enters with the seat's next key. Whether there was something to do.
     bool take_turn(TreeSeat &seat, Lane &lane, Round &round) {
-        if (!lane.searches) {
-            if (round.next == round.count) return false;
-            const uint64_t key = round.keys[round.next++];
-            this->enter(seat, key);
-            lane = {key, 0, Right, true};
-            return true;
-        }
+        if (!lane.searches) return false;
         const uint32_t child = this->child(lane.slot, lane.side);
-        if (child == 0) return end(seat, lane);
-        const uint64_t found = this->at(child, Key).load();
-        if (found == lane.key) {
-            round.sum += this->at(child, Value).load();
-            return end(seat, lane);
+        const uint64_t found = child == 0 ? 0 : this->at(child, Key).load();
+        if (child == 0 || found == lane.key) {
+            if (child != 0) round.sum += this->at(child, Value).load();
+            this->leave(seat);
+            begin(seat, lane, round, lane.index + round.step);
+            return true;
         }
         lane.slot = child;
         lane.side = lane.key < found ? Left : Right;
-        return true;
-    }
-
-    bool end(TreeSeat &seat, Lane &lane) {
-        this->leave(seat);
-        lane.searches = false;
         return true;
     }
 };
