@@ -32,7 +32,7 @@ struct Spaced {
     static constexpr uint64_t apart = 16;
     static constexpr uint64_t clock = 0, front = apart, free_count = 2 * apart, head = 3 * apart;
     // Of the first waiter the key and the stamp of a place.
-    static uint64_t pair(uint32_t place) { return head + apart * place; }
+    static uint64_t pair(uint32_t place) { return head + 4 * apart * place; }
     static uint64_t pairs_end(uint32_t places) { return pair(places); }
     // Of the second a class's gate and its two counts.
     static uint64_t gate(uint64_t c) { return head + apart * c; }

@@ -50,7 +50,7 @@ private:
     // A hop. Where the search ends it leaves, and enters with the seat's next key. Whether there was something to do.
     bool take_turn(TreeSeat &seat, Lane &lane, Round &round) {
         if (!lane.searches) return false;
-        const uint32_t child = this->child(lane.slot, lane.side);
+        const uint32_t child = this->links(lane.slot, lane.side).ahead;
         const uint64_t found = child == 0 ? 0 : this->at(child, Key).load();
         if (child == 0 || found == lane.key) {
             if (child != 0) round.sum += this->at(child, Value).load();

@@ -95,10 +95,17 @@ public:
 protected:
     using Slots::at;
 
-    // Both links are loaded, and one of them is taken.
-    uint32_t child(uint32_t slot, Field side) {
+    // Both links of a slot, which are loaded together, by the side to which a search goes.
+    struct Links {
+        uint32_t ahead;
+        uint64_t aside;
+    };
+
+    Links links(uint32_t slot, Field side) {
         const uint64_t left = at(slot, Left).load(), right = at(slot, Right).load();
-        return side == Left ? left : right;
+        // Two choices between numbers, of different types: of two that are the same the compiler makes a jump.
+        const uint64_t aside = side == Left ? right : left;
+        return {uint32_t(side == Left ? left : right), aside};
     }
 
 private:
@@ -107,9 +114,11 @@ private:
         uint32_t slot = 0;
         Field side = Right;
         for (;;) {
-            const uint32_t child = this->child(slot, side);
+            const Links links = this->links(slot, side);
+            const uint32_t child = links.ahead;
             if (child == 0) return {false, slot, 0, side};
             const uint64_t found = at(child, Key).load();
+            this->bring_near(links.aside);
             if (found == key) return {true, child, slot, side};
             slot = child;
             side = key < found ? Left : Right;

@@ -38,6 +38,10 @@ public:
 
 protected:
     std::atomic<uint64_t> &at(uint32_t slot, Field field) { return words_[L::field(base_, slots_ + places_ + 1, slot, field)]; }
+    // Loads the key of the slot of a link, and throws it away.
+    void bring_near(uint64_t link) {
+        if (link <= uint64_t(slots_) + places_) at(link, Key).load();
+    }
     std::atomic<uint64_t> &front() { return words_[L::front]; }
     void enter(TreeSeat &seat, uint64_t key) { W::enter(words_, seat, key); }
     void leave(TreeSeat &seat) { W::leave(words_, seat); }

@@ -45,24 +45,44 @@ fn link_on(side: Side, left: u64, right: u64) -> u64
     }
 }
 
-// Loads both links of the slot at which the search stands, and answers that of the side.
+// Both links of a slot.
+#[derive(Clone, Copy)]
+struct Links {
+    // That of the side to which the search goes.
+    ahead: u64,
+    // That of the other.
+    aside: u64,
+}
+
+// Loads both links of the slot at which the search stands.
 #[inline(always)]
-fn load_links<W: WaitPart>(table: &CitrusTable<W>, seat: &mut Seat<W>, slot: u32, side: Side) -> u64
+fn load_links<W: WaitPart>(
+    table: &CitrusTable<W>,
+    seat: &mut Seat<W>,
+    slot: u32,
+    side: Side,
+) -> Links
     requires table { seat.old.table ≡ table.now }
     requires slot { IsSlot (shape_of W.WAY table.now) slot }
     requires searching { (v : View) × (key : ℕ) × IsSearching v key (At slot side) seat.old.view }
     ensures seat { (seat.new.table ≡ seat.old.table) × (seat.new.listed ≡ seat.old.listed) }
-    ensures loads { LoadsLinks (shape_of W.WAY table.now) seat.old.view slot side result seat.new.view }
+    ensures loads { LoadsLinks (shape_of W.WAY table.now) seat.old.view slot side result.ahead seat.new.view }
 {
     // The side depends on the slot's key, which may still be on its way from memory. The links stand beside the key, and neither load waits
     // for the comparison. The link of the other side only adds to what the section knows, and moves its search nowhere.
     // docs/TREE.md#why-a-get-beside-a-delete-is-right
     let left = steps::search_load(table, seat, slot, Part::Link { side: Side::Left });
     let right = steps::search_load(table, seat, slot, Part::Link { side: Side::Right });
-    link_on(side, left, right)
+    let ahead = link_on(side, left, right);
+    Links {
+        ahead,
+        // The other one, and no second choice.
+        aside: left ^ right ^ ahead,
+    }
 }
 
-/// Loads both links of a slot and, where that of the side leads to a slot, that slot's key.
+/// Loads both links of a slot and, where that of the side leads to a slot, that slot's key. Where the search goes on `alone`, and none beside
+/// it waits for memory as well, the slot of the other side is brought near for a later one.
 // A call would hand its answer through memory.
 #[inline(always)]
 pub fn go_down<W: WaitPart>(
@@ -71,6 +91,7 @@ pub fn go_down<W: WaitPart>(
     key: u64,
     slot: u32,
     side: Side,
+    alone: bool,
 ) -> Step
     requires table { seat.old.table ≡ table.now }
     requires slot { IsSlot (shape_of W.WAY table.now) slot }
@@ -82,14 +103,19 @@ pub fn go_down<W: WaitPart>(
     ensures searching { (v : View) → IsSearching v key (At slot side) seat.old.view
         → IsSearching v key (state_after slot side result) seat.new.view }
 {
-    let link = load_links(table, seat, slot, side);
+    let links = load_links(table, seat, slot, side);
     // The slot may have been unlinked meanwhile. Its links still lead to the tree, or to slots unlinked later.
     // docs/TREE.md#why-a-get-beside-a-delete-is-right
-    if link == 0 {
+    if links.ahead == 0 {
         return Step::Ended;
     }
-    let child = link as u32;
-    match step_side(key, steps::search_load(table, seat, child, Part::Key)) {
+    let child = links.ahead as u32;
+    let found = steps::search_load(table, seat, child, Part::Key);
+    if alone {
+        // As measured: docs/BENCHMARKS.md#the-tree
+        table.bring_near(links.aside);
+    }
+    match step_side(key, found) {
         None => Step::Found { slot: child },
         Some(side) => Step::Moved { slot: child, side },
     }
@@ -119,7 +145,7 @@ pub(crate) fn descend<P: Patience, W: WaitPart, G: Gate>(
     let mut at = 0;
     let mut side = Side::Right;
     for round in 0..u64::MAX {
-        match go_down(table, seat, key, at, side) {
+        match go_down(table, seat, key, at, side, true) {
             Step::Moved { slot, side: next } => {
                 at = slot;
                 side = next;

@@ -10,7 +10,7 @@ use Rattle.core_state.specs.declared.shape.Waiter.TheVariants.{Eer, Domain, Deer
 use Rattle.core_state.specs.declared.words.Field.{Field}
 use Rattle.core_state.specs.declared.words.Field.TheVariants.{Clock, Front, Free, Announced, Stamp, Gate, Count, Row, State, Lock, Life, Key, Value, Link, Tag}
 use Rattle.core_state.specs.memory.Words.{side_number}
-use Rattle.core_state.specs.memory.Memory.{apart, own_room, row_room, classes, slot_base, slot_count, same_waiter, waiter_room, word_count, word_of, is_field, same_side, same_field}
+use Rattle.core_state.specs.memory.Memory.{apart, place_room, class_room, row_room, classes, slot_base, slot_count, same_waiter, waiter_room, word_count, word_of, is_field, same_side, same_field}
 use Rattle.core_acts.specs.declared.act.Act.TheVariants as act
 use Rattle.core_acts.specs.declared.act.Part.TheVariants as part
 use Rattle.core_acts.specs.Places.{NoPlaceIsShared, FieldsAreWithin, place_words, class_words, slot_words, group_of, GroupsAreApart, PlacesWriteTheirOwn}
@@ -20,11 +20,11 @@ number_of Eer = 0
 number_of Domain = 1
 number_of Deer = 2
 
-at_eer : (w : Waiter) (places : ℕ) → same_waiter w Eer ≡ true → (number_of w ≡ 0) × (waiter_room w places ≡ own_room * places)
+at_eer : (w : Waiter) (places : ℕ) → same_waiter w Eer ≡ true → (number_of w ≡ 0) × (waiter_room w places ≡ place_room * places)
 at_eer Eer places e = (refl, refl)
 at_eer _ places e = absurd (cc)
 
-at_domain : (w : Waiter) (places : ℕ) → same_waiter w Domain ≡ true → (number_of w ≡ 1) × (waiter_room w places ≡ own_room * classes)
+at_domain : (w : Waiter) (places : ℕ) → same_waiter w Domain ≡ true → (number_of w ≡ 1) × (waiter_room w places ≡ class_room * classes)
 at_domain Domain places e = (refl, refl)
 at_domain _ places e = absurd (cc)
 
@@ -41,10 +41,10 @@ abbrev pub Lies : Shape → Field → Type 0
 Lies k Clock = Unit {0}
 Lies k Front = Unit {0}
 Lies k Free = Unit {0}
-Lies k (Announced p) = (number_of k.waiter ≡ 0) × (waiter_room k.waiter k.places ≡ own_room * k.places) × (p < k.places)
-Lies k (Stamp p) = (number_of k.waiter ≡ 0) × (waiter_room k.waiter k.places ≡ own_room * k.places) × (p < k.places)
-Lies k (Gate c) = (number_of k.waiter ≡ 1) × (waiter_room k.waiter k.places ≡ own_room * classes) × (c < classes)
-Lies k (Count c side) = (number_of k.waiter ≡ 1) × (waiter_room k.waiter k.places ≡ own_room * classes) × (c < classes) × (side < 2)
+Lies k (Announced p) = (number_of k.waiter ≡ 0) × (waiter_room k.waiter k.places ≡ place_room * k.places) × (p < k.places)
+Lies k (Stamp p) = (number_of k.waiter ≡ 0) × (waiter_room k.waiter k.places ≡ place_room * k.places) × (p < k.places)
+Lies k (Gate c) = (number_of k.waiter ≡ 1) × (waiter_room k.waiter k.places ≡ class_room * classes) × (c < classes)
+Lies k (Count c side) = (number_of k.waiter ≡ 1) × (waiter_room k.waiter k.places ≡ class_room * classes) × (c < classes) × (side < 2)
 Lies k (Row p c) = (number_of k.waiter ≡ 2) × (waiter_room k.waiter k.places ≡ row_room * k.places) × (p < k.places) × (c < classes)
 Lies k (State s) = s < slot_count k
 Lies k (Lock s) = s < slot_count k

@@ -18,6 +18,7 @@ ghost use Rattle.std.specs.Prelude.{◌≡◌, ◌+◌, ◌*◌, ◌≤◌};
 ghost use Rattle.core_state.specs.declared.shape.Shape.{Shape};
 ghost use Rattle.core_state.specs.memory.Memory.{half, waiter_room, waiter_base, word_count, word_of};
 ghost use Rattle.core_acts.specs.Acts.{in_slot};
+ghost use Rattle.core_acts.specs.Places.{AreRows, most_words};
 
 use crate::act::Part;
 use core_state::shape::Waiter;
@@ -38,8 +39,11 @@ pub const LEAD: usize = 14;
 /// Gates of the second waiter, and stamps of each place for the third.
 pub const CLASSES: usize = 64;
 
-/// The room of a place's key and stamp, and of a class's gate and counts: a line, and behind it what sets the next ones apart.
-pub const OWN_ROOM: usize = LINE + APART;
+/// The room of a place's key and stamp. Readers that write two neighbouring pairs of lines hinder each other still, as was measured.
+pub const PLACE_ROOM: usize = 4 * APART;
+
+/// The room of a class's gate and counts: a line, and behind it what sets the next ones apart.
+pub const CLASS_ROOM: usize = LINE + APART;
 
 /// The room of a place's row of stamps.
 pub const ROW_ROOM: usize = CLASSES + APART;
@@ -47,30 +51,62 @@ pub const ROW_ROOM: usize = CLASSES + APART;
 // Where the waiter's words begin.
 const WAITER: usize = LEAD + 3 * APART;
 
-/// The index of a field's word, in a table of this waiter with so many slots and places.
+/// Where the rows of a table's slots begin.
+#[derive(Clone, Copy)]
+pub struct Rows {
+    /// How many slots there are: the root, a spare for each place, and those that begin free.
+    pub count: usize,
+    /// The halves with the keys, values and links.
+    pub nodes: usize,
+    /// Those with the locks, lives and tags.
+    pub locks: usize,
+    /// The states.
+    pub states: usize,
+}
+
+/// The rows of a table of this waiter with so many slots and places.
+pub fn rows_of(waiter: Waiter, slots: u32, places: u32) -> Rows
+    ensures rows { (k : Shape) → k.waiter ≡ waiter → k.slots ≡ slots → k.places ≡ places → AreRows k result }
+    ensures few { (result.states ≤ most_words) × (result.count ≤ most_words) }
+{
+    let room = match waiter {
+        Waiter::Eer => PLACE_ROOM * places as usize,
+        Waiter::Domain => CLASS_ROOM * CLASSES,
+        Waiter::Deer => ROW_ROOM * places as usize,
+    };
+    let count = slots as usize + places as usize + 1;
+    let halves = HALF * count;
+    let nodes = WAITER + room;
+    Rows {
+        count,
+        nodes,
+        locks: nodes + halves,
+        states: nodes + halves + halves,
+    }
+}
+
+/// The index of a field's word, in a table with these rows.
 #[inline(always)]
-pub fn index_of(waiter: Waiter, slots: u32, places: u32, field: Field) -> usize
-    ensures index { (k : Shape) → k.waiter ≡ waiter → k.slots ≡ slots → k.places ≡ places → result ≡ word_of k field }
+pub fn index_of(rows: &Rows, field: Field) -> usize
+    requires few { (rows.now.nodes ≤ rows.now.states) × (rows.now.locks ≤ rows.now.states) × (rows.now.states ≤ most_words) }
+    ensures index { (k : Shape) → AreRows k rows.now → result ≡ word_of k field }
 {
     match field {
         Field::Clock => LEAD,
         Field::Front => LEAD + APART,
         Field::Free => LEAD + 2 * APART,
-        Field::Announced { place } => WAITER + OWN_ROOM * place as usize,
-        Field::Stamp { place } => WAITER + OWN_ROOM * place as usize + 1,
-        Field::Gate { class } => WAITER + OWN_ROOM * class as usize,
-        Field::Count { class, side } => WAITER + OWN_ROOM * class as usize + 1 + side as usize,
+        Field::Announced { place } => WAITER + PLACE_ROOM * place as usize,
+        Field::Stamp { place } => WAITER + PLACE_ROOM * place as usize + 1,
+        Field::Gate { class } => WAITER + CLASS_ROOM * class as usize,
+        Field::Count { class, side } => WAITER + CLASS_ROOM * class as usize + 1 + side as usize,
         Field::Row { place, class } => WAITER + ROW_ROOM * place as usize + class as usize,
-        Field::State { slot } => states(waiter, slots, places) + slot as usize,
-        Field::Key { slot } => half_of(waiter, places, slot as usize),
-        Field::Value { slot } => half_of(waiter, places, slot as usize) + 1,
-        Field::Link { slot, side } => half_of(waiter, places, slot as usize)
-            + side_field(side) as usize,
-        Field::Lock { slot } => locks(waiter, slots, places) + HALF * slot as usize,
-        Field::Life { slot } => locks(waiter, slots, places) + HALF * slot as usize + 1,
-        Field::Tag { slot, side } => locks(waiter, slots, places)
-            + HALF * slot as usize
-            + side_field(side) as usize,
+        Field::State { slot } => rows.states + slot as usize,
+        Field::Key { slot } => rows.nodes + HALF * slot as usize,
+        Field::Value { slot } => rows.nodes + HALF * slot as usize + 1,
+        Field::Link { slot, side } => rows.nodes + HALF * slot as usize + side_field(side) as usize,
+        Field::Lock { slot } => rows.locks + HALF * slot as usize,
+        Field::Life { slot } => rows.locks + HALF * slot as usize + 1,
+        Field::Tag { slot, side } => rows.locks + HALF * slot as usize + side_field(side) as usize,
     }
 }
 
@@ -78,7 +114,8 @@ pub fn index_of(waiter: Waiter, slots: u32, places: u32, field: Field) -> usize
 pub fn row_length(waiter: Waiter, slots: u32, places: u32) -> usize
     ensures length { (k : Shape) → k.waiter ≡ waiter → k.slots ≡ slots → k.places ≡ places → result ≡ word_count k }
 {
-    states(waiter, slots, places) + slots as usize + places as usize + 1
+    let rows = rows_of(waiter, slots, places);
+    rows.states + rows.count
 }
 
 /// The field of a part of a slot.
@@ -93,34 +130,4 @@ pub fn in_slot(slot: u32, part: Part) -> Field
         Part::Link { side } => Field::Link { slot, side },
         Part::Tag { side } => Field::Tag { slot, side },
     }
-}
-
-// Where the locks, lives and tags begin, behind the other half of the last slot.
-#[inline(always)]
-fn locks(waiter: Waiter, slots: u32, places: u32) -> usize
-    ensures { result ≡ waiter_base + waiter_room waiter places + half * (slots + places + 1) }
-{
-    half_of(waiter, places, slots as usize + places as usize + 1)
-}
-
-// Where the states begin, behind the locks, lives and tags of the last slot.
-#[inline(always)]
-fn states(waiter: Waiter, slots: u32, places: u32) -> usize
-    ensures { result ≡ waiter_base + waiter_room waiter places + half * (slots + places + 1) + half * (slots + places + 1) }
-{
-    locks(waiter, slots, places) + HALF * (slots as usize + places as usize + 1)
-}
-
-// Where the half of a slot begins that has its key.
-#[inline(always)]
-fn half_of(waiter: Waiter, places: u32, slot: usize) -> usize
-    requires slot { slot ≤ 8589934592 }
-    ensures { result ≡ waiter_base + waiter_room waiter places + half * slot }
-{
-    let room = match waiter {
-        Waiter::Eer => OWN_ROOM * places as usize,
-        Waiter::Domain => OWN_ROOM * CLASSES,
-        Waiter::Deer => ROW_ROOM * places as usize,
-    };
-    WAITER + room + HALF * slot
 }

@@ -6,7 +6,7 @@ use Rattle.prcu_marks.specs.declared.mark.Side.TheVariants.{Left, Right}
 use Rattle.core_acts.specs.declared.act.Part.{Part}
 use Rattle.core_acts.specs.declared.act.Part.TheVariants.{Key, Value, Life, Link, Tag}
 use Rattle.core_state.specs.Fresh.{first_view}
-use Rattle.core_state.specs.memory.Memory.{own_room, idle}
+use Rattle.core_state.specs.memory.Memory.{place_room, idle}
 use Rattle.core_examples.proofs.States.{State, many, words_with}
 use Rattle.core_examples.proofs.Acts.{small, Step, Run, run, end_of, enter_for, search_by, leave, take_slot, fill, lock, look_at, look_front, list_root, list_part, open_commit, close_commit, give_front_back, unlock}
 use Rattle.core_examples.proofs.Updates.{link_leaf, replace}
@@ -14,7 +14,7 @@ use Rattle.core_examples.proofs.Updates.{link_leaf, replace}
 -- five slots are free, the place's key and stamp stand with their room, and of seven slots the root and the first spare are taken
 abbrev pub fresh : State
 fresh = record {
-  words = words_with 5 (λ more. 0 ∷ idle ∷ many 0 (own_room - 2) more) 7 (1 ∷ 1 ∷ 0 ∷ 0 ∷ 0 ∷ 0 ∷ 0 ∷ []);
+  words = words_with 5 (λ more. 0 ∷ idle ∷ many 0 (place_room - 2) more) 7 (1 ∷ 1 ∷ 0 ∷ 0 ∷ 0 ∷ 0 ∷ 0 ∷ []);
   view = first_view small;
   marks = [];
 }

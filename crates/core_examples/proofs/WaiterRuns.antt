@@ -12,7 +12,7 @@ use Rattle.core_state.specs.declared.words.Field.TheVariants.{Gate, Count, Row}
 use Rattle.core_state.specs.declared.view.View.{View}
 use Rattle.core_state.specs.declared.view.Waiting.{Waiting}
 use Rattle.list_laws.specs.Counts.{IsIn}
-use Rattle.core_state.specs.memory.Memory.{own_room, classes, row_room, idle}
+use Rattle.core_state.specs.memory.Memory.{class_room, classes, row_room, idle}
 use Rattle.core_state.specs.Fresh.{first_view}
 use Rattle.core_state.specs.steps.Waits.{IsSpot, keys_of}
 use Rattle.core_acts.specs.declared.act.Act.{Act}
@@ -27,7 +27,7 @@ abbrev counted : Shape
 counted = record { waiter = Domain; slots = 1; places = 1; room = 16; tickets = 10 }
 
 abbrev counted_start : State
-counted_start = record { words = words_with 1 (many 0 (own_room * classes)) 3 (1 ∷ 1 ∷ 0 ∷ []); view = first_view counted; marks = [] }
+counted_start = record { words = words_with 1 (many 0 (class_room * classes)) 3 (1 ∷ 1 ∷ 0 ∷ []); view = first_view counted; marks = [] }
 
 -- a class that a wait for key 5 alone meets is 5
 class_five : (wait : Waiting) (c : ℕ) → wait.low ≡ 5 → wait.high ≡ 5 → MeetsClass (keys_of wait) c → 5 ≡ c

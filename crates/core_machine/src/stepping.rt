@@ -4,6 +4,9 @@ ghost use Rattle.core_points.specs.Programs.{act_at, after};
 ghost use Rattle.core_points.specs.Laws.{is_finished};
 ghost use Rattle.prcu_marks.specs.Accesses.{left_by, said_by, StaysWord};
 ghost use Rattle.core_acts.specs.Acts.{access_of};
+ghost use Rattle.core_state.specs.declared.shape.Shape.{Shape};
+ghost use Rattle.core_state.specs.declared.shape.Waiter.TheVariants.{Eer};
+ghost use Rattle.core_state.specs.memory.Memory.{word_of};
 ghost use Rattle.core_state.specs.steps.Waits.{turned_gate};
 ghost use Rattle.core_machine.specs.Stepped.{blocked as blocked_at};
 ghost use Rattle.core_machine.specs.Stored.{own_of, HasRoom, IsAble};
@@ -12,8 +15,9 @@ ghost use Rattle.core_machine.specs.Stepping.{CanStep, found_now, told_now, inde
 
 use crate::acting::access_at;
 use crate::caller::Caller;
-use core_acts::index_of;
+use core_acts::{index_of, rows_of};
 use core_points::stage::Stage;
+use core_state::Field;
 use core_state::shape::Waiter;
 use prcu_marks::{Access, Why};
 
@@ -75,6 +79,13 @@ impl Caller {
     }
 }
 
+// Where the word of a field stands in the row of a table of the first waiter.
+fn index_at(slots: u32, places: u32, field: Field) -> usize
+    ensures index { (k : Shape) → k.waiter ≡ Eer → k.slots ≡ slots → k.places ≡ places → result ≡ word_of k field }
+{
+    index_of(&rows_of(Waiter::Eer, slots, places), field)
+}
+
 // Its time doesn't grow with the number of callers or slots.
 /// One step of the caller on the words: the act of its point, and the point after it. It answers where the step was blocked. It takes
 /// no memory.
@@ -89,7 +100,7 @@ pub fn step_caller(words: &mut [u64], own: &mut Caller) -> Option<Why>
     ensures blocked { let o = own_of own.old in result ≡ blocked_at o (told_now words.old o) o.stage }
 {
     let (field, access) = access_at(own);
-    let index = index_of(Waiter::Eer, own.slots, own.places, field);
+    let index = index_at(own.slots, own.places, field);
     let told = touch(words, index, access);
     let why = own.blocked(told);
     let stands = own.stands_after(told);

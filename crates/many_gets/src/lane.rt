@@ -92,7 +92,7 @@ fn go_on<W: WaitPart>(table: &CitrusTable<W>, seat: &mut Seat<W>, lane: &mut Lan
     ensures over { result ≡ false → HasEnded lane.new.stage }
     ensures stepped { HasStepped seat.old.view seat.new.view }
 {
-    match go_down(table, seat, lane.key, lane.slot, lane.side) {
+    match go_down(table, seat, lane.key, lane.slot, lane.side, false) {
         Step::Moved { slot, side } => {
             lane.slot = slot;
             lane.side = side;

@@ -14,30 +14,9 @@ use Rattle.list_laws.specs.Counts.{times, IsIn}
 use Rattle.list_laws.proofs.Lists.{times_here, times_other}
 use Rattle.prcu_marks.specs.declared.mark.Mark.TheVariants.{Given, Freed}
 use Rattle.seat_table.specs.Seats.{unlisted}
+use Rattle.seat_table.proofs.Unlisting.{unlisted_here, unlisted_other, unlisted_none, unlisted_else}
 use Rattle.node_slots.specs.Reclaiming.{IsReady, AreReady, first_of, first_slots, without_slots, without_all, Returns, LeavesEach, return_marks, first_spare, GivesBack}
 use Rattle.node_slots.proofs.Marking.{leaves_more, first_goes, other_goes}
-
--- A list without a slot.
-unlisted_here : (s : ℕ) (xs : List ℕ) → unlisted s (s ∷ xs) ≡ unlisted s xs
-unlisted_here s xs = ap (λ b. cond (not b) (s ∷ unlisted s xs) (unlisted s xs)) (eq-eqb s s refl)
-
-unlisted_other : (s x : ℕ) (xs : List ℕ) → x ≢ s → unlisted s (x ∷ xs) ≡ x ∷ unlisted s xs
-unlisted_other s x xs ne = ap (λ b. cond (not b) (x ∷ unlisted s xs) (unlisted s xs)) (ne_eqb x s ne)
-
-pub unlisted_none : (s : ℕ) (xs : List ℕ) → times s (unlisted s xs) ≡ 0
-unlisted_none s [] = refl
-unlisted_none s (x ∷ xs) = ⊎_elim
-    (λ (e : x ≡ s). subst (λ y. times s (unlisted s (y ∷ xs)) ≡ 0) (sym e) (ap (times s) (unlisted_here s xs) ∙ unlisted_none s xs))
-    (λ (ne : x ≢ s). ap (times s) (unlisted_other s x xs ne) ∙ times_other s x (unlisted s xs) ne ∙ unlisted_none s xs)
-    (cases_eq x s)
-
-pub unlisted_else : (s t : ℕ) (xs : List ℕ) → t ≢ s → times t (unlisted s xs) ≡ times t xs
-unlisted_else s t [] ne = refl
-unlisted_else s t (x ∷ xs) ne = ⊎_elim
-    (λ (e : x ≡ s). subst (λ y. times t (unlisted s (y ∷ xs)) ≡ times t (y ∷ xs)) (sym e)
-    (ap (times t) (unlisted_here s xs) ∙ unlisted_else s t xs ne ∙ sym (times_other t s xs (λ f. ne (sym f)))))
-    (λ (other : x ≢ s). let a = ap (times t) (unlisted_other s x xs other) in let b = unlisted_else s t xs ne in omega arith)
-    (cases_eq x s)
 
 unlisted_less : (s t : ℕ) (xs : List ℕ) → times t xs ≡ 0 → times t (unlisted s xs) ≡ 0
 unlisted_less s t xs none = ⊎_elim

@@ -26,7 +26,8 @@ use Rattle.seat_table.specs.Waits.{HasWaited, HasEnded}
 use Rattle.seat_table.proofs.Sections.{seen_more, own_more}
 use Rattle.node_slots.specs.Reclaiming.{IsReady, AreReady, first_slots, without_slots, without_all, return_marks, first_spare, GivesBack, HasReclaimed}
 use Rattle.node_slots.proofs.Marking.{each_begins, each_own, returned_nobodys}
-use Rattle.node_slots.proofs.Listing.{unlisted_none, unlisted_else, unlisted_length}
+use Rattle.seat_table.proofs.Unlisting.{unlisted_none, unlisted_else}
+use Rattle.node_slots.proofs.Listing.{unlisted_length}
 
 abbrev everyone : ℕ
 everyone = 18446744073709551615

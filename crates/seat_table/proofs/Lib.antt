@@ -16,3 +16,4 @@ pub mod Onward
 pub mod Once
 pub mod Going
 pub mod Rounding
+pub mod Unlisting

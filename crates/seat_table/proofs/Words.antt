@@ -12,7 +12,7 @@ use Rattle.core_state.specs.declared.shape.Waiter.{Waiter}
 use Rattle.core_state.specs.declared.shape.Waiter.TheVariants.{Eer, Domain, Deer}
 use Rattle.core_state.specs.declared.words.Field.{Field}
 use Rattle.core_state.specs.declared.words.Field.TheVariants.{Announced, Stamp, Gate, Count, Row, Lock, Life, Key, Value, Link, Tag}
-use Rattle.core_state.specs.memory.Memory.{Memory, half, apart, lead, classes, own_room, row_room, waiter_base, waiter_room, slot_count, same_waiter, slot_base, lock_base, state_base, word_count, word_of, is_field, memory_of, idle}
+use Rattle.core_state.specs.memory.Memory.{Memory, half, apart, lead, classes, place_room, class_room, row_room, waiter_base, waiter_room, slot_count, same_waiter, slot_base, lock_base, state_base, word_count, word_of, is_field, memory_of, idle}
 use Rattle.core_state.specs.Fresh.{first_view, IsFresh}
 use Rattle.core_state.specs.Invariant.{IsShape, Rule}
 use Rattle.core_frames.proofs.Telling.{told_of}
@@ -36,7 +36,7 @@ many_more old new newer i word was is = is ∙ ap (λ l. l ++ word ∷ []) was �
 
 stamps_end : (n : ℕ) → key_stamps n ++ key_stamps 1 ≡ key_stamps (suc n)
 stamps_end zero = refl
-stamps_end (suc n) = ap (λ l. (0 ∷ idle ∷ replicate (own_room - 2) 0) ++ l) (stamps_end n)
+stamps_end (suc n) = ap (λ l. (0 ∷ idle ∷ replicate (place_room - 2) 0) ++ l) (stamps_end n)
 
 pub stamps_more : (old new newer : List ℕ) (i : ℕ) → new ≡ old ++ key_stamps i → newer ≡ new ++ key_stamps 1
     → newer ≡ old ++ key_stamps (i + 1)
@@ -44,26 +44,26 @@ stamps_more old new newer i was is = is ∙ ap (λ l. l ++ key_stamps 1) was ∙
     ∙ ap (λ l. old ++ l) (stamps_end i ∙ ap key_stamps (let e : suc i ≡ i + 1 = omega arith in e))
 
 -- what the parts have
-length_stamps : (n : ℕ) → length (key_stamps n) ≡ own_room * n
+length_stamps : (n : ℕ) → length (key_stamps n) ≡ place_room * n
 length_stamps zero = refl
 length_stamps (suc n) = let rest = length_stamps n in omega arith
 
 length_part : (w : Waiter) (places : ℕ) → length (waiter_part w places) ≡ waiter_room w places
 length_part Eer places = length_stamps places
-length_part Domain places = length-replicate {A = ℕ} (own_room * classes) 0
+length_part Domain places = length-replicate {A = ℕ} (class_room * classes) 0
 length_part Deer places = length-replicate {A = ℕ} (row_room * places) idle
 
 -- a place's pair of words, among those of all places
-stamps_at : (n p : ℕ) → p < n → (get_or (key_stamps n) (own_room * p) 0 ≡ 0) × (get_or (key_stamps n) (own_room * p + 1) 0 ≡ idle)
+stamps_at : (n p : ℕ) → p < n → (get_or (key_stamps n) (place_room * p) 0 ≡ 0) × (get_or (key_stamps n) (place_room * p + 1) 0 ≡ idle)
 stamps_at zero p small = absurd (omega arith)
 stamps_at (suc n) zero small = (refl, refl)
 stamps_at (suc n) (suc p) small =
     let rest = stamps_at n p (omega arith) in
-    let pair : List ℕ = 0 ∷ idle ∷ replicate (own_room - 2) 0 in
-    let e : own_room * suc p ≡ own_room + own_room * p = omega arith in
-    let f : own_room * suc p + 1 ≡ own_room + (own_room * p + 1) = omega arith in (
-      ap (λ i. get_or (key_stamps (suc n)) i 0) e ∙ get_or-append-add pair (key_stamps n) (own_room * p) 0 ∙ rest.0,
-      ap (λ i. get_or (key_stamps (suc n)) i 0) f ∙ get_or-append-add pair (key_stamps n) (own_room * p + 1) 0 ∙ rest.1,
+    let pair : List ℕ = 0 ∷ idle ∷ replicate (place_room - 2) 0 in
+    let e : place_room * suc p ≡ place_room + place_room * p = omega arith in
+    let f : place_room * suc p + 1 ≡ place_room + (place_room * p + 1) = omega arith in (
+      ap (λ i. get_or (key_stamps (suc n)) i 0) e ∙ get_or-append-add pair (key_stamps n) (place_room * p) 0 ∙ rest.0,
+      ap (λ i. get_or (key_stamps (suc n)) i 0) f ∙ get_or-append-add pair (key_stamps n) (place_room * p + 1) 0 ∙ rest.1,
     )
 
 module _ (k : Shape) where
@@ -173,16 +173,16 @@ module _ (k : Shape) where
   second_none field s j of at small = slot_none field s (half * slot_count k + (half * s + j)) of (λ below. (omega arith, omega arith))
 
   -- the waiter's words by the waiter
-  key_at : (w : Waiter) (places p : ℕ) → same_waiter w Eer ≡ true → p < places → get_or (waiter_part w places) (own_room * p) 0 ≡ 0
+  key_at : (w : Waiter) (places p : ℕ) → same_waiter w Eer ≡ true → p < places → get_or (waiter_part w places) (place_room * p) 0 ≡ 0
   key_at Eer places p is small = (stamps_at places p small).0
   key_at _ places p is small = absurd (cc)
 
-  stamp_at : (w : Waiter) (places p : ℕ) → same_waiter w Eer ≡ true → p < places → get_or (waiter_part w places) (own_room * p + 1) 0 ≡ idle
+  stamp_at : (w : Waiter) (places p : ℕ) → same_waiter w Eer ≡ true → p < places → get_or (waiter_part w places) (place_room * p + 1) 0 ≡ idle
   stamp_at Eer places p is small = (stamps_at places p small).1
   stamp_at _ places p is small = absurd (cc)
 
-  domain_at : (w : Waiter) (places j : ℕ) → same_waiter w Domain ≡ true → j < own_room * classes → get_or (waiter_part w places) j 0 ≡ 0
-  domain_at Domain places j is small = get_or-replicate (own_room * classes) j 0 0 small
+  domain_at : (w : Waiter) (places j : ℕ) → same_waiter w Domain ≡ true → j < class_room * classes → get_or (waiter_part w places) j 0 ≡ 0
+  domain_at Domain places j is small = get_or-replicate (class_room * classes) j 0 0 small
   domain_at _ places j is small = absurd (cc)
 
   deer_at : (w : Waiter) (places j : ℕ) → same_waiter w Deer ≡ true → j < row_room * places → get_or (waiter_part w places) j 0 ≡ idle
@@ -210,23 +210,23 @@ module _ (k : Shape) where
     front = refl;
     free = refl;
     announced = λ p. or_none (is_field k (Announced p)) (get_or ws (word_of k (Announced p)) 0)
-        (λ has. let l = lies k (Announced p) has in part_at (own_room * p) (let a = l.1 in let b = l.2 in omega arith)
+        (λ has. let l = lies k (Announced p) has in part_at (place_room * p) (let a = l.1 in let b = l.2 in omega arith)
         ∙ key_at k.waiter k.places p (first _ _ has) l.2);
     stamps = λ p eer small.
         let is : is_field k (Stamp p) ≡ true = ap (λ w. same_waiter w Eer && nat_lt p k.places) eer ∙ has_place k.waiter p k.places small in
         let l = lies k (Stamp p) is in
         ap (λ b. cond b (get_or ws (word_of k (Stamp p)) 0) 0) is
-        ∙ ap (λ z. get_or ws z 0) (let e : word_of k (Stamp p) ≡ waiter_base + (own_room * p + 1) = omega arith in e)
-        ∙ part_at (own_room * p + 1) (let a = l.1 in let b = l.2 in omega arith) ∙ stamp_at k.waiter k.places p (first _ _ is) small;
+        ∙ ap (λ z. get_or ws z 0) (let e : word_of k (Stamp p) ≡ waiter_base + (place_room * p + 1) = omega arith in e)
+        ∙ part_at (place_room * p + 1) (let a = l.1 in let b = l.2 in omega arith) ∙ stamp_at k.waiter k.places p (first _ _ is) small;
     gates = λ c. or_none (is_field k (Gate c)) (get_or ws (word_of k (Gate c)) 0)
-        (λ has. let l = lies k (Gate c) has in part_at (own_room * c) (let a = l.1 in let b = l.2 in omega arith)
-        ∙ domain_at k.waiter k.places (own_room * c) (first _ _ has) (let b = l.2 in omega arith));
+        (λ has. let l = lies k (Gate c) has in part_at (class_room * c) (let a = l.1 in let b = l.2 in omega arith)
+        ∙ domain_at k.waiter k.places (class_room * c) (first _ _ has) (let b = l.2 in omega arith));
     counts = λ c side. or_none (is_field k (Count c side)) (get_or ws (word_of k (Count c side)) 0)
         (λ has. let l = lies k (Count c side) has in
-        let inside : own_room * c + 1 + side < own_room * classes = (let b = l.2 in let d = l.3 in omega arith) in
-        ap (λ z. get_or ws z 0) (let e : word_of k (Count c side) ≡ waiter_base + (own_room * c + 1 + side) = omega arith in e)
-        ∙ part_at (own_room * c + 1 + side) (let a = l.1 in omega arith)
-        ∙ domain_at k.waiter k.places (own_room * c + 1 + side) (first _ _ has) inside);
+        let inside : class_room * c + 1 + side < class_room * classes = (let b = l.2 in let d = l.3 in omega arith) in
+        ap (λ z. get_or ws z 0) (let e : word_of k (Count c side) ≡ waiter_base + (class_room * c + 1 + side) = omega arith in e)
+        ∙ part_at (class_room * c + 1 + side) (let a = l.1 in omega arith)
+        ∙ domain_at k.waiter k.places (class_room * c + 1 + side) (first _ _ has) inside);
     rows = λ p c deer small few.
         let is : is_field k (Row p c) ≡ true = ap (λ w. same_waiter w Deer && (nat_lt p k.places && nat_lt c classes)) deer
         ∙ ap (λ b. b && nat_lt c classes) (has_place k.waiter p k.places small) ∙ has_place k.waiter c classes few in

@@ -4,7 +4,7 @@ use Rattle.std.specs.Prelude.{◌≡◌, ℕ, zero, suc, ◌+◌, ◌-◌, ◌*�
 use Rattle.core_state.specs.declared.shape.Shape.{Shape}
 use Rattle.core_state.specs.declared.shape.Waiter.{Waiter}
 use Rattle.core_state.specs.declared.shape.Waiter.TheVariants.{Eer, Domain, Deer}
-use Rattle.core_state.specs.memory.Memory.{half, apart, lead, classes, own_room, row_room, slot_count, idle, word_count, memory_of}
+use Rattle.core_state.specs.memory.Memory.{half, apart, lead, classes, place_room, class_room, row_room, slot_count, idle, word_count, memory_of}
 use Rattle.core_state.specs.Fresh.{first_view, IsFresh}
 use Rattle.core_state.specs.Invariant.{IsShape, Rule}
 use Rattle.seat_table.specs.Scans.{region}
@@ -25,12 +25,12 @@ alone word = word ∷ replicate (apart - 1) 0
 -- so many keys and stamps, each pair with the room behind it
 abbrev pub key_stamps : ℕ → List ℕ
 key_stamps zero = []
-key_stamps (suc n) = (0 ∷ idle ∷ replicate (own_room - 2) 0) ++ key_stamps n
+key_stamps (suc n) = (0 ∷ idle ∷ replicate (place_room - 2) 0) ++ key_stamps n
 
 -- the waiter's words, and their room
 abbrev pub waiter_part : Waiter → ℕ → List ℕ
 waiter_part Eer places = key_stamps places
-waiter_part Domain places = replicate (own_room * classes) 0
+waiter_part Domain places = replicate (class_room * classes) 0
 waiter_part Deer places = replicate (row_room * places) idle
 
 -- the states: the root and the spares aren't free

@@ -82,6 +82,14 @@ IsLastFound first number (Some latest) = number ≡ latest
 abbrev pub with_way : ℕ → Shape → Shape
 with_way way k = record { waiter = way_of way; slots = k.slots; places = k.places; room = k.room; tickets = k.tickets }
 
+-- the most retired slots that a place may hold back
+abbrev pub most_room : ℕ
+most_room = 256
+
+-- each slot stands in the list once at most
+pub record AreApart (xs : List ℕ) : Type 0 where
+  pub once : (slot : ℕ) → times slot xs ≤ 1
+
 -- the slots that are listed, without one
 abbrev pub unlisted : ℕ → List ℕ → List ℕ
 unlisted slot xs = filter (λ x. not (x == slot)) xs

@@ -9,7 +9,7 @@ ghost use Rattle.seat_table.specs.Told.{Touches, Told};
 use crate::rule::Nothing;
 use crate::table::CitrusTable;
 use crate::told::{Detail, Told as Tells};
-use crate::waiter::{WaitWords, waiter_of};
+use crate::waiter::WaitWords;
 use atomic_table::Seat;
 use core_acts::{Act, index_of};
 use core_state::{Field, View};
@@ -23,7 +23,7 @@ type Token = Seat<Nothing, View>;
 fn word_at<W: WaitWords>(table: &CitrusTable<W>, word: Field) -> usize
     ensures index { result ≡ word_of (shape_of W.WAY table.now) word }
 {
-    index_of(waiter_of::<W>(), table.slots, table.places, word)
+    index_of(&table.rows, word)
 }
 
 #[inline(always)]

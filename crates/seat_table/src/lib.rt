@@ -4,6 +4,7 @@
 
 mod access;
 pub mod laws;
+mod listed;
 mod rule;
 mod scan;
 mod seat;

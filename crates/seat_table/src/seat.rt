@@ -13,6 +13,7 @@ ghost use Rattle.seat_table.specs.Scans as scans;
 ghost use Rattle.seat_table.specs.Told.{Told};
 
 use crate::access::touch;
+use crate::listed::Listed;
 use crate::rule::Nothing;
 use crate::scan::region;
 use crate::table::CitrusTable;
@@ -20,7 +21,6 @@ use crate::told::{Cut, Glue};
 use crate::waiter::WaitWords;
 use arrayvec::ArrayVec;
 use core_acts::Act;
-use core_state::shape::MOST_ROOM;
 use core_state::{Field, View};
 use prcu_marks::{Access, Share};
 use std::marker::{Brand, Model, PhantomData};
@@ -48,7 +48,7 @@ pub struct Seat<W: WaitWords> {
     pub(crate) free: u64,
     pub(crate) front: u64,
     pub(crate) looked: u32,
-    pub(crate) listed: ArrayVec<u32, MOST_ROOM>,
+    pub(crate) listed: Listed,
     pub(crate) freed: ArrayVec<u32, MOST_FREED>,
     pub(crate) marker: PhantomData<W>,
 }
@@ -69,7 +69,7 @@ impl<W: WaitWords> Model for Seat<W> {
         tickets = s.table_tickets;
       };
       view = s.seat.me.0;
-      listed = s.listed.items;
+      listed = s.listed;
       looked = s.looked;
     } };
 
@@ -319,7 +319,7 @@ fn cut<W: WaitWords, A: Share>(
             free: slots as u64,
             front: 0,
             looked: region(table.slots(), table.places(), new_place),
-            listed: ArrayVec::new(),
+            listed: Listed::new(),
             freed: ArrayVec::new(),
             marker: PhantomData,
         },

@@ -14,23 +14,14 @@ use crate::scan::after_look;
 use crate::seat::Seat;
 use crate::table::CitrusTable;
 use crate::waiter::WaitWords;
-use arrayvec::ArrayVec;
 use core_acts::{Act, Part, in_slot};
 use core_state::Field;
-use core_state::shape::MOST_ROOM;
 use prcu_marks::{Access, Side};
 pub use waiters::{
     announce_key, begin_wait, enter_by_count, enter_by_row, enter_by_stamp, leave_by_count,
     leave_by_row, leave_by_stamp, load_clock, load_gate, look_count, look_key, look_row,
     look_stamp, turn_gate,
 };
-
-// Takes a slot off the list of retired slots.
-fn take_off(listed: &mut ArrayVec<u32, MOST_ROOM>, slot: u32)
-    ensures { listed.new.items ≡ unlisted slot listed.old.items }
-{
-    listed.retain(|x| *x != slot);
-}
 
 /// Loads the life of the slot in hand or the spare (K9).
 pub fn load_own_life<W: WaitWords>(table: &CitrusTable<W>, seat: &mut Seat<W>, slot: u32) -> u64
@@ -167,7 +158,7 @@ pub fn raise_to_spare<W: WaitWords>(
     ensures told { Told (shape_of W.WAY table.now) seat.old.view (acts.RaiseToSpare slot number) number seat.new.view }
 {
     let word = Field::Life { slot };
-    take_off(&mut seat.listed, slot);
+    seat.listed.take_off(slot);
     seat.spare = Some(slot);
     let act = Act::RaiseToSpare { slot, number };
     touch(table, &mut seat.seat, act, word, Access::Store { number });
@@ -242,7 +233,7 @@ pub fn free_retired<W: WaitWords>(table: &CitrusTable<W>, seat: &mut Seat<W>, sl
     ensures told { Told (shape_of W.WAY table.now) seat.old.view (acts.FreeRetired slot) 0 seat.new.view }
 {
     let word = Field::State { slot };
-    take_off(&mut seat.listed, slot);
+    seat.listed.take_off(slot);
     let act = Act::FreeRetired { slot };
     let access = Access::Store { number: 0 };
     touch(table, &mut seat.seat, act, word, access);

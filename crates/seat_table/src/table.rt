@@ -6,15 +6,19 @@ ghost use Rattle.core_state.specs.memory.Bounds.{most_slots, most_places};
 ghost use Rattle.seat_table.specs.Fresh.{fresh_seat, alone, key_stamps, waiter_part, first_words};
 ghost use Rattle.seat_table.specs.Seats.{IsQuietSeat};
 
+use crate::listed::Listed;
 use crate::rule::{Nothing, Ruled};
 use crate::scan::region;
 use crate::seat::Seat;
 use crate::waiter::{WaitWords, waiter_of};
 use arrayvec::ArrayVec;
 use atomic_table::Table;
-use core_acts::{APART, CLASSES, HALF, LEAD, OWN_ROOM, ROW_ROOM, row_length};
+use core_acts::{
+    APART, CLASS_ROOM, CLASSES, HALF, LEAD, PLACE_ROOM, ROW_ROOM, Rows, index_of, row_length,
+    rows_of,
+};
 use core_state::shape::{ROOM, Waiter};
-use core_state::{Shape, View};
+use core_state::{Field, Shape, View};
 use prcu_model::NoMemory;
 use std::alloc::{AllocError, Global};
 use std::marker::{Model, PhantomData};
@@ -25,13 +29,16 @@ pub struct CitrusTable<W: WaitWords> {
     pub(crate) table: Table<Nothing, View, Shape, Ruled, Global>,
     pub(crate) slots: u32,
     pub(crate) places: u32,
+    // Where the rows of the slots begin: so no step works it out.
+    pub(crate) rows: Rows,
     marker: PhantomData<W>,
 }
 
 impl<W: WaitWords> Model for CitrusTable<W> {
-    ghost use Rattle.std.specs.Prelude.{◌≡◌};
+    ghost use Rattle.std.specs.Prelude.{◌≡◌, ◌≤◌};
     ghost use Rattle.core_state.specs.Invariant.{IsShape};
     ghost use Rattle.core_state.specs.memory.Memory.{word_count};
+    ghost use Rattle.core_acts.specs.Places.{AreRows, most_words};
     ghost use Rattle.seat_table.specs.Seats.{TableAt, way_of, with_way};
 
     ghost Value = { TableAt };
@@ -46,7 +53,7 @@ impl<W: WaitWords> Model for CitrusTable<W> {
 
     ghost invariant = { λ t. (t.table.shared.table_id.words ≡ word_count (with_way W.WAY t.table.shared.key))
         × IsShape (with_way W.WAY t.table.shared.key) × (t.table.shared.key.waiter ≡ way_of W.WAY) × (t.slots ≡ t.table.shared.key.slots)
-        × (t.places ≡ t.table.shared.key.places) };
+        × (t.places ≡ t.table.shared.key.places) × AreRows (with_way W.WAY t.table.shared.key) t.rows × (t.rows.states ≤ most_words) };
 }
 
 fn add_many(words: &mut Vec<u64>, count: usize, word: u64) -> Result<(), AllocError>
@@ -72,7 +79,7 @@ fn add_place(words: &mut Vec<u64>) -> Result<(), AllocError>
 {
     words.push(0)?;
     words.push(u64::MAX)?;
-    add_many(words, OWN_ROOM - 2, 0)
+    add_many(words, PLACE_ROOM - 2, 0)
 }
 
 fn add_places(words: &mut Vec<u64>, places: usize) -> Result<(), AllocError>
@@ -90,7 +97,7 @@ fn add_waiter(words: &mut Vec<u64>, waiter: Waiter, places: usize) -> Result<(),
 {
     match waiter {
         Waiter::Eer => add_places(words, places),
-        Waiter::Domain => add_many(words, OWN_ROOM * CLASSES, 0),
+        Waiter::Domain => add_many(words, CLASS_ROOM * CLASSES, 0),
         Waiter::Deer => add_many(words, ROW_ROOM * places, u64::MAX),
     }
 }
@@ -179,7 +186,7 @@ impl<W: WaitWords> CitrusTable<W> {
             free: slots as u64,
             front: 0,
             looked: region(slots, places, 0),
-            listed: ArrayVec::new(),
+            listed: Listed::new(),
             freed: ArrayVec::new(),
             marker: PhantomData,
         };
@@ -188,10 +195,21 @@ impl<W: WaitWords> CitrusTable<W> {
                 table,
                 slots,
                 places,
+                rows: rows_of(waiter, slots, places),
                 marker: PhantomData,
             },
             seat,
         ))
+    }
+
+    /// Loads the key of the slot to which this link leads, where the table has such a slot, and throws it away: a search that comes by finds
+    /// the slot near the processor. It changes nothing, and no seat learns of it.
+    #[inline(always)]
+    pub fn bring_near(&self, link: u64) {
+        if link < self.rows.count as u64 {
+            let key = Field::Key { slot: link as u32 };
+            self.table.shared.peek(index_of(&self.rows, key));
+        }
     }
 
     /// How many slots it was made with.

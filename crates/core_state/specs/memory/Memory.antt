@@ -36,10 +36,14 @@ lead = 14
 abbrev pub classes : ℕ
 classes = 64
 
--- A place's key and stamp, or a class's gate and sides, have a line and so much room behind it that the next ones stand sixteen words from
--- the line's last. So does a place's row of stamps.
-abbrev pub own_room : ℕ
-own_room = line + apart
+-- A place's key and stamp have four pairs of lines, since readers that write two neighbouring pairs hinder each other still.
+abbrev pub place_room : ℕ
+place_room = 4 * apart
+
+-- A class's gate and sides have a line and so much room behind it that the next ones stand sixteen words from the line's last. So does a
+-- place's row of stamps.
+abbrev pub class_room : ℕ
+class_room = line + apart
 
 abbrev pub row_room : ℕ
 row_room = classes + apart
@@ -50,8 +54,8 @@ waiter_base = lead + 3 * apart
 
 -- how much room the waiter has, for so many places
 abbrev pub waiter_room : Waiter → ℕ → ℕ
-waiter_room Eer places = own_room * places
-waiter_room Domain places = own_room * classes
+waiter_room Eer places = place_room * places
+waiter_room Domain places = class_room * classes
 waiter_room Deer places = row_room * places
 
 -- A slot's words stand in two halves of a line: what a search loads on its way, and, in a row behind, what is loaded at its end and under
@@ -79,10 +83,10 @@ abbrev pub word_of : Shape → Field → ℕ
 word_of k Clock = lead
 word_of k Front = lead + apart
 word_of k Free = lead + 2 * apart
-word_of k (Announced p) = waiter_base + own_room * p
-word_of k (Stamp p) = waiter_base + own_room * p + 1
-word_of k (Gate c) = waiter_base + own_room * c
-word_of k (Count c side) = waiter_base + own_room * c + 1 + side
+word_of k (Announced p) = waiter_base + place_room * p
+word_of k (Stamp p) = waiter_base + place_room * p + 1
+word_of k (Gate c) = waiter_base + class_room * c
+word_of k (Count c side) = waiter_base + class_room * c + 1 + side
 word_of k (Row p c) = waiter_base + row_room * p + c
 word_of k (State s) = state_base k + s
 word_of k (Key s) = slot_base k + half * s

@@ -19,5 +19,5 @@ returns-clause-loads g c = record {
   between = c.search_load-left.new.seat.view;
   left_told = c.search_load-left.ensures.told;
   right_told = c.search_load-right.ensures.told;
-  link_is = sym c.link_on.ensures;
+  link_is = sym c.link_on-ahead.ensures;
 }

@@ -1,4 +1,4 @@
-use Rattle.std.proofs.Common.{rules, ◌≡◌, length, ◌∙◌}
+use Rattle.std.proofs.Common.{rules, ◌≡◌, length, sym, ◌∙◌}
 use Rattle.core_state.specs.declared.shape.Shape.{Shape}
 use Rattle.core_state.specs.memory.Memory.{word_count}
 use Rattle.seat_table.proofs.Words.{rule_starts, first_long, first_room, first_table}
@@ -29,4 +29,12 @@ invariant_of-result g c =
     } in
     let long : length c.as_slice.result.now ≡ word_count k = first_long k c.as_slice.result.now (search rules) in
     let made = c.in_ok-table.ensures in
-    first_table g.W.WaitWords.WAY k c.waiter_of-waiter.ensures (search rules) _ _ (search rules) (made.0 ∙ long)
+    let t = first_table g.W.WaitWords.WAY k c.waiter_of-waiter.ensures (search rules) _ _ (search rules) (made.0 ∙ long) in (
+      t.0,
+      t.1,
+      t.2,
+      t.3,
+      t.4,
+      c.rows_of.ensures.rows _ (sym c.waiter_of-waiter.ensures) (sym t.3) (sym t.4),
+      c.rows_of.ensures.few.0,
+    )
