@@ -61,8 +61,13 @@ run_rows() {
     fi
 }
 
-# The tests of a crate whose names have the word in them, each with the crate behind it.
-tests_of() { "$room/$1/program" --list | sed -n 's/: test$//p' | { grep -F -e "$word" || true; } | sed "s/$/ $1/"; }
+# The tests of a crate whose names have the word in them, each with the crate behind it. One that reads 16 MiB byte by byte takes more than
+# a third of its time without proofs, so it is left to the gate too.
+too_long=an_input_as_long_as_the_limit_is_read
+tests_of() {
+    "$room/$1/program" --list | sed -n 's/: test$//p' | { grep -vF -e "$too_long" || true; } | { grep -F -e "$word" || true; } |
+        sed "s/$/ $1/"
+}
 
 rows_to_run >"$room/rows"
 build tool_rows --seconds "$limit" <"$room/rows" &
