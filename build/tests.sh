@@ -1,5 +1,5 @@
 #!/usr/bin/env bash
-# Runs all tests without proofs, for those who change the code: `tests.sh [WORD]`, or those alone whose names have the word in them. The tests
+# Runs the tests without proofs, for those who change the code: `tests.sh [WORD]`, or those alone whose names have the word in them. The tests
 # of all_tests and of tool_tests and the rows of tool_rows are built side by side by `rt try`, which watches for what a proof excludes, and
 # then run on all processors. A test fails too where it takes longer than a third of the time that the toolchain gives it. Its last line is
 # `N passed, M failed`, and its status 1 where something failed.
