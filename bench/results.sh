@@ -72,8 +72,8 @@ summary() {
 }
 
 # Whether all dictionaries answered the same, where the sum doesn't depend on how threads take turns. The proved tree and the same steps
-# in C++ have the numbers of updates in it, the others 1 for each update, so there are two sums. The map under Rattle's lock counts no
-# updates.
+# in C++ have the numbers of updates in it, the others 1 for each update, so there are two sums. The map under a lock that
+# tree_benches had until November 2026 counts no updates.
 same_answers() {
     awk -F, '$7 != "" && $1 !~ /BTreeMap under a lock$/ && ($4 == 1 || $2 == "load" || $2 == 100) {
         numbered = $1 ~ /^(proved|before) [a-z]+$/ || $1 ~ /^C\+\+ /

@@ -75,7 +75,7 @@ BESIDE = {
     "laws": ("the tree",),
 }
 # tests, and programs that only measure or write rows
-ASIDE = {"tree_benches", "index_example", "all_tests", "tool_tests", "tool_rows"}
+ASIDE = {"tree_benches", "index_example", "base_tests", "tree_tests", "tool_tests", "tool_rows"}
 
 
 def read_crates():

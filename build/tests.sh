@@ -1,8 +1,8 @@
 #!/usr/bin/env bash
 # Runs the tests without proofs, for those who change the code: `tests.sh [WORD]`, or those alone whose names have the word in them. The tests
-# of all_tests and of tool_tests and the rows of tool_rows are built side by side by `rt try`, which watches for what a proof excludes, and
-# then run on all processors. A test fails too where it takes longer than a third of the time that the toolchain gives it. Its last line is
-# `N passed, M failed`, and its status 1 where something failed.
+# of base_tests, of tree_tests and of tool_tests and the rows of tool_rows are built side by side by `rt try`, which watches for what a proof
+# excludes, and then run on all processors. A test fails too where it takes longer than a third of the time that the toolchain gives it. Its
+# last line is `N passed, M failed`, and its status 1 where something failed.
 #
 # The gate proves these tests, and runs them as they are proved.
 set -u
@@ -74,13 +74,15 @@ build tool_rows --seconds "$limit" <"$room/rows" &
 rows=$!
 build tool_tests --test </dev/null &
 tool=$!
-build all_tests --test </dev/null && wait "$tool" || { kill "$rows" "$tool" 2>/dev/null; exit 1; }
+build base_tests --test </dev/null &
+base=$!
+build tree_tests --test </dev/null && wait "$tool" && wait "$base" || { kill "$rows" "$tool" "$base" 2>/dev/null; exit 1; }
 echo "built after $SECONDS s" >&2
 # It stops at what a proof excludes by an abort.
 watched=ASAN_OPTIONS=abort_on_error=1:allocator_may_return_null=1:detect_leaks=0
 export room limit watched
 export -f run_test
-{ tests_of tool_tests && tests_of all_tests; } >"$room/names"
+{ tests_of tool_tests && tests_of tree_tests && tests_of base_tests; } >"$room/names"
 xargs -a "$room/names" -r -P "$processors" -L 1 bash -c 'run_test "$@"' _ | tee "$room/lines"
 if [ -z "$word" ]; then
     wait "$rows" && run_rows | tee -a "$room/lines"

@@ -31,7 +31,7 @@ fn even_from(number: u64) -> u64
 /// Makes the front odd, and answers the even number that it was. It waits while another caller's update is being stored.
 // A call would hand its answer through memory.
 #[inline(always)]
-pub(crate) fn open_front<P: Patience, W: WaitPart>(
+pub(crate) fn open_commit<P: Patience, W: WaitPart>(
     patience: &P,
     table: &CitrusTable<W>,
     seat: &mut Seat<W>,
@@ -64,7 +64,7 @@ pub(crate) fn open_front<P: Patience, W: WaitPart>(
 }
 
 /// Makes the front even again, and answers the number of the update that was stored.
-pub(crate) fn close_front<W: WaitPart>(
+pub(crate) fn close_commit<W: WaitPart>(
     table: &CitrusTable<W>,
     seat: &mut Seat<W>,
     front: u64,

@@ -46,7 +46,7 @@ pub struct Removed {
 
 /// The number of an update that took a pair out, and the pair's value where it was loaded.
 #[derive(Clone, Copy)]
-struct TakenOut {
+struct Deleted {
     number: u64,
     value: Option<u64>,
 }
@@ -241,7 +241,7 @@ fn delete<P: Patience, W: WaitPart, G: Gate>(
             });
         };
         gate.pass(Point::BeforeLock, seat.place());
-        if let Some(taken) = take_out(patience, table, seat, gate, key, &target, tells_value)? {
+        if let Some(taken) = delete_node(patience, table, seat, gate, key, &target, tells_value)? {
             return Ok(Removed {
                 told: Told {
                     reply: Reply::Gone,
@@ -257,7 +257,7 @@ fn delete<P: Patience, W: WaitPart, G: Gate>(
 
 // Locks the target, takes it out and answers the update's number, with the value where it is to be told; or nothing, where a lock is taken
 // or the target isn't as it was found any more.
-fn take_out<P: Patience, W: WaitPart, G: Gate>(
+fn delete_node<P: Patience, W: WaitPart, G: Gate>(
     patience: &P,
     table: &CitrusTable<W>,
     seat: &mut Seat<W>,
@@ -265,7 +265,7 @@ fn take_out<P: Patience, W: WaitPart, G: Gate>(
     key: u64,
     target: &Target,
     tells_value: bool,
-) -> Result<Option<TakenOut>, P::Tired>
+) -> Result<Option<Deleted>, P::Tired>
     requires table { seat.old.table ≡ table.now }
     requires at { (kept : ℕ) × IsAt (shape_of W.WAY table.now) (Del key) kept (at.TargetLock target.now 0) seat.old.view }
     requires listed { AreListed seat.old }
@@ -299,13 +299,13 @@ fn take_out<P: Patience, W: WaitPart, G: Gate>(
     match target.successor {
         None => {
             let number = bypass(patience, table, seat, node, key)?;
-            Ok(Some(TakenOut { number, value }))
+            Ok(Some(Deleted { number, value }))
         }
         Some(successor) => {
             let Some(number) = shift(patience, table, seat, gate, key, node, successor)? else {
                 return Ok(None);
             };
-            Ok(Some(TakenOut { number, value }))
+            Ok(Some(Deleted { number, value }))
         }
     }
 }

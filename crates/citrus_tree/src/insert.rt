@@ -27,7 +27,7 @@ ghost use Rattle.citrus_tree.specs.Putting.{old_stage, taken_stage, filled_stage
 ghost use Rattle.citrus_tree.specs.Replies.{IsFullNow, Puts};
 
 use crate::answer::{Called, answered};
-use crate::commit::{close_front, open_front};
+use crate::commit::{close_commit, open_commit};
 use crate::descent::{Descent, descend};
 use crate::lives::is_life;
 use crate::search::leave_with_spot;
@@ -272,9 +272,9 @@ fn link_leaf<P: Patience, W: WaitPart>(
     }
     // Odd for the one store alone: updates take turns for these three steps, and get their numbers by them. docs/TREE.md#the-tree
     // Who gives up here keeps the lock: the seat is lost with it. docs/EMBEDDING.md#a-lost-handle
-    let front = open_front(patience, table, seat)?;
+    let front = open_commit(patience, table, seat)?;
     steps::link_leaf(table, seat, spot.slot, spot.side, leaf, key, value);
-    let number = close_front(table, seat, front);
+    let number = close_commit(table, seat, front);
     steps::unlock(table, seat, spot.slot);
     Ok(Some(number))
 }

@@ -14,7 +14,7 @@ ghost use Rattle.citrus_tree.specs.Gone.{KeepsSlots, KeepsWait};
 ghost use Rattle.citrus_tree.specs.Replies.{Sets};
 
 use crate::answer::answered;
-use crate::commit::{close_front, open_front};
+use crate::commit::{close_commit, open_commit};
 use crate::descent::{Descent, descend};
 use crate::lives::is_life;
 use core_state::generation_of;
@@ -160,9 +160,9 @@ pub(crate) fn store_value<P: Patience, W: WaitPart>(
         steps::unlock(table, seat, holder.slot);
         return Ok(None);
     }
-    let front = open_front(patience, table, seat)?;
+    let front = open_commit(patience, table, seat)?;
     steps::replace_value(table, seat, holder.slot, key, value);
-    let number = close_front(table, seat, front);
+    let number = close_commit(table, seat, front);
     steps::unlock(table, seat, holder.slot);
     Ok(Some(Replaced { old, number }))
 }

@@ -1,6 +1,5 @@
-//! Operations on the tree, for each waiter in one, two and four threads, and on an ordered map under one lock.
+//! Operations on the tree, for each waiter in one, two and four threads.
 
-mod locked;
 mod measuring;
 mod mix;
 mod work;

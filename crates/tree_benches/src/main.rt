@@ -1,7 +1,7 @@
 //! `tree_benches [times] BENCH ROUNDS ..`: each bench with its number of rounds, one after another. It writes what was done, and how
 //! long it took only where `times` asks. The benches: `waits`, sections and waits while nobody reads; `lists`, lists of a key range at
-//! rest and beside a writer; `calls`, operations on a tree and on an ordered map under one lock; `cookies`, a writer beside a reader
-//! that stays in its sections for long; `shapes`, the shape of a tree after its keys came in some order.
+//! rest and beside a writer; `calls`, operations on a tree; `cookies`, a writer beside a reader that stays in its sections for long;
+//! `shapes`, the shape of a tree after its keys came in some order.
 #![tactic(auto)]
 
 mod calls;

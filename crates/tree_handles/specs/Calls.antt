@@ -130,12 +130,12 @@ Replaces c key value was Unchanged old d = IsAnswered c (Set key value) reply.Ab
 Replaces c key value was status old d = CausedBy status c d × (old ≡ was)
 
 -- The tree's call took the key's pair out, and told its value; or the key was absent, and there is none.
-abbrev pub TakesOut : CallerAt → ℕ → Option ℕ → CallerAt → Type 0
-TakesOut c key value d = (told : Told) × IsCalled c (Del key) told d × TellsValue c.seat.view key told value d.seat.view
+abbrev pub IsRemoved : CallerAt → ℕ → Option ℕ → CallerAt → Type 0
+IsRemoved c key value d = (told : Told) × IsCalled c (Del key) told d × TellsValue c.seat.view key told value d.seat.view
 
 abbrev pub Removes : CallerAt → ℕ → ℕ → Status → ℕ → CallerAt → Type 0
-Removes c key was Done old d = TakesOut c key (Some old) d
-Removes c key was Unchanged old d = TakesOut c key None d × (old ≡ was)
+Removes c key was Done old d = IsRemoved c key (Some old) d
+Removes c key was Unchanged old d = IsRemoved c key None d × (old ≡ was)
 Removes c key was status old d = CausedBy status c d × (old ≡ was)
 
 -- The caller, which had four tickets or more, made a compare, which was answered so by the tree's. Nothing comes behind it.

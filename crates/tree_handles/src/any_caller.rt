@@ -3,7 +3,7 @@ ghost use Rattle.std.specs.Prelude.{◌≡◌, ◌≤◌, ◌<◌, ◌+◌, fals
 ghost use Rattle.core_state.specs.memory.Bounds.{most_places};
 ghost use Rattle.tree_handles.specs.Begun.{HasStarted, Polls};
 ghost use Rattle.tree_handles.specs.Callers.{MayGoOn, IsFresh, IsShared, IsReopened};
-ghost use Rattle.tree_handles.specs.Calls.{IsCalled, IsCompared, IsLost, TakesOut, CausedBy, IsHinderedBy, IsStoppedBy};
+ghost use Rattle.tree_handles.specs.Calls.{IsCalled, IsCompared, IsLost, IsRemoved, CausedBy, IsHinderedBy, IsStoppedBy};
 ghost use Rattle.tree_handles.specs.Holds.{HasHeld, HasOutwaited, IsEntered, LeavesSection};
 ghost use Rattle.tree_handles.specs.Lanes.{HasLanes};
 ghost use Rattle.tree_handles.specs.Lists.{Lists, Seeks};
@@ -124,14 +124,14 @@ impl AnyCaller {
     }
 
     /// Takes the key's pair out, where it is present, and tells its value. It waits as a call does.
-    pub(crate) fn take_out(&mut self, key: u64) -> Result<Option<u64>, Status>
-        ensures taken { IfOk result (λ value. TakesOut self.old key value self.new) }
+    pub(crate) fn remove(&mut self, key: u64) -> Result<Option<u64>, Status>
+        ensures taken { IfOk result (λ value. IsRemoved self.old key value self.new) }
         ensures cause { IfErr result (λ status. CausedBy status self.old self.new) }
     {
         match &mut self.caller {
-            ByWaiter::Eer(caller) => caller.take_out(key),
-            ByWaiter::Domain(caller) => caller.take_out(key),
-            ByWaiter::Deer(caller) => caller.take_out(key),
+            ByWaiter::Eer(caller) => caller.remove(key),
+            ByWaiter::Domain(caller) => caller.remove(key),
+            ByWaiter::Deer(caller) => caller.remove(key),
         }
     }
 

@@ -7,7 +7,7 @@ ghost use Rattle.core_state.specs.memory.Bounds.{most_places};
 ghost use Rattle.tree_handles.specs.Begun.{HasStarted, Polls};
 ghost use Rattle.tree_handles.specs.Callers.{IsSameCaller, MayGoOn, IsFresh, IsShared, IsReopened};
 ghost use Rattle.tree_handles.specs.Opening.{FailsToReopen, most_pairs};
-ghost use Rattle.tree_handles.specs.Calls.{ComesBehind, IsCalled, IsCompared, IsLost, TakesOut, CausedBy, IsHinderedBy, IsStoppedBy};
+ghost use Rattle.tree_handles.specs.Calls.{ComesBehind, IsCalled, IsCompared, IsLost, IsRemoved, CausedBy, IsHinderedBy, IsStoppedBy};
 ghost use Rattle.tree_handles.specs.Holds.{HasHeld, HasOutwaited, IsEntered, LeavesSection};
 ghost use Rattle.tree_handles.specs.Lanes.{HasLanes};
 ghost use Rattle.tree_handles.specs.Lists.{Lists, Seeks};
@@ -261,8 +261,8 @@ impl<W: WaitPart> Caller<W> {
     }
 
     /// Takes the key's pair out, where it is present, and tells its value. It waits as a call does.
-    pub(crate) fn take_out(&mut self, key: u64) -> Result<Option<u64>, Status>
-        ensures taken { IfOk result (λ value. TakesOut self.old key value self.new) }
+    pub(crate) fn remove(&mut self, key: u64) -> Result<Option<u64>, Status>
+        ensures taken { IfOk result (λ value. IsRemoved self.old key value self.new) }
         ensures cause { IfErr result (λ status. CausedBy status self.old self.new) }
     {
         if let Some(status) = self.hindrance(TICKETS) {

@@ -191,7 +191,7 @@ impl Handle {
         let Some(mut caller) = self.take(alloc) else {
             return Status::Closed;
         };
-        let status = caller.remove(key, old);
+        let status = caller.remove_out(key, old);
         *self = Handle::of(caller);
         status
     }

@@ -78,10 +78,10 @@ impl AnyCaller {
     }
 
     /// Takes the pair out, where the key is present, and tells its value.
-    pub(crate) fn remove(&mut self, key: u64, old: &mut u64) -> Status
+    pub(crate) fn remove_out(&mut self, key: u64, old: &mut u64) -> Status
         ensures { Removes self.old key old.old result old.new self.new }
     {
-        match self.take_out(key) {
+        match self.remove(key) {
             Ok(Some(value)) => {
                 *old = value;
                 Status::Done

@@ -12,7 +12,7 @@ ghost use Rattle.tree_points.specs.At.{HasLocks, IsAt, IsDone};
 ghost use Rattle.citrus_tree.specs.Deletes.{StandsAt, Comes, KeepsAll, KeepsWaits, HasDone, AreLivesSmall, TakesValue, locked_slots, relinked_at, retired_slots};
 ghost use Rattle.citrus_tree.specs.Gone.{KeepsSlots, retired_marks};
 
-use crate::commit::{close_front, open_front};
+use crate::commit::{close_commit, open_commit};
 use core_points::stage::Node;
 use patience::Patience;
 use prcu_marks::Side;
@@ -85,9 +85,9 @@ fn link_past<P: Patience, W: WaitPart>(
     // Marked before it is unlinked: a caller with a record of the node, which gets the lock afterwards, finds it changed.
     // docs/TREE.md#what-could-go-wrong
     steps::mark(table, seat, node.node, 2 * node.generation);
-    let front = open_front(patience, table, seat)?;
+    let front = open_commit(patience, table, seat)?;
     steps::bypass(table, seat, node.parent, node.side, node.node, child, key);
-    let number = close_front(table, seat, front);
+    let number = close_commit(table, seat, front);
     // Before the lock is given up, so that nobody finds the side empty with its old tag. docs/TREE.md#the-tree
     settle_side(table, seat, node.parent, node.side, child);
     Ok(number)

@@ -18,7 +18,7 @@ ghost use Rattle.citrus_tree.specs.Deletes.{StandsAt, Comes, KeepsAll, KeepsRest
 ghost use Rattle.citrus_tree.specs.Gone.{KeepsSlots, KeepsWait};
 ghost use Rattle.citrus_tree.specs.Replies.{IsUnlinkedSince};
 
-use crate::commit::{close_front, open_front};
+use crate::commit::{close_commit, open_commit};
 use crate::delete::bypass::{settle_side, slot_of};
 use crate::delete::locks::unlock_target;
 use core_points::stage::{Moving, Node, Successor, Target};
@@ -160,7 +160,7 @@ fn link_copy<P: Patience, W: WaitPart>(
     ensures tired { IfErr result (λ _. HasMade (P.least patience.now) seat.new.view) }
 {
     steps::mark(table, seat, node.node, 2 * node.generation);
-    let front = open_front(patience, table, seat)?;
+    let front = open_commit(patience, table, seat)?;
     steps::link_copy(
         table,
         seat,
@@ -173,7 +173,7 @@ fn link_copy<P: Patience, W: WaitPart>(
         key,
         next_key,
     );
-    Ok(close_front(table, seat, front))
+    Ok(close_commit(table, seat, front))
 }
 
 // Ends a move that is pending.

@@ -2,7 +2,6 @@
 ghost use Rattle.std.specs.Prelude.{◌≤◌};
 ghost use Rattle.tree_benches.specs.Crews.{count_of};
 
-use crate::calls::locked::LockedClient;
 use crate::calls::mix::Row;
 use crate::calls::work::{Calls, fill};
 use crate::crew::Crew;
@@ -15,17 +14,16 @@ use eer_wait::Eer;
 use prcu_marks::OpenGate;
 use seat_table::{CitrusTable, WaitPart};
 use std::alloc::Global;
-use std::collections::BTreeMap;
 use std::io;
 use std::rt::Runtime;
-use std::sync::{Mutex, Wait};
+use std::sync::Wait;
 use std::thread::Threads;
 use tree_client::TreeClient;
 
 /// So many rounds at most.
 pub const MOST_ROUNDS: u32 = 100_000_000;
 
-/// Does all work on a tree for each waiter, and on the map, and writes a line for each.
+/// Does all work on a tree for each waiter, and writes a line for each.
 pub fn measure_all<R: Threads + Wait + Sync + Runtime>(
     rt: &R,
     alloc: Global,
@@ -33,8 +31,7 @@ pub fn measure_all<R: Threads + Wait + Sync + Runtime>(
 ) -> io::Result<()> {
     measure_tree::<R, Eer>(rt, alloc, "first waiter", ask)?;
     measure_tree::<R, Domain>(rt, alloc, "second waiter", ask)?;
-    measure_tree::<R, Deer>(rt, alloc, "third waiter", ask)?;
-    measure_map(rt, alloc, ask)
+    measure_tree::<R, Deer>(rt, alloc, "third waiter", ask)
 }
 
 // Does all work on a tree with one waiter.
@@ -50,29 +47,6 @@ fn measure_tree<R: Threads + Wait + Sync + Runtime, W: WaitPart + Sync>(
         for crew in Crew::ALL {
             let worked = time_tree::<R, W>(rt, alloc, crew, row, ask.rounds)?;
             write_line(rt, name, row.name, crew, "operations", worked, ask)?;
-        }
-    }
-    Ok(())
-}
-
-// Does all work on the map.
-fn measure_map<R: Threads + Wait + Sync + Runtime>(
-    rt: &R,
-    alloc: Global,
-    ask: &Ask,
-) -> io::Result<()> {
-    for row in Row::ALL {
-        for crew in Crew::ALL {
-            let worked = time_map(rt, alloc, crew, row, ask.rounds)?;
-            write_line(
-                rt,
-                "map under a lock",
-                row.name,
-                crew,
-                "operations",
-                worked,
-                ask,
-            )?;
         }
     }
     Ok(())
@@ -161,33 +135,4 @@ fn two_of<C>(first: C, second: C, row: Row, rounds: u32, place: u32) -> (Calls<C
         calls_of(first, row, rounds, place),
         calls_of(second, row, rounds, place + 1),
     )
-}
-
-// What comes of it that each of the threads makes so many operations on a map under a lock.
-fn time_map<R: Threads + Wait + Sync + Runtime>(
-    rt: &R,
-    alloc: Global,
-    crew: Crew,
-    row: Row,
-    rounds: u32,
-) -> io::Result<Worked> {
-    let pairs = Mutex::new(BTreeMap::new(alloc));
-    let mut client = LockedClient { pairs: &pairs };
-    fill(rt, &mut client, row);
-    time(rt, shared_calls(client, crew, row, rounds))
-}
-
-// So many operations by each of the threads with a client of its own, all of which are alike.
-fn shared_calls<C: Copy>(client: C, crew: Crew, row: Row, rounds: u32) -> Crewed<Calls<C>> {
-    match crew {
-        Crew::One => Crewed::One(calls_of(client, row, rounds, 0)),
-        Crew::Two => Crewed::Two(
-            calls_of(client, row, rounds, 0),
-            calls_of(client, row, rounds, 1),
-        ),
-        Crew::Four => Crewed::Four(
-            two_of(client, client, row, rounds, 0),
-            two_of(client, client, row, rounds, 2),
-        ),
-    }
 }

@@ -10,7 +10,7 @@ use std::time::Clock;
 use workload::drawing::{drawn, next_state};
 
 /// So many operations of a row's mix, by a client.
-#[derive(Clone, Copy, Drop)]
+#[derive(Drop)]
 pub struct Calls<C> {
     pub client: C,
     pub row: Row,

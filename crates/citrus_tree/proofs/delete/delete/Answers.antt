@@ -3,7 +3,7 @@ use Rattle.std.specs.declared.option.Option.TheVariants.{None}
 use Rattle.std.specs.Option.{IfSome, IfNone}
 use Rattle.seat_table.specs.Gains.{IsInformed}
 use Rattle.citrus_tree.specs.Replies.{RetiresInOrder, WasAnswered}
-use Rattle.citrus_tree.specs.declared.delete.TakenOut.{TakenOut}
+use Rattle.citrus_tree.specs.declared.delete.Deleted.{Deleted}
 use Rattle.citrus_tree.specs.Gone.{KeepsWait}
 use Rattle.citrus_tree.specs.Deletes.{HasDeleted, KeepsRest, TellsTaken}
 use Rattle.core_points.specs.declared.stage.Target.{Target}
@@ -44,8 +44,8 @@ pub returns-in_default-clause-listed : goal.returns-in_default-clause-listed
 returns-in_default-clause-listed g c = listed_still c.loop-round.seat c.find_target.new.seat c.find_target.ensures.seat.1
     c.in_ok-target.ensures.searched.retired c.loop-round.invariant.listed
 
-pub take_out-requires-clause-listed : goal.take_out-requires-clause-listed
-take_out-requires-clause-listed g c = listed_still c.loop-round.seat c.find_target.new.seat c.find_target.ensures.seat.1
+pub delete_node-requires-clause-listed : goal.delete_node-requires-clause-listed
+delete_node-requires-clause-listed g c = listed_still c.loop-round.seat c.find_target.new.seat c.find_target.ensures.seat.1
     c.in_ok-target.ensures.searched.retired c.loop-round.invariant.listed
 
 pub returns-in_default-clause-dels : goal.returns-in_default-clause-dels
@@ -53,8 +53,8 @@ returns-in_default-clause-dels g c = absent_dels c.loop-round.invariant.tries c.
     (subst (λ (r : Option Target). IfNone r
     (WasAnswered c.loop-round.seat.view c.args.key None c.find_target.new.seat.view)) c.in_default.is c.in_ok-target.ensures.absent)
 
-pub take_out-requires-clause-at : goal.take_out-requires-clause-at
-take_out-requires-clause-at g c = let a = c.requires.at in (
+pub delete_node-requires-clause-at : goal.delete_node-requires-clause-at
+delete_node-requires-clause-at g c = let a = c.requires.at in (
   a.0,
   (subst (λ (r : Option Target). IfSome r
       (λ target. (kept : ℕ) → MayBegin (shape_of g.W.WaitWords.WAY c.args.table.now) (Del c.args.key) kept c.loop-round.seat.view
@@ -71,57 +71,57 @@ returns-in-Some-2-clause-done g c kept a =
     → IsAt (shape_of g.W.WaitWords.WAY c.args.table.now) (Del c.args.key) kept
     (at.TargetLock target 0) c.find_target.new.seat.view)) c.in-Some.is c.in_ok-target.ensures.found kept
     (c.loop-round.invariant.tries.ready kept a) in
-    subst (λ (r : Option TakenOut). IfSome r (λ _. (kept : ℕ)
+    subst (λ (r : Option Deleted). IfSome r (λ _. (kept : ℕ)
     → IsAt (shape_of g.W.WaitWords.WAY c.args.table.now) (Del c.args.key) kept
     (at.TargetLock target 0) c.find_target.new.seat.view
-    → IsDone (shape_of g.W.WaitWords.WAY c.args.table.now) (Del c.args.key) kept c.take_out.new.seat.view)) c.in-Some-2.is
+    → IsDone (shape_of g.W.WaitWords.WAY c.args.table.now) (Del c.args.key) kept c.delete_node.new.seat.view)) c.in-Some-2.is
     c.in_ok-taken.ensures.done kept locks
 
 pub returns-in-Some-2-clause-informed : goal.returns-in-Some-2-clause-informed
-returns-in-Some-2-clause-informed g c = subst (λ (r : Option TakenOut). IfSome r
-    (λ _. IsInformed c.take_out.new.seat.view)) c.in-Some-2.is c.in_ok-taken.ensures.informed
+returns-in-Some-2-clause-informed g c = subst (λ (r : Option Deleted). IfSome r
+    (λ _. IsInformed c.delete_node.new.seat.view)) c.in-Some-2.is c.in_ok-taken.ensures.informed
 
 pub returns-in-Some-2-clause-dels : goal.returns-in-Some-2-clause-dels
 returns-in-Some-2-clause-dels g c = gone_dels c.loop-round.invariant.tries c.in_ok-target.ensures.searched
-    (subst (λ (r : Option TakenOut). IfSome r
-    (λ taken. HasDeleted c.find_target.new.seat.view c.args.key taken.number c.take_out.new.seat.view)) c.in-Some-2.is
-    c.in_ok-taken.ensures.deleted) (subst (λ (r : Option TakenOut). IfSome r
-    (λ _. IsInformed c.take_out.new.seat.view)) c.in-Some-2.is c.in_ok-taken.ensures.informed)
+    (subst (λ (r : Option Deleted). IfSome r
+    (λ taken. HasDeleted c.find_target.new.seat.view c.args.key taken.number c.delete_node.new.seat.view)) c.in-Some-2.is
+    c.in_ok-taken.ensures.deleted) (subst (λ (r : Option Deleted). IfSome r
+    (λ _. IsInformed c.delete_node.new.seat.view)) c.in-Some-2.is c.in_ok-taken.ensures.informed)
 
 pub returns-in-Some-2-clause-wait : goal.returns-in-Some-2-clause-wait
-returns-in-Some-2-clause-wait g c = gone_wait c.loop-round.invariant.tries c.in_ok-target.ensures.searched c.take_out.new.seat.view
-    (subst (λ (r : Option TakenOut). IfSome r
-    (λ _. KeepsWait c.find_target.new.seat.view c.take_out.new.seat.view)) c.in-Some-2.is c.in_ok-taken.ensures.waits)
+returns-in-Some-2-clause-wait g c = gone_wait c.loop-round.invariant.tries c.in_ok-target.ensures.searched c.delete_node.new.seat.view
+    (subst (λ (r : Option Deleted). IfSome r
+    (λ _. KeepsWait c.find_target.new.seat.view c.delete_node.new.seat.view)) c.in-Some-2.is c.in_ok-taken.ensures.waits)
 
 pub loop-round-preserved : goal.loop-round-preserved
 loop-round-preserved g c = record {
-  table = c.take_out.ensures.table ∙ c.find_target.ensures.seat.0 ∙ c.loop-round.invariant.table;
+  table = c.delete_node.ensures.table ∙ c.find_target.ensures.seat.0 ∙ c.loop-round.invariant.table;
   listed = c.in_ok-taken.ensures.listed;
   same = (subst
-      (λ (r : Option TakenOut). IfNone r (c.take_out.new.seat.listed ≡ c.find_target.new.seat.listed)) c.in_default-2.is
+      (λ (r : Option Deleted). IfNone r (c.delete_node.new.seat.listed ≡ c.find_target.new.seat.listed)) c.in_default-2.is
       c.in_ok-taken.ensures.kept) ∙ c.find_target.ensures.seat.1 ∙ c.loop-round.invariant.same;
   tries = tries_again c.loop-round.invariant.tries c.in_ok-target.ensures.searched
-      (subst (λ (r : Option TakenOut). IfNone r
-      (KeepsRest c.find_target.new.seat.view c.take_out.new.seat.view)) c.in_default-2.is c.in_ok-taken.ensures.same)
-      (λ kept a. (subst (λ (r : Option TakenOut). IfNone r
+      (subst (λ (r : Option Deleted). IfNone r
+      (KeepsRest c.find_target.new.seat.view c.delete_node.new.seat.view)) c.in_default-2.is c.in_ok-taken.ensures.same)
+      (λ kept a. (subst (λ (r : Option Deleted). IfNone r
       ((kept : ℕ) → IsAt (shape_of g.W.WaitWords.WAY c.args.table.now) (Del c.args.key) kept
       (at.TargetLock c.in-Some.target 0) c.find_target.new.seat.view
       → IsAt (shape_of g.W.WaitWords.WAY c.args.table.now)
-      (Del c.args.key) kept at.EnterClock c.take_out.new.seat.view)) c.in_default-2.is c.in_ok-taken.ensures.again) kept
+      (Del c.args.key) kept at.EnterClock c.delete_node.new.seat.view)) c.in_default-2.is c.in_ok-taken.ensures.again) kept
       ((subst (λ (r : Option Target). IfSome r (λ target. (kept : ℕ)
       → MayBegin (shape_of g.W.WaitWords.WAY c.args.table.now) (Del c.args.key) kept c.loop-round.seat.view
       → IsAt (shape_of g.W.WaitWords.WAY c.args.table.now) (Del c.args.key) kept
       (at.TargetLock target 0) c.find_target.new.seat.view)) c.in-Some.is c.in_ok-target.ensures.found) kept a));
-  slots = slots_on c.args.seat.now c.find_target.new.seat c.take_out.new.seat
+  slots = slots_on c.args.seat.now c.find_target.new.seat c.delete_node.new.seat
       (searched_slots c.args.seat.now c.loop-round.seat c.find_target.new.seat c.args.key c.loop-round.invariant.slots
       c.in_ok-target.ensures.searched
       c.find_target.ensures.seat.1) c.in_ok-taken.ensures.slots;
   made =
       let made = c.loop-round.invariant.made in
       let found = c.in_ok-target.ensures.stepped in
-      let rest = subst (λ (r : Option TakenOut). IfNone r
-      (KeepsRest c.find_target.new.seat.view c.take_out.new.seat.view)) c.in_default-2.is c.in_ok-taken.ensures.same in
-      let tried = prefix_steps c.find_target.new.seat.view c.take_out.new.seat.view rest.gone.steps in
+      let rest = subst (λ (r : Option Deleted). IfNone r
+      (KeepsRest c.find_target.new.seat.view c.delete_node.new.seat.view)) c.in_default-2.is c.in_ok-taken.ensures.same in
+      let tried = prefix_steps c.find_target.new.seat.view c.delete_node.new.seat.view rest.gone.steps in
       omega (arith, made, found, tried);
 }
 
@@ -133,7 +133,7 @@ returns-in_default-clause-slots g c =
 
 pub returns-in-Some-2-clause-slots : goal.returns-in-Some-2-clause-slots
 returns-in-Some-2-clause-slots g c =
-    slots_on c.args.seat.now c.find_target.new.seat c.take_out.new.seat
+    slots_on c.args.seat.now c.find_target.new.seat c.delete_node.new.seat
     (searched_slots c.args.seat.now c.loop-round.seat c.find_target.new.seat c.args.key c.loop-round.invariant.slots
     c.in_ok-target.ensures.searched
     c.find_target.ensures.seat.1) c.in_ok-taken.ensures.slots
@@ -143,19 +143,19 @@ returns-in_default-clause-retires g c = c.find_target.ensures.seat.1 ∙ c.loop-
 
 pub returns-in-Some-2-clause-retires : goal.returns-in-Some-2-clause-retires
 returns-in-Some-2-clause-retires g c =
-    tried_retires c.args.seat.now c.loop-round.seat c.find_target.new.seat c.take_out.new.seat c.in-Some-2.taken.number
+    tried_retires c.args.seat.now c.loop-round.seat c.find_target.new.seat c.delete_node.new.seat c.in-Some-2.taken.number
     c.loop-round.invariant.tries
     c.in_ok-target.ensures.searched (c.find_target.ensures.seat.1 ∙ c.loop-round.invariant.same)
-    (subst (λ (r : Option TakenOut). IfSome r
-    (λ taken. RetiresInOrder c.find_target.new.seat c.args.key taken.number c.take_out.new.seat)) c.in-Some-2.is
+    (subst (λ (r : Option Deleted). IfSome r
+    (λ taken. RetiresInOrder c.find_target.new.seat c.args.key taken.number c.delete_node.new.seat)) c.in-Some-2.is
     c.in_ok-taken.ensures.retires)
 
 pub returns-in-Some-2-clause-value : goal.returns-in-Some-2-clause-value
 returns-in-Some-2-clause-value g c e =
-    tells_gone c.loop-round.invariant.tries c.in_ok-target.ensures.searched c.take_out.new.seat.view c.in-Some-2.taken.number
+    tells_gone c.loop-round.invariant.tries c.in_ok-target.ensures.searched c.delete_node.new.seat.view c.in-Some-2.taken.number
     c.in-Some-2.taken.value
-    ((subst (λ (r : Option TakenOut). IfSome r (λ taken. c.args.tells_value ≡ true
-    → TellsTaken c.find_target.new.seat.view c.args.key taken.number taken.value c.take_out.new.seat.view)) c.in-Some-2.is
+    ((subst (λ (r : Option Deleted). IfSome r (λ taken. c.args.tells_value ≡ true
+    → TellsTaken c.find_target.new.seat.view c.args.key taken.number taken.value c.delete_node.new.seat.view)) c.in-Some-2.is
     c.in_ok-taken.ensures.value) e)
 
 pub returns-in_default-clause-begins : goal.returns-in_default-clause-begins
@@ -163,6 +163,6 @@ returns-in_default-clause-begins g c = absent_begins c.loop-round.invariant.trie
 
 pub returns-in-Some-2-clause-begins : goal.returns-in-Some-2-clause-begins
 returns-in-Some-2-clause-begins g c = gone_begins c.loop-round.invariant.tries c.in_ok-target.ensures.searched
-    (subst (λ (r : Option TakenOut). IfSome r
-    (λ taken. HasDeleted c.find_target.new.seat.view c.args.key taken.number c.take_out.new.seat.view)) c.in-Some-2.is
+    (subst (λ (r : Option Deleted). IfSome r
+    (λ taken. HasDeleted c.find_target.new.seat.view c.args.key taken.number c.delete_node.new.seat.view)) c.in-Some-2.is
     c.in_ok-taken.ensures.deleted)

@@ -40,13 +40,13 @@ returns-then-not-still_holds-clause-at g c kept a =
     (fails_at c.args.spot c.still_holds.result c.if-not-still_holds.true
     (c.still_holds.ensures.at _ _ (checking a c.lock.ensures.told c.if-lock-ne0.false))) c.unlock.ensures.told
 
-pub open_front-requires-clause-settled : goal.open_front-requires-clause-settled
-open_front-requires-clause-settled g c = settled_leaf
+pub open_commit-requires-clause-settled : goal.open_commit-requires-clause-settled
+open_commit-requires-clause-settled g c = settled_leaf
     (holds_at c.args.spot c.still_holds.result c.if-not-still_holds.false
     (c.still_holds.ensures.at _ _ (checking c.requires.at.1 c.lock.ensures.told c.if-lock-ne0.false)))
 
-pub open_front-requires-clause-paid : goal.open_front-requires-clause-paid
-open_front-requires-clause-paid g c = unpaid_leaf
+pub open_commit-requires-clause-paid : goal.open_commit-requires-clause-paid
+open_commit-requires-clause-paid g c = unpaid_leaf
     (holds_at c.args.spot c.still_holds.result c.if-not-still_holds.false
     (c.still_holds.ensures.at _ _ (checking c.requires.at.1 c.lock.ensures.told c.if-lock-ne0.false)))
 
@@ -57,8 +57,8 @@ link_leaf-requires-clause-asks g c =
     stores_leaf c.requires.at.1 c.lock.ensures.told c.still_holds.ensures.goes c.in_ok-front.ensures.opened storing c.args.leaf
     (c.still_holds.ensures.slot c.args.leaf (hand_locked c.args.leaf c.lock.ensures.told c.requires.slot))
 
-pub close_front-number-requires-clause-odd : goal.close_front-number-requires-clause-odd
-close_front-number-requires-clause-odd g c =
+pub close_commit-number-requires-clause-odd : goal.close_commit-number-requires-clause-odd
+close_commit-number-requires-clause-odd g c =
     let storing = (c.in_ok-front.ensures.at _ _ _ _ (holds_at c.args.spot c.still_holds.result c.if-not-still_holds.false
     (c.still_holds.ensures.at _ _ (checking c.requires.at.1 c.lock.ensures.told c.if-lock-ne0.false)))) in
     let hand = c.still_holds.ensures.slot c.args.leaf (hand_locked c.args.leaf c.lock.ensures.told c.requires.slot) in
@@ -71,8 +71,8 @@ unlock-requires-2-clause-asks g c =
     (c.still_holds.ensures.at _ _ (checking c.requires.at.1 c.lock.ensures.told c.if-lock-ne0.false)))) in
     let hand = c.still_holds.ensures.slot c.args.leaf (hand_locked c.args.leaf c.lock.ensures.told c.requires.slot) in
     lets_go c.requires.at.1 c.lock.ensures.told c.still_holds.ensures.goes c.in_ok-front.ensures.opened storing c.args.leaf hand
-    c.link_leaf.ensures.told c.close_front-number.ensures.closed
-    (c.close_front-number.ensures.at _ _ _ (evening c.requires.at.1 c.lock.ensures.told c.still_holds.ensures.goes
+    c.link_leaf.ensures.told c.close_commit-number.ensures.closed
+    (c.close_commit-number.ensures.at _ _ _ (evening c.requires.at.1 c.lock.ensures.told c.still_holds.ensures.goes
     c.in_ok-front.ensures.opened storing c.args.leaf hand c.link_leaf.ensures.told))
 
 pub returns-clause-again : goal.returns-clause-again
@@ -83,12 +83,12 @@ returns-clause-linked g c kept number a e =
     let storing = (c.in_ok-front.ensures.at _ _ _ _ (holds_at c.args.spot c.still_holds.result c.if-not-still_holds.false
     (c.still_holds.ensures.at _ _ (checking a c.lock.ensures.told c.if-lock-ne0.false)))) in
     let hand = c.still_holds.ensures.slot c.args.leaf (hand_locked c.args.leaf c.lock.ensures.told c.requires.slot) in
-    let is = one_number number c.close_front-number.result e in
+    let is = one_number number c.close_commit-number.result e in
     links a c.lock.ensures.told c.still_holds.ensures.goes c.in_ok-front.ensures.opened storing c.args.leaf hand c.link_leaf.ensures.told
-    c.close_front-number.ensures.closed
-    (c.close_front-number.ensures.at _ _ _ (evening a c.lock.ensures.told c.still_holds.ensures.goes c.in_ok-front.ensures.opened storing
+    c.close_commit-number.ensures.closed
+    (c.close_commit-number.ensures.at _ _ _ (evening a c.lock.ensures.told c.still_holds.ensures.goes c.in_ok-front.ensures.opened storing
     c.args.leaf hand c.link_leaf.ensures.told))
-    c.unlock-2.ensures.told number (is ∙ c.close_front-number.ensures.number)
+    c.unlock-2.ensures.told number (is ∙ c.close_commit-number.ensures.number)
 
 pub returns-clause-at : goal.returns-clause-at
 returns-clause-at g c kept a =
@@ -96,8 +96,8 @@ returns-clause-at g c kept a =
     (c.still_holds.ensures.at _ _ (checking a c.lock.ensures.told c.if-lock-ne0.false)))) in
     let hand = c.still_holds.ensures.slot c.args.leaf (hand_locked c.args.leaf c.lock.ensures.told c.requires.slot) in
     done_at a c.lock.ensures.told c.still_holds.ensures.goes c.in_ok-front.ensures.opened storing c.args.leaf hand c.link_leaf.ensures.told
-    c.close_front-number.ensures.closed
-    (c.close_front-number.ensures.at _ _ _ (evening a c.lock.ensures.told c.still_holds.ensures.goes c.in_ok-front.ensures.opened storing
+    c.close_commit-number.ensures.closed
+    (c.close_commit-number.ensures.at _ _ _ (evening a c.lock.ensures.told c.still_holds.ensures.goes c.in_ok-front.ensures.opened storing
     c.args.leaf hand c.link_leaf.ensures.told))
     c.unlock-2.ensures.told
 

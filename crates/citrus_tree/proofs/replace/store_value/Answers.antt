@@ -64,12 +64,12 @@ returns-then-is_other-clause-at g c kept a =
     gave_way_at a c.lock.ensures.told c.if-lock-ne0.false c.locked_load-life.ensures.told
     (is_alive _ _ c.is_life-holds.ensures c.if-not-holds.false) c.locked_load-old.ensures.told c.unlock-then-is_other.ensures.told
 
-pub open_front-requires-clause-settled : goal.open_front-requires-clause-settled
-open_front-requires-clause-settled g c = settled c.requires.at.1 c.lock.ensures.told c.if-lock-ne0.false c.locked_load-life.ensures.told
+pub open_commit-requires-clause-settled : goal.open_commit-requires-clause-settled
+open_commit-requires-clause-settled g c = settled c.requires.at.1 c.lock.ensures.told c.if-lock-ne0.false c.locked_load-life.ensures.told
     (is_alive _ _ c.is_life-holds.ensures c.if-not-holds.false) c.locked_load-old.ensures.told
 
-pub open_front-requires-clause-paid : goal.open_front-requires-clause-paid
-open_front-requires-clause-paid g c = unpaid c.requires.at.1 c.lock.ensures.told c.if-lock-ne0.false c.locked_load-life.ensures.told
+pub open_commit-requires-clause-paid : goal.open_commit-requires-clause-paid
+open_commit-requires-clause-paid g c = unpaid c.requires.at.1 c.lock.ensures.told c.if-lock-ne0.false c.locked_load-life.ensures.told
     (is_alive _ _ c.is_life-holds.ensures c.if-not-holds.false) c.locked_load-old.ensures.told
 
 pub replace_value-requires-clause-asks : goal.replace_value-requires-clause-asks
@@ -79,8 +79,8 @@ replace_value-requires-clause-asks g c =
     (c.in_ok-front.ensures.at _ _ _ _ (committing c.requires.at.1 c.lock.ensures.told c.if-lock-ne0.false c.locked_load-life.ensures.told
     (is_alive _ _ c.is_life-holds.ensures c.if-not-holds.false) c.locked_load-old.ensures.told))
 
-pub close_front-number-requires-clause-odd : goal.close_front-number-requires-clause-odd
-close_front-number-requires-clause-odd g c =
+pub close_commit-number-requires-clause-odd : goal.close_commit-number-requires-clause-odd
+close_commit-number-requires-clause-odd g c =
     let storing =
     c.in_ok-front.ensures.at _ _ _ _ (committing c.requires.at.1 c.lock.ensures.told c.if-lock-ne0.false c.locked_load-life.ensures.told
     (is_alive _ _ c.is_life-holds.ensures c.if-not-holds.false) c.locked_load-old.ensures.told) in
@@ -95,8 +95,8 @@ unlock-requires-2-clause-asks g c =
     (is_alive _ _ c.is_life-holds.ensures c.if-not-holds.false) c.locked_load-old.ensures.told) in
     lets_go c.requires.at.1 c.lock.ensures.told c.if-lock-ne0.false c.locked_load-life.ensures.told
     (is_alive _ _ c.is_life-holds.ensures c.if-not-holds.false) c.locked_load-old.ensures.told c.in_ok-front.ensures.opened storing
-    c.replace_value.ensures.told c.close_front-number.ensures.closed
-    (c.close_front-number.ensures.at _ _ _ (evening c.requires.at.1 c.lock.ensures.told c.if-lock-ne0.false c.locked_load-life.ensures.told
+    c.replace_value.ensures.told c.close_commit-number.ensures.closed
+    (c.close_commit-number.ensures.at _ _ _ (evening c.requires.at.1 c.lock.ensures.told c.if-lock-ne0.false c.locked_load-life.ensures.told
     (is_alive _ _ c.is_life-holds.ensures c.if-not-holds.false) c.locked_load-old.ensures.told c.in_ok-front.ensures.opened storing
     c.replace_value.ensures.told))
 
@@ -107,15 +107,15 @@ pub returns-clause-stored : goal.returns-clause-stored
 returns-clause-stored g c kept done a e =
     let storing = c.in_ok-front.ensures.at _ _ _ _ (committing a c.lock.ensures.told c.if-lock-ne0.false c.locked_load-life.ensures.told
     (is_alive _ _ c.is_life-holds.ensures c.if-not-holds.false) c.locked_load-old.ensures.told) in
-    let is = one_done done (record { old = c.locked_load-old.result; number = c.close_front-number.result }) e in
+    let is = one_done done (record { old = c.locked_load-old.result; number = c.close_commit-number.result }) e in
     stored a c.lock.ensures.told c.if-lock-ne0.false c.locked_load-life.ensures.told
     (is_alive _ _ c.is_life-holds.ensures c.if-not-holds.false) c.locked_load-old.ensures.told c.in_ok-front.ensures.opened storing
-    c.replace_value.ensures.told c.close_front-number.ensures.closed
-    (c.close_front-number.ensures.at _ _ _ (evening a c.lock.ensures.told c.if-lock-ne0.false c.locked_load-life.ensures.told
+    c.replace_value.ensures.told c.close_commit-number.ensures.closed
+    (c.close_commit-number.ensures.at _ _ _ (evening a c.lock.ensures.told c.if-lock-ne0.false c.locked_load-life.ensures.told
     (is_alive _ _ c.is_life-holds.ensures c.if-not-holds.false) c.locked_load-old.ensures.told c.in_ok-front.ensures.opened storing
     c.replace_value.ensures.told))
     c.unlock-2.ensures.told done (ap (λ (z : Replaced). z.old) is)
-    (ap (λ (z : Replaced). z.number) is ∙ c.close_front-number.ensures.number)
+    (ap (λ (z : Replaced). z.number) is ∙ c.close_commit-number.ensures.number)
 
 pub returns-clause-at : goal.returns-clause-at
 returns-clause-at g c kept a =
@@ -123,8 +123,8 @@ returns-clause-at g c kept a =
     (is_alive _ _ c.is_life-holds.ensures c.if-not-holds.false) c.locked_load-old.ensures.told) in
     done_at a c.lock.ensures.told c.if-lock-ne0.false c.locked_load-life.ensures.told
     (is_alive _ _ c.is_life-holds.ensures c.if-not-holds.false) c.locked_load-old.ensures.told c.in_ok-front.ensures.opened storing
-    c.replace_value.ensures.told c.close_front-number.ensures.closed
-    (c.close_front-number.ensures.at _ _ _ (evening a c.lock.ensures.told c.if-lock-ne0.false c.locked_load-life.ensures.told
+    c.replace_value.ensures.told c.close_commit-number.ensures.closed
+    (c.close_commit-number.ensures.at _ _ _ (evening a c.lock.ensures.told c.if-lock-ne0.false c.locked_load-life.ensures.told
     (is_alive _ _ c.is_life-holds.ensures c.if-not-holds.false) c.locked_load-old.ensures.told c.in_ok-front.ensures.opened storing
     c.replace_value.ensures.told))
     c.unlock-2.ensures.told
@@ -140,5 +140,5 @@ returns-then-is_other-clause-expected g c done e = absurd (none-some done e)
 
 pub returns-clause-expected : goal.returns-clause-expected
 returns-clause-expected g c done e other =
-    let is = one_done done (record { old = c.locked_load-old.result; number = c.close_front-number.result }) e in
+    let is = one_done done (record { old = c.locked_load-old.result; number = c.close_commit-number.result }) e in
     not_other c.is_other.ensures c.if-is_other.false (subst (λ (z : Replaced). IsOther c.args.expected z.old) is other)

@@ -1,0 +1,17 @@
+use Rattle.grace_cookie.proofs.Keeping.{stay_retired}
+use Rattle.tree_tests.proofs.lifts.cookies.lift_beside.Goals as goal
+
+pub returns-clause-keeps : goal.returns-clause-keeps
+returns-clause-keeps g c =
+    let lifted = c.in-Ok.ensures in
+    let slots = lifted.slots in
+    record {
+      latest = record {
+        place = lifted.updates.gone.same;
+        seen = lifted.updates.gone.begins;
+        waits = slots.waits;
+        wait = slots.wait;
+      };
+      retired = λ same. let later = slots.retired same in stay_retired c.args.seat.now.view c.lift.new.seat.view later.0 later.1;
+      listed = slots.listed;
+    }

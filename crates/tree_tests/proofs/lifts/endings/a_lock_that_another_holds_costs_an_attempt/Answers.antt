@@ -1,0 +1,5 @@
+use Rattle.node_slots.proofs.Locked.{may_unlock}
+use Rattle.tree_tests.proofs.lifts.endings.a_lock_that_another_holds_costs_an_attempt.Goals as goal
+
+pub unlock-requires-clause-held : goal.unlock-requires-clause-held
+unlock-requires-clause-held g c = may_unlock _ _ _ c.split-seat.ensures.quiet.1.view.moving c.in-Held.ensures.view

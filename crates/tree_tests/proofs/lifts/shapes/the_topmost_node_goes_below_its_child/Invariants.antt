@@ -1,0 +1,10 @@
+use Rattle.std.proofs.Common.{◌≡◌}
+use Rattle.seat_table.specs.Seats.{IsQuietSeat}
+use Rattle.tree_tests.proofs.lifts.shapes.the_topmost_node_goes_below_its_child.Given as goal
+
+-- the seat is of this table, and quiet
+abbrev pub invariant-loop-key : goal.invariant-loop-key
+invariant-loop-key g l = (l.seat.table ≡ l.table) × IsQuietSeat l.seat
+
+abbrev pub invariant-loop-turns : goal.invariant-loop-turns
+invariant-loop-turns g l = (l.seat.table ≡ l.table) × IsQuietSeat l.seat
