@@ -1,5 +1,6 @@
 //! What a handle leads to, whatever its waiter.
 ghost use Rattle.std.specs.Prelude.{◌≡◌, ◌≤◌, ◌<◌, ◌+◌, false, MatchBool, IfOk, IfErr, IfNone, IfSome};
+ghost use Rattle.prcu_model.specs.declared.operation.Op.TheVariants.{Get, Put, Set};
 ghost use Rattle.core_state.specs.memory.Bounds.{most_places};
 ghost use Rattle.tree_handles.specs.Begun.{HasStarted, Polls};
 ghost use Rattle.tree_handles.specs.Callers.{MayGoOn, IsFresh, IsShared, IsReopened};
@@ -21,7 +22,7 @@ use eer_wait::Eer;
 use exact_list::{Exact, Nearest, Page};
 use key_interval::Keys;
 use prcu_marks::Side;
-use prcu_model::{NoMemory, Op, Told};
+use prcu_model::{NoMemory, Told};
 use std::alloc::Global;
 use std::marker::Model;
 use tree_lift::Lifted;
@@ -109,21 +110,46 @@ impl AnyCaller {
         }
     }
 
-    /// Makes the operation. While it waits for other threads it spins.
-    // A call would hand the operation and its answer through memory.
+    /// Finds the key's value. It waits for nobody.
     #[inline(always)]
-    pub(crate) fn call(&mut self, op: Op) -> Result<Told, Status>
-        ensures called { IfOk result (λ told. IsCalled self.old op told self.new) }
+    pub(crate) fn get(&mut self, key: u64) -> Result<Told, Status>
+        ensures called { IfOk result (λ told. IsCalled self.old (Get key) told self.new) }
         ensures cause { IfErr result (λ status. CausedBy status self.old self.new) }
     {
         match &mut self.caller {
-            ByWaiter::Eer(caller) => caller.call(op),
-            ByWaiter::Domain(caller) => caller.call(op),
-            ByWaiter::Deer(caller) => caller.call(op),
+            ByWaiter::Eer(caller) => caller.get(key),
+            ByWaiter::Domain(caller) => caller.get(key),
+            ByWaiter::Deer(caller) => caller.get(key),
         }
     }
 
-    /// Takes the key's pair out, where it is present, and tells its value. It waits as a call does.
+    /// Adds the pair, where the key is absent. While it waits for other threads it spins.
+    #[inline(always)]
+    pub(crate) fn put(&mut self, key: u64, value: u64) -> Result<Told, Status>
+        ensures called { IfOk result (λ told. IsCalled self.old (Put key value) told self.new) }
+        ensures cause { IfErr result (λ status. CausedBy status self.old self.new) }
+    {
+        match &mut self.caller {
+            ByWaiter::Eer(caller) => caller.put(key, value),
+            ByWaiter::Domain(caller) => caller.put(key, value),
+            ByWaiter::Deer(caller) => caller.put(key, value),
+        }
+    }
+
+    /// Gives the key another value, where it is present. While it waits for other threads it spins.
+    #[inline(always)]
+    pub(crate) fn set(&mut self, key: u64, value: u64) -> Result<Told, Status>
+        ensures called { IfOk result (λ told. IsCalled self.old (Set key value) told self.new) }
+        ensures cause { IfErr result (λ status. CausedBy status self.old self.new) }
+    {
+        match &mut self.caller {
+            ByWaiter::Eer(caller) => caller.set(key, value),
+            ByWaiter::Domain(caller) => caller.set(key, value),
+            ByWaiter::Deer(caller) => caller.set(key, value),
+        }
+    }
+
+    /// Takes the key's pair out, where it is present, and tells its value. While it waits for other threads it spins.
     pub(crate) fn remove(&mut self, key: u64) -> Result<Option<u64>, Status>
         ensures taken { IfOk result (λ value. IsRemoved self.old key value self.new) }
         ensures cause { IfErr result (λ status. CausedBy status self.old self.new) }
@@ -135,7 +161,7 @@ impl AnyCaller {
         }
     }
 
-    /// Gives the key another value, where its value is the expected one. It waits as a call does.
+    /// Gives the key another value, where its value is the expected one. While it waits for other threads it spins.
     pub(crate) fn compare(
         &mut self,
         key: u64,

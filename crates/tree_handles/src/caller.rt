@@ -1,5 +1,6 @@
 //! What a handle leads to, by its waiter: a seat, and what it shares with the other callers of the index.
 ghost use Rattle.std.specs.Prelude.{◌≡◌, ◌≤◌, ◌<◌, ◌+◌, false, true, MatchBool, IfOk, IfErr, IfNone, IfSome};
+ghost use Rattle.prcu_model.specs.declared.operation.Op.TheVariants.{Get, Put, Set};
 ghost use Rattle.seat_table.specs.Seats.{IsQuietSeat};
 ghost use Rattle.core_state.specs.steps.Seating.{first_of, second_of};
 ghost use Rattle.seat_table.specs.Gains.{IsInformed};
@@ -18,7 +19,7 @@ use crate::shared::Shared;
 use crate::spinning::{GaveUp, Spinning};
 use crate::status::Status;
 use crate::tidying::attempts_for;
-use citrus_tree::patient::{call, compare, hold, release, remove};
+use citrus_tree::patient::{call, compare, hold, put, release, remove, set};
 use citrus_tree::{Called, Compared};
 use core::mem::replace_with;
 use exact_list::patient::{list_always, nearest_always};
@@ -205,22 +206,60 @@ impl<W: WaitPart> Caller<W> {
         None
     }
 
-    /// Makes the operation. While it waits for other threads it spins.
-    // A call would hand the operation and its answer through memory.
+    /// Finds the key's value. It waits for nobody.
+    // Each operation has a call of its own, down to the tree: one for all would hand the operation and its answer through memory.
     #[inline(always)]
-    pub(crate) fn call(&mut self, op: Op) -> Result<Told, Status>
-        ensures called { IfOk result (λ told. IsCalled self.old op told self.new) }
+    pub(crate) fn get(&mut self, key: u64) -> Result<Told, Status>
+        ensures called { IfOk result (λ told. IsCalled self.old (Get key) told self.new) }
         ensures cause { IfErr result (λ status. CausedBy status self.old self.new) }
     {
         if let Some(status) = self.hindrance(TICKETS) {
             return Err(status);
         }
         let table = self.shared.table();
-        match call(&Spinning, table, &mut self.seat, &OpenGate, op) {
+        match call(&Spinning, table, &mut self.seat, &OpenGate, Op::Get { key }) {
+            Ok(called) => Ok(called.told),
+            Err(GaveUp) => {
+                self.lost = true;
+                Err(Status::Lost)
+            }
+        }
+    }
+
+    /// Adds the pair, where the key is absent, and lifts nodes on its way where that was deep. While it waits for other threads it spins.
+    #[inline(always)]
+    pub(crate) fn put(&mut self, key: u64, value: u64) -> Result<Told, Status>
+        ensures called { IfOk result (λ told. IsCalled self.old (Put key value) told self.new) }
+        ensures cause { IfErr result (λ status. CausedBy status self.old self.new) }
+    {
+        if let Some(status) = self.hindrance(TICKETS) {
+            return Err(status);
+        }
+        let table = self.shared.table();
+        match put(&Spinning, table, &mut self.seat, &OpenGate, key, value) {
             Ok(called) => {
-                self.lift_behind(op, called);
+                self.lift_behind(Op::Put { key, value }, called);
                 Ok(called.told)
             }
+            Err(GaveUp) => {
+                self.lost = true;
+                Err(Status::Lost)
+            }
+        }
+    }
+
+    /// Gives the key another value, where it is present. While it waits for other threads it spins.
+    #[inline(always)]
+    pub(crate) fn set(&mut self, key: u64, value: u64) -> Result<Told, Status>
+        ensures called { IfOk result (λ told. IsCalled self.old (Set key value) told self.new) }
+        ensures cause { IfErr result (λ status. CausedBy status self.old self.new) }
+    {
+        if let Some(status) = self.hindrance(TICKETS) {
+            return Err(status);
+        }
+        let table = self.shared.table();
+        match set(&Spinning, table, &mut self.seat, &OpenGate, key, value) {
+            Ok(told) => Ok(told),
             Err(GaveUp) => {
                 self.lost = true;
                 Err(Status::Lost)
@@ -260,7 +299,7 @@ impl<W: WaitPart> Caller<W> {
         }
     }
 
-    /// Takes the key's pair out, where it is present, and tells its value. It waits as a call does.
+    /// Takes the key's pair out, where it is present, and tells its value. While it waits for other threads it spins.
     pub(crate) fn remove(&mut self, key: u64) -> Result<Option<u64>, Status>
         ensures taken { IfOk result (λ value. IsRemoved self.old key value self.new) }
         ensures cause { IfErr result (λ status. CausedBy status self.old self.new) }
@@ -278,7 +317,7 @@ impl<W: WaitPart> Caller<W> {
         }
     }
 
-    /// Gives the key another value, where its value is the expected one. It waits as a call does.
+    /// Gives the key another value, where its value is the expected one. While it waits for other threads it spins.
     pub(crate) fn compare(
         &mut self,
         key: u64,

@@ -105,7 +105,7 @@ impl Handle {
         let Some(mut caller) = self.take(alloc) else {
             return Status::Closed;
         };
-        let status = caller.get(key, value);
+        let status = caller.get_out(key, value);
         *self = Handle::of(caller);
         status
     }

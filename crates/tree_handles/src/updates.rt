@@ -4,17 +4,17 @@ ghost use Rattle.tree_handles.specs.Calls.{ComparesOut, Gets, Inserts, Replaces,
 use crate::any_caller::AnyCaller;
 use crate::status::Status;
 use citrus_tree::Compared;
-use prcu_model::{Op, Reply};
+use prcu_model::Reply;
 
 /// How many rounds an upsert makes.
 const ROUNDS: u32 = 1_000;
 
 impl AnyCaller {
     /// Finds the key's value.
-    pub(crate) fn get(&mut self, key: u64, value: &mut u64) -> Status
+    pub(crate) fn get_out(&mut self, key: u64, value: &mut u64) -> Status
         ensures { Gets self.old key value.old result value.new self.new }
     {
-        match self.call(Op::Get { key }) {
+        match self.get(key) {
             Err(status) => status,
             Ok(told) => match told.reply {
                 Reply::Val { value: found } => {
@@ -30,7 +30,7 @@ impl AnyCaller {
     pub(crate) fn insert(&mut self, key: u64, value: u64) -> Status
         ensures { Inserts self.old key value result self.new }
     {
-        match self.call(Op::Put { key, value }) {
+        match self.put(key, value) {
             Err(status) => status,
             Ok(told) => match told.reply {
                 Reply::New => Status::Done,
@@ -44,7 +44,7 @@ impl AnyCaller {
     pub(crate) fn replace(&mut self, key: u64, value: u64, old: &mut u64) -> Status
         ensures { Replaces self.old key value old.old result old.new self.new }
     {
-        match self.call(Op::Set { key, value }) {
+        match self.set(key, value) {
             Err(status) => status,
             Ok(told) => match told.reply {
                 Reply::Was { value: was } => {

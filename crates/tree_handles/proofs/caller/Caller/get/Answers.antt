@@ -1,6 +1,6 @@
 use Rattle.std.proofs.Common.{rules}
 use Rattle.tree_handles.proofs.Cookies.{cookie_called}
-use Rattle.tree_handles.proofs.caller.Caller.call.Goals as goal
+use Rattle.tree_handles.proofs.caller.Caller.get.Goals as goal
 
 -- the cookie is good still
 pub invariant_of-self : goal.invariant_of-self

@@ -1,0 +1,8 @@
+use Rattle.std.proofs.Common.{rules}
+use Rattle.tree_handles.proofs.Cookies.{cookie_called}
+use Rattle.tree_handles.proofs.caller.Caller.set.Goals as goal
+
+-- the cookie is good still
+pub invariant_of-self : goal.invariant_of-self
+invariant_of-self g c = let e = c.in-Ok.ensures in
+    (search rules, search rules, λ kept. cookie_called e.slots e.wait e.allowance (c.self.invariant.2 kept))
