@@ -26,7 +26,7 @@ done
 failed=()
 measure() { "$here/$1" "${@:2}" || failed+=("$1"); echo "$1 is done, after $SECONDS s" >&2; }
 measure tree.sh "${words[@]}"
-for script in growth.sh waits.sh lists.sh "${more[@]}"; do measure "$script"; done
+for script in growth.sh waits.sh "${more[@]}"; do measure "$script"; done
 measure plots.sh >/dev/null
 measure tables.sh
 "$here/compare.sh" || true

@@ -79,13 +79,6 @@ sections() {
         }' "$1"
 }
 
-lists() {
-    head_of 'pairs, of keys in the tree' 'at rest, ns a pair' 'beside a writer, ns a pair' 'lists that moved'
-    awk -F, '/^#/ || /^pairs/ { next }
-        $2 == "at rest" { rest = $3; next }
-        { printf "| %s | %s | %s | %d of %d |\n", $1, rest, $3, $4, $5 }' "$1"
-}
-
 # Lists of the C library beside writers, and where a library from before was measured too, what it did.
 writers() {
     head_of 'pairs of a list' writers tries 'lists a second' 'that failed' 'updates a second' '999 of 1,000 took, µs' 'the longest, µs' \
@@ -308,7 +301,7 @@ if [ $# -gt 0 ]; then
 fi
 out=$top/bench/out
 mkdir -p "$out"
-for name in tree waits lists writers shapes threads text limits cookies embed many ratios crowded size handles rust_map server; do
+for name in tree waits writers shapes threads text limits cookies embed many ratios crowded size handles rust_map server; do
     [ -e "$results/$name.csv" ] || continue
     grep -qxF "<!-- $name -->" "$top/docs/BENCHMARKS.md" "$top/bench/TABLES.md" || continue
     { echo; table "$name"; echo; } >"$out/table"

@@ -1,5 +1,5 @@
 /* Lists of the C library beside writers that never rest: `writers LIST WRITERS SECONDS` lists so many pairs at a time, from a drawn key on,
- * beside so many threads that update drawn keys; with LIST 0 nobody lists. It writes a line
+ * beside so many threads, or none, that update drawn keys; with LIST 0 nobody lists. It writes a line
  * `LIST,WRITERS,LISTS,FAILED,UPDATES,P999,LONGEST`: how many lists came in a second and how many failed, the updates in a second of all
  * writers together, and how many microseconds 999 of 1,000 of them took at most, and the longest one. A library whose lists may answer
  * CITRUS_MOVED is measured too: these have failed. It ends with status 1 where a list, or the index at the end, isn't as it must be. */
@@ -154,7 +154,7 @@ int main(int words_count, char **words) {
     const size_t list = strtoul(words[1], NULL, 10);
     const uint32_t count = (uint32_t)atoi(words[2]);
     const double seconds = atof(words[3]);
-    must(list < PAIRS && count >= 1 && count <= MOST_WRITERS, "a number is out of its range");
+    must(list < PAIRS && (list || count) && count <= MOST_WRITERS, "a number is out of its range");
     citrus_handle index = CITRUS_CLOSED_HANDLE;
     uint64_t failed = 0, came = 0, updates = 0, longest = 0;
     fill(&index, count + 1);

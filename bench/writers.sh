@@ -1,5 +1,5 @@
 #!/usr/bin/env bash
-# Measures lists of the C library beside one and three writers that never rest: how many lists of 16, 256, 4,096 and 65,536 pairs come in a
+# Measures lists of the C library at rest, and beside one and three writers that never rest: how many lists of 16, 256, 4,096 and 65,536 pairs come in a
 # second, and how long updates wait for them. It installs the proved library for itself, or the libcitrus_c.a that `--archive` names; one
 # that `--before` names is measured beside it. A row says how many tries a list of its library makes before it keeps updates off: the constant
 # TRIES of the crate tree_handles as it stands here, or what `--tries` and `--before-tries` say of an archive that has another. Medians of so
@@ -47,7 +47,8 @@ measured_here "the median of $runs runs of $seconds s, an index of 131,072 pairs
 : >"$out/writers_lines"
 for ((run = 1; run <= runs; run++)); do
     for list in 0 16 256 4096 65536; do
-        for writers in 1 3; do
+        for writers in 0 1 3; do
+            [ "$list$writers" != 00 ] || continue
             for name in "${series[@]}"; do
                 line=$("$out/writers_$name" "$list" "$writers" "$seconds")
                 printf '%s,%s,%s\n' "$name" "${tries[$name]}" "$line"

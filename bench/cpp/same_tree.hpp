@@ -61,7 +61,7 @@ public:
             }
             const Spot spot = leave_with_spot(seat, end);
             if (seat.hand == 0) {
-                if (!this->take_slot(seat)) return 0;
+                if (!this->take_slot(seat, spot.slot)) return 0;
                 const uint32_t leaf = seat.hand;
                 at(leaf, Key).store(key);
                 at(leaf, Value).store(value);
@@ -102,10 +102,9 @@ protected:
     };
 
     Links links(uint32_t slot, Field side) {
-        const uint64_t left = at(slot, Left).load(), right = at(slot, Right).load();
-        // Two choices between numbers, of different types: of two that are the same the compiler makes a jump.
-        const uint64_t aside = side == Left ? right : left;
-        return {uint32_t(side == Left ? left : right), aside};
+        const uint32_t left = uint32_t(at(slot, Left).load()), right = uint32_t(at(slot, Right).load());
+        const uint32_t ahead = side == Left ? left : right;
+        return {ahead, left ^ right ^ ahead};
     }
 
 private:
@@ -113,8 +112,8 @@ private:
         this->enter(seat, key);
         uint32_t slot = 0;
         Field side = Right;
+        Links links = this->links(0, Right);
         for (;;) {
-            const Links links = this->links(slot, side);
             const uint32_t child = links.ahead;
             if (child == 0) return {false, slot, 0, side};
             const uint64_t found = at(child, Key).load();
@@ -122,6 +121,7 @@ private:
             if (found == key) return {true, child, slot, side};
             slot = child;
             side = key < found ? Left : Right;
+            links = this->links(slot, side);
         }
     }
 

@@ -5,15 +5,16 @@
 #include <algorithm>
 
 struct TreeSeat : Seat {
-    uint32_t hand = 0, spare = 0, looked = 0;
+    uint32_t hand = 0, spare = 0, looked = 0, line = 0;
     uint64_t free = 0, front = 0;
-    std::vector<uint32_t> retired, freed;
+    std::vector<uint32_t> retired, noted;
 };
 
 template <class W> class TreeSlots {
 public:
     using L = typename W::Layout;
-    static constexpr size_t most_freed = 64;
+    static constexpr size_t most_noted = 64;
+    static constexpr int lines_looked_at = 4;
 
     // A place keeps back so many retired slots before it waits for all readers.
     TreeSlots(uint32_t slots, uint32_t places, uint32_t most_retired)
@@ -30,9 +31,9 @@ public:
         seat.tickets = tickets;
         seat.spare = place + 1;
         seat.free = slots_;
-        seat.looked = places_ + uint64_t(place) * slots_ / places_;
+        seat.looked = seat.line = places_ + uint64_t(place) * slots_ / places_;
         seat.retired.reserve(most_retired_ + 1);
-        seat.freed.reserve(most_freed);
+        seat.noted.reserve(most_noted);
         return seat;
     }
 
@@ -52,8 +53,9 @@ protected:
         return old;
     }
 
-    // Takes a slot into the hand. Where none is free, the retired ones are waited for.
-    bool take_slot(TreeSeat &seat) {
+    // Takes a slot into the hand, near the one at which it will hang. Where none is free, the retired ones are waited for.
+    bool take_slot(TreeSeat &seat, uint32_t near) {
+        note_near(seat, near);
         if (take(seat)) return true;
         if (seat.retired.empty()) return false;
         reclaim(seat);
@@ -84,6 +86,26 @@ protected:
     }
 
 private:
+    // Notes a slot to be looked at first: the other one of the same line, or where that isn't free and none is noted the first of a line.
+    void note_near(TreeSeat &seat, uint32_t near) {
+        if (seems_free(near ^ 1)) {
+            if (seat.noted.size() == most_noted) seat.noted.pop_back();
+            seat.noted.push_back(near ^ 1);
+        } else if (seat.noted.empty()) {
+            note_line(seat);
+        }
+    }
+
+    void note_line(TreeSeat &seat) {
+        for (int i = 0; i < lines_looked_at; i++) {
+            seat.line = next_line(seat.line);
+            if (seems_free(seat.line)) return seat.noted.push_back(seat.line);
+        }
+    }
+
+    uint32_t next_line(uint32_t slot) const { return slot < slots_ + places_ ? (slot | 1) + 1 : 2; }
+    bool seems_free(uint32_t slot) { return slot != 0 && slot <= slots_ + places_ && state(slot).load() == 0; }
+
     std::atomic<uint64_t> &state(uint32_t slot) { return words_[L::state(base_, slots_ + places_ + 1, slot)]; }
 
     bool take(TreeSeat &seat) {
@@ -102,11 +124,11 @@ private:
         return true;
     }
 
-    // A free slot: the last that the place freed, where nobody has it by now, else the next in a round of all.
+    // A free slot: the last that the place noted, where nobody has it by now, else the next in a round of all.
     uint32_t seize(TreeSeat &seat) {
-        while (!seat.freed.empty()) {
-            const uint32_t slot = seat.freed.back();
-            seat.freed.pop_back();
+        while (!seat.noted.empty()) {
+            const uint32_t slot = seat.noted.back();
+            seat.noted.pop_back();
             if (exchange(state(slot), 0, 1) == 0) return slot;
         }
         do seat.looked = next_slot(seat.looked);
@@ -125,7 +147,7 @@ private:
         raise_life(slot);
         state(slot).store(0);
         seat.free = words_[L::free_count].fetch_add(1) + 1;
-        if (seat.freed.size() < most_freed) seat.freed.push_back(slot);
+        if (seat.noted.size() < most_noted) seat.noted.push_back(slot);
     }
 
     void reclaim(TreeSeat &seat) {

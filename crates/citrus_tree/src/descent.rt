@@ -1,5 +1,5 @@
 //! The way down from the root, in a section and without a lock.
-ghost use Rattle.std.specs.Prelude.{◌≡◌, ℕ, ◌≤◌, [], None, IfOk, IfErr};
+ghost use Rattle.std.specs.Prelude.{◌≡◌, ℕ, ◌%◌, ◌≤◌, [], length, None, IfOk, IfErr};
 ghost use Rattle.core_state.specs.declared.view.SearchState.TheVariants.{At};
 ghost use Rattle.core_state.specs.declared.view.View.{View};
 ghost use Rattle.core_state.specs.parts.ReaderParts.{state_slot};
@@ -36,7 +36,7 @@ pub(crate) enum Descent {
 
 // Of two links that of a side: a choice between two numbers, and no jump.
 #[inline(always)]
-fn link_on(side: Side, left: u64, right: u64) -> u64
+fn link_on(side: Side, left: u32, right: u32) -> u32
     ensures { result ≡ link_on side left right }
 {
     match side {
@@ -45,13 +45,22 @@ fn link_on(side: Side, left: u64, right: u64) -> u64
     }
 }
 
-// Both links of a slot.
+// The lower half of a word: all of a link.
+#[inline(always)]
+fn low_half(word: u64) -> u32
+    ensures { result ≡ word % 4294967296 }
+{
+    (word % (1 << 32)) as u32
+}
+
+// Both links of a slot: each is the number of a slot, or 0. They are chosen as numbers of 32 bits, since a choice between longer ones would
+// have to be cut to these behind it, on the way from one load to the next.
 #[derive(Clone, Copy)]
 struct Links {
     // That of the side to which the search goes.
-    ahead: u64,
+    ahead: u32,
     // That of the other.
-    aside: u64,
+    aside: u32,
 }
 
 // Loads both links of the slot at which the search stands.
@@ -73,11 +82,55 @@ fn load_links<W: WaitPart>(
     // docs/TREE.md#why-a-get-beside-a-delete-is-right
     let left = steps::search_load(table, seat, slot, Part::Link { side: Side::Left });
     let right = steps::search_load(table, seat, slot, Part::Link { side: Side::Right });
-    let ahead = link_on(side, left, right);
+    let left_slot = low_half(left);
+    let right_slot = low_half(right);
+    let ahead = link_on(side, left_slot, right_slot);
     Links {
         ahead,
         // The other one, and no second choice.
-        aside: left ^ right ^ ahead,
+        aside: left_slot ^ right_slot ^ ahead,
+    }
+}
+
+// Goes on from the links that were loaded of a slot: where that of the side leads to another, it loads that slot's key.
+#[inline(always)]
+fn look_on<W: WaitPart>(
+    table: &CitrusTable<W>,
+    seat: &mut Seat<W>,
+    key: u64,
+    slot: u32,
+    side: Side,
+    links: Links,
+    alone: bool,
+) -> Step
+    requires table { seat.old.table ≡ table.now }
+    requires slot { IsSlot (shape_of W.WAY table.now) slot }
+    requires loaded { (v : View) × (u : View) × IsSearching v key (At slot side) u
+        × LoadsLinks (shape_of W.WAY table.now) u slot side links.ahead seat.old.view }
+    ensures seat { (seat.new.table ≡ seat.old.table) × (seat.new.listed ≡ seat.old.listed) }
+    ensures place { 1 ≤ table.now.places }
+    ensures loads { (u : View) → LoadsLinks (shape_of W.WAY table.now) u slot side links.ahead seat.old.view
+        → Loads (shape_of W.WAY table.now) u key slot side result seat.new.view }
+    ensures slot { IsSlot (shape_of W.WAY table.now) (state_slot (state_after slot side result)) }
+    ensures searching { (v u : View) → IsSearching v key (At slot side) u
+        → LoadsLinks (shape_of W.WAY table.now) u slot side links.ahead seat.old.view
+        → IsSearching v key (state_after slot side result) seat.new.view }
+    ensures more { length seat.old.view.trail.steps ≤ length seat.new.view.trail.steps }
+{
+    // The slot may have been unlinked meanwhile. Its links still lead to the tree, or to slots unlinked later.
+    // docs/TREE.md#why-a-get-beside-a-delete-is-right
+    if links.ahead == 0 {
+        return Step::Ended;
+    }
+    let child = links.ahead;
+    let found = steps::search_load(table, seat, child, Part::Key);
+    if alone {
+        // As measured: docs/BENCHMARKS.md#the-tree
+        table.bring_near(u64::from(links.aside));
+    }
+    match step_side(key, found) {
+        None => Step::Found { slot: child },
+        Some(side) => Step::Moved { slot: child, side },
     }
 }
 
@@ -104,21 +157,7 @@ pub fn go_down<W: WaitPart>(
         → IsSearching v key (state_after slot side result) seat.new.view }
 {
     let links = load_links(table, seat, slot, side);
-    // The slot may have been unlinked meanwhile. Its links still lead to the tree, or to slots unlinked later.
-    // docs/TREE.md#why-a-get-beside-a-delete-is-right
-    if links.ahead == 0 {
-        return Step::Ended;
-    }
-    let child = links.ahead as u32;
-    let found = steps::search_load(table, seat, child, Part::Key);
-    if alone {
-        // As measured: docs/BENCHMARKS.md#the-tree
-        table.bring_near(links.aside);
-    }
-    match step_side(key, found) {
-        None => Step::Found { slot: child },
-        Some(side) => Step::Moved { slot: child, side },
-    }
+    look_on(table, seat, key, slot, side, links, alone)
 }
 
 /// Enters a section with the key, and goes down from the root until a slot has the key or a side is empty. The section stays open.
@@ -144,11 +183,14 @@ pub(crate) fn descend<P: Patience, W: WaitPart, G: Gate>(
     gate.pass(Point::InSection, seat.place());
     let mut at = 0;
     let mut side = Side::Right;
+    let mut links = load_links(table, seat, at, side);
     for round in 0..u64::MAX {
-        match go_down(table, seat, key, at, side, true) {
+        match look_on(table, seat, key, at, side, links, true) {
             Step::Moved { slot, side: next } => {
                 at = slot;
                 side = next;
+                // Behind the comparison, which chooses one of them: else the choice would wait for one more turn.
+                links = load_links(table, seat, slot, next);
             }
             Step::Found { slot } => {
                 return Ok(Descent::Found {

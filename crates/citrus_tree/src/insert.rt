@@ -81,7 +81,7 @@ pub fn put<P: Patience, W: WaitPart, G: Gate>(
                 depth: 0,
             });
         };
-        let Some(leaf) = leaf_in_hand(patience, table, seat, key, value)? else {
+        let Some(leaf) = leaf_in_hand(patience, table, seat, spot.slot, key, value)? else {
             return Ok(Called {
                 told: answered(gate, seat, Reply::Full, 0),
                 depth: 0,
@@ -147,12 +147,13 @@ fn give_up_leaf<W: WaitPart>(table: &CitrusTable<W>, seat: &mut Seat<W>)
     put_back(table, seat);
 }
 
-// The slot in hand, filled with the pair. It is filled once, after it was taken. There is none where no slot is free, and no retired
-// one to give back.
+// The slot in hand, filled with the pair. It is filled once, after it was taken, near the slot at which it will hang where one there is
+// free. There is none where no slot is free, and no retired one to give back.
 fn leaf_in_hand<P: Patience, W: WaitPart>(
     patience: &P,
     table: &CitrusTable<W>,
     seat: &mut Seat<W>,
+    near: u32,
     key: u64,
     value: u64,
 ) -> Result<Option<u32>, P::Tired>
@@ -175,6 +176,7 @@ fn leaf_in_hand<P: Patience, W: WaitPart>(
     if let Some(slot) = seat.in_hand() {
         return Ok(Some(slot));
     }
+    seat.note_near(table, near);
     let Some(slot) = take_slot(patience, table, seat)? else {
         return Ok(None);
     };

@@ -5,11 +5,11 @@ use Rattle.core_state.specs.declared.shape.Shape.{Shape}
 use Rattle.core_state.specs.declared.view.StepMade.{StepMade}
 use Rattle.core_state.specs.declared.view.Trail.{Trail}
 use Rattle.core_state.specs.declared.view.View.{View}
-use Rattle.seat_table.specs.declared.seat.TheConstants.{MOST_FREED}
+use Rattle.seat_table.specs.declared.notes.TheConstants.{MOST_NOTED}
 use Rattle.seat_table.specs.Scans.{next_slot, after_look}
 use Rattle.seat_table.specs.Seats.{IsLastFound}
 use Rattle.node_slots.specs.Slots.{Reserved, FoundEmpty, FoundOther, HasSeized, FoundTaken}
-use Rattle.node_slots.specs.Taking.{exchange, look, own_life, MakesSteps, AreLost, IsMiss, after_field, come_to, GoRound, TriesFor, TriesInVain, LosesTries, ReservesAtLast, Misses, MissesFreed, MissesInRound, Finds, FindsFreed, FindsInRound}
+use Rattle.node_slots.specs.Taking.{exchange, look, own_life, MakesSteps, AreLost, IsMiss, after_field, come_to, GoRound, TriesFor, TriesInVain, LosesTries, ReservesAtLast, Misses, MissesNoted, MissesInRound, Finds, FindsNoted, FindsInRound}
 
 makes_none : (v : View) → MakesSteps v [] v
 makes_none v = ap (λ l. record v.trail { steps = l }) (sym (append-nil v.trail.steps))
@@ -85,12 +85,12 @@ module _ (last : ℕ) (v : View) (looked : ℕ) where
   abbrev misses_none : Misses last v looked v looked
   misses_none = record { missed = []; each = tt; makes = makes_none v; comes = refl }
 
-  pub freed_none : (count : ℕ) → MissesFreed last v looked count v looked
-  freed_none count = record { misses = misses_none; few = omega arith }
+  pub noted_none : (count : ℕ) → MissesNoted last v looked count v looked
+  noted_none count = record { misses = misses_none; few = omega arith }
 
-  pub freed_most : (count most : ℕ) (w : View) (now : ℕ) → count ≤ most → MissesFreed last v looked count w now
-      → MissesFreed last v looked most w now
-  freed_most count most w now less m = let few = m.few in record { misses = m.misses; few = omega arith }
+  pub noted_most : (count most : ℕ) (w : View) (now : ℕ) → count ≤ most → MissesNoted last v looked count w now
+      → MissesNoted last v looked most w now
+  noted_most count most w now less m = let few = m.few in record { misses = m.misses; few = omega arith }
 
   pub round_none : MissesInRound last v looked v looked
   round_none = record { misses = misses_none; go_round = tt }
@@ -120,14 +120,14 @@ module _ (last : ℕ) (v : View) (looked : ℕ) where
           comes = moved ∙ ap (λ z. after_look last z slot) m.comes ∙ sym (come_on last looked m.missed (look slot 0 ∷ []));
         }
 
-  -- At slots that the seat freed.
-  module _ (u w : View) (at next slot count : ℕ) (moved : next ≡ after_look last at slot) (m : MissesFreed last v looked count u at) where
-    pub freed_more : (found : ℕ) → FoundTaken u slot found w → MissesFreed last v looked (count + 1) w next
-    freed_more found taken = let long = length-append m.misses.missed (look slot found ∷ []) in let few = m.few in
+  -- At slots that the seat noted.
+  module _ (u w : View) (at next slot count : ℕ) (moved : next ≡ after_look last at slot) (m : MissesNoted last v looked count u at) where
+    pub noted_more : (found : ℕ) → FoundTaken u slot found w → MissesNoted last v looked (count + 1) w next
+    noted_more found taken = let long = length-append m.misses.missed (look slot found ∷ []) in let few = m.few in
         record { misses = more u w at next slot moved m.misses found taken; few = omega arith }
 
-    pub finds_freed : (generation : ℕ) → count < MOST_FREED → HasSeized u slot generation w → FindsFreed last v looked slot w next
-    finds_freed generation small seized = let few = m.few in
+    pub finds_noted : (generation : ℕ) → count < MOST_NOTED → HasSeized u slot generation w → FindsNoted last v looked slot w next
+    finds_noted generation small seized = let few = m.few in
         record { finds = finds u w at next slot moved m.misses generation seized; few = omega arith }
 
   -- At one slot after another.
@@ -150,8 +150,8 @@ module _ (k : Shape) (v u : View) (looked slot : ℕ) (r : ReservesAtLast k v u)
   abbrev last : ℕ
   last = k.slots + k.places
 
-  pub tries_freed : (w : View) (now : ℕ) → FindsFreed last u looked slot w now → TriesFor k v looked slot w now
-  tries_freed w now f =
+  pub tries_noted : (w : View) (now : ℕ) → FindsNoted last u looked slot w now → TriesFor k v looked slot w now
+  tries_noted w now f =
       let looks : List StepMade = f.finds.missed ++ look slot 0 ∷ [] in record {
         lost = r.lost;
         expected = r.expected;
@@ -161,7 +161,7 @@ module _ (k : Shape) (v u : View) (looked slot : ℕ) (r : ReservesAtLast k v u)
           missed = f.finds.missed;
           each = f.finds.each;
           ends = refl;
-          freed = looks;
+          noted = looks;
           round = [];
           parts = sym (append-nil looks);
           few = (let long = length-append f.finds.missed (look slot 0 ∷ []) in let few = f.few in omega arith);
@@ -172,7 +172,7 @@ module _ (k : Shape) (v u : View) (looked slot : ℕ) (r : ReservesAtLast k v u)
         comes = f.finds.comes;
       }
 
-  pub tries_round : (x w : View) (at now : ℕ) → MissesFreed last u looked MOST_FREED x at → FindsInRound last x at slot w now
+  pub tries_round : (x w : View) (at now : ℕ) → MissesNoted last u looked MOST_NOTED x at → FindsInRound last x at slot w now
       → TriesFor k v looked slot w now
   tries_round x w at now m f =
       let missed : List StepMade = m.misses.missed in
@@ -185,7 +185,7 @@ module _ (k : Shape) (v u : View) (looked slot : ℕ) (r : ReservesAtLast k v u)
           missed = missed ++ f.finds.missed;
           each = all_append IsMiss missed f.finds.missed m.misses.each f.finds.each;
           ends = sym (append_assoc missed f.finds.missed (look slot 0 ∷ []));
-          freed = missed;
+          noted = missed;
           round = round;
           parts = refl;
           few = m.few;

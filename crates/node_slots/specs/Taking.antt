@@ -11,7 +11,7 @@ use Rattle.core_state.specs.declared.words.Kind.TheVariants.{K9, K10, K11}
 use Rattle.core_state.specs.declared.view.StepMade.{StepMade}
 use Rattle.core_state.specs.declared.view.View.{View}
 use Rattle.core_state.specs.views.Known.{noting}
-use Rattle.seat_table.specs.declared.seat.TheConstants.{MOST_FREED}
+use Rattle.seat_table.specs.declared.notes.TheConstants.{MOST_NOTED}
 use Rattle.seat_table.specs.Gains.{Sees, IsFull}
 use Rattle.seat_table.specs.Scans.{next_slot, after_look}
 use Rattle.seat_table.specs.Seats.{IsLastFound}
@@ -125,17 +125,17 @@ abbrev pub GoRound : ℕ → ℕ → List StepMade → Type 0
 GoRound last looked [] = Unit {0}
 GoRound last looked (t ∷ ts) = (t ≡ look (next_slot last looked) t.number) × GoRound last (next_slot last looked) ts
 
--- The looks for a free slot, of which the last one found one: first at any slots, no more than a seat notes of those that it freed, then at
--- one after another from where its scans have come to.
+-- The looks for a free slot, of which the last one found one: first at any slots, no more than a seat notes, then at one after another from
+-- where its scans have come to.
 pub record AreLooks (last looked slot : ℕ) (looks : List StepMade) : Type 0 where
   pub missed : List StepMade
   pub each : AllByRecursion IsMiss missed
   pub ends : looks ≡ missed ++ look slot 0 ∷ []
-  pub freed : List StepMade
+  pub noted : List StepMade
   pub round : List StepMade
-  pub parts : looks ≡ freed ++ round
-  pub few : length freed ≤ MOST_FREED
-  pub go_round : GoRound last (come_to last looked freed) round
+  pub parts : looks ≡ noted ++ round
+  pub few : length noted ≤ MOST_NOTED
+  pub go_round : GoRound last (come_to last looked noted) round
 
 -- What a take tries: it exchanges the free count until an exchange isn't lost, and looks for a free slot where that found what it expected.
 -- Each
@@ -179,7 +179,7 @@ pub record Misses (last : ℕ) (v : View) (looked : ℕ) (w : View) (now : ℕ) 
   pub makes : MakesSteps v missed w
   pub comes : now ≡ come_to last looked missed
 
-pub record MissesFreed (last : ℕ) (v : View) (looked count : ℕ) (w : View) (now : ℕ) : Type 0 where
+pub record MissesNoted (last : ℕ) (v : View) (looked count : ℕ) (w : View) (now : ℕ) : Type 0 where
   pub misses : Misses last v looked w now
   pub few : length misses.missed ≤ count
 
@@ -194,9 +194,9 @@ pub record Finds (last : ℕ) (v : View) (looked slot : ℕ) (w : View) (now : �
   pub makes : MakesSteps v ((missed ++ look slot 0 ∷ []) ++ own_life slot life ∷ []) w
   pub comes : now ≡ come_to last looked (missed ++ look slot 0 ∷ [])
 
-pub record FindsFreed (last : ℕ) (v : View) (looked slot : ℕ) (w : View) (now : ℕ) : Type 0 where
+pub record FindsNoted (last : ℕ) (v : View) (looked slot : ℕ) (w : View) (now : ℕ) : Type 0 where
   pub finds : Finds last v looked slot w now
-  pub few : length finds.missed < MOST_FREED
+  pub few : length finds.missed < MOST_NOTED
 
 pub record FindsInRound (last : ℕ) (v : View) (looked slot : ℕ) (w : View) (now : ℕ) : Type 0 where
   pub finds : Finds last v looked slot w now

@@ -4,13 +4,13 @@ ghost use Rattle.seat_table.specs.Rounds.{HasMade};
 ghost use Rattle.seat_table.specs.Seats.{shape_of};
 ghost use Rattle.seat_table.specs.Gains.{IsInformed, StaysIn};
 ghost use Rattle.node_slots.specs.declared.answers.Taken.TheVariants.{Slot};
-ghost use Rattle.node_slots.specs.Taking.{HasReserved, FoundNone, HasScanned, HasGot, Takes, ReservesAtLast, TriesInVain, MissesFreed, FindsFreed, FindsInRound, TriesBy};
+ghost use Rattle.node_slots.specs.Taking.{HasReserved, FoundNone, HasScanned, HasGot, Takes, ReservesAtLast, TriesInVain, MissesNoted, FindsNoted, FindsInRound, TriesBy};
 
 use crate::answers::{Reserve, Seize, Taken};
 use crate::slots::{reserve, seize};
 use crossbeam_utils::Backoff;
 use patience::Patience;
-use seat_table::{CitrusTable, MOST_FREED, Seat, WaitWords, next_slot};
+use seat_table::{CitrusTable, MOST_NOTED, Seat, WaitWords, next_slot};
 
 /// A slot that was seized.
 #[derive(Drop)]
@@ -52,23 +52,23 @@ fn reserve_some<P: Patience, W: WaitWords>(
     Err(patience.tired())
 }
 
-// Looks at the slots that the seat freed, the last one first, and seizes the first that is free still.
-fn seize_freed<W: WaitWords>(table: &CitrusTable<W>, seat: &mut Seat<W>) -> Option<Seized>
+// Looks at the slots that the seat noted, the last one first, and seizes the first that is free still.
+fn seize_noted<W: WaitWords>(table: &CitrusTable<W>, seat: &mut Seat<W>) -> Option<Seized>
     requires table { seat.old.table ≡ table.now }
     requires reserved { seat.old.view.hands.reserved ≡ true }
     ensures seat { (seat.new.table ≡ seat.old.table) × (seat.new.listed ≡ seat.old.listed) }
     ensures got { IfSome result (λ s. HasGot seat.old.view s.slot s.generation seat.new.view) }
-    ensures finds { IfSome result (λ s. FindsFreed
+    ensures finds { IfSome result (λ s. FindsNoted
         (table.now.slots + table.now.places) seat.old.view seat.old.looked s.slot seat.new.view seat.new.looked) }
     ensures inside { IfSome result (λ s. (1 ≤ s.slot) × (s.slot ≤ table.now.slots + table.now.places)) }
     ensures informed { IfSome result (λ _. IsInformed seat.new.view) }
     ensures stays { IfSome result (λ _. StaysIn (shape_of W.WAY table.now) seat.new.view) }
     ensures none { IfNone result (HasScanned seat.old.view seat.new.view) }
-    ensures misses { IfNone result (MissesFreed (table.now.slots
-        + table.now.places) seat.old.view seat.old.looked MOST_FREED seat.new.view seat.new.looked) }
+    ensures misses { IfNone result (MissesNoted (table.now.slots
+        + table.now.places) seat.old.view seat.old.looked MOST_NOTED seat.new.view seat.new.looked) }
 {
-    for i in 0..MOST_FREED {
-        let Some(slot) = seat.take_freed() else {
+    for i in 0..MOST_NOTED {
+        let Some(slot) = seat.take_noted() else {
             return None;
         };
         if let Seize::Got { generation } = seize(table, seat, slot) {
@@ -130,7 +130,7 @@ pub fn take<P: Patience, W: WaitWords>(
     if !reserve_some(patience, table, seat)? {
         return Ok(Taken::Empty);
     }
-    if let Some(Seized { slot, generation }) = seize_freed(table, seat) {
+    if let Some(Seized { slot, generation }) = seize_noted(table, seat) {
         return Ok(Taken::Slot { slot, generation });
     }
     let found = scan(patience, table, seat)?;

@@ -5,6 +5,7 @@
 mod access;
 pub mod laws;
 mod listed;
+mod notes;
 mod rule;
 mod scan;
 mod seat;
@@ -15,8 +16,9 @@ mod wait;
 mod waiter;
 
 pub use core_acts::Part;
+pub use notes::MOST_NOTED;
 pub use scan::next_slot;
-pub use seat::{MOST_FREED, Seat};
+pub use seat::Seat;
 pub use table::{CitrusTable, words_of};
 pub use wait::{Grace, Poll, WaitPart, wait_for_readers, wait_in_grace};
 pub use waiter::WaitWords;

@@ -14,19 +14,16 @@ ghost use Rattle.seat_table.specs.Told.{Told};
 
 use crate::access::touch;
 use crate::listed::Listed;
+use crate::notes::Notes;
 use crate::rule::Nothing;
 use crate::scan::region;
 use crate::table::CitrusTable;
 use crate::told::{Cut, Glue};
 use crate::waiter::WaitWords;
-use arrayvec::ArrayVec;
 use core_acts::Act;
 use core_state::{Field, View};
 use prcu_marks::{Access, Share};
 use std::marker::{Brand, Model, PhantomData};
-
-/// How many slots that its place freed a seat notes.
-pub const MOST_FREED: usize = 64;
 
 /// What one caller steps with. A clause sees the table that it is of, what it knows, and the retired slots that it lists.
 #[derive(Drop)]
@@ -49,7 +46,7 @@ pub struct Seat<W: WaitWords> {
     pub(crate) front: u64,
     pub(crate) looked: u32,
     pub(crate) listed: Listed,
-    pub(crate) freed: ArrayVec<u32, MOST_FREED>,
+    pub(crate) notes: Notes,
     pub(crate) marker: PhantomData<W>,
 }
 
@@ -215,21 +212,29 @@ impl<W: WaitWords> Seat<W> {
         self.looked
     }
 
-    /// Notes a slot that this place freed, so that it is looked at before others. Where [`MOST_FREED`] are noted already it isn't.
+    /// Notes a slot that this place freed, so that it is looked at before others. Where [`MOST_NOTED`](crate::MOST_NOTED) are noted already
+    /// it isn't.
     pub fn note_freed(&mut self, slot: u32)
         ensures { self.new ≡ self.old }
     {
-        if !self.freed.is_full() {
-            self.freed.push(slot);
-        }
+        self.notes.push(slot);
     }
 
-    /// The slot that was noted last of those that this place freed, which is noted no more. It may have been seized since.
-    pub fn take_freed(&mut self) -> Option<u32>
+    /// Notes a free slot for a pair that will hang at this one, so that it is looked at before others: the one of the same line of memory;
+    /// where that isn't free and no other is noted, the first of a line of its own. It loads their states, which are no steps: it changes
+    /// nothing else, and the seat learns nothing.
+    pub fn note_near(&mut self, table: &CitrusTable<W>, near: u32)
+        ensures { self.new ≡ self.old }
+    {
+        self.notes.note_near(table, near);
+    }
+
+    /// The slot that was noted last, which is noted no more. It may have been seized since.
+    pub fn take_noted(&mut self) -> Option<u32>
         ensures seat { self.new ≡ self.old }
         ensures inside { (slot : ℕ) → result ≡ Some slot → (1 ≤ slot) × (slot ≤ self.old.table.slots + self.old.table.places) }
     {
-        let slot = self.freed.pop()?;
+        let slot = self.notes.pop()?;
         // It is a slot of the table. That is tested here, where else each step would have to keep it.
         let last = self.slots as u64 + self.table_places as u64;
         if slot == 0 || slot as u64 > last {
@@ -273,11 +278,12 @@ fn cut<W: WaitWords, A: Share>(
         front,
         looked,
         listed,
-        freed,
+        notes,
         marker,
     } = seat;
     let second = table.table.shared.split_seat::<Cut<A>>(&mut first);
     let new_place = place + (places - away);
+    let new_looked = region(table.slots(), table.places(), new_place);
     (
         Seat {
             seat: first,
@@ -298,7 +304,7 @@ fn cut<W: WaitWords, A: Share>(
             front,
             looked,
             listed,
-            freed,
+            notes,
             marker,
         },
         Seat {
@@ -318,9 +324,9 @@ fn cut<W: WaitWords, A: Share>(
             turns: 0,
             free: slots as u64,
             front: 0,
-            looked: region(table.slots(), table.places(), new_place),
+            looked: new_looked,
             listed: Listed::new(),
-            freed: ArrayVec::new(),
+            notes: Notes::new(new_looked),
             marker: PhantomData,
         },
     )
@@ -373,7 +379,7 @@ impl<W: WaitWords> Seat<W> {
             front,
             looked,
             listed,
-            freed,
+            notes,
             marker,
         } = self;
         let Seat {
@@ -395,7 +401,7 @@ impl<W: WaitWords> Seat<W> {
             front: _,
             looked: _,
             listed: _,
-            freed: _,
+            notes: _,
             marker: _,
         } = other;
         table.table.shared.join_seat::<Glue>(&mut seat, theirs);
@@ -419,7 +425,7 @@ impl<W: WaitWords> Seat<W> {
             front,
             looked,
             listed,
-            freed,
+            notes,
             marker,
         }
     }

@@ -7,6 +7,7 @@ ghost use Rattle.seat_table.specs.Fresh.{fresh_seat, alone, key_stamps, waiter_p
 ghost use Rattle.seat_table.specs.Seats.{IsQuietSeat};
 
 use crate::listed::Listed;
+use crate::notes::Notes;
 use crate::rule::{Nothing, Ruled};
 use crate::scan::region;
 use crate::seat::Seat;
@@ -168,6 +169,7 @@ impl<W: WaitWords> CitrusTable<W> {
         };
         let words = words_of(alloc, &shape)?;
         let (table, seat) = Table::of_words(alloc, words.as_slice(), &shape)?;
+        let looked = region(slots, places, 0);
         let seat = Seat {
             seat,
             slots,
@@ -185,9 +187,9 @@ impl<W: WaitWords> CitrusTable<W> {
             turns: 0,
             free: slots as u64,
             front: 0,
-            looked: region(slots, places, 0),
+            looked,
             listed: Listed::new(),
-            freed: ArrayVec::new(),
+            notes: Notes::new(looked),
             marker: PhantomData,
         };
         Ok((
@@ -210,6 +212,18 @@ impl<W: WaitWords> CitrusTable<W> {
             let key = Field::Key { slot: link as u32 };
             self.table.shared.peek(index_of(&self.rows, key));
         }
+    }
+
+    /// Whether the state of this slot says that it is free, where the table has such a slot. No seat learns of it: it is taken by a step, which
+    /// may find another state.
+    pub(crate) fn seems_free(&self, slot: u32) -> bool {
+        if slot == 0 || slot as usize >= self.rows.count {
+            return false;
+        }
+        self.table
+            .shared
+            .peek(index_of(&self.rows, Field::State { slot }))
+            == 0
     }
 
     /// How many slots it was made with.

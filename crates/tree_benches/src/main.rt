@@ -1,14 +1,12 @@
 //! `tree_benches [times] BENCH ROUNDS ..`: each bench with its number of rounds, one after another. It writes what was done, and how
-//! long it took only where `times` asks. The benches: `waits`, sections and waits while nobody reads; `lists`, lists of a key range at
-//! rest and beside a writer; `calls`, operations on a tree; `cookies`, a writer beside a reader that stays in its sections for long;
-//! `shapes`, the shape of a tree after its keys came in some order.
+//! long it took only where `times` asks. The benches: `waits`, sections and waits while nobody reads; `calls`, operations on a tree;
+//! `cookies`, a writer beside a reader that stays in its sections for long; `shapes`, the shape of a tree after its keys came in some order.
 #![tactic(auto)]
 
 mod calls;
 mod cookies;
 mod crew;
 mod jobs;
-mod lists;
 mod seated;
 mod shapes;
 mod waits;
@@ -32,7 +30,6 @@ fn measure<R: Threads + Wait + Sync + Runtime>(
 ) -> io::Result<bool> {
     let most = match bench {
         Bench::Waits => waits::MOST_ROUNDS,
-        Bench::Lists => lists::MOST_ROUNDS,
         Bench::Calls => calls::MOST_ROUNDS,
         Bench::Cookies => cookies::MOST_ROUNDS,
         Bench::Shapes => shapes::MOST_ROUNDS,
@@ -43,7 +40,6 @@ fn measure<R: Threads + Wait + Sync + Runtime>(
     let ask = Ask { rounds, timed };
     match bench {
         Bench::Waits => waits::measure_all(rt, alloc, &ask)?,
-        Bench::Lists => lists::measure_all(rt, alloc, &ask)?,
         Bench::Calls => calls::measure_all(rt, alloc, &ask)?,
         Bench::Cookies => cookies::measure_all(rt, alloc, &ask)?,
         Bench::Shapes => shapes::measure_all(rt, alloc, &ask)?,

@@ -10,7 +10,6 @@ use std::time::Duration;
 #[derive(Clone, Copy)]
 pub enum Bench {
     Waits,
-    Lists,
     Calls,
     Cookies,
     Shapes,
@@ -21,7 +20,6 @@ impl Bench {
     pub fn named(name: &str) -> Option<Bench> {
         match name {
             "waits" => Some(Bench::Waits),
-            "lists" => Some(Bench::Lists),
             "calls" => Some(Bench::Calls),
             "cookies" => Some(Bench::Cookies),
             "shapes" => Some(Bench::Shapes),

@@ -217,6 +217,7 @@ impl<W: WaitPart> Caller<W> {
             return Err(status);
         }
         let table = self.shared.table();
+        // By `call`, whose clauses tell what a get keeps of waits, slots and tickets; those of `get` tell its answer alone.
         match call(&Spinning, table, &mut self.seat, &OpenGate, Op::Get { key }) {
             Ok(called) => Ok(called.told),
             Err(GaveUp) => {

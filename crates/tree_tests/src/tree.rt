@@ -41,14 +41,10 @@ macro_rules! call {
     };
 }
 
-mod compares;
 mod cookies;
 mod histories;
 mod lifted;
 mod lists;
-mod nearest;
-mod ranges;
-mod removes;
 mod scripts;
 mod searches;
 mod shallow;

@@ -54,6 +54,22 @@ fn a_slot_that_was_put_back_has_the_next_generation(rt: HostRuntime) -> Result<(
 }
 
 #[test]
+fn a_slot_is_taken_near_another_or_else_on_a_line_of_its_own(rt: HostRuntime) -> Result<(), Fail> {
+    let (table, seat) = CitrusTable::<Eer>::new(rt.alloc(), 8, 2, 8)?;
+    let (mut first, mut second) = seat.split(&table, 1, 4);
+    first.note_near(&table, 4);
+    let Taken::Slot { slot: beside, .. } = take(&rt, &table, &mut first) else {
+        panic!(rt; "slots 3 to 10 are free");
+    };
+    second.note_near(&table, 4);
+    let Taken::Slot { slot: apart, .. } = take(&rt, &table, &mut second) else {
+        panic!(rt; "slots 3 to 10 are free but for one");
+    };
+    assert_same(&rt, (beside, apart), (5, 8), "the slots");
+    Ok(())
+}
+
+#[test]
 fn a_lock_that_is_held_is_busy(rt: HostRuntime) -> Result<(), Fail> {
     let (table, seat) = CitrusTable::<Eer>::new(rt.alloc(), 1, 2, 8)?;
     let (mut first, mut second) = seat.split(&table, 1, 4);

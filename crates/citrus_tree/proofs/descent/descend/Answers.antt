@@ -1,39 +1,56 @@
 use Rattle.std.proofs.Common.{◌∙◌, arith}
 use Rattle.seat_table.specs.Seats.{shape_of}
 use Rattle.citrus_tree.proofs.searches.Searching.{root_is, begun}
-use Rattle.seat_table.proofs.Rounding.{told_steps}
 use Rattle.citrus_tree.proofs.Rounds.{links_steps}
 use Rattle.citrus_tree.proofs.descent.descend.Goals as goal
 
+pub load_links-links-requires-clause-slot : goal.load_links-links-requires-clause-slot
+load_links-links-requires-clause-slot g c = root_is (shape_of g.W.WaitWords.WAY c.args.table.now)
+
+pub load_links-links-requires-clause-searching : goal.load_links-links-requires-clause-searching
+load_links-links-requires-clause-searching g c = (
+  c.args.seat.now.view,
+  c.args.key,
+  begun
+      (shape_of g.W.WaitWords.WAY c.args.table.now) c.args.seat.now.view c.args.key c.enter.new.seat.view c.enter.ensures.entered,
+)
+
 pub loop-round-init : goal.loop-round-init
 loop-round-init g c = record {
-  table = c.enter.ensures.seat.0;
-  listed = c.enter.ensures.seat.1;
+  table = c.load_links-links.ensures.seat.0 ∙ c.enter.ensures.seat.0;
+  listed = c.load_links-links.ensures.seat.1 ∙ c.enter.ensures.seat.1;
   slot = root_is (shape_of g.W.WaitWords.WAY c.args.table.now);
-  searching = begun
-      (shape_of g.W.WaitWords.WAY c.args.table.now) c.args.seat.now.view c.args.key c.enter.new.seat.view c.enter.ensures.entered;
+  loaded = (
+    c.enter.new.seat.view,
+    begun
+        (shape_of g.W.WaitWords.WAY c.args.table.now) c.args.seat.now.view c.args.key c.enter.new.seat.view c.enter.ensures.entered,
+    c.load_links-links.ensures.loads,
+  );
   made = omega arith;
 }
 
-pub go_down-requires-clause-searching : goal.go_down-requires-clause-searching
-go_down-requires-clause-searching g c = (c.args.seat.now.view, c.loop-round.invariant.searching)
+pub look_on-requires-clause-loaded : goal.look_on-requires-clause-loaded
+look_on-requires-clause-loaded g c = let a = c.loop-round.invariant.loaded in (c.args.seat.now.view, a.0, a.1, a.2)
+
+pub load_links-links-requires-in-Moved-clause-searching : goal.load_links-links-requires-in-Moved-clause-searching
+load_links-links-requires-in-Moved-clause-searching g c = let a = c.loop-round.invariant.loaded in
+    (c.args.seat.now.view, c.args.key, c.in-Moved.ensures.searching _ a.0 a.1 a.2)
 
 pub loop-round-preserved : goal.loop-round-preserved
-loop-round-preserved g c = record {
-  table = c.go_down.ensures.seat.0 ∙ c.loop-round.invariant.table;
-  listed = c.go_down.ensures.seat.1 ∙ c.loop-round.invariant.listed;
+loop-round-preserved g c = let a = c.loop-round.invariant.loaded in record {
+  table = c.load_links-links-in-Moved.ensures.seat.0 ∙ c.look_on.ensures.seat.0 ∙ c.loop-round.invariant.table;
+  listed = c.load_links-links-in-Moved.ensures.seat.1 ∙ c.look_on.ensures.seat.1 ∙ c.loop-round.invariant.listed;
   slot = c.in-Moved.ensures.slot;
-  searching = c.in-Moved.ensures.searching _ c.loop-round.invariant.searching;
+  loaded = (c.look_on.new.seat.view, c.in-Moved.ensures.searching _ a.0 a.1 a.2, c.load_links-links-in-Moved.ensures.loads);
   made =
       let made = c.loop-round.invariant.made in
-      let loads = c.in-Moved.ensures.loads.1 in
-      let links = links_steps loads.2 in
-      let key = told_steps loads.3 in
-      omega (arith, made, links, key);
+      let more = c.in-Moved.ensures.more in
+      let links = links_steps c.load_links-links-in-Moved.ensures.loads in
+      omega (arith, made, more, links);
 }
 
 pub returns-in-Found-clause-searching : goal.returns-in-Found-clause-searching
-returns-in-Found-clause-searching g c = c.in-Found.ensures.searching _ c.loop-round.invariant.searching
+returns-in-Found-clause-searching g c = let a = c.loop-round.invariant.loaded in c.in-Found.ensures.searching _ a.0 a.1 a.2
 
 pub returns-in-Ended-clause-searching : goal.returns-in-Ended-clause-searching
-returns-in-Ended-clause-searching g c = c.in-Ended.ensures.searching _ c.loop-round.invariant.searching
+returns-in-Ended-clause-searching g c = let a = c.loop-round.invariant.loaded in c.in-Ended.ensures.searching _ a.0 a.1 a.2

@@ -4,13 +4,16 @@ use Rattle.citrus_tree.specs.Putting.{taken_stage}
 use Rattle.seat_table.specs.Seats.{shape_of}
 use Rattle.std.specs.declared.option.Option.{Option}
 use Rattle.citrus_tree.proofs.puts.Filling.{leaf_taken, room_goes}
-use Rattle.std.proofs.Common.{[], None, Some, inl, subst, ℕ}
+use Rattle.std.proofs.Common.{◌≡◌, [], None, Some, inl, subst, sym, ℕ}
 use Rattle.core_points.specs.declared.stage.Spot.{Spot}
 use Rattle.core_points.specs.declared.stage.Stage.TheVariants as at
 use Rattle.core_state.specs.declared.shape.Shape.{Shape}
 use Rattle.core_state.specs.declared.view.Held.{Held}
 use Rattle.core_state.specs.declared.view.View.{View}
-use Rattle.seat_table.specs.Seats.{IsSlotOf}
+use Rattle.seat_table.specs.Seats.{AreListed, IsSlotOf, SeatAt}
+use Rattle.citrus_tree.specs.Gone.{KeepsSlots}
+use Rattle.citrus_tree.specs.Putting.{MakesRoom}
+use Rattle.core_points.specs.declared.stage.Aim.TheVariants.{Leaf}
 use Rattle.citrus_tree.specs.Going.{leaf_stage}
 use Rattle.citrus_tree.proofs.KeepingSlots.{goes_slots, slots_self}
 use Rattle.citrus_tree.proofs.Leavings.{goes_same}
@@ -34,11 +37,26 @@ returns-in-Some-clause-slots g c = slots_self c.args.seat.now
 pub returns-in-Some-clause-at : goal.returns-in-Some-clause-at
 returns-in-Some-clause-at g c kept spot a = has_leaf _ c.args.seat.now.view.hands.hand c.in-Some.ensures a
 
+-- A note changes nothing that a clause speaks of.
+noted : (P : SeatAt → Type 0) {old new : SeatAt} → new ≡ old → P old → P new
+noted P same = subst P (sym same)
+
+before : (P : SeatAt → Type 0) {old new : SeatAt} → new ≡ old → P new → P old
+before P same = subst P same
+
+pub take_slot-requires-clause-listed : goal.take_slot-requires-clause-listed
+take_slot-requires-clause-listed g c = noted AreListed c.note_near.ensures c.requires.listed
+
 pub take_slot-requires-clause-at : goal.take_slot-requires-clause-at
 take_slot-requires-clause-at g c = let a = c.requires.at in (
   a.1,
   1,
-  (Put c.args.key c.args.value, a.0, leaf_taken c.args.seat.now.view.hands.hand c.in_default.ensures a.2),
+  (
+    Put c.args.key c.args.value,
+    a.0,
+    noted (λ (z : SeatAt). IsAt (shape_of g.W.WaitWords.WAY c.args.table.now) (Put c.args.key c.args.value) a.0 (at.Reserve (Leaf a.1) 1) z.view)
+        c.note_near.ensures (leaf_taken c.args.seat.now.view.hands.hand c.in_default.ensures a.2),
+  ),
 )
 
 pub fill_leaf-requires-clause-slot : goal.fill_leaf-requires-clause-slot
@@ -51,19 +69,24 @@ fill_leaf-requires-clause-at g c = let a = c.requires.at in (
   subst (λ (r : Option ℕ). IsAt (shape_of g.W.WaitWords.WAY c.args.table.now) (Put c.args.key c.args.value) a.0
       (taken_stage r a.1) c.take_slot.new.seat.view) c.in-Some-2.is
       (c.in_ok-slot.ensures.at a.1 1 (Put c.args.key c.args.value) a.0
-      (leaf_taken c.args.seat.now.view.hands.hand c.in_default.ensures a.2)),
+      (noted (λ (z : SeatAt). IsAt (shape_of g.W.WaitWords.WAY c.args.table.now) (Put c.args.key c.args.value) a.0 (at.Reserve (Leaf a.1) 1) z.view)
+      c.note_near.ensures (leaf_taken c.args.seat.now.view.hands.hand c.in_default.ensures a.2))),
 )
 
 pub returns-clause-room : goal.returns-clause-room
-returns-clause-room g c = room_goes c.in_ok-slot.ensures.room c.fill_leaf.ensures.goes
+returns-clause-room g c =
+    before (λ (z : SeatAt). MakesRoom (shape_of g.W.WaitWords.WAY c.args.table.now) z.view c.fill_leaf.new.seat.view) c.note_near.ensures
+    (room_goes c.in_ok-slot.ensures.room c.fill_leaf.ensures.goes)
 
 pub returns-clause-slots : goal.returns-clause-slots
-returns-clause-slots g c =
-    goes_slots c.args.seat.now c.take_slot.new.seat c.fill_leaf.new.seat [] c.in_ok-slot.ensures.slots c.fill_leaf.ensures.goes
-    c.fill_leaf.ensures.seat.1
+returns-clause-slots g c = before (λ (z : SeatAt). KeepsSlots z c.fill_leaf.new.seat) c.note_near.ensures
+    (goes_slots c.note_near.new.self c.take_slot.new.seat c.fill_leaf.new.seat [] c.in_ok-slot.ensures.slots c.fill_leaf.ensures.goes
+    c.fill_leaf.ensures.seat.1)
 
 pub returns-clause-at : goal.returns-clause-at
 returns-clause-at g c kept spot a =
     c.fill_leaf.ensures.at kept spot (subst (λ (r : Option ℕ). IsAt (shape_of g.W.WaitWords.WAY c.args.table.now)
     (Put c.args.key c.args.value) kept (taken_stage r spot) c.take_slot.new.seat.view) c.in-Some-2.is
-    (c.in_ok-slot.ensures.at spot 1 (Put c.args.key c.args.value) kept (leaf_taken c.args.seat.now.view.hands.hand c.in_default.ensures a)))
+    (c.in_ok-slot.ensures.at spot 1 (Put c.args.key c.args.value) kept
+    (noted (λ (z : SeatAt). IsAt (shape_of g.W.WaitWords.WAY c.args.table.now) (Put c.args.key c.args.value) kept (at.Reserve (Leaf spot) 1) z.view)
+    c.note_near.ensures (leaf_taken c.args.seat.now.view.hands.hand c.in_default.ensures a))))

@@ -4,7 +4,7 @@ use Rattle.seat_table.specs.Seats.{shape_of}
 use Rattle.node_slots.specs.Taking.{TriesFor}
 use Rattle.node_slots.specs.declared.answers.Taken.TheVariants.{Empty, Slot}
 use Rattle.node_slots.proofs.Takes.{got_later, taken}
-use Rattle.node_slots.proofs.Trying.{tries_freed, tries_round}
+use Rattle.node_slots.proofs.Trying.{tries_noted, tries_round}
 use Rattle.node_slots.proofs.taking.take.Goals as goal
 
 -- the slot that was taken is the one that was seized
@@ -24,8 +24,8 @@ returns-then-not-branch-clause-tries g c = c.in_ok-reserve_some.ensures.in_vain 
 pub returns-then-not-branch-clause-inside : goal.returns-then-not-branch-clause-inside
 returns-then-not-branch-clause-inside g c slot generation e = absurd (empty_slot slot generation e)
 
-pub seize_freed-requires-clause-reserved : goal.seize_freed-requires-clause-reserved
-seize_freed-requires-clause-reserved g c =
+pub seize_noted-requires-clause-reserved : goal.seize_noted-requires-clause-reserved
+seize_noted-requires-clause-reserved g c =
     ap (λ (z : View). z.hands.reserved) (c.in_ok-reserve_some.ensures.reserved c.if-not-branch.false).rest
 
 pub returns-in-Some-clause-inside : goal.returns-in-Some-clause-inside
@@ -58,6 +58,6 @@ returns-in-Some-clause-view g c = taken _ _ _ _ _ c.requires.unreserved
 pub returns-in-Some-clause-tries : goal.returns-in-Some-clause-tries
 returns-in-Some-clause-tries g c =
     subst (λ looked. TriesFor
-    (shape_of g.W.WaitWords.WAY c.args.table.now) c.args.seat.now.view looked c.in-Some.field-0.slot c.seize_freed.new.seat.view
-    c.seize_freed.new.seat.looked) c.reserve_some.ensures.seat.2
-    (tries_freed _ _ _ _ _ (c.in_ok-reserve_some.ensures.at_last c.if-not-branch.false) _ _ c.in-Some.ensures.finds)
+    (shape_of g.W.WaitWords.WAY c.args.table.now) c.args.seat.now.view looked c.in-Some.field-0.slot c.seize_noted.new.seat.view
+    c.seize_noted.new.seat.looked) c.reserve_some.ensures.seat.2
+    (tries_noted _ _ _ _ _ (c.in_ok-reserve_some.ensures.at_last c.if-not-branch.false) _ _ c.in-Some.ensures.finds)

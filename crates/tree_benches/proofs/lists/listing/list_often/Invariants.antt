@@ -1,7 +1,0 @@
-use Rattle.std.proofs.Common.{◌≡◌}
-use Rattle.seat_table.specs.Seats.{IsQuietSeat}
-use Rattle.tree_benches.proofs.lists.listing.list_often.Given as goal
-
--- the seat is of this table, and quiet
-abbrev pub invariant-loop : goal.invariant-loop
-invariant-loop g l = (l.seat.table ≡ l.table) × IsQuietSeat l.seat
