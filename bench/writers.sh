@@ -1,9 +1,9 @@
 #!/usr/bin/env bash
-# Measures lists of the C library at rest, and beside one and three writers that never rest: how many lists of 16, 256, 4,096 and 65,536 pairs come in a
-# second, and how long updates wait for them. It installs the proved library for itself, or the libcitrus_c.a that `--archive` names; one
-# that `--before` names is measured beside it. A row says how many tries a list of its library makes before it keeps updates off: the constant
-# TRIES of the crate tree_handles as it stands here, or what `--tries` and `--before-tries` say of an archive that has another. Medians of so
-# many runs go to bench/results/writers.csv, and are printed as a table. It stands outside the gate.
+# Measures lists of the C library at rest, and beside one and three writers that never rest: how many lists of 16, 256, 4,096 and 65,536
+# pairs come in a second, and how long updates wait for them. It installs the proved library for itself, or the libcitrus_c.a that
+# `--archive` names; one that `--before` names is measured beside it. A row says how many tries a list of its library makes before it keeps
+# updates off: the constant TRIES of the crate tree_handles as it stands here, or what `--tries` and `--before-tries` say of an archive that
+# has another. Medians of so many runs go to bench/results/writers.csv, and are printed as a table. It stands outside the gate.
 set -eu
 # shellcheck source=bench/results.sh
 . "$(dirname "$0")/results.sh"
