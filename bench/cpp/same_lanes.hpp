@@ -14,10 +14,10 @@ public:
     uint64_t look_up(std::vector<TreeSeat> &seats, const uint64_t *keys, size_t count) {
         Round round{keys, count, seats.size(), 0};
         std::array<Lane, most_lanes> lanes{};
-        for (size_t i = 0; i < seats.size(); i++) begin(seats[i], lanes[i], round, i);
+        for (size_t i = 0; i < round.step; i++) begin(seats[i], lanes[i], round, i);
         for (bool busy = true; busy;) {
             busy = false;
-            for (size_t i = 0; i < seats.size(); i++) busy |= take_turn(seats[i], lanes[i], round);
+            for (size_t i = 0; i < round.step; i++) busy |= take_turn(seats[i], lanes[i], round);
         }
         return round.sum;
     }
@@ -30,36 +30,35 @@ private:
         uint64_t sum;
     };
 
-    // The key that a seat looks up, at which index it stands, and where the search has gone on to, if there is one.
+    // The key that a seat looks up, at which index it stands, and the link by which the search goes on, if there is one.
     struct Lane {
         size_t index;
         uint64_t key;
-        uint32_t slot;
-        Field side;
+        uint32_t ahead;
         bool searches;
     };
 
-    // Enters with the key of that index. Where there is no such key the seat stays outside.
+    // Enters with the key of that index, and loads the links of the root. Where there is no such key the seat stays outside.
     void begin(TreeSeat &seat, Lane &lane, const Round &round, size_t index) {
-        lane = {index, 0, 0, Right, index < round.count};
+        lane = {index, 0, 0, index < round.count};
         if (!lane.searches) return;
         lane.key = round.keys[index];
         this->enter(seat, lane.key);
+        lane.ahead = this->links(0, Right).ahead;
     }
 
-    // A hop. Where the search ends it leaves, and enters with the seat's next key. Whether there was something to do.
+    // A hop. Where the search ends it leaves, and enters with the seat's next key. Whether a search is under way then.
     bool take_turn(TreeSeat &seat, Lane &lane, Round &round) {
         if (!lane.searches) return false;
-        const uint32_t child = this->links(lane.slot, lane.side).ahead;
+        const uint32_t child = lane.ahead;
         const uint64_t found = child == 0 ? 0 : this->at(child, Key).load();
-        if (child == 0 || found == lane.key) {
-            if (child != 0) round.sum += this->at(child, Value).load();
-            this->leave(seat);
-            begin(seat, lane, round, lane.index + round.step);
+        if (child != 0 && found != lane.key) {
+            lane.ahead = this->links(child, lane.key < found ? Left : Right).ahead;
             return true;
         }
-        lane.slot = child;
-        lane.side = lane.key < found ? Left : Right;
-        return true;
+        if (child != 0) round.sum += this->at(child, Value).load();
+        this->leave(seat);
+        begin(seat, lane, round, lane.index + round.step);
+        return lane.searches;
     }
 };

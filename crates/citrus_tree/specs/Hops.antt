@@ -74,6 +74,16 @@ pub record LoadsLinks (k : Shape) (v : View) (s : ℕ) (b : Side) (n : ℕ) (w :
   pub right_told : Told k between (SearchLoad s (part.Link Right)) right w
   pub link_is : link_on b left right ≡ n
 
+-- From the view v a section with the key was entered. Its search came to a side of a slot, and both links of the slot were loaded: that of
+-- the side is n.
+pub record LooksAhead (k : Shape) (v : View) (key n : ℕ) (w : View) : Type 0 where
+  pub slot : ℕ
+  pub side : Side
+  pub before : View
+  pub is_slot : IsSlot k slot
+  pub searching : IsSearching v key (at.At slot side) before
+  pub loads : LoadsLinks k before slot side n w
+
 -- What a step down loads: the links of a slot, of which that of the side leads to a slot, and that slot's key, which is another or the
 -- sought one; or links of which that of the side is 0.
 abbrev pub Loads : Shape → View → ℕ → ℕ → Side → Step → View → Type 0

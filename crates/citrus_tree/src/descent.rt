@@ -5,14 +5,14 @@ ghost use Rattle.core_state.specs.declared.view.View.{View};
 ghost use Rattle.core_state.specs.parts.ReaderParts.{state_slot};
 ghost use Rattle.seat_table.specs.Gains.{IsSlot};
 ghost use Rattle.seat_table.specs.Rounds.{HasMade};
-ghost use Rattle.seat_table.specs.Seats.{shape_of};
-ghost use Rattle.citrus_tree.specs.Hops.{Loads, LoadsLinks, link_on, state_after};
+ghost use Rattle.seat_table.specs.Seats.{HasRows, shape_of};
+ghost use Rattle.citrus_tree.specs.Hops.{Loads, LoadsLinks, LooksAhead, link_on, state_after};
 ghost use Rattle.citrus_tree.specs.Lookups.{IsSearching, state_of};
 
 use core_state::step_side;
 use patience::Patience;
 use prcu_marks::{Gate, Point, Side};
-use seat_table::{CitrusTable, Part, Seat, WaitPart, steps};
+use seat_table::{CitrusTable, Part, Rows, Seat, WaitPart, steps};
 
 /// Where a search goes on from a slot and a side.
 #[derive(Clone, Copy)]
@@ -53,25 +53,29 @@ fn low_half(word: u64) -> u32
     (word % (1 << 32)) as u32
 }
 
-// Both links of a slot: each is the number of a slot, or 0. They are chosen as numbers of 32 bits, since a choice between longer ones would
-// have to be cut to these behind it, on the way from one load to the next.
+/// Both links of a slot: each is the number of a slot, or 0.
+// They are chosen as numbers of 32 bits, since a choice between longer ones would have to be cut to these behind it, on the way from one
+// load to the next.
 #[derive(Clone, Copy)]
-struct Links {
-    // That of the side to which the search goes.
-    ahead: u32,
-    // That of the other.
-    aside: u32,
+pub struct Links {
+    /// That of the side to which the search goes.
+    pub ahead: u32,
+    /// That of the other.
+    pub aside: u32,
 }
 
-// Loads both links of the slot at which the search stands.
+/// Loads both links of the slot at which the search stands.
+// A call would hand its answer through memory.
 #[inline(always)]
-fn load_links<W: WaitPart>(
+pub fn load_links<W: WaitPart>(
     table: &CitrusTable<W>,
+    rows: &Rows,
     seat: &mut Seat<W>,
     slot: u32,
     side: Side,
 ) -> Links
     requires table { seat.old.table ≡ table.now }
+    requires rows { HasRows W.WAY table.now rows.now }
     requires slot { IsSlot (shape_of W.WAY table.now) slot }
     requires searching { (v : View) × (key : ℕ) × IsSearching v key (At slot side) seat.old.view }
     ensures seat { (seat.new.table ≡ seat.old.table) × (seat.new.listed ≡ seat.old.listed) }
@@ -80,8 +84,8 @@ fn load_links<W: WaitPart>(
     // The side depends on the slot's key, which may still be on its way from memory. The links stand beside the key, and neither load waits
     // for the comparison. The link of the other side only adds to what the section knows, and moves its search nowhere.
     // docs/TREE.md#why-a-get-beside-a-delete-is-right
-    let left = steps::search_load(table, seat, slot, Part::Link { side: Side::Left });
-    let right = steps::search_load(table, seat, slot, Part::Link { side: Side::Right });
+    let left = steps::search_load_by(table, rows, seat, slot, Part::Link { side: Side::Left });
+    let right = steps::search_load_by(table, rows, seat, slot, Part::Link { side: Side::Right });
     let left_slot = low_half(left);
     let right_slot = low_half(right);
     let ahead = link_on(side, left_slot, right_slot);
@@ -92,59 +96,64 @@ fn load_links<W: WaitPart>(
     }
 }
 
-// Goes on from the links that were loaded of a slot: where that of the side leads to another, it loads that slot's key.
+// Where a link is given, brings the slot near to which it leads. As measured: docs/BENCHMARKS.md#the-tree
 #[inline(always)]
-fn look_on<W: WaitPart>(
+fn bring_near<W: WaitPart>(table: &CitrusTable<W>, rows: &Rows, link: Option<u32>)
+    requires rows { HasRows W.WAY table.now rows.now }
+{
+    if let Some(link) = link {
+        table.bring_near(rows, link);
+    }
+}
+
+/// Goes on by the link ahead, the one that was loaded of the side at which the search stands: where it leads to a slot, its key is loaded.
+/// The slot of another link is brought near for a later search, where one is given: none is where searches beside this one wait for memory
+/// as well.
+// A call would hand its answer through memory.
+#[inline(always)]
+pub fn look_on<W: WaitPart>(
     table: &CitrusTable<W>,
+    rows: &Rows,
     seat: &mut Seat<W>,
     key: u64,
-    slot: u32,
-    side: Side,
-    links: Links,
-    alone: bool,
+    ahead: u32,
+    aside: Option<u32>,
 ) -> Step
     requires table { seat.old.table ≡ table.now }
-    requires slot { IsSlot (shape_of W.WAY table.now) slot }
-    requires loaded { (v : View) × (u : View) × IsSearching v key (At slot side) u
-        × LoadsLinks (shape_of W.WAY table.now) u slot side links.ahead seat.old.view }
+    requires rows { HasRows W.WAY table.now rows.now }
+    requires loaded { (v : View) × LooksAhead (shape_of W.WAY table.now) v key ahead seat.old.view }
     ensures seat { (seat.new.table ≡ seat.old.table) × (seat.new.listed ≡ seat.old.listed) }
     ensures place { 1 ≤ table.now.places }
-    ensures loads { (u : View) → LoadsLinks (shape_of W.WAY table.now) u slot side links.ahead seat.old.view
+    ensures loads { (u : View) (slot : ℕ) (side : Side) → LoadsLinks (shape_of W.WAY table.now) u slot side ahead seat.old.view
         → Loads (shape_of W.WAY table.now) u key slot side result seat.new.view }
-    ensures slot { IsSlot (shape_of W.WAY table.now) (state_slot (state_after slot side result)) }
-    ensures searching { (v u : View) → IsSearching v key (At slot side) u
-        → LoadsLinks (shape_of W.WAY table.now) u slot side links.ahead seat.old.view
+    ensures slot { (slot : ℕ) (side : Side) → IsSlot (shape_of W.WAY table.now) slot
+        → IsSlot (shape_of W.WAY table.now) (state_slot (state_after slot side result)) }
+    ensures searching { (v u : View) (slot : ℕ) (side : Side) → IsSearching v key (At slot side) u
+        → LoadsLinks (shape_of W.WAY table.now) u slot side ahead seat.old.view
         → IsSearching v key (state_after slot side result) seat.new.view }
     ensures more { length seat.old.view.trail.steps ≤ length seat.new.view.trail.steps }
 {
     // The slot may have been unlinked meanwhile. Its links still lead to the tree, or to slots unlinked later.
     // docs/TREE.md#why-a-get-beside-a-delete-is-right
-    if links.ahead == 0 {
+    if ahead == 0 {
         return Step::Ended;
     }
-    let child = links.ahead;
-    let found = steps::search_load(table, seat, child, Part::Key);
-    if alone {
-        // As measured: docs/BENCHMARKS.md#the-tree
-        table.bring_near(u64::from(links.aside));
-    }
+    let found = steps::search_load_by(table, rows, seat, ahead, Part::Key);
+    bring_near(table, rows, aside);
     match step_side(key, found) {
-        None => Step::Found { slot: child },
-        Some(side) => Step::Moved { slot: child, side },
+        None => Step::Found { slot: ahead },
+        Some(side) => Step::Moved { slot: ahead, side },
     }
 }
 
-/// Loads both links of a slot and, where that of the side leads to a slot, that slot's key. Where the search goes on `alone`, and none beside
-/// it waits for memory as well, the slot of the other side is brought near for a later one.
-// A call would hand its answer through memory.
+/// Loads both links of a slot and, where that of the side leads to a slot, that slot's key.
 #[inline(always)]
-pub fn go_down<W: WaitPart>(
+pub(crate) fn go_down<W: WaitPart>(
     table: &CitrusTable<W>,
     seat: &mut Seat<W>,
     key: u64,
     slot: u32,
     side: Side,
-    alone: bool,
 ) -> Step
     requires table { seat.old.table ≡ table.now }
     requires slot { IsSlot (shape_of W.WAY table.now) slot }
@@ -156,8 +165,9 @@ pub fn go_down<W: WaitPart>(
     ensures searching { (v : View) → IsSearching v key (At slot side) seat.old.view
         → IsSearching v key (state_after slot side result) seat.new.view }
 {
-    let links = load_links(table, seat, slot, side);
-    look_on(table, seat, key, slot, side, links, alone)
+    let rows = table.rows();
+    let links = load_links(table, &rows, seat, slot, side);
+    look_on(table, &rows, seat, key, links.ahead, Some(links.aside))
 }
 
 /// Enters a section with the key, and goes down from the root until a slot has the key or a side is empty. The section stays open.
@@ -181,16 +191,17 @@ pub(crate) fn descend<P: Patience, W: WaitPart, G: Gate>(
 {
     W::enter(table, seat, key);
     gate.pass(Point::InSection, seat.place());
+    let rows = table.rows();
     let mut at = 0;
     let mut side = Side::Right;
-    let mut links = load_links(table, seat, at, side);
+    let mut links = load_links(table, &rows, seat, at, side);
     for round in 0..u64::MAX {
-        match look_on(table, seat, key, at, side, links, true) {
+        match look_on(table, &rows, seat, key, links.ahead, Some(links.aside)) {
             Step::Moved { slot, side: next } => {
                 at = slot;
                 side = next;
                 // Behind the comparison, which chooses one of them: else the choice would wait for one more turn.
-                links = load_links(table, seat, slot, next);
+                links = load_links(table, &rows, seat, slot, next);
             }
             Step::Found { slot } => {
                 return Ok(Descent::Found {

@@ -20,6 +20,6 @@ pub use answer::Called;
 pub use comparing::Compared;
 pub use core_points::stage::Spot;
 pub use delete::Removed;
-pub use descent::{Step, go_down};
+pub use descent::{Links, Step, load_links, look_on};
 pub use search::{End, Hop, Search};
 pub use steadfast::{call, compare, del, get, put, remove, set};

@@ -81,7 +81,7 @@ impl<'a, W: WaitPart> Search<'a, W> {
         ensures hops { HasHopped W.WAY (search_at self.old) result (search_at self.new) }
         ensures stands { (v : View) → IsSearch W.WAY v (search_at self.old) → IsSearch W.WAY v (search_at self.new) }
     {
-        match go_down(self.table, self.seat, self.key, self.slot, self.side, true) {
+        match go_down(self.table, self.seat, self.key, self.slot, self.side) {
             Step::Moved { slot, side } => {
                 self.slot = slot;
                 self.side = side;

@@ -68,17 +68,19 @@ module _ (way : ℕ) (table : TableAt) (keys : List ℕ) (answers answers' : Lis
   }
 
   -- its own was noted, and it is at the next key
-  pub lane_next : (x : SeatAt) (lane' : Lane) (u : SeatAt) → number < seats
-      → ((i : ℕ) → i ≢ lane.index → slice_index_or answers' i None ≡ slice_index_or answers i None)
-      → (((l : SeatAt) → IsAt way table keys lane.index l lane t → HasGot keys answers' lane.index l x)) → lane'.index ≡ lane.index + seats
-      → IsAt way table keys (lane.index + seats) x lane' u → IsLane way table keys answers' seats number s lane' u
-  lane_next x lane' u less others got_it next at_next =
-      let got = got_it p.last p.at in
+  pub lane_next : (lane' : Lane) (u : SeatAt) → number < seats
+      → ((i : ℕ) → i ≢ lane.index → slice_index_or answers' i None ≡ slice_index_or answers i None) → lane'.index ≡ lane.index + seats
+      → ((l : SeatAt) → IsAt way table keys lane.index l lane t → (x : SeatAt) × HasGot keys answers' lane.index l x
+      × IsAt way table keys (lane.index + seats) x lane' u)
+      → IsLane way table keys answers' seats number s lane' u
+  lane_next lane' u less others next on =
+      let e = on p.last p.at in
+      let got = e.1 in
       let is = p.index_is in record {
         count = suc p.count;
         index_is = omega (arith, is, next);
-        last = x;
-        quiet = quiet_after keys answers' lane.index p.last x got p.quiet;
+        last = e.0;
+        quiet = quiet_after keys answers' lane.index p.last e.0 got p.quiet;
         same_table = got.same_table ∙ p.same_table;
         same_list = got.same_list ∙ p.same_list;
         looked_up = (
@@ -86,9 +88,9 @@ module _ (way : ℕ) (table : TableAt) (keys : List ℕ) (answers answers' : Lis
           still_looked_up keys answers answers' seats number p.count s.view p.last.view
               (λ row before. others (row * seats + number) (λ same. own_apart seats row p.count number less before (same ∙ is)))
               p.looked_up,
-          subst (λ z. LooksUpAt keys answers' z p.last.view x.view) is got.looked_up,
+          subst (λ z. LooksUpAt keys answers' z p.last.view e.0.view) is got.looked_up,
         );
-        at = subst (λ z. IsAt way table keys z x lane' u) (sym next) at_next;
+        at = subst (λ z. IsAt way table keys z e.0 lane' u) (sym next) e.2;
       }
 
   -- its search went on

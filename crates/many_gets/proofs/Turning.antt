@@ -1,5 +1,5 @@
 -- All lanes: what a step of one leaves of the lists.
-use Rattle.std.proofs.Common.{◌≡◌, ◌≢◌, ℕ, zero, suc, ◌+◌, ◌<◌, ◌≤◌, List, [], ◌∷◌, length, get_or, set, slice_index_or, Option, None, refl, sym, ap, subst, ◌∙◌, arith, length-set}
+use Rattle.std.proofs.Common.{◌≡◌, ◌≢◌, ℕ, zero, suc, ◌+◌, ◌<◌, ◌≤◌, false, List, [], ◌∷◌, length, get_or, set, slice_index_or, Option, None, refl, sym, ap, subst, ◌∙◌, arith, length-set}
 use mathlib.Core.Logic.{dite}
 use mathlib.Core.Option.{some, some-injective}
 use native.Mathlib.Decide.{ℕ_discrete}
@@ -8,12 +8,11 @@ use Rattle.atomic_table.proofs.Lists.{set_here, set_else}
 use Rattle.list_laws.specs.Counts.{Each}
 use Rattle.list_laws.proofs.Lists.{at_below, at_one, each_set, total_set}
 use Rattle.seat_table.specs.Rounds.{HasStepped}
-use Rattle.seat_table.specs.Seats.{SeatAt, TableAt, IsQuietSeat}
+use Rattle.seat_table.specs.Seats.{SeatAt, TableAt, IsQuietSeat, shape_of}
 use Rattle.many_gets.specs.declared.lane.Lane.{Lane}
-use Rattle.many_gets.specs.declared.lane.Stage.TheVariants.{Searching}
 use Rattle.many_gets.specs.Many.{LooksUpEach, LooksUpAll, AreKept, steps_of}
-use Rattle.many_gets.specs.Lanes.{IsSettled, IsLane, AreLanes, AreOver}
-use Rattle.many_gets.proofs.Hopping.{settled_outside, at_outside}
+use Rattle.many_gets.specs.Lanes.{IsLane, AreLanes, AreOver}
+use Rattle.many_gets.proofs.Hopping.{outside_is}
 use Rattle.many_gets.proofs.Going.{lane_other}
 
 -- ---- lists
@@ -91,19 +90,14 @@ module _ (seats : List SeatAt) (n : ℕ) (t u : SeatAt) (there : get_elem? seats
 -- ---- lanes
 
 -- no search of the first ones is under way, and neither is that of the next
-pub over_more : (n : ℕ) (lanes : List Lane) (lane : Lane) → AreOver n lanes → lane.stage ≢ Searching → n < length lanes
+pub over_more : (n : ℕ) (lanes : List Lane) (lane : Lane) → AreOver n lanes → lane.searches ≡ false → n < length lanes
     → AreOver (n + 1) (set lanes n lane)
 over_more n lanes lane over ended inside i other before at_i = dite (ℕ_discrete i n)
     (λ same.
     let old = got lanes n inside in
     let is : lane ≡ other = set_is lanes n i old.0 lane other old.1 same at_i in
-    subst (λ (z : Lane). z.stage ≢ Searching) is ended)
+    subst (λ (z : Lane). z.searches ≡ false) is ended)
     (λ ne. over i other (omega (arith, before, ne)) (sym (set_else lanes n i lane ne) ∙ at_i))
-
-pub settled_set : (lanes : List Lane) (n : ℕ) (lane : Lane) → IsSettled lane.stage
-    → ((i : ℕ) (l : Lane) → get_elem? lanes i ≡ some l → IsSettled l.stage)
-    → (i : ℕ) (l : Lane) → get_elem? (set lanes n lane) i ≡ some l → IsSettled l.stage
-settled_set lanes n lane here all = each_set (λ i (l : Lane). IsSettled l.stage) lanes n lane here (λ i l other at_l. all i l at_l)
 
 -- one more lane has begun
 module _ (P : ℕ → SeatAt → Lane → SeatAt → Type 0) (before : List SeatAt) where
@@ -139,16 +133,15 @@ module _ (way : ℕ) (table : TableAt) (keys : List ℕ) (answers : List (Option
 
   -- one lane went on
   pub lanes_set : (n : ℕ) (lane lane' : Lane) (t u : SeatAt) (answers' : List (Option ℕ)) → get_elem? lanes n ≡ some lane
-      → get_elem? after n ≡ some t → length answers' ≡ length keys → IsSettled lane'.stage
+      → get_elem? after n ≡ some t → length answers' ≡ length keys
       → ((i : ℕ) → i ≢ lane.index → slice_index_or answers' i None ≡ slice_index_or answers i None)
       → ((s : SeatAt) → n < length before → IsLane way table keys answers (length before) n s lane t
       → IsLane way table keys answers' (length before) n s lane' u)
       → AreLanes way table keys answers' before (set lanes n lane') (set after n u)
-  lanes_set n lane lane' t u answers' at_lane at_t room settled others on =
+  lanes_set n lane lane' t u answers' at_lane at_t room others on =
       let here = lane_is n lane t at_lane at_t in record {
         same_count = m.same_count ∙ sym (length-set after n u);
         room = room;
-        settled = settled_set lanes n lane' settled m.settled;
         each = λ i s l v at_s at_l at_v. both_set
             (λ j x y. (s : SeatAt) → get_elem? before j ≡ some s → IsLane way table keys answers' (length before) j s x y)
             lanes after n lane lane' t u at_lane at_t
@@ -167,8 +160,8 @@ module _ (way : ℕ) (table : TableAt) (keys : List ℕ) (answers : List (Option
         let inside = at_below after n t at_t in
         let lane = got lanes n (omega (arith, inside, enough)) in
         let p = m.each n s lane.0 t at_s lane.1 at_t in
-        let out = at_outside way table keys lane.0.index p.last lane.0 t
-        (settled_outside lane.0.stage (m.settled n lane.0 lane.1) (over n lane.0 inside lane.1)) p.at in
+        let out = outside_is keys lane.0.index p.last (shape_of way table) lane.0.searches lane.0.key lane.0.ahead t
+        (over n lane.0 inside lane.1) p.at in
         (lane.0, p, out.0, out.1)
 
     pub all_looked_up : LooksUpAll keys answers before after

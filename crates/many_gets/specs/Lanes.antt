@@ -1,58 +1,39 @@
 -- Where the lanes stand while keys are being looked up.
 -- Source: docs/TREE_CALLS.md, "The calls".
-use Rattle.std.specs.Prelude.{◌≡◌, ◌≢◌, ℕ, ◌+◌, ◌*◌, ◌<◌, ◌≤◌, List, length, slice_index, Option, Some, None}
+use Rattle.std.specs.Prelude.{◌≡◌, ℕ, ◌+◌, ◌*◌, ◌<◌, ◌≤◌, Bool, true, false, List, length, slice_index, Option, Some, None}
 use mathlib.Core.Option.{some}
 use lib.ListN.{get_elem?}
 use Rattle.prcu_marks.specs.declared.mark.Side.{Side}
-use Rattle.core_state.specs.declared.view.SearchState.{SearchState}
+use Rattle.core_state.specs.declared.shape.Shape.{Shape}
 use Rattle.core_state.specs.declared.view.SearchState.TheVariants as at
-use Rattle.core_state.specs.parts.ReaderParts.{state_slot}
+use Rattle.core_state.specs.declared.view.View.{View}
 use Rattle.seat_table.specs.Gains.{IsSlot}
 use Rattle.seat_table.specs.Seats.{SeatAt, TableAt, IsQuietSeat, shape_of}
+use Rattle.citrus_tree.specs.Hops.{LooksAhead}
 use Rattle.citrus_tree.specs.Lookups.{IsSearching}
 use Rattle.many_gets.specs.declared.lane.Lane.{Lane}
-use Rattle.many_gets.specs.declared.lane.Stage.{Stage}
-use Rattle.many_gets.specs.declared.lane.Stage.TheVariants.{Outside, Searching, Found, Ended}
 use Rattle.many_gets.specs.Many.{LooksUpAt, LooksUpEach}
 
--- where the search of an open section stands that has gone on to that side of the slot, if a section is open
-abbrev pub search_of : Stage → ℕ → Side → Option SearchState
-search_of Outside slot side = None
-search_of Searching slot side = Some (at.At slot side)
-search_of (Found holder) slot side = Some (at.Found holder slot side None)
-search_of Ended slot side = Some (at.Missed slot side)
+-- The search of an open section is over: it came to a slot with the key, or to an empty side.
+abbrev pub HasCome : Shape → Option ℕ → View → ℕ → View → Type 0
+HasCome k (Some holder) v key w = IsSlot k holder × ((parent : ℕ) × (side : Side) × IsSearching v key (at.Found holder parent side None) w)
+HasCome k None v key w = (slot : ℕ) × (side : Side) × IsSearching v key (at.Missed slot side) w
 
--- between two turns
-abbrev pub IsSettled : Stage → Type 0
-IsSettled Outside = Unit {0}
-IsSettled Searching = Unit {0}
-IsSettled (Found holder) = ⊥
-IsSettled Ended = ⊥
-
--- the search is over, and its section is open still
-abbrev pub HasEnded : Stage → Type 0
-HasEnded Outside = ⊥
-HasEnded Searching = ⊥
-HasEnded (Found holder) = Unit {0}
-HasEnded Ended = Unit {0}
-
--- From the seat s a section was entered with the key of that index, and its search stands there.
-pub record IsInside (way : ℕ) (table : TableAt) (keys : List ℕ) (index : ℕ) (s : SeatAt) (key : ℕ) (search : SearchState)
-    (t : SeatAt) : Type 0 where
+-- From the seat s a section was entered with the key of that index, and its search has come so far.
+pub record Sought (keys : List ℕ) (index : ℕ) (s : SeatAt) (far : View → ℕ → View → Type 0) (t : SeatAt) : Type 0 where
   pub within : index < length keys
-  pub key_is : key ≡ slice_index keys index
   pub same_table : t.table ≡ s.table
   pub same_list : t.listed ≡ s.listed
-  pub slot : IsSlot (shape_of way table) (state_slot search)
-  pub searching : IsSearching s.view key search t.view
+  pub search : far s.view (slice_index keys index) t.view
 
--- The same; or there is no such key, and nothing was done.
-abbrev pub StandsAt : ℕ → TableAt → List ℕ → ℕ → SeatAt → ℕ → Option SearchState → SeatAt → Type 0
-StandsAt way table keys index s key None t = (length keys ≤ index) × (t ≡ s)
-StandsAt way table keys index s key (Some search) t = IsInside way table keys index s key search t
+-- The same, by a link that was loaded; or there is no such key, and nothing was done.
+abbrev pub StandsAt : Shape → List ℕ → ℕ → SeatAt → Bool → ℕ → ℕ → SeatAt → Type 0
+StandsAt k keys index s false key ahead t = (length keys ≤ index) × (t ≡ s)
+StandsAt k keys index s true key ahead t =
+    (key ≡ slice_index keys index) × Sought keys index s (λ v sought w. LooksAhead k v sought ahead w) t
 
 abbrev pub IsAt : ℕ → TableAt → List ℕ → ℕ → SeatAt → Lane → SeatAt → Type 0
-IsAt way table keys index s lane t = StandsAt way table keys index s lane.key (search_of lane.stage lane.slot lane.side) t
+IsAt way table keys index s lane t = StandsAt (shape_of way table) keys index s lane.searches lane.key lane.ahead t
 
 -- The seat looked up the key of that index, and the answer stands there.
 pub record HasGot (keys : List ℕ) (answers : List (Option ℕ)) (index : ℕ) (s t : SeatAt) : Type 0 where
@@ -72,15 +53,14 @@ pub record IsLane (way : ℕ) (table : TableAt) (keys : List ℕ) (answers : Lis
   pub looked_up : LooksUpEach keys answers seats number count s.view last.view
   pub at : IsAt way table keys lane.index last lane t
 
--- So it is of all seats, between two turns.
+-- So it is of all seats.
 pub record AreLanes (way : ℕ) (table : TableAt) (keys : List ℕ) (answers : List (Option ℕ)) (before : List SeatAt) (lanes : List Lane)
     (after : List SeatAt) : Type 0 where
   pub same_count : length before ≡ length after
   pub room : length answers ≡ length keys
-  pub settled : (number : ℕ) (lane : Lane) → get_elem? lanes number ≡ some lane → IsSettled lane.stage
   pub each : (number : ℕ) (s : SeatAt) (lane : Lane) (t : SeatAt) → get_elem? before number ≡ some s → get_elem? lanes number ≡ some lane
       → get_elem? after number ≡ some t → IsLane way table keys answers (length before) number s lane t
 
 -- No search is under way, of so many lanes.
 abbrev pub AreOver : ℕ → List Lane → Type 0
-AreOver count lanes = (number : ℕ) (lane : Lane) → number < count → get_elem? lanes number ≡ some lane → lane.stage ≢ Searching
+AreOver count lanes = (number : ℕ) (lane : Lane) → number < count → get_elem? lanes number ≡ some lane → lane.searches ≡ false

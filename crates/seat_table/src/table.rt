@@ -4,7 +4,7 @@ ghost use Rattle.prcu_marks.specs.Bounds.{most_tickets};
 ghost use Rattle.core_state.specs.declared.shape.Shape.{Shape};
 ghost use Rattle.core_state.specs.memory.Bounds.{most_slots, most_places};
 ghost use Rattle.seat_table.specs.Fresh.{fresh_seat, alone, key_stamps, waiter_part, first_words};
-ghost use Rattle.seat_table.specs.Seats.{IsQuietSeat};
+ghost use Rattle.seat_table.specs.Seats.{HasRows, IsQuietSeat};
 
 use crate::listed::Listed;
 use crate::notes::Notes;
@@ -204,13 +204,23 @@ impl<W: WaitWords> CitrusTable<W> {
         ))
     }
 
+    /// Where the rows of its slots begin. Who makes many steps keeps them at hand: what stands in the table is loaded anew after each.
+    #[inline(always)]
+    pub fn rows(&self) -> Rows
+        ensures rows { HasRows W.WAY self.now result }
+    {
+        self.rows
+    }
+
     /// Loads the key of the slot to which this link leads, where the table has such a slot, and throws it away: a search that comes by finds
     /// the slot near the processor. It changes nothing, and no seat learns of it.
     #[inline(always)]
-    pub fn bring_near(&self, link: u64) {
-        if link < self.rows.count as u64 {
-            let key = Field::Key { slot: link as u32 };
-            self.table.shared.peek(index_of(&self.rows, key));
+    pub fn bring_near(&self, rows: &Rows, link: u32)
+        requires rows { HasRows W.WAY self.now rows.now }
+    {
+        if (link as usize) < rows.count {
+            let key = Field::Key { slot: link };
+            self.table.shared.peek(index_of(rows, key));
         }
     }
 

@@ -4,50 +4,47 @@ use Rattle.seat_table.proofs.Rounding.{told_steps}
 use Rattle.citrus_tree.proofs.searches.Descending.{ended_at, slot_on, may_read, found_at, moved_on}
 use Rattle.citrus_tree.proofs.descent.look_on.Goals as goal
 
-pub returns-then-links-eq0-clause-searching : goal.returns-then-links-eq0-clause-searching
-returns-then-links-eq0-clause-searching g c v u i l = ended_at
-    (shape_of g.W.WaitWords.WAY c.args.table.now) c.args.key c.args.slot c.args.side u
-    c.args.links.ahead c.args.seat.now.view l c.if-links-eq0.true v i
+pub returns-then-ahead-eq0-clause-searching : goal.returns-then-ahead-eq0-clause-searching
+returns-then-ahead-eq0-clause-searching g c v u slot side i l = ended_at
+    (shape_of g.W.WaitWords.WAY c.args.table.now) c.args.key slot side u c.args.ahead c.args.seat.now.view l c.if-ahead-eq0.true v i
 
-pub search_load-found-requires-clause-asks : goal.search_load-found-requires-clause-asks
-search_load-found-requires-clause-asks g c = let a = c.requires.loaded in may_read
-    (shape_of g.W.WaitWords.WAY c.args.table.now) c.args.key c.args.slot c.args.side a.1
-    c.args.links.ahead c.args.seat.now.view a.3 c.if-links-eq0.false (a.0, a.2)
+pub search_load_by-found-requires-clause-asks : goal.search_load_by-found-requires-clause-asks
+search_load_by-found-requires-clause-asks g c = let a = c.requires.loaded.1 in may_read
+    (shape_of g.W.WaitWords.WAY c.args.table.now) c.args.key a.slot a.side a.before c.args.ahead c.args.seat.now.view a.loads
+    c.if-ahead-eq0.false (c.requires.loaded.0, a.searching)
 
 pub returns-in-None-clause-slot : goal.returns-in-None-clause-slot
-returns-in-None-clause-slot g c = let a = c.requires.loaded in slot_on
-    (shape_of g.W.WaitWords.WAY c.args.table.now) c.args.key c.args.slot c.args.side a.1
-    c.args.links.ahead c.args.seat.now.view a.3 c.if-links-eq0.false (a.0, a.2)
+returns-in-None-clause-slot g c slot side _ = let a = c.requires.loaded.1 in slot_on
+    (shape_of g.W.WaitWords.WAY c.args.table.now) c.args.key a.slot a.side a.before c.args.ahead c.args.seat.now.view a.loads
+    c.if-ahead-eq0.false (c.requires.loaded.0, a.searching)
 
 pub returns-in-None-clause-searching : goal.returns-in-None-clause-searching
-returns-in-None-clause-searching g c v u i l = found_at
-    (shape_of g.W.WaitWords.WAY c.args.table.now) c.args.key c.args.slot c.args.side u
-    c.args.links.ahead c.args.seat.now.view l c.search_load-found.result
-    c.search_load-found.new.seat.view c.search_load-found.ensures.told c.if-links-eq0.false (sym c.step_side.ensures ∙ c.in-None.is) v i
+returns-in-None-clause-searching g c v u slot side i l = found_at
+    (shape_of g.W.WaitWords.WAY c.args.table.now) c.args.key slot side u c.args.ahead c.args.seat.now.view l c.search_load_by-found.result
+    c.search_load_by-found.new.seat.view c.search_load_by-found.ensures.told c.if-ahead-eq0.false (sym c.step_side.ensures ∙ c.in-None.is) v i
 
 pub returns-in-Some-clause-slot : goal.returns-in-Some-clause-slot
-returns-in-Some-clause-slot g c = let a = c.requires.loaded in slot_on
-    (shape_of g.W.WaitWords.WAY c.args.table.now) c.args.key c.args.slot c.args.side a.1
-    c.args.links.ahead c.args.seat.now.view a.3 c.if-links-eq0.false (a.0, a.2)
+returns-in-Some-clause-slot g c slot side _ = let a = c.requires.loaded.1 in slot_on
+    (shape_of g.W.WaitWords.WAY c.args.table.now) c.args.key a.slot a.side a.before c.args.ahead c.args.seat.now.view a.loads
+    c.if-ahead-eq0.false (c.requires.loaded.0, a.searching)
 
 pub returns-in-Some-clause-searching : goal.returns-in-Some-clause-searching
-returns-in-Some-clause-searching g c v u i l = moved_on
-    (shape_of g.W.WaitWords.WAY c.args.table.now) c.args.key c.args.slot c.args.side u
-    c.args.links.ahead c.args.seat.now.view l c.search_load-found.result
-    c.search_load-found.new.seat.view c.search_load-found.ensures.told c.in-Some.side c.if-links-eq0.false
+returns-in-Some-clause-searching g c v u slot side i l = moved_on
+    (shape_of g.W.WaitWords.WAY c.args.table.now) c.args.key slot side u c.args.ahead c.args.seat.now.view l c.search_load_by-found.result
+    c.search_load_by-found.new.seat.view c.search_load_by-found.ensures.told c.in-Some.side c.if-ahead-eq0.false
     (sym c.step_side.ensures ∙ c.in-Some.is) v i
 
-pub returns-then-links-eq0-clause-place : goal.returns-then-links-eq0-clause-place
-returns-then-links-eq0-clause-place g c = let a = c.requires.loaded in a.3.left_told.before.tells.some_place
+pub returns-then-ahead-eq0-clause-place : goal.returns-then-ahead-eq0-clause-place
+returns-then-ahead-eq0-clause-place g c = c.requires.loaded.1.loads.left_told.before.tells.some_place
 
 pub returns-in-None-clause-place : goal.returns-in-None-clause-place
-returns-in-None-clause-place g c = let a = c.requires.loaded in a.3.left_told.before.tells.some_place
+returns-in-None-clause-place g c = c.requires.loaded.1.loads.left_told.before.tells.some_place
 
 pub returns-in-Some-clause-place : goal.returns-in-Some-clause-place
-returns-in-Some-clause-place g c = let a = c.requires.loaded in a.3.left_told.before.tells.some_place
+returns-in-Some-clause-place g c = c.requires.loaded.1.loads.left_told.before.tells.some_place
 
 pub returns-in-None-clause-more : goal.returns-in-None-clause-more
-returns-in-None-clause-more g c = let stepped = told_steps c.search_load-found.ensures.told in omega (arith, stepped)
+returns-in-None-clause-more g c = let stepped = told_steps c.search_load_by-found.ensures.told in omega (arith, stepped)
 
 pub returns-in-Some-clause-more : goal.returns-in-Some-clause-more
-returns-in-Some-clause-more g c = let stepped = told_steps c.search_load-found.ensures.told in omega (arith, stepped)
+returns-in-Some-clause-more g c = let stepped = told_steps c.search_load_by-found.ensures.told in omega (arith, stepped)

@@ -1,7 +1,7 @@
 use Rattle.std.proofs.Common.{◌≡◌, slice_index_or, refl, sym, subst, arith}
 use Rattle.list_laws.proofs.Lists.{at_below}
-use Rattle.many_gets.specs.Lanes.{IsAt, IsSettled}
-use Rattle.many_gets.proofs.Turning.{is_there, tables_set, kept_all, kept_set, untouched_set, settled_set, begun_set}
+use Rattle.many_gets.specs.Lanes.{IsAt}
+use Rattle.many_gets.proofs.Turning.{is_there, tables_set, kept_all, kept_set, untouched_set, begun_set}
 use Rattle.many_gets.proofs.many.enter_all.Goals as goal
 
 pub loop-n-init : goal.loop-n-init
@@ -9,7 +9,6 @@ loop-n-init g c = record {
   tables = c.requires.table;
   kept = kept_all c.args.seats.now;
   untouched = λ i s behind at_s. at_s;
-  settled = λ i lane at_lane. subst IsSettled (sym (c.requires.outside i lane at_lane)) tt;
   begun = λ i s lane t before at_s at_lane at_t. absurd (omega (arith, before));
 }
 
@@ -38,7 +37,6 @@ loop-n-preserved g c =
       kept = kept_set c.loop-n.seats c.loop-n.n t c.enter.new.seat there c.args.seats.now c.loop-n.invariant.kept c.enter.ensures.seat.0
           c.enter.ensures.seat.1;
       untouched = untouched_set c.loop-n.seats c.loop-n.n t c.enter.new.seat there c.args.seats.now c.loop-n.invariant.untouched;
-      settled = settled_set c.loop-n.lanes c.loop-n.n c.enter.result c.enter.ensures.settled c.loop-n.invariant.settled;
       begun = begun_set (λ i s lane t. (lane.index ≡ i) × IsAt g.W.WaitWords.WAY c.args.table.now c.args.keys.now i s lane t)
           c.args.seats.now
           c.loop-n.lanes c.loop-n.seats c.loop-n.n c.enter.result (slice_index_or c.loop-n.lanes c.loop-n.n c.enter.result) t
@@ -52,7 +50,6 @@ returns-clause-are g c answers room =
     record {
       same_count = omega (arith, count);
       room = room;
-      settled = c.loop-n.invariant.settled;
       each = λ i s lane t at_s at_lane at_t.
           let inside = at_below c.loop-n.seats i t at_t in
           let b = c.loop-n.invariant.begun i s lane t (omega (arith, at_end, end, count, inside)) at_s at_lane at_t in

@@ -9,13 +9,6 @@ take_turn-busy-requires-clause-table g c =
     c.loop-n.invariant.tables c.loop-n.n (slice_index_or c.loop-n.seats c.loop-n.n c.index-seats-n.result)
     (is_there c.loop-n.seats c.loop-n.n c.index-seats-n.result (omega (arith, before_end, end, count)))
 
-pub take_turn-busy-requires-clause-settled : goal.take_turn-busy-requires-clause-settled
-take_turn-busy-requires-clause-settled g c =
-    let before_end = c.loop-n-test.true in let end = c.loop-n.auto.n-end in let count = c.loop-n.auto.seats in
-    let lanes = c.loop-n.auto.lanes in let enough = c.requires.lanes in
-    (c.loop-n.invariant.are c.requires.are.0 c.requires.are.1).settled c.loop-n.n _
-    (is_there c.loop-n.lanes c.loop-n.n _ (omega (arith, before_end, end, count, lanes, enough)))
-
 pub take_turn-busy-requires-clause-is : goal.take_turn-busy-requires-clause-is
 take_turn-busy-requires-clause-is g c =
     let before_end = c.loop-n-test.true in let end = c.loop-n.auto.n-end in let count = c.loop-n.auto.seats in
@@ -57,7 +50,7 @@ loop-n-preserved g c =
           lanes_set g.W.WaitWords.WAY c.args.table.now c.args.keys.now c.loop-n.answers before c.loop-n.lanes c.loop-n.seats m c.loop-n.n _
           c.take_turn-busy.new.lane t u c.take_turn-busy.new.answers
           (is_there c.loop-n.lanes c.loop-n.n _ (omega (arith, before_end, end, count, lanes, enough))) there
-          (omega (arith, room, noted)) c.take_turn-busy.ensures.settled c.take_turn-busy.ensures.others
+          (omega (arith, room, noted)) c.take_turn-busy.ensures.others
           (λ s _ p. counted g.W.WaitWords.WAY c.args.table.now c.args.keys.now c.take_turn-busy.new.answers (length c.args.seats.now)
           (length before) c.loop-n.n s c.take_turn-busy.new.lane u (omega (arith, same, count))
           (c.take_turn-busy.ensures.is c.loop-n.n s (omega (arith, before_end, end, count)) room
