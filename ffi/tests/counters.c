@@ -8,16 +8,20 @@ static uint64_t raises = 20000;
 
 struct stage {
     uint64_t counters;
-    pthread_barrier_t begin, end;
+    pthread_barrier_t begin, loaded, end;
     _Atomic uint64_t refused;
 };
 
-/* Counters only rise: so a compare that is refused tells a greater value than the expected one. Now and then others get a turn between. */
-static void raise_it(struct member *me, struct stage *stage, uint64_t key, int yields) {
+/* What a thread does between its get and its compare. */
+enum between { NOTHING, YIELD, WAIT_FOR_ALL };
+
+/* Counters only rise: so a compare that is refused tells a greater value than the expected one. */
+static void raise_it(struct member *me, struct stage *stage, uint64_t key, enum between between) {
     uint64_t value = 0, found = UNTOUCHED;
     int32_t status = citrus_get(&me->handle, key, &value);
     member_wants(me, "a get of counter", key, status, CITRUS_DONE);
-    if (yields) sched_yield();
+    if (between == YIELD) sched_yield();
+    if (between == WAIT_FOR_ALL) pthread_barrier_wait(&stage->loaded);
     while ((status = citrus_compare(&me->handle, key, value, value + 1, &found)) == CITRUS_DIFFERENT && !me->wrong) {
         member_wants(me, "whether a compare is refused for a greater value, of counter", key, found > value, 1);
         value = found;
@@ -35,7 +39,11 @@ static void *raise_all(void *member) {
     for (uint64_t key = 0; me->number == 0 && key < stage->counters; key++)
         member_wants(me, "an insert of counter", key, citrus_insert(&me->handle, key, 0), CITRUS_DONE);
     pthread_barrier_wait(&stage->begin);
-    for (uint64_t i = 0; i < raises && !me->wrong; i++) raise_it(me, stage, (i + me->number) % stage->counters, i % 50 == 0);
+    /* All have loaded the one counter before the first compare: so one is done, and the others are refused. */
+    const uint64_t together = stage->counters == 1;
+    if (together) raise_it(me, stage, 0, WAIT_FOR_ALL);
+    for (uint64_t i = together; i < raises && !me->wrong; i++)
+        raise_it(me, stage, (i + me->number) % stage->counters, i % 50 == 0 ? YIELD : NOTHING);
     pthread_barrier_wait(&stage->end);
     for (uint64_t key = 0; key < stage->counters; key++) {
         member_wants(me, "a get of counter", key, citrus_get(&me->handle, key, &value), CITRUS_DONE);
@@ -48,11 +56,13 @@ static void *raise_all(void *member) {
 static void run_on(uint64_t counters, uint32_t waiter) {
     struct stage stage = {.counters = counters};
     pthread_barrier_init(&stage.begin, NULL, THREADS);
+    pthread_barrier_init(&stage.loaded, NULL, THREADS);
     pthread_barrier_init(&stage.end, NULL, THREADS);
     run_crew(THREADS, 1, MOST_COUNTERS, waiter, raise_all, &stage);
     pthread_barrier_destroy(&stage.end);
+    pthread_barrier_destroy(&stage.loaded);
     pthread_barrier_destroy(&stage.begin);
-    if (counters == 1) WANT(stage.refused > 0, 1);
+    if (counters == 1) WANT(stage.refused >= THREADS - 1, 1);
 }
 
 static void one_counter(uint32_t waiter) { run_on(1, waiter); }
