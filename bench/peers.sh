@@ -15,10 +15,20 @@ left_out() { echo "left out: $*" >&2; }
 # Whether the program is there, and newer than all in a folder.
 is_newest() { [ -x "$1" ] && [ -z "$(find "$2" -type f ! -name Cargo.lock -newer "$1" -print -quit)" ]; }
 
-# Builds bench/cpp/NAME.cpp: `build_cpp NAME [LIBRARY]`.
-build_cpp() {
-    is_newest "$out/$1" "$top/bench/cpp" || g++ -O2 -std=c++17 -pthread -o "$out/$1" "$top/bench/cpp/$1.cpp" ${2:+"-l$2"}
+# Compiles bench/cpp/NAME.cpp: `compile COMPILER NAME PROGRAM [LIBRARY]`.
+compile() {
+    is_newest "$out/$3" "$top/bench/cpp" || "$1" -O2 -std=c++17 -pthread -o "$out/$3" "$top/bench/cpp/$2.cpp" ${4:+"-l$4"}
 }
+
+# The same steps are built by clang where it is there, since LLVM compiles the proved code too: gcc 12 makes a jump of a search's choice
+# between two links, which is guessed wrong half of the time. All others are built by gcc.
+compiler_of() {
+    case $1 in same*) hash clang++ 2>/dev/null && echo clang++ && return ;; esac
+    echo g++
+}
+
+# Builds bench/cpp/NAME.cpp: `build_cpp NAME [LIBRARY]`.
+build_cpp() { compile "$(compiler_of "$1")" "$1" "$@"; }
 
 # The same where the header is there: `build_with HEADER PACKAGE NAME LIBRARY`.
 build_with() {

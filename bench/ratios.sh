@@ -6,11 +6,11 @@
 #
 # `ratios.sh [--row MIX/KEYS]... [--threads N]... [--pages small|huge]... [--series NAME]... [--rounds N] [--cell MS] [--archive FILE]
 # [--beside FILE]`. A mix is a number of gets of 100, `load`, or `fill`, which fills a new dictionary in each cell. Without --row it
-# measures ten rows, of which that of 10,000,000 keys takes 5 GB. The programs are the C library, the proved one or that of `--archive`;
-# that of `--beside`, which may be of another commit; the same steps in C++; plain CITRUS; TBB's map; and for gets alone the library's
-# lanes, which look up many keys at once. All draw the same keys, and it fails where their answers aren't the same. Huge pages are asked
-# for as in bench/size.sh. Rows go to bench/results/ratios.csv, in place of all that are there where nothing is named. It stands outside
-# the gate.
+# measures ten rows, of which that of 10,000,000 keys takes 5 GB. The programs are the C library, the proved one or that of `--archive`,
+# with the first waiter and with the others; that of `--beside`, which may be of another commit; the same steps in C++; plain CITRUS;
+# TBB's map, by gcc and by clang; and for gets alone the library's lanes, which look up many keys at once. All draw the same keys, and it
+# fails where their answers aren't the same. Huge pages are asked for as in bench/size.sh. Rows go to bench/results/ratios.csv, in place of
+# all that are there where nothing is named. It stands outside the gate.
 set -eu
 # shellcheck source=bench/peers.sh
 . "$(dirname "$0")/peers.sh"
@@ -46,7 +46,8 @@ done
 [ ${#crews[@]} != 0 ] || crews=(1)
 [ ${#pages[@]} != 0 ] || pages=(small)
 [ ${#series[@]} != 0 ] ||
-    series=('C library' 'C library before' 'C++' 'plain CITRUS' 'TBB map' '4 lanes' '8 lanes' 'C++ 4 lanes' 'C++ 8 lanes')
+    series=('C library' 'second waiter' 'third waiter' 'C library before' 'C++' 'plain CITRUS' 'TBB map' 'TBB by clang' '4 lanes' '8 lanes'
+        'C++ 4 lanes' 'C++ 8 lanes')
 
 # Builds the program of a series, and notes by which word it runs that series: `make_ready SERIES`. TBB's is left out where TBB isn't there.
 declare -A program=() word=()
@@ -54,6 +55,7 @@ make_ready() {
     word[$1]=$1
     case $1 in
         'C library') build_library "${archive[@]}" && program[$1]=$out/embed word[$1]='C library first waiter' ;;
+        'second waiter' | 'third waiter') build_library "${archive[@]}" && program[$1]=$out/embed word[$1]="C library $1" ;;
         'C library before')
             [ ${#beside[@]} != 0 ] || return 0
             install_library "$out/before" "${beside[@]}" && build_over "$out/before" embed embed_before &&
@@ -67,6 +69,10 @@ make_ready() {
         'plain CITRUS') build_cpp citrus && program[$1]=$out/citrus ;;
         'std::map under mutex') build_cpp locked && program[$1]=$out/locked ;;
         'TBB map') ! build_with oneapi/tbb/concurrent_map.h libtbb-dev tbb tbb || program[$1]=$out/tbb ;;
+        'TBB by clang')
+            hash clang++ 2>/dev/null && build_with oneapi/tbb/concurrent_map.h libtbb-dev tbb tbb || return 0
+            compile clang++ tbb tbb_by_clang tbb && program[$1]=$out/tbb_by_clang word[$1]='TBB map'
+            ;;
         *) usage ;;
     esac
 }

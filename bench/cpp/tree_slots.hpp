@@ -18,8 +18,8 @@ public:
 
     // A place keeps back so many retired slots before it waits for all readers.
     TreeSlots(uint32_t slots, uint32_t places, uint32_t most_retired)
-        : slots_(slots), places_(places), most_retired_(most_retired), base_(W::end(places)),
-          words_(base_ + 9 * (uint64_t(slots) + places + 1)) {
+        : slots_(slots), places_(places), most_retired_(most_retired), rows_(uint64_t(slots) + places + 1, W::room(places)),
+          words_(rows_.end(), rows_.waiter()) {
         W::set_up(words_, places);
         words_[L::free_count] = slots;
         for (uint32_t slot = 0; slot <= places; slot++) state(slot) = 1;
@@ -38,7 +38,7 @@ public:
     }
 
 protected:
-    std::atomic<uint64_t> &at(uint32_t slot, Field field) { return words_[L::field(base_, slots_ + places_ + 1, slot, field)]; }
+    std::atomic<uint64_t> &at(uint32_t slot, Field field) { return words_[rows_.field(slot, field)]; }
     // Loads the key of the slot of a link, and throws it away.
     void bring_near(uint64_t link) {
         if (link <= uint64_t(slots_) + places_) at(link, Key).load();
@@ -106,7 +106,7 @@ private:
     uint32_t next_line(uint32_t slot) const { return slot < slots_ + places_ ? (slot | 1) + 1 : 2; }
     bool seems_free(uint32_t slot) { return slot != 0 && slot <= slots_ + places_ && state(slot).load() == 0; }
 
-    std::atomic<uint64_t> &state(uint32_t slot) { return words_[L::state(base_, slots_ + places_ + 1, slot)]; }
+    std::atomic<uint64_t> &state(uint32_t slot) { return words_[rows_.state(slot)]; }
 
     bool take(TreeSeat &seat) {
         Backoff backoff;
@@ -164,6 +164,6 @@ private:
     }
 
     uint32_t slots_, places_, most_retired_;
-    uint64_t base_;
+    L rows_;
     Words words_;
 };

@@ -26,7 +26,7 @@ template <class W> __attribute__((noinline)) void wait(Words &words, Seat seat, 
 }
 
 template <class W> void measure(const char *what, Work work, uint32_t places, uint32_t rounds) {
-    Words words(W::end(places));
+    Words words(W::Layout::head + W::room(places), W::Layout::head);
     W::set_up(words, places);
     const Keys keys = work == Work::WaitAll ? Keys{0, UINT64_MAX} : Keys{8, 15};
     const auto run = [&](uint32_t place) {

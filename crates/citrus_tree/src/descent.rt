@@ -5,14 +5,14 @@ ghost use Rattle.core_state.specs.declared.view.View.{View};
 ghost use Rattle.core_state.specs.parts.ReaderParts.{state_slot};
 ghost use Rattle.seat_table.specs.Gains.{IsSlot};
 ghost use Rattle.seat_table.specs.Rounds.{HasMade};
-ghost use Rattle.seat_table.specs.Seats.{HasRows, shape_of};
+ghost use Rattle.seat_table.specs.Seats.{shape_of};
 ghost use Rattle.citrus_tree.specs.Hops.{Loads, LoadsLinks, LooksAhead, link_on, state_after};
 ghost use Rattle.citrus_tree.specs.Lookups.{IsSearching, state_of};
 
 use core_state::step_side;
 use patience::Patience;
 use prcu_marks::{Gate, Point, Side};
-use seat_table::{CitrusTable, Part, Rows, Seat, WaitPart, steps};
+use seat_table::{CitrusTable, Part, Seat, WaitPart, steps};
 
 /// Where a search goes on from a slot and a side.
 #[derive(Clone, Copy)]
@@ -69,13 +69,11 @@ pub struct Links {
 #[inline(always)]
 pub fn load_links<W: WaitPart>(
     table: &CitrusTable<W>,
-    rows: &Rows,
     seat: &mut Seat<W>,
     slot: u32,
     side: Side,
 ) -> Links
     requires table { seat.old.table ≡ table.now }
-    requires rows { HasRows W.WAY table.now rows.now }
     requires slot { IsSlot (shape_of W.WAY table.now) slot }
     requires searching { (v : View) × (key : ℕ) × IsSearching v key (At slot side) seat.old.view }
     ensures seat { (seat.new.table ≡ seat.old.table) × (seat.new.listed ≡ seat.old.listed) }
@@ -84,8 +82,8 @@ pub fn load_links<W: WaitPart>(
     // The side depends on the slot's key, which may still be on its way from memory. The links stand beside the key, and neither load waits
     // for the comparison. The link of the other side only adds to what the section knows, and moves its search nowhere.
     // docs/TREE.md#why-a-get-beside-a-delete-is-right
-    let left = steps::search_load_by(table, rows, seat, slot, Part::Link { side: Side::Left });
-    let right = steps::search_load_by(table, rows, seat, slot, Part::Link { side: Side::Right });
+    let left = steps::search_load(table, seat, slot, Part::Link { side: Side::Left });
+    let right = steps::search_load(table, seat, slot, Part::Link { side: Side::Right });
     let left_slot = low_half(left);
     let right_slot = low_half(right);
     let ahead = link_on(side, left_slot, right_slot);
@@ -98,11 +96,9 @@ pub fn load_links<W: WaitPart>(
 
 // Where a link is given, brings the slot near to which it leads. As measured: docs/BENCHMARKS.md#the-tree
 #[inline(always)]
-fn bring_near<W: WaitPart>(table: &CitrusTable<W>, rows: &Rows, link: Option<u32>)
-    requires rows { HasRows W.WAY table.now rows.now }
-{
+fn bring_near<W: WaitPart>(table: &CitrusTable<W>, link: Option<u32>) {
     if let Some(link) = link {
-        table.bring_near(rows, link);
+        table.bring_near(link);
     }
 }
 
@@ -113,14 +109,12 @@ fn bring_near<W: WaitPart>(table: &CitrusTable<W>, rows: &Rows, link: Option<u32
 #[inline(always)]
 pub fn look_on<W: WaitPart>(
     table: &CitrusTable<W>,
-    rows: &Rows,
     seat: &mut Seat<W>,
     key: u64,
     ahead: u32,
     aside: Option<u32>,
 ) -> Step
     requires table { seat.old.table ≡ table.now }
-    requires rows { HasRows W.WAY table.now rows.now }
     requires loaded { (v : View) × LooksAhead (shape_of W.WAY table.now) v key ahead seat.old.view }
     ensures seat { (seat.new.table ≡ seat.old.table) × (seat.new.listed ≡ seat.old.listed) }
     ensures place { 1 ≤ table.now.places }
@@ -138,8 +132,8 @@ pub fn look_on<W: WaitPart>(
     if ahead == 0 {
         return Step::Ended;
     }
-    let found = steps::search_load_by(table, rows, seat, ahead, Part::Key);
-    bring_near(table, rows, aside);
+    let found = steps::search_load(table, seat, ahead, Part::Key);
+    bring_near(table, aside);
     match step_side(key, found) {
         None => Step::Found { slot: ahead },
         Some(side) => Step::Moved { slot: ahead, side },
@@ -165,9 +159,8 @@ pub(crate) fn go_down<W: WaitPart>(
     ensures searching { (v : View) → IsSearching v key (At slot side) seat.old.view
         → IsSearching v key (state_after slot side result) seat.new.view }
 {
-    let rows = table.rows();
-    let links = load_links(table, &rows, seat, slot, side);
-    look_on(table, &rows, seat, key, links.ahead, Some(links.aside))
+    let links = load_links(table, seat, slot, side);
+    look_on(table, seat, key, links.ahead, Some(links.aside))
 }
 
 /// Enters a section with the key, and goes down from the root until a slot has the key or a side is empty. The section stays open.
@@ -191,17 +184,16 @@ pub(crate) fn descend<P: Patience, W: WaitPart, G: Gate>(
 {
     W::enter(table, seat, key);
     gate.pass(Point::InSection, seat.place());
-    let rows = table.rows();
     let mut at = 0;
     let mut side = Side::Right;
-    let mut links = load_links(table, &rows, seat, at, side);
+    let mut links = load_links(table, seat, at, side);
     for round in 0..u64::MAX {
-        match look_on(table, &rows, seat, key, links.ahead, Some(links.aside)) {
+        match look_on(table, seat, key, links.ahead, Some(links.aside)) {
             Step::Moved { slot, side: next } => {
                 at = slot;
                 side = next;
                 // Behind the comparison, which chooses one of them: else the choice would wait for one more turn.
-                links = load_links(table, &rows, seat, slot, next);
+                links = load_links(table, seat, slot, next);
             }
             Step::Found { slot } => {
                 return Ok(Descent::Found {

@@ -10,7 +10,7 @@ use Rattle.core_state.specs.declared.shape.Waiter.TheVariants.{Eer, Domain, Deer
 use Rattle.core_state.specs.declared.words.Field.{Field}
 use Rattle.core_state.specs.declared.words.Field.TheVariants.{Clock, Front, Free, Announced, Stamp, Gate, Count, Row, State, Lock, Life, Key, Value, Link, Tag}
 use Rattle.core_state.specs.memory.Words.{side_number}
-use Rattle.core_state.specs.memory.Memory.{apart, place_room, class_room, row_room, classes, slot_base, slot_count, same_waiter, waiter_room, word_count, word_of, is_field, same_side, same_field}
+use Rattle.core_state.specs.memory.Memory.{apart, place_room, class_room, row_room, classes, slot_base, slot_count, same_waiter, waiter_base, waiter_room, word_count, word_of, is_field, same_side, same_field}
 use Rattle.core_acts.specs.declared.act.Act.TheVariants as act
 use Rattle.core_acts.specs.declared.act.Part.TheVariants as part
 use Rattle.core_acts.specs.Places.{NoPlaceIsShared, FieldsAreWithin, place_words, class_words, slot_words, group_of, GroupsAreApart, PlacesWriteTheirOwn}
@@ -124,55 +124,59 @@ word_inside k field is = inside_case k field (lies k field is)
 
 -- ---- words of two groups
 
--- a word is a slot's, or stands before those of the slots
-slots_side : (k : Shape) (f : Field) → Lies k f
-    → ((group_of f ≡ slot_words) × (slot_base k ≤ word_of k f)) ⊎ (word_of k f + apart ≤ slot_base k)
-slots_side k Clock p = inr (omega arith)
-slots_side k Front p = inr (omega arith)
-slots_side k Free p = inr (omega arith)
-slots_side k (Announced a) p = inr (omega arith)
-slots_side k (Stamp a) p = inr (omega arith)
-slots_side k (Gate c) p = inr (omega arith)
-slots_side k (Count c s) p = inr (omega arith)
-slots_side k (Row a c) p = inr (omega arith)
-slots_side k (State s) p = inl (refl, omega arith)
-slots_side k (Lock s) p = inl (refl, omega arith)
-slots_side k (Life s) p = inl (refl, omega arith)
-slots_side k (Key s) p = inl (refl, omega arith)
-slots_side k (Value s) p = inl (refl, omega arith)
-slots_side k (Link s b) p = inl (refl, omega arith)
-slots_side k (Tag s b) p = inl (refl, omega arith)
+-- a word stands before those of the slots, is one of them, or stands behind them
+abbrev Stands : Shape → Field → Type 0
+Stands k f = (word_of k f + apart ≤ slot_base)
+    ⊎ (((group_of f ≡ slot_words) × (slot_base ≤ word_of k f) × (word_of k f + apart ≤ waiter_base k)) ⊎ (waiter_base k ≤ word_of k f))
+
+stands : (k : Shape) (f : Field) → Lies k f → Stands k f
+stands k Clock p = inl (omega arith)
+stands k Front p = inl (omega arith)
+stands k Free p = inl (omega arith)
+stands k (Announced a) p = inr (inr (omega arith))
+stands k (Stamp a) p = inr (inr (omega arith))
+stands k (Gate c) p = inr (inr (omega arith))
+stands k (Count c s) p = inr (inr (omega arith))
+stands k (Row a c) p = inr (inr (omega arith))
+stands k (State s) p = inr (inl (refl, omega arith, omega arith))
+stands k (Lock s) p = inr (inl (refl, omega arith, omega arith))
+stands k (Life s) p = inr (inl (refl, omega arith, omega arith))
+stands k (Key s) p = inr (inl (refl, omega arith, omega arith))
+stands k (Value s) p = inr (inl (refl, omega arith, omega arith))
+stands k (Link s b) p = inr (inl (refl, omega arith, omega arith))
+stands k (Tag s b) p = inr (inl (refl, omega arith, omega arith))
 
 -- two words before the slots'
-before_slots : (k : Shape) (f g : Field) → Lies k f → Lies k g → group_of f ≢ group_of g → word_of k f < word_of k g
-    → word_of k f + apart ≤ slot_base k → word_of k g + apart ≤ slot_base k → word_of k f + apart ≤ word_of k g
-before_slots k (State s) g p q ne below u v = absurd (omega arith)
-before_slots k (Lock s) g p q ne below u v = absurd (omega arith)
-before_slots k (Life s) g p q ne below u v = absurd (omega arith)
-before_slots k (Key s) g p q ne below u v = absurd (omega arith)
-before_slots k (Value s) g p q ne below u v = absurd (omega arith)
-before_slots k (Link s b) g p q ne below u v = absurd (omega arith)
-before_slots k (Tag s b) g p q ne below u v = absurd (omega arith)
-before_slots k Clock Clock p q ne below u v = absurd (omega arith)
-before_slots k Front Front p q ne below u v = absurd (omega arith)
-before_slots k Free Free p q ne below u v = absurd (omega arith)
-before_slots k (Stamp a) (Stamp b) p q ne below u v = omega arith
-before_slots k (Announced a) (Stamp b) p q ne below u v = let other : a ≢ b = λ e. ne (ap place_words e) in omega arith
-before_slots k (Gate a) (Count b t) p q ne below u v = let other : a ≢ b = λ e. ne (ap class_words e) in omega arith
-before_slots k (Count a s) (Count b t) p q ne below u v = let other : a ≢ b = λ e. ne (ap class_words e) in omega arith
-before_slots k (Row a c) (Row b d) p q ne below u v = let other : a ≢ b = λ e. ne (ap place_words e) in omega arith
-before_slots k f g p q ne below u v = omega arith
+before_slots : (k : Shape) (f g : Field) → Lies k f → Lies k g → word_of k f < word_of k g → word_of k f + apart ≤ slot_base
+    → word_of k g + apart ≤ slot_base → word_of k f + apart ≤ word_of k g
+before_slots k Clock Clock p q below u v = absurd (omega arith)
+before_slots k Front Front p q below u v = absurd (omega arith)
+before_slots k Free Free p q below u v = absurd (omega arith)
+before_slots k f g p q below u v = omega arith
+
+-- two words behind the slots'
+behind_slots : (k : Shape) (f g : Field) → Lies k f → Lies k g → group_of f ≢ group_of g → word_of k f < word_of k g
+    → waiter_base k ≤ word_of k f → waiter_base k ≤ word_of k g → word_of k f + apart ≤ word_of k g
+behind_slots k (Stamp a) (Stamp b) p q ne below u v = omega arith
+behind_slots k (Announced a) (Stamp b) p q ne below u v = let other : a ≢ b = λ e. ne (ap place_words e) in omega arith
+behind_slots k (Gate a) (Count b t) p q ne below u v = let other : a ≢ b = λ e. ne (ap class_words e) in omega arith
+behind_slots k (Count a s) (Count b t) p q ne below u v = let other : a ≢ b = λ e. ne (ap class_words e) in omega arith
+behind_slots k (Row a c) (Row b d) p q ne below u v = let other : a ≢ b = λ e. ne (ap place_words e) in omega arith
+behind_slots k f g p q ne below u v = omega arith
 
 pub groups_are_apart : GroupsAreApart
-groups_are_apart k f g is has ne below = by_sides (slots_side k f (lies k f is)) (slots_side k g (lies k g has))
+groups_are_apart k f g is has ne below = by_regions (stands k f (lies k f is)) (stands k g (lies k g has))
   where
-    by_sides : ((group_of f ≡ slot_words) × (slot_base k ≤ word_of k f)) ⊎ (word_of k f + apart ≤ slot_base k)
-        → ((group_of g ≡ slot_words) × (slot_base k ≤ word_of k g)) ⊎ (word_of k g + apart ≤ slot_base k)
-        → word_of k f + apart ≤ word_of k g
-    by_sides (inl a) (inl b) = absurd (ne (a.0 ∙ sym b.0))
-    by_sides (inl a) (inr b) = let low = a.1 in omega arith
-    by_sides (inr a) (inl b) = let low = b.1 in omega arith
-    by_sides (inr a) (inr b) = before_slots k f g (lies k f is) (lies k g has) ne below a b
+    by_regions : Stands k f → Stands k g → word_of k f + apart ≤ word_of k g
+    by_regions (inl a) (inl b) = before_slots k f g (lies k f is) (lies k g has) below a b
+    by_regions (inl a) (inr (inl b)) = let low = b.1 in omega arith
+    by_regions (inl a) (inr (inr b)) = omega arith
+    by_regions (inr (inl a)) (inl b) = let low = a.1 in omega arith
+    by_regions (inr (inl a)) (inr (inl b)) = absurd (ne (a.0 ∙ sym b.0))
+    by_regions (inr (inl a)) (inr (inr b)) = let high = a.2 in omega arith
+    by_regions (inr (inr a)) (inl b) = omega arith
+    by_regions (inr (inr a)) (inr (inl b)) = let high = b.2 in omega arith
+    by_regions (inr (inr a)) (inr (inr b)) = behind_slots k f g (lies k f is) (lies k g has) ne below a b
 
 -- ---- who writes a place's words
 

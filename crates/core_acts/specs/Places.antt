@@ -5,19 +5,19 @@ use Rattle.prcu_marks.specs.declared.access.Access.TheVariants.{Load}
 use Rattle.core_state.specs.declared.shape.Shape.{Shape}
 use Rattle.core_state.specs.declared.words.Field.{Field}
 use Rattle.core_state.specs.declared.words.Field.TheVariants.{Clock, Front, Free, Announced, Stamp, Gate, Count, Row}
-use Rattle.core_state.specs.memory.Memory.{apart, is_field, slot_count, slot_base, lock_base, state_base, word_of, word_count}
+use Rattle.core_state.specs.memory.Memory.{apart, is_field, slot_count, lock_base, state_base, waiter_base, word_of, word_count}
 use Rattle.core_acts.specs.declared.act.Act.{Act}
 use Rattle.core_acts.specs.declared.layout.Rows.{Rows}
 use Rattle.core_acts.specs.Acts.{field_of, access_of}
 
--- The slots are as many as in such a table, and their rows begin where they do there.
+-- The slots are as many as in such a table, and its rows begin where they do there.
 pub record AreRows (k : Shape) (rows : Rows) : Type 0 where
   pub count : rows.count ≡ slot_count k
-  pub nodes : rows.nodes ≡ slot_base k
   pub locks : rows.locks ≡ lock_base k
   pub states : rows.states ≡ state_base k
+  pub waiter : rows.waiter ≡ waiter_base k
 
--- where the states begin in the largest row, with 2^32 slots and places: no index of a word is too large for a number of 64 bits
+-- The waiter's words begin before it in the largest row, with 2^32 slots and places: no index of a word is too large for a number of 64 bits.
 abbrev pub most_words : ℕ
 most_words = 2 ^ 40
 

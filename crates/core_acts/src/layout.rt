@@ -8,6 +8,9 @@
 //! by those who store stands in the other: the lock, the life and the two tags. The halves of one kind are a row, and so two slots share a
 //! line. The states, at which only those look who take a slot, stand in a row of their own behind.
 //!
+//! The first of these rows begins at the same word in each table, and the words of places and classes stand behind all three: so the index
+//! of a word that a search loads is its slot's number times four and a constant, which the processor adds as it loads.
+//!
 //! A line begins at a multiple of 64 bytes. glibc puts a row that it maps by itself 16 bytes behind such a multiple, and any other row
 //! behind some multiple of 16. It maps rows of 128 KiB and more; once a mapped block was given back, only rows that are larger than that
 //! block, up to 32 MiB. So 14 words of room stand before the first: with them each place and class of a mapped row begins a line, and no
@@ -16,7 +19,7 @@
 //! Two lines at a time: Intel's optimization manual on adjacent lines, and `CachePadded` of crossbeam.
 ghost use Rattle.std.specs.Prelude.{◌≡◌, ◌+◌, ◌*◌, ◌≤◌};
 ghost use Rattle.core_state.specs.declared.shape.Shape.{Shape};
-ghost use Rattle.core_state.specs.memory.Memory.{half, waiter_room, waiter_base, word_count, word_of};
+ghost use Rattle.core_state.specs.memory.Memory.{half, room_behind, waiter_room, word_count, word_of};
 ghost use Rattle.core_acts.specs.Acts.{in_slot};
 ghost use Rattle.core_acts.specs.Places.{AreRows, most_words};
 
@@ -48,74 +51,85 @@ pub const CLASS_ROOM: usize = LINE + APART;
 /// The room of a place's row of stamps.
 pub const ROW_ROOM: usize = CLASSES + APART;
 
-// Where the waiter's words begin.
-const WAITER: usize = LEAD + 3 * APART;
+// Where the halves with the keys, values and links of the slots begin.
+const NODES: usize = LEAD + 3 * APART;
 
-/// Where the rows of a table's slots begin.
+/// Where the rows of a table's words begin that don't begin at the same word in each table.
 #[derive(Clone, Copy)]
 pub struct Rows {
     /// How many slots there are: the root, a spare for each place, and those that begin free.
     pub count: usize,
-    /// The halves with the keys, values and links.
-    pub nodes: usize,
-    /// Those with the locks, lives and tags.
+    /// The halves of the slots with the locks, lives and tags.
     pub locks: usize,
     /// The states.
     pub states: usize,
+    /// The words of the waiter's places or classes.
+    pub waiter: usize,
 }
 
-/// The rows of a table of this waiter with so many slots and places.
-pub fn rows_of(waiter: Waiter, slots: u32, places: u32) -> Rows
-    ensures rows { (k : Shape) → k.waiter ≡ waiter → k.slots ≡ slots → k.places ≡ places → AreRows k result }
-    ensures few { (result.states ≤ most_words) × (result.count ≤ most_words) }
+/// The room between the states of so many slots and the words of the waiter.
+pub fn room_behind(count: usize) -> usize
+    requires few { count ≤ most_words }
+    ensures room { result ≡ room_behind count }
 {
-    let room = match waiter {
-        Waiter::Eer => PLACE_ROOM * places as usize,
-        Waiter::Domain => CLASS_ROOM * CLASSES,
-        Waiter::Deer => ROW_ROOM * places as usize,
-    };
+    let words = (2 * HALF + 1) * count;
+    APART * (words / APART + 2) - words
+}
+
+/// The rows of a table with so many slots and places.
+pub fn rows_of(slots: u32, places: u32) -> Rows
+    ensures rows { (k : Shape) → k.slots ≡ slots → k.places ≡ places → AreRows k result }
+    ensures few { (result.waiter ≤ most_words) × (result.count ≤ most_words) }
+{
     let count = slots as usize + places as usize + 1;
     let halves = HALF * count;
-    let nodes = WAITER + room;
+    let states = NODES + halves + halves;
     Rows {
         count,
-        nodes,
-        locks: nodes + halves,
-        states: nodes + halves + halves,
+        locks: NODES + halves,
+        states,
+        waiter: states + count + room_behind(count),
     }
 }
 
 /// The index of a field's word, in a table with these rows.
 #[inline(always)]
 pub fn index_of(rows: &Rows, field: Field) -> usize
-    requires few { (rows.now.nodes ≤ rows.now.states) × (rows.now.locks ≤ rows.now.states) × (rows.now.states ≤ most_words) }
+    requires few { (rows.now.locks ≤ rows.now.waiter) × (rows.now.states ≤ rows.now.waiter) × (rows.now.waiter ≤ most_words) }
     ensures index { (k : Shape) → AreRows k rows.now → result ≡ word_of k field }
 {
     match field {
         Field::Clock => LEAD,
         Field::Front => LEAD + APART,
         Field::Free => LEAD + 2 * APART,
-        Field::Announced { place } => WAITER + PLACE_ROOM * place as usize,
-        Field::Stamp { place } => WAITER + PLACE_ROOM * place as usize + 1,
-        Field::Gate { class } => WAITER + CLASS_ROOM * class as usize,
-        Field::Count { class, side } => WAITER + CLASS_ROOM * class as usize + 1 + side as usize,
-        Field::Row { place, class } => WAITER + ROW_ROOM * place as usize + class as usize,
+        Field::Announced { place } => rows.waiter + PLACE_ROOM * place as usize,
+        Field::Stamp { place } => rows.waiter + PLACE_ROOM * place as usize + 1,
+        Field::Gate { class } => rows.waiter + CLASS_ROOM * class as usize,
+        Field::Count { class, side } => rows.waiter
+            + CLASS_ROOM * class as usize
+            + 1
+            + side as usize,
+        Field::Row { place, class } => rows.waiter + ROW_ROOM * place as usize + class as usize,
         Field::State { slot } => rows.states + slot as usize,
-        Field::Key { slot } => rows.nodes + HALF * slot as usize,
-        Field::Value { slot } => rows.nodes + HALF * slot as usize + 1,
-        Field::Link { slot, side } => rows.nodes + HALF * slot as usize + side_field(side) as usize,
+        Field::Key { slot } => NODES + HALF * slot as usize,
+        Field::Value { slot } => NODES + HALF * slot as usize + 1,
+        Field::Link { slot, side } => NODES + HALF * slot as usize + side_field(side) as usize,
         Field::Lock { slot } => rows.locks + HALF * slot as usize,
         Field::Life { slot } => rows.locks + HALF * slot as usize + 1,
         Field::Tag { slot, side } => rows.locks + HALF * slot as usize + side_field(side) as usize,
     }
 }
 
-/// How many words the row of such a table has: the states of all slots are its last.
+/// How many words the row of such a table has: those of the waiter are its last.
 pub fn row_length(waiter: Waiter, slots: u32, places: u32) -> usize
     ensures length { (k : Shape) → k.waiter ≡ waiter → k.slots ≡ slots → k.places ≡ places → result ≡ word_count k }
 {
-    let rows = rows_of(waiter, slots, places);
-    rows.states + rows.count
+    let room = match waiter {
+        Waiter::Eer => PLACE_ROOM * places as usize,
+        Waiter::Domain => CLASS_ROOM * CLASSES,
+        Waiter::Deer => ROW_ROOM * places as usize,
+    };
+    rows_of(slots, places).waiter + room
 }
 
 /// The field of a part of a slot.

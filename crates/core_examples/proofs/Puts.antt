@@ -14,7 +14,7 @@ use Rattle.core_examples.proofs.Updates.{link_leaf, replace}
 -- five slots are free, the place's key and stamp stand with their room, and of seven slots the root and the first spare are taken
 abbrev pub fresh : State
 fresh = record {
-  words = words_with 5 (λ more. 0 ∷ idle ∷ many 0 (place_room - 2) more) 7 (1 ∷ 1 ∷ 0 ∷ 0 ∷ 0 ∷ 0 ∷ 0 ∷ []);
+  words = words_with 5 (0 ∷ idle ∷ many 0 (place_room - 2) []) 7 (1 ∷ 1 ∷ 0 ∷ 0 ∷ 0 ∷ 0 ∷ 0 ∷ []);
   view = first_view small;
   marks = [];
 }

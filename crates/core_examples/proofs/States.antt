@@ -4,7 +4,7 @@ use Rattle.prcu_marks.specs.declared.mark.Mark.{Mark}
 use Rattle.core_state.specs.declared.shape.Shape.{Shape}
 use Rattle.core_state.specs.declared.words.Field.{Field}
 use Rattle.core_state.specs.declared.view.View.{View}
-use Rattle.core_state.specs.memory.Memory.{line, apart, lead, memory_of, word_of}
+use Rattle.core_state.specs.memory.Memory.{line, apart, lead, room_behind, memory_of, word_of}
 use Rattle.core_acts.specs.declared.act.Act.{Act}
 use Rattle.core_acts.specs.Acts.{field_of, Asks}
 use Rattle.core_acts.specs.Laws.{left, done, marks as marks_left}
@@ -40,6 +40,7 @@ abbrev pub many : ℕ → ℕ → List ℕ → List ℕ
 many x zero more = more
 many x (suc n) more = x ∷ many x n more
 
--- the room in front, the clock, the front, a free count, what the waiter has, so many slots' lines, and their states
-abbrev pub words_with : ℕ → (List ℕ → List ℕ) → ℕ → List ℕ → List ℕ
-words_with free waiter slots states = many 0 (lead + 2 * apart) (free ∷ many 0 (apart - 1) (waiter (many 0 (line * slots) states)))
+-- the room in front, the clock, the front, a free count, so many slots' lines, their states, and what the waiter has behind some room
+abbrev pub words_with : ℕ → List ℕ → ℕ → List ℕ → List ℕ
+words_with free waiter slots states =
+    many 0 (lead + 2 * apart) (free ∷ many 0 (apart - 1) (many 0 (line * slots) (states ++ many 0 (room_behind slots) waiter)))

@@ -27,7 +27,7 @@ abbrev counted : Shape
 counted = record { waiter = Domain; slots = 1; places = 1; room = 16; tickets = 10 }
 
 abbrev counted_start : State
-counted_start = record { words = words_with 1 (many 0 (class_room * classes)) 3 (1 ∷ 1 ∷ 0 ∷ []); view = first_view counted; marks = [] }
+counted_start = record { words = words_with 1 (many 0 (class_room * classes) []) 3 (1 ∷ 1 ∷ 0 ∷ []); view = first_view counted; marks = [] }
 
 -- a class that a wait for key 5 alone meets is 5
 class_five : (wait : Waiting) (c : ℕ) → wait.low ≡ 5 → wait.high ≡ 5 → MeetsClass (keys_of wait) c → 5 ≡ c
@@ -141,7 +141,7 @@ abbrev rowed : Shape
 rowed = record { waiter = Deer; slots = 1; places = 1; room = 16; tickets = 10 }
 
 abbrev rowed_start : State
-rowed_start = record { words = words_with 1 (many idle row_room) 3 (1 ∷ 1 ∷ 0 ∷ []); view = first_view rowed; marks = [] }
+rowed_start = record { words = words_with 1 (many idle row_room []) 3 (1 ∷ 1 ∷ 0 ∷ []); view = first_view rowed; marks = [] }
 
 -- the spot of a wait for key 5 is the place's word of its class
 one_spot : (wait : Waiting) → wait.low ≡ 5 → wait.high ≡ 5 → (other : Field) → IsSpot rowed wait other → IsIn (Row 0 5 ∷ []) other

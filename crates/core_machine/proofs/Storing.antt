@@ -13,7 +13,7 @@ use Rattle.core_state.specs.declared.shape.Waiter.TheVariants.{Eer}
 use Rattle.core_state.specs.declared.words.Field.{Field}
 use Rattle.core_state.specs.declared.words.Field.TheVariants as fields
 use Rattle.core_state.specs.declared.view.View.{View}
-use Rattle.core_state.specs.memory.Memory.{is_field, half, memory_of, stored, waiter_base, waiter_room, word_of}
+use Rattle.core_state.specs.memory.Memory.{place_room, class_room, row_room, is_field, half, slot_base, room_behind, memory_of, stored, word_of}
 use Rattle.core_state.specs.memory.Words.{side_number}
 use Rattle.core_points.proofs.All.{trails_are_free}
 use Rattle.core_points.specs.declared.stage.Update.TheVariants as update
@@ -72,27 +72,27 @@ updates_at o v n stage f place = updates_made v n (act_at o stage) ∙ made_at o
 
 -- ---- shapes that differ in tickets alone
 
-same_word : (k l : Shape) → k.waiter ≡ l.waiter → k.slots ≡ l.slots → k.places ≡ l.places → (field : Field)
-    → word_of k field ≡ word_of l field
-same_word k l waiter slots places fields.Clock = refl
-same_word k l waiter slots places fields.Front = refl
-same_word k l waiter slots places fields.Free = refl
-same_word k l waiter slots places (fields.Announced p) = refl
-same_word k l waiter slots places (fields.Stamp p) = refl
-same_word k l waiter slots places (fields.Gate c) = refl
-same_word k l waiter slots places (fields.Count c side) = refl
-same_word k l waiter slots places (fields.Row p c) = refl
-same_word k l waiter slots places (fields.State s) =
-    λ i. waiter_base + waiter_room (waiter i) (places i) + half * (slots i + places i + 1) + half * (slots i + places i + 1) + s
-same_word k l waiter slots places (fields.Key s) = λ i. waiter_base + waiter_room (waiter i) (places i) + half * s
-same_word k l waiter slots places (fields.Value s) = λ i. waiter_base + waiter_room (waiter i) (places i) + half * s + 1
-same_word k l waiter slots places (fields.Link s b) = λ i. waiter_base + waiter_room (waiter i) (places i) + half * s + side_number b
-same_word k l waiter slots places (fields.Lock s) =
-    λ i. waiter_base + waiter_room (waiter i) (places i) + half * (slots i + places i + 1) + half * s
-same_word k l waiter slots places (fields.Life s) =
-    λ i. waiter_base + waiter_room (waiter i) (places i) + half * (slots i + places i + 1) + half * s + 1
-same_word k l waiter slots places (fields.Tag s b) =
-    λ i. waiter_base + waiter_room (waiter i) (places i) + half * (slots i + places i + 1) + half * s + side_number b
+abbrev behind : ℕ → ℕ → ℕ
+behind slots places =
+    let n : ℕ = slots + places + 1 in
+    slot_base + half * n + half * n + n + room_behind n
+
+same_word : (k l : Shape) → k.slots ≡ l.slots → k.places ≡ l.places → (field : Field) → word_of k field ≡ word_of l field
+same_word k l slots places fields.Clock = refl
+same_word k l slots places fields.Front = refl
+same_word k l slots places fields.Free = refl
+same_word k l slots places (fields.Announced p) = λ i. behind (slots i) (places i) + place_room * p
+same_word k l slots places (fields.Stamp p) = λ i. behind (slots i) (places i) + place_room * p + 1
+same_word k l slots places (fields.Gate c) = λ i. behind (slots i) (places i) + class_room * c
+same_word k l slots places (fields.Count c side) = λ i. behind (slots i) (places i) + class_room * c + 1 + side
+same_word k l slots places (fields.Row p c) = λ i. behind (slots i) (places i) + row_room * p + c
+same_word k l slots places (fields.State s) = λ i. slot_base + half * (slots i + places i + 1) + half * (slots i + places i + 1) + s
+same_word k l slots places (fields.Key s) = refl
+same_word k l slots places (fields.Value s) = refl
+same_word k l slots places (fields.Link s b) = refl
+same_word k l slots places (fields.Lock s) = λ i. slot_base + half * (slots i + places i + 1) + half * s
+same_word k l slots places (fields.Life s) = λ i. slot_base + half * (slots i + places i + 1) + half * s + 1
+same_word k l slots places (fields.Tag s b) = λ i. slot_base + half * (slots i + places i + 1) + half * s + side_number b
 
 -- the shape of a caller's table, but for the tickets
 untold_tickets : Shape → Shape
@@ -143,7 +143,7 @@ module _ (scripts : List (List Op)) (slots : ℕ) (callers : List ℕ) (machine 
       (has_its_word (shape_of slots scripts) (core scripts slots callers) i o v run own view)
 
   at_index : index_now o ≡ word_of (shape_of slots scripts) (field_of o.place (act_at o o.stage))
-  at_index = same_word (shape_for o.slots o.places) (shape_of slots scripts) refl (sym (run.callers i o v own view).slots)
+  at_index = same_word (shape_for o.slots o.places) (shape_of slots scripts) (sym (run.callers i o v own view).slots)
       (sym (run.callers i o v own view).places) (field_of o.place (act_at o o.stage))
 
   pub found : found_now words o ≡ (core scripts slots callers).memory (field_of o.place (act_at o o.stage))

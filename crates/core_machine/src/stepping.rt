@@ -83,7 +83,7 @@ impl Caller {
 fn index_at(slots: u32, places: u32, field: Field) -> usize
     ensures index { (k : Shape) → k.waiter ≡ Eer → k.slots ≡ slots → k.places ≡ places → result ≡ word_of k field }
 {
-    index_of(&rows_of(Waiter::Eer, slots, places), field)
+    index_of(&rows_of(slots, places), field)
 }
 
 // Its time doesn't grow with the number of callers or slots.

@@ -2,12 +2,12 @@
 ghost use Rattle.std.specs.Prelude.{◌≡◌, ◌≢◌, ℕ, ◌+◌, ◌<◌, ◌≤◌, false, true, List, None, length, slice_index_or};
 ghost use Rattle.std.specs.declared.option.Option.{Option};
 ghost use Rattle.seat_table.specs.Rounds.{HasStepped};
-ghost use Rattle.seat_table.specs.Seats.{HasRows, SeatAt, IsQuietSeat, shape_of};
+ghost use Rattle.seat_table.specs.Seats.{SeatAt, IsQuietSeat, shape_of};
 ghost use Rattle.many_gets.specs.Lanes.{HasCome, HasGot, IsAt, IsLane, Sought};
 
 use citrus_tree::{Step, load_links, look_on};
 use prcu_marks::Side;
-use seat_table::{CitrusTable, Part, Rows, Seat, WaitPart, steps};
+use seat_table::{CitrusTable, Part, Seat, WaitPart, steps};
 
 /// The key that a seat looks up, at which index it stands, and the link by which the search goes on. Or there is no search, and the seat is
 /// outside a section.
@@ -55,8 +55,7 @@ pub(crate) fn enter<W: WaitPart>(
     }
     let key = keys[index];
     W::enter(table, seat, key);
-    let rows = table.rows();
-    let links = load_links(table, &rows, seat, 0, Side::Right);
+    let links = load_links(table, seat, 0, Side::Right);
     Lane {
         index,
         key,
@@ -137,7 +136,6 @@ fn take_next<W: WaitPart>(
 #[inline(always)]
 pub(crate) fn take_turn<W: WaitPart>(
     table: &CitrusTable<W>,
-    rows: &Rows,
     seat: &mut Seat<W>,
     lane: &mut Lane,
     keys: &[u64],
@@ -145,7 +143,6 @@ pub(crate) fn take_turn<W: WaitPart>(
     count: usize,
 ) -> bool
     requires table { seat.old.table ≡ table.now }
-    requires rows { HasRows W.WAY table.now rows.now }
     requires few { count ≤ 8 }
     requires is { (number : ℕ) × (s : SeatAt) × (number < count) × (length answers.old ≡ length keys.now)
         × IsLane W.WAY table.now keys.now answers.old count number s lane.old seat.old }
@@ -161,9 +158,9 @@ pub(crate) fn take_turn<W: WaitPart>(
     if !lane.searches {
         return false;
     }
-    match look_on(table, rows, seat, lane.key, lane.ahead, None) {
+    match look_on(table, seat, lane.key, lane.ahead, None) {
         Step::Moved { slot, side } => {
-            lane.ahead = load_links(table, rows, seat, slot, side).ahead;
+            lane.ahead = load_links(table, seat, slot, side).ahead;
             true
         }
         Step::Found { slot } => take_next(table, seat, lane, Some(slot), keys, answers, count),

@@ -2,14 +2,14 @@
 ghost use Rattle.std.specs.Prelude.{◌≡◌, ℕ, ◌<◌, ◌≤◌, false, true, List, length, IfOk, IfErr};
 ghost use Rattle.std.specs.declared.option.Option.{Option};
 ghost use Rattle.list_laws.specs.Counts.{Each};
-ghost use Rattle.seat_table.specs.Seats.{HasRows, SeatAt, IsQuietSeat};
+ghost use Rattle.seat_table.specs.Seats.{SeatAt, IsQuietSeat};
 ghost use Rattle.many_gets.specs.Lanes.{AreLanes, AreOver};
 ghost use Rattle.many_gets.specs.Many.{AreKept, HaveMade, LooksUpAll, steps_of};
 ghost use Rattle.many_gets.specs.declared.lane.Lane.{Lane};
 
 use crate::lane::{Lane, enter, take_turn};
 use patience::Patience;
-use seat_table::{CitrusTable, Rows, Seat, WaitPart};
+use seat_table::{CitrusTable, Seat, WaitPart};
 
 /// How many lookups are made beside each other at most.
 pub const MOST_LANES: usize = 8;
@@ -37,9 +37,8 @@ pub fn get_many<P: Patience, W: WaitPart>(
 {
     let mut lanes = [Lane::outside(0); MOST_LANES];
     enter_all(table, seats, &mut lanes, keys);
-    let rows = table.rows();
     for turn in 0..u64::MAX {
-        if !take_turns(table, &rows, seats, &mut lanes, keys, answers) {
+        if !take_turns(table, seats, &mut lanes, keys, answers) {
             return Ok(());
         }
     }
@@ -70,13 +69,11 @@ fn enter_all<W: WaitPart>(
 // A turn of each seat. It answers whether any search is under way then.
 fn take_turns<W: WaitPart>(
     table: &CitrusTable<W>,
-    rows: &Rows,
     seats: &mut [Seat<W>],
     lanes: &mut [Lane],
     keys: &[u64],
     answers: &mut [Option<u64>],
 ) -> bool
-    requires rows { HasRows W.WAY table.now rows.now }
     requires lanes { length seats.old ≤ length lanes.old }
     requires few { length seats.old ≤ MOST_LANES }
     requires table { Each seats.old (λ (s : SeatAt). s.table ≡ table.now) }
@@ -91,15 +88,7 @@ fn take_turns<W: WaitPart>(
     let count = seats.len();
     let mut busy = false;
     for n in 0..count {
-        busy |= take_turn(
-            table,
-            rows,
-            &mut seats[n],
-            &mut lanes[n],
-            keys,
-            answers,
-            count,
-        );
+        busy |= take_turn(table, &mut seats[n], &mut lanes[n], keys, answers, count);
     }
     busy
 }

@@ -12,7 +12,7 @@ use Rattle.core_state.specs.declared.shape.Waiter.{Waiter}
 use Rattle.core_state.specs.declared.shape.Waiter.TheVariants.{Eer, Domain, Deer}
 use Rattle.core_state.specs.declared.words.Field.{Field}
 use Rattle.core_state.specs.declared.words.Field.TheVariants.{Announced, Stamp, Gate, Count, Row, Lock, Life, Key, Value, Link, Tag}
-use Rattle.core_state.specs.memory.Memory.{Memory, half, apart, lead, classes, place_room, class_room, row_room, waiter_base, waiter_room, slot_count, same_waiter, slot_base, lock_base, state_base, word_count, word_of, is_field, memory_of, idle}
+use Rattle.core_state.specs.memory.Memory.{Memory, half, apart, lead, classes, place_room, class_room, row_room, waiter_base, waiter_room, slot_count, same_waiter, slot_base, lock_base, state_base, room_behind, word_count, word_of, is_field, memory_of, idle}
 use Rattle.core_state.specs.Fresh.{first_view, IsFresh}
 use Rattle.core_state.specs.Invariant.{IsShape, Rule}
 use Rattle.core_frames.proofs.Telling.{told_of}
@@ -74,9 +74,6 @@ module _ (k : Shape) where
   abbrev before : List ℕ
   before = replicate (lead + 2 * apart) 0
 
-  abbrev part : List ℕ
-  part = waiter_part k.waiter k.places
-
   abbrev lines : List ℕ
   lines = replicate (2 * half * slot_count k) 0
 
@@ -85,6 +82,12 @@ module _ (k : Shape) where
 
   abbrev unused : List ℕ
   unused = replicate k.slots 0
+
+  abbrev room : List ℕ
+  room = replicate (room_behind (slot_count k)) 0
+
+  abbrev part : List ℕ
+  part = waiter_part k.waiter k.places
 
   length_states : length (first_states k) ≡ slot_count k
   length_states =
@@ -96,6 +99,9 @@ module _ (k : Shape) where
   length_lines : length lines ≡ 2 * half * slot_count k
   length_lines = length-replicate {A = ℕ} (2 * half * slot_count k) 0
 
+  length_room : state_base k + slot_count k + length room ≡ waiter_base k
+  length_room = let a = length-replicate {A = ℕ} (room_behind (slot_count k)) 0 in omega arith
+
   long : length ws ≡ word_count k
   long =
       let a = length-replicate {A = ℕ} (lead + 2 * apart) 0 in
@@ -103,41 +109,37 @@ module _ (k : Shape) where
       let c = length_part k.waiter k.places in
       let d = length_lines in
       let e = length_states in
-      let f = length-append before (alone k.slots ++ (part ++ (lines ++ first_states k))) in
-      let g = length-append (alone k.slots) (part ++ (lines ++ first_states k)) in
-      let h = length-append part (lines ++ first_states k) in
-      let i = length-append lines (first_states k) in
+      let f = length-append before (alone k.slots ++ (lines ++ (first_states k ++ (room ++ part)))) in
+      let g = length-append (alone k.slots) (lines ++ (first_states k ++ (room ++ part))) in
+      let h = length-append lines (first_states k ++ (room ++ part)) in
+      let i = length-append (first_states k) (room ++ part) in
+      let j = length-append room part in
+      let l = length_room in
       omega arith
 
-  -- what stands from the waiter's words on
-  from_base : (j : ℕ) → get_or ws (waiter_base + j) 0 ≡ get_or (part ++ (lines ++ first_states k)) j 0
-  from_base j = ap (λ z. get_or ws z 0) (let e : waiter_base + j ≡ (lead + 2 * apart) + (apart + j) = omega arith in e)
-      ∙ get_or-append-add before (alone k.slots ++ (part ++ (lines ++ first_states k))) (apart + j) 0
-      ∙ get_or-append-add (alone k.slots) (part ++ (lines ++ first_states k)) j 0
-
-  -- the waiter's words
-  part_at : (j : ℕ) → j < waiter_room k.waiter k.places → get_or ws (waiter_base + j) 0 ≡ get_or part j 0
-  part_at j small = from_base j ∙ get_or_append_left part (lines ++ first_states k) 0 j
-      (let a = length_part k.waiter k.places in omega arith)
+  -- what stands from the slots' words on
+  from_base : (j : ℕ) → get_or ws (slot_base + j) 0 ≡ get_or (lines ++ (first_states k ++ (room ++ part))) j 0
+  from_base j = ap (λ z. get_or ws z 0) (let e : slot_base + j ≡ (lead + 2 * apart) + (apart + j) = omega arith in e)
+      ∙ get_or-append-add before (alone k.slots ++ (lines ++ (first_states k ++ (room ++ part)))) (apart + j) 0
+      ∙ get_or-append-add (alone k.slots) (lines ++ (first_states k ++ (room ++ part))) j 0
 
   -- the words of the slots but their states
-  line_at : (i : ℕ) → i < 2 * half * slot_count k → get_or ws (slot_base k + i) 0 ≡ 0
-  line_at i small =
-      let a = length_part k.waiter k.places in
-      let e : slot_base k + i ≡ waiter_base + (length part + i) = omega arith in
-      ap (λ z. get_or ws z 0) e ∙ from_base (length part + i) ∙ get_or-append-add part (lines ++ first_states k) i 0
-      ∙ get_or_append_left lines (first_states k) 0 i (let b = length_lines in omega arith)
+  line_at : (i : ℕ) → i < 2 * half * slot_count k → get_or ws (slot_base + i) 0 ≡ 0
+  line_at i small = from_base i ∙ get_or_append_left lines (first_states k ++ (room ++ part)) 0 i (let b = length_lines in omega arith)
       ∙ get_or-replicate (2 * half * slot_count k) i 0 0 small
+
+  -- what stands from the states on
+  from_states : (j : ℕ) → get_or ws (state_base k + j) 0 ≡ get_or (first_states k ++ (room ++ part)) j 0
+  from_states j =
+      let b = length_lines in
+      let e : state_base k + j ≡ slot_base + (length lines + j) = omega arith in
+      ap (λ z. get_or ws z 0) e ∙ from_base (length lines + j) ∙ get_or-append-add lines (first_states k ++ (room ++ part)) j 0
 
   -- the states
   state_at : (s : ℕ) → s < slot_count k → get_or ws (state_base k + s) 0 ≡ cond (nat_le s k.places) 1 0
   state_at s small =
-      let a = length_part k.waiter k.places in
-      let b = length_lines in
       let c = length-replicate {A = ℕ} (k.places + 1) 1 in
-      let e : state_base k + s ≡ waiter_base + (length part + (length lines + s)) = omega arith in
-      ap (λ z. get_or ws z 0) e ∙ from_base (length part + (length lines + s))
-      ∙ get_or-append-add part (lines ++ first_states k) (length lines + s) 0 ∙ get_or-append-add lines (first_states k) s 0
+      from_states s ∙ get_or_append_left (first_states k) (room ++ part) 0 s (let d = length_states in omega arith)
       ∙ dite (dec_le s k.places)
       (λ le. get_or_append_left used unused 0 s (omega arith) ∙ get_or-replicate (k.places + 1) s 1 0 (omega arith)
       ∙ ap (λ b. cond b 1 0) (sym (le-leb s k.places le)))
@@ -154,17 +156,26 @@ module _ (k : Shape) where
           by_bool true e = absurd (more (leb-true a b e))
           by_bool false e = e
 
+  -- the waiter's words
+  part_at : (j : ℕ) → get_or ws (waiter_base k + j) 0 ≡ get_or part j 0
+  part_at j =
+      let a = length_states in
+      let b = length_room in
+      let e : waiter_base k + j ≡ state_base k + (length (first_states k) + (length room + j)) = omega arith in
+      ap (λ z. get_or ws z 0) e ∙ from_states (length (first_states k) + (length room + j))
+      ∙ get_or-append-add (first_states k) (room ++ part) (length room + j) 0 ∙ get_or-append-add room part j 0
+
   or_none : (b : Bool) (x : ℕ) → (b ≡ true → x ≡ 0) → cond b x 0 ≡ 0
   or_none true x is = is refl
   or_none false x is = refl
 
   slot_none : (field : Field) (s j : ℕ) → is_field k field ≡ nat_lt s (slot_count k)
-      → (s < slot_count k → (word_of k field ≡ slot_base k + j) × (j < 2 * half * slot_count k)) → memory_of k ws field ≡ 0
+      → (s < slot_count k → (word_of k field ≡ slot_base + j) × (j < 2 * half * slot_count k)) → memory_of k ws field ≡ 0
   slot_none field s j of at = or_none (is_field k field) (get_or ws (word_of k field) 0)
       (λ has. let there = at (ltb-true s (slot_count k) (sym of ∙ has)) in ap (λ z. get_or ws z 0) there.0 ∙ line_at j there.1)
 
   -- a word in the first half of a slot, and in the second
-  first_none : (field : Field) (s j : ℕ) → is_field k field ≡ nat_lt s (slot_count k) → word_of k field ≡ slot_base k + (half * s + j)
+  first_none : (field : Field) (s j : ℕ) → is_field k field ≡ nat_lt s (slot_count k) → word_of k field ≡ slot_base + (half * s + j)
       → j < half → memory_of k ws field ≡ 0
   first_none field s j of at small = slot_none field s (half * s + j) of (λ below. (at, omega arith))
 
@@ -210,31 +221,26 @@ module _ (k : Shape) where
     front = refl;
     free = refl;
     announced = λ p. or_none (is_field k (Announced p)) (get_or ws (word_of k (Announced p)) 0)
-        (λ has. let l = lies k (Announced p) has in part_at (place_room * p) (let a = l.1 in let b = l.2 in omega arith)
-        ∙ key_at k.waiter k.places p (first _ _ has) l.2);
+        (λ has. let l = lies k (Announced p) has in part_at (place_room * p) ∙ key_at k.waiter k.places p (first _ _ has) l.2);
     stamps = λ p eer small.
         let is : is_field k (Stamp p) ≡ true = ap (λ w. same_waiter w Eer && nat_lt p k.places) eer ∙ has_place k.waiter p k.places small in
-        let l = lies k (Stamp p) is in
         ap (λ b. cond b (get_or ws (word_of k (Stamp p)) 0) 0) is
-        ∙ ap (λ z. get_or ws z 0) (let e : word_of k (Stamp p) ≡ waiter_base + (place_room * p + 1) = omega arith in e)
-        ∙ part_at (place_room * p + 1) (let a = l.1 in let b = l.2 in omega arith) ∙ stamp_at k.waiter k.places p (first _ _ is) small;
+        ∙ ap (λ z. get_or ws z 0) (let e : word_of k (Stamp p) ≡ waiter_base k + (place_room * p + 1) = omega arith in e)
+        ∙ part_at (place_room * p + 1) ∙ stamp_at k.waiter k.places p (first _ _ is) small;
     gates = λ c. or_none (is_field k (Gate c)) (get_or ws (word_of k (Gate c)) 0)
-        (λ has. let l = lies k (Gate c) has in part_at (class_room * c) (let a = l.1 in let b = l.2 in omega arith)
+        (λ has. let l = lies k (Gate c) has in part_at (class_room * c)
         ∙ domain_at k.waiter k.places (class_room * c) (first _ _ has) (let b = l.2 in omega arith));
     counts = λ c side. or_none (is_field k (Count c side)) (get_or ws (word_of k (Count c side)) 0)
         (λ has. let l = lies k (Count c side) has in
         let inside : class_room * c + 1 + side < class_room * classes = (let b = l.2 in let d = l.3 in omega arith) in
-        ap (λ z. get_or ws z 0) (let e : word_of k (Count c side) ≡ waiter_base + (class_room * c + 1 + side) = omega arith in e)
-        ∙ part_at (class_room * c + 1 + side) (let a = l.1 in omega arith)
-        ∙ domain_at k.waiter k.places (class_room * c + 1 + side) (first _ _ has) inside);
+        ap (λ z. get_or ws z 0) (let e : word_of k (Count c side) ≡ waiter_base k + (class_room * c + 1 + side) = omega arith in e)
+        ∙ part_at (class_room * c + 1 + side) ∙ domain_at k.waiter k.places (class_room * c + 1 + side) (first _ _ has) inside);
     rows = λ p c deer small few.
         let is : is_field k (Row p c) ≡ true = ap (λ w. same_waiter w Deer && (nat_lt p k.places && nat_lt c classes)) deer
         ∙ ap (λ b. b && nat_lt c classes) (has_place k.waiter p k.places small) ∙ has_place k.waiter c classes few in
-        let l = lies k (Row p c) is in
         ap (λ b. cond b (get_or ws (word_of k (Row p c)) 0) 0) is
-        ∙ ap (λ z. get_or ws z 0) (let e : word_of k (Row p c) ≡ waiter_base + (row_room * p + c) = omega arith in e)
-        ∙ part_at (row_room * p + c) (let a = l.1 in let b = l.2 in omega arith)
-        ∙ deer_at k.waiter k.places (row_room * p + c) (first _ _ is) (omega arith);
+        ∙ ap (λ z. get_or ws z 0) (let e : word_of k (Row p c) ≡ waiter_base k + (row_room * p + c) = omega arith in e)
+        ∙ part_at (row_room * p + c) ∙ deer_at k.waiter k.places (row_room * p + c) (first _ _ is) (omega arith);
     states = λ s small. ap (λ b. cond b (get_or ws (state_base k + s) 0) 0) (has_place k.waiter s (slot_count k) small) ∙ state_at s small;
     locks = λ s. second_none (Lock s) s 0 refl (omega arith) (omega arith);
     lives = λ s. second_none (Life s) s 1 refl (omega arith) (omega arith);

@@ -4,7 +4,7 @@ use Rattle.std.specs.Prelude.{◌≡◌, ℕ, zero, suc, ◌+◌, ◌-◌, ◌*�
 use Rattle.core_state.specs.declared.shape.Shape.{Shape}
 use Rattle.core_state.specs.declared.shape.Waiter.{Waiter}
 use Rattle.core_state.specs.declared.shape.Waiter.TheVariants.{Eer, Domain, Deer}
-use Rattle.core_state.specs.memory.Memory.{half, apart, lead, classes, place_room, class_room, row_room, slot_count, idle, word_count, memory_of}
+use Rattle.core_state.specs.memory.Memory.{half, apart, lead, classes, place_room, class_room, row_room, slot_count, room_behind, idle, word_count, memory_of}
 use Rattle.core_state.specs.Fresh.{first_view, IsFresh}
 use Rattle.core_state.specs.Invariant.{IsShape, Rule}
 use Rattle.seat_table.specs.Scans.{region}
@@ -37,10 +37,11 @@ waiter_part Deer places = replicate (row_room * places) idle
 abbrev pub first_states : Shape → List ℕ
 first_states k = replicate (k.places + 1) 1 ++ replicate k.slots 0
 
--- the room before them, the clock, the front, the free count, the waiter's words, the slots' other words, and the states
+-- the room before them, the clock, the front, the free count, the slots' other words, the states, and the waiter's words behind some room
 abbrev pub first_words : Shape → List ℕ
 first_words k = replicate (lead + 2 * apart) 0
-    ++ (alone k.slots ++ (waiter_part k.waiter k.places ++ (replicate (2 * half * slot_count k) 0 ++ first_states k)))
+    ++ (alone k.slots ++ (replicate (2 * half * slot_count k) 0
+    ++ (first_states k ++ (replicate (room_behind (slot_count k)) 0 ++ waiter_part k.waiter k.places))))
 
 -- These words are those of a fresh table, as many as its shape has, and with the first seat's view they have the rule.
 abbrev pub FirstWordsHold : Type 0

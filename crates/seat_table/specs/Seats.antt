@@ -14,8 +14,6 @@ use Rattle.core_state.specs.declared.view.Retired.{Retired}
 use Rattle.core_state.specs.declared.view.Section.{Section}
 use Rattle.core_state.specs.declared.view.View.{View}
 use Rattle.list_laws.specs.Counts.{times}
-use Rattle.core_acts.specs.declared.layout.Rows.{Rows}
-use Rattle.core_acts.specs.Places.{AreRows, most_words}
 use Rattle.core_state.specs.views.Views.{IsQuiet, places_of}
 
 -- the waiter with this number
@@ -35,10 +33,6 @@ pub record TableAt : Type 0 where
 -- the shape of a table with the waiter of this number
 abbrev pub shape_of : ℕ → TableAt → Shape
 shape_of way t = record { waiter = way_of way; slots = t.slots; places = t.places; room = t.room; tickets = t.tickets }
-
--- The rows of the table's slots begin there.
-abbrev pub HasRows : ℕ → TableAt → Rows → Type 0
-HasRows way t rows = AreRows (shape_of way t) rows × (rows.states ≤ most_words)
 
 -- a seat: of which table it is, what it knows, the retired slots that it lists, and the slot to which its scans for a free one have come
 pub record SeatAt : Type 0 where

@@ -1,7 +1,8 @@
 //! The access to a word that a step of any kind makes.
 ghost use Rattle.std.specs.Prelude.{◌≡◌};
+ghost use Rattle.core_state.specs.memory.Memory.{word_of};
 ghost use Rattle.prcu_marks.specs.Accesses.{said_by};
-ghost use Rattle.seat_table.specs.Seats.{HasRows, shape_of};
+ghost use Rattle.seat_table.specs.Seats.{shape_of};
 ghost use Rattle.seat_table.specs.Gains.{TellsNow};
 ghost use Rattle.seat_table.specs.Told.{Touches, Told};
 
@@ -10,17 +11,24 @@ use crate::table::CitrusTable;
 use crate::told::{Detail, Told as Tells};
 use crate::waiter::WaitWords;
 use atomic_table::Seat;
-use core_acts::{Act, Rows, index_of};
+use core_acts::{Act, index_of};
 use core_state::{Field, View};
 use prcu_marks::Access;
 use std::marker::Brand;
 
 type Token = Seat<Nothing, View>;
 
+// Where a word stands in the table's row.
+#[inline(always)]
+fn word_at<W: WaitWords>(table: &CitrusTable<W>, word: Field) -> usize
+    ensures index { result ≡ word_of (shape_of W.WAY table.now) word }
+{
+    index_of(&table.rows, word)
+}
+
 #[inline(always)]
 fn touches_it<W: WaitWords, A: Detail>(
     table: &CitrusTable<W>,
-    rows: &Rows,
     seat: &mut Token,
     act: Act,
     word: Field,
@@ -28,13 +36,12 @@ fn touches_it<W: WaitWords, A: Detail>(
 ) -> u64
     requires picked { (A.shape ≡ shape_of W.WAY table.now) × (A.act ≡ act) }
     requires table { seat.old.table_id ≡ table.now.id }
-    requires rows { HasRows W.WAY table.now rows.now }
     requires asks { Touches W.WAY table.now seat.old.me.0 act access word }
     ensures seat { (seat.new.table_id ≡ seat.old.table_id) × (seat.new.me.1 ≡ seat.old.me.1) }
     ensures told { Told (shape_of W.WAY table.now) seat.old.me.0 act (said_by access result) seat.new.me.0 }
     ensures now { TellsNow (shape_of W.WAY table.now) seat.new.me.0 }
 {
-    let index = index_of(rows, word);
+    let index = word_at(table, word);
     let words = &table.table.shared;
     match access {
         Access::Load => words.load::<Tells<A>>(seat, index),
@@ -49,26 +56,6 @@ fn touches_it<W: WaitWords, A: Detail>(
         Access::Subtract { number } => words.fetch_sub::<Tells<A>>(seat, index, number),
         Access::Flip => words.fetch_xor::<Tells<A>>(seat, index, 1),
     }
-}
-
-/// Makes the access by rows that the caller has at hand: they don't have to be loaded again, as the table's own after each step.
-#[inline(always)]
-pub(crate) fn touch_by<W: WaitWords>(
-    table: &CitrusTable<W>,
-    rows: &Rows,
-    seat: &mut Token,
-    act: Act,
-    word: Field,
-    access: Access,
-) -> u64
-    requires table { seat.old.table_id ≡ table.now.id }
-    requires rows { HasRows W.WAY table.now rows.now }
-    requires asks { Touches W.WAY table.now seat.old.me.0 act access word }
-    ensures seat { (seat.new.table_id ≡ seat.old.table_id) × (seat.new.me.1 ≡ seat.old.me.1) }
-    ensures told { Told (shape_of W.WAY table.now) seat.old.me.0 act (said_by access result) seat.new.me.0 }
-    ensures now { TellsNow (shape_of W.WAY table.now) seat.new.me.0 }
-{
-    touches_it::<W, Brand>(table, rows, seat, act, word, access)
 }
 
 /// Makes the access, and answers the number found, or stored where it is a store. A constant access folds away.
@@ -86,5 +73,5 @@ pub(crate) fn touch<W: WaitWords>(
     ensures told { Told (shape_of W.WAY table.now) seat.old.me.0 act (said_by access result) seat.new.me.0 }
     ensures now { TellsNow (shape_of W.WAY table.now) seat.new.me.0 }
 {
-    touch_by(table, &table.rows, seat, act, word, access)
+    touches_it::<W, Brand>(table, seat, act, word, access)
 }

@@ -57,7 +57,9 @@ impl Notes {
     pub(crate) fn note_near<W: WaitWords>(&mut self, table: &CitrusTable<W>, near: u32) {
         let beside = near ^ 1;
         if table.seems_free(beside) {
-            self.slots.truncate(MOST_NOTED - 1);
+            if self.slots.is_full() {
+                self.slots.pop();
+            }
             self.push(beside);
         } else if self.slots.is_empty() {
             self.note_line(table);

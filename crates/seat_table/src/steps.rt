@@ -5,16 +5,16 @@ ghost use Rattle.core_state.specs.declared.shape.Shape.{Shape};
 ghost use Rattle.core_acts.specs.declared.act.Act.TheVariants as acts;
 ghost use Rattle.seat_table.specs.Scans as scans;
 ghost use Rattle.seat_table.specs.Told.{IsAsked, Told};
-ghost use Rattle.seat_table.specs.Seats.{HasRows, shape_of, unlisted};
+ghost use Rattle.seat_table.specs.Seats.{shape_of, unlisted};
 
 mod waiters;
 
-use crate::access::{touch, touch_by};
+use crate::access::touch;
 use crate::scan::after_look;
 use crate::seat::Seat;
 use crate::table::CitrusTable;
 use crate::waiter::WaitWords;
-use core_acts::{Act, Part, Rows, in_slot};
+use core_acts::{Act, Part, in_slot};
 use core_state::Field;
 use prcu_marks::{Access, Side};
 pub use waiters::{
@@ -267,26 +267,6 @@ pub fn search_load<W: WaitWords>(
     let word = in_slot(slot, part);
     let act = Act::SearchLoad { slot, part };
     touch(table, &mut seat.seat, act, word, Access::Load)
-}
-
-/// The same, by the table's rows.
-#[inline(always)]
-pub fn search_load_by<W: WaitWords>(
-    table: &CitrusTable<W>,
-    rows: &Rows,
-    seat: &mut Seat<W>,
-    slot: u32,
-    part: Part,
-) -> u64
-    requires table { seat.old.table ≡ table.now }
-    requires rows { HasRows W.WAY table.now rows.now }
-    requires asks { IsAsked (shape_of W.WAY table.now) seat.old.view (acts.SearchLoad slot part) }
-    ensures seat { (seat.new.table ≡ seat.old.table) × (seat.new.listed ≡ seat.old.listed) × (seat.new.looked ≡ seat.old.looked) }
-    ensures told { Told (shape_of W.WAY table.now) seat.old.view (acts.SearchLoad slot part) result seat.new.view }
-{
-    let word = in_slot(slot, part);
-    let act = Act::SearchLoad { slot, part };
-    touch_by(table, rows, &mut seat.seat, act, word, Access::Load)
 }
 
 /// Loads a word of a slot, in a listing (K17).

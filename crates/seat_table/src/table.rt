@@ -4,7 +4,7 @@ ghost use Rattle.prcu_marks.specs.Bounds.{most_tickets};
 ghost use Rattle.core_state.specs.declared.shape.Shape.{Shape};
 ghost use Rattle.core_state.specs.memory.Bounds.{most_slots, most_places};
 ghost use Rattle.seat_table.specs.Fresh.{fresh_seat, alone, key_stamps, waiter_part, first_words};
-ghost use Rattle.seat_table.specs.Seats.{HasRows, IsQuietSeat};
+ghost use Rattle.seat_table.specs.Seats.{IsQuietSeat};
 
 use crate::listed::Listed;
 use crate::notes::Notes;
@@ -15,8 +15,8 @@ use crate::waiter::{WaitWords, waiter_of};
 use arrayvec::ArrayVec;
 use atomic_table::Table;
 use core_acts::{
-    APART, CLASS_ROOM, CLASSES, HALF, LEAD, PLACE_ROOM, ROW_ROOM, Rows, index_of, row_length,
-    rows_of,
+    APART, CLASS_ROOM, CLASSES, HALF, LEAD, PLACE_ROOM, ROW_ROOM, Rows, index_of, room_behind,
+    row_length, rows_of,
 };
 use core_state::shape::{ROOM, Waiter};
 use core_state::{Field, Shape, View};
@@ -30,7 +30,7 @@ pub struct CitrusTable<W: WaitWords> {
     pub(crate) table: Table<Nothing, View, Shape, Ruled, Global>,
     pub(crate) slots: u32,
     pub(crate) places: u32,
-    // Where the rows of the slots begin: so no step works it out.
+    // Where its rows begin: so no step works it out.
     pub(crate) rows: Rows,
     marker: PhantomData<W>,
 }
@@ -54,7 +54,7 @@ impl<W: WaitWords> Model for CitrusTable<W> {
 
     ghost invariant = { λ t. (t.table.shared.table_id.words ≡ word_count (with_way W.WAY t.table.shared.key))
         × IsShape (with_way W.WAY t.table.shared.key) × (t.table.shared.key.waiter ≡ way_of W.WAY) × (t.slots ≡ t.table.shared.key.slots)
-        × (t.places ≡ t.table.shared.key.places) × AreRows (with_way W.WAY t.table.shared.key) t.rows × (t.rows.states ≤ most_words) };
+        × (t.places ≡ t.table.shared.key.places) × AreRows (with_way W.WAY t.table.shared.key) t.rows × (t.rows.waiter ≤ most_words) };
 }
 
 fn add_many(words: &mut Vec<u64>, count: usize, word: u64) -> Result<(), AllocError>
@@ -113,10 +113,11 @@ pub fn words_of(alloc: Global, shape: &Shape) -> Result<Vec<u64>, AllocError>
     let mut words = Vec::with_capacity(alloc, row_length(shape.waiter, shape.slots, shape.places))?;
     add_many(&mut words, LEAD + 2 * APART, 0)?;
     add_alone(&mut words, shape.slots as u64)?;
-    add_waiter(&mut words, shape.waiter, places)?;
     add_many(&mut words, 2 * HALF * (slots + places + 1), 0)?;
     add_many(&mut words, places + 1, 1)?;
     add_many(&mut words, slots, 0)?;
+    add_many(&mut words, room_behind(slots + places + 1), 0)?;
+    add_waiter(&mut words, shape.waiter, places)?;
     Ok(words)
 }
 
@@ -197,30 +198,20 @@ impl<W: WaitWords> CitrusTable<W> {
                 table,
                 slots,
                 places,
-                rows: rows_of(waiter, slots, places),
+                rows: rows_of(slots, places),
                 marker: PhantomData,
             },
             seat,
         ))
     }
 
-    /// Where the rows of its slots begin. Who makes many steps keeps them at hand: what stands in the table is loaded anew after each.
-    #[inline(always)]
-    pub fn rows(&self) -> Rows
-        ensures rows { HasRows W.WAY self.now result }
-    {
-        self.rows
-    }
-
     /// Loads the key of the slot to which this link leads, where the table has such a slot, and throws it away: a search that comes by finds
     /// the slot near the processor. It changes nothing, and no seat learns of it.
     #[inline(always)]
-    pub fn bring_near(&self, rows: &Rows, link: u32)
-        requires rows { HasRows W.WAY self.now rows.now }
-    {
-        if (link as usize) < rows.count {
+    pub fn bring_near(&self, link: u32) {
+        if (link as usize) < self.rows.count {
             let key = Field::Key { slot: link };
-            self.table.shared.peek(index_of(rows, key));
+            self.table.shared.peek(index_of(&self.rows, key));
         }
     }
 

@@ -1,6 +1,6 @@
 -- The table's words as a memory with named fields, and where each stands in the table's row.
 -- Source: docs/TREE_INVARIANT.md, "The words of the tree's table".
-use Rattle.std.specs.Prelude.{ℕ, ◌+◌, ◌*◌, ◌==◌, nat_lt, ◌&&◌, Bool, true, false, if◌then◌else◌, List, slice_index}
+use Rattle.std.specs.Prelude.{ℕ, ◌+◌, ◌-◌, ◌*◌, ◌/◌, ◌==◌, nat_lt, ◌&&◌, Bool, true, false, if◌then◌else◌, List, slice_index}
 use Rattle.prcu_marks.specs.declared.mark.Side.{Side}
 use Rattle.prcu_marks.specs.declared.mark.Side.TheVariants.{Left, Right}
 use Rattle.core_state.specs.declared.shape.Shape.{Shape}
@@ -48,9 +48,31 @@ class_room = line + apart
 abbrev pub row_room : ℕ
 row_room = classes + apart
 
--- where the waiter's words begin
-abbrev pub waiter_base : ℕ
-waiter_base = lead + 3 * apart
+-- A slot's words stand in two halves of a line: what a search loads on its way, and, in a row behind, what is loaded at its end and under
+-- the lock. So two slots share a line of either row.
+abbrev pub half : ℕ
+half = 4
+
+-- where the keys, values and links of the slots begin: at the same word in each table, so that a search has no sum to make for it
+abbrev pub slot_base : ℕ
+slot_base = lead + 3 * apart
+
+-- where their locks, lives and tags begin
+abbrev pub lock_base : Shape → ℕ
+lock_base k = slot_base + half * slot_count k
+
+-- where the slots' states begin, which stand in a row of their own
+abbrev pub state_base : Shape → ℕ
+state_base k = lock_base k + half * slot_count k
+
+-- The room between the states of so many slots and the waiter's words: those begin where a pair of lines does, sixteen words from the last
+-- state at least.
+abbrev pub room_behind : ℕ → ℕ
+room_behind n = apart * ((2 * half + 1) * n / apart + 2) - (2 * half + 1) * n
+
+-- where the waiter's words begin, behind those of the slots
+abbrev pub waiter_base : Shape → ℕ
+waiter_base k = state_base k + slot_count k + room_behind (slot_count k)
 
 -- how much room the waiter has, for so many places
 abbrev pub waiter_room : Waiter → ℕ → ℕ
@@ -58,40 +80,24 @@ waiter_room Eer places = place_room * places
 waiter_room Domain places = class_room * classes
 waiter_room Deer places = row_room * places
 
--- A slot's words stand in two halves of a line: what a search loads on its way, and, in a row behind, what is loaded at its end and under
--- the lock. So two slots share a line of either row.
-abbrev pub half : ℕ
-half = 4
-
--- where the keys, values and links of the slots begin
-abbrev pub slot_base : Shape → ℕ
-slot_base k = waiter_base + waiter_room k.waiter k.places
-
--- where their locks, lives and tags begin
-abbrev pub lock_base : Shape → ℕ
-lock_base k = slot_base k + half * slot_count k
-
--- where the slots' states begin, which stand in a row of their own, and how long the table's row is
-abbrev pub state_base : Shape → ℕ
-state_base k = lock_base k + half * slot_count k
-
+-- how long the table's row is
 abbrev pub word_count : Shape → ℕ
-word_count k = state_base k + slot_count k
+word_count k = waiter_base k + waiter_room k.waiter k.places
 
 -- where a field stands in the row
 abbrev pub word_of : Shape → Field → ℕ
 word_of k Clock = lead
 word_of k Front = lead + apart
 word_of k Free = lead + 2 * apart
-word_of k (Announced p) = waiter_base + place_room * p
-word_of k (Stamp p) = waiter_base + place_room * p + 1
-word_of k (Gate c) = waiter_base + class_room * c
-word_of k (Count c side) = waiter_base + class_room * c + 1 + side
-word_of k (Row p c) = waiter_base + row_room * p + c
+word_of k (Announced p) = waiter_base k + place_room * p
+word_of k (Stamp p) = waiter_base k + place_room * p + 1
+word_of k (Gate c) = waiter_base k + class_room * c
+word_of k (Count c side) = waiter_base k + class_room * c + 1 + side
+word_of k (Row p c) = waiter_base k + row_room * p + c
 word_of k (State s) = state_base k + s
-word_of k (Key s) = slot_base k + half * s
-word_of k (Value s) = slot_base k + half * s + 1
-word_of k (Link s b) = slot_base k + half * s + side_number b
+word_of k (Key s) = slot_base + half * s
+word_of k (Value s) = slot_base + half * s + 1
+word_of k (Link s b) = slot_base + half * s + side_number b
 word_of k (Lock s) = lock_base k + half * s
 word_of k (Life s) = lock_base k + half * s + 1
 word_of k (Tag s b) = lock_base k + half * s + side_number b

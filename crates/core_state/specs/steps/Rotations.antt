@@ -1,6 +1,6 @@
 -- The step that rotates, K38: a slot and its child are replaced by two new ones in one store.
 -- Source: docs/TREE_INVARIANT.md, "The steps of the tree".
-use Rattle.std.specs.Prelude.{◌≡◌, ◌≢◌, ℕ, ◌+◌, ◌-◌, ◌<◌, ◌≤◌, true, false, List, [], ◌∷◌, ◌++◌, length, Some, None}
+use Rattle.std.specs.Prelude.{◌≡◌, ℕ, ◌+◌, ◌-◌, ◌<◌, ◌≤◌, true, false, List, [], ◌∷◌, ◌++◌, length, Some, None}
 use Rattle.prcu_marks.specs.declared.mark.Mark.{Mark}
 use Rattle.prcu_marks.specs.declared.mark.Mark.TheVariants.{Unlinked}
 use Rattle.prcu_marks.specs.declared.mark.Side.{Side}

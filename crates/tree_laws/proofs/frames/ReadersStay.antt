@@ -1,11 +1,10 @@
 -- A step that leaves the chart: the parts on readers and on listings.
-use Rattle.std.proofs.Common.{◌≡◌, ◌≢◌, ℕ, ◌+◌, ◌*◌, ◌<◌, ◌≤◌, true, List, length, set, Some, None, sym, ap, subst, ◌∙◌, ⊎_elim, inl, inr, arith, ◌++◌, false}
+use Rattle.std.proofs.Common.{◌≡◌, ℕ, ◌+◌, ◌*◌, ◌<◌, ◌≤◌, true, List, length, set, Some, None, sym, ap, subst, ◌∙◌, ⊎_elim, inl, inr, arith, ◌++◌, false}
 use mathlib.Core.Option.{some}
 use lib.ListN.{get_elem?}
-use Rattle.prcu_marks.specs.declared.mark.Side.TheVariants.{Left, Right}
 use Rattle.prcu_marks.specs.Marks.{updates_of, gone_at}
 use Rattle.prcu_model.specs.Dictionary.{WasSaid}
-use Rattle.core_state.specs.declared.words.Field.TheVariants.{Life, Key, Link}
+use Rattle.core_state.specs.declared.words.Field.TheVariants.{Life}
 use Rattle.core_state.specs.declared.view.Fact.{Fact}
 use Rattle.core_state.specs.declared.view.Gap.{Gap}
 use Rattle.core_state.specs.declared.view.Listing.{Listing}
@@ -30,7 +29,6 @@ use Rattle.core_frames.proofs.frames.ReaderFrame.{may_still, old_still}
 use Rattle.core_frames.proofs.frames.Contents.{right_left_same, walks_same, place_same, belongs_same}
 use Rattle.tree_laws.proofs.frames.ChartStays.{ChartStep, map_stays}
 use Rattle.core_frames.proofs.chart.Ranges.{bool_cases}
-use Rattle.tree_laws.proofs.locks.Holders.{linked_stays}
 
 module _ (P : ℕ → Type 0) (z : ChartStep P) where
   open z use {who.{k, m, vs, h, id, v, there, inv.{chart as g}}, m', hs, w}

@@ -6,13 +6,12 @@ use Rattle.prcu_marks.specs.declared.mark.Mark.{Mark}
 use Rattle.prcu_marks.specs.declared.mark.Side.{Side}
 use Rattle.prcu_marks.specs.Marks.{updates_of, gone_at}
 use Rattle.prcu_model.specs.Dictionary.{WasSaid}
-use Rattle.core_state.specs.declared.words.Field.TheVariants.{Front, Life, Link, Key}
-use Rattle.prcu_marks.specs.declared.commit.Commit.{Commit}
+use Rattle.core_state.specs.declared.words.Field.TheVariants.{Life, Link, Key}
 use Rattle.core_state.specs.declared.view.Listing.{Listing}
 use Rattle.core_state.specs.declared.view.View.{View}
 use Rattle.core_state.specs.Marks.{AreMarks}
 use Rattle.core_state.specs.memory.Lists.{IsEven, IsOdd}
-use Rattle.core_state.specs.steps.Links.{HasCommit, newly_retired}
+use Rattle.core_state.specs.steps.Links.{newly_retired}
 use Rattle.core_state.specs.memory.Memory.{Memory, stored, slot_count}
 use Rattle.core_state.specs.tree.Chart.{Chart, IsBelow, low_of, Belongs, IsInRange}
 use Rattle.core_state.specs.tree.Readers.{IsHeldBack}

@@ -1,11 +1,11 @@
 -- What holds of a listing holds with one more load.
-use Rattle.std.proofs.Common.{◌≡◌, ◌≢◌, ◌⊎◌, ℕ, zero, suc, ◌+◌, ◌<◌, ◌≤◌, ◌^◌, ◌==◌, Bool, true, false, cond, List, [], ◌∷◌, ◌++◌, Option, Some, None, refl, sym, ap, subst, ◌∙◌, inl, inr, ⊎_elim, arith, eq-eqb}
+use Rattle.std.proofs.Common.{◌≡◌, ◌≢◌, ℕ, zero, suc, ◌<◌, ◌^◌, ◌==◌, Bool, true, false, cond, List, [], ◌∷◌, ◌++◌, Option, Some, None, refl, sym, ap, subst, ◌∙◌, inl, inr, ⊎_elim, arith, eq-eqb}
 use Rattle.std.proofs.lemmas.Bool.{eqb-true}
 use mathlib.Core.Option.{some}
 use lib.ListN.{get_elem?}
 use Rattle.prcu_marks.specs.declared.mark.Mark.{Mark}
 use Rattle.prcu_marks.specs.declared.mark.Side.{Side}
-use Rattle.prcu_marks.specs.declared.mark.Side.TheVariants.{Left, Right}
+use Rattle.prcu_marks.specs.declared.mark.Side.TheVariants.{Right}
 use Rattle.core_state.specs.declared.shape.Shape.{Shape}
 use Rattle.core_state.specs.declared.words.Field.{Field}
 use Rattle.core_state.specs.declared.words.Field.TheVariants.{Life, Key, Value, Link}
@@ -24,12 +24,11 @@ use Rattle.core_state.specs.tree.Chart.{Chart, IsInRange}
 use Rattle.core_state.specs.tree.Readers.{IsHeldBack}
 use Rattle.core_state.specs.parts.TreeParts.{map_now}
 use Rattle.core_state.specs.steps.Loads.{no_bounds, narrowed, visits_by_link, gaps_by_link, visits_by, facts_by, gaps_by, by_visits, listed_below, listed_root, listed}
-use Rattle.core_state.specs.parts.ListingParts.{IsBetween, HasBounds, GoesOn, here, past, StandsNow, IsVisit, IsListing}
+use Rattle.core_state.specs.parts.ListingParts.{IsBetween, GoesOn, here, past, StandsNow, IsVisit, IsListing}
 use Rattle.core_frames.proofs.chart.Goings.{none_past, below_past}
 use Rattle.core_state.specs.Invariant.{HoldsNow}
-use Rattle.core_frames.proofs.chart.Ranges.{bool_cases, after-node, next-left, next-right}
+use Rattle.core_frames.proofs.chart.Ranges.{bool_cases}
 use Rattle.core_frames.proofs.chart.Endings.{ended_is, answer-none}
-use Rattle.core_frames.proofs.chart.Unique as unique
 use Rattle.core_frames.proofs.First.{each_none, each_one, each_append}
 use Rattle.tree_laws.proofs.searches.MeetsSlots.{child_met}
 

@@ -1,5 +1,5 @@
 -- A load of the front in a section keeps the invariant: K37. With it a listing begins.
-use Rattle.std.proofs.Common.{◌≡◌, ℕ, ◌+◌, ◌*◌, ◌≤◌, Bool, true, false, cond, List, [], ◌++◌, length, set, Option, Some, None, refl, sym, ap, subst, ⊎_elim, arith, append-nil}
+use Rattle.std.proofs.Common.{◌≡◌, ℕ, ◌+◌, ◌*◌, ◌≤◌, List, [], ◌++◌, length, set, Option, Some, None, refl, sym, ap, subst, arith, append-nil}
 use mathlib.Core.Option.{some}
 use lib.ListN.{get_elem?}
 use Rattle.atomic_table.proofs.Lists.{set_here}
@@ -14,7 +14,6 @@ use Rattle.core_state.specs.declared.view.Gap.{Gap}
 use Rattle.core_state.specs.declared.view.Listing.{Listing}
 use Rattle.core_state.specs.declared.view.Section.{Section}
 use Rattle.core_state.specs.declared.view.View.{View}
-use Rattle.list_laws.specs.Counts.{Each}
 use Rattle.core_state.specs.memory.Lists.{IsEven}
 use Rattle.core_state.specs.memory.Memory.{Memory, stored}
 use Rattle.core_state.specs.views.Views.{Works, open_reading, readings_of}

@@ -1,8 +1,6 @@
 -- The parts on the front, after a step that stores in no front and makes an update.
-use Rattle.std.proofs.Common.{◌≡◌, ◌≢◌, ℕ, ◌+◌, ◌*◌, cond, true, false, List, length, set, Some, None, refl, sym, ap, subst, ◌∙◌, ⊎_elim, inr, arith}
-use mathlib.Core.Logic.{dite}
-use mathlib.Core.Option.{some, some-injective}
-use native.Mathlib.Decide.{ℕ_discrete}
+use Rattle.std.proofs.Common.{◌≡◌, ◌≢◌, ℕ, ◌+◌, ◌*◌, cond, true, false, List, length, set, Some, None, refl, sym, ap, ◌∙◌, inr, arith}
+use mathlib.Core.Option.{some}
 use lib.ListN.{get_elem?}
 use Rattle.atomic_table.proofs.Lists.{set_here}
 use Rattle.prcu_marks.specs.declared.mark.Mark.{Mark}
@@ -11,12 +9,10 @@ use Rattle.prcu_model.specs.History.{IsLegal}
 use Rattle.core_state.specs.declared.words.Field.TheVariants.{Front}
 use Rattle.prcu_marks.specs.declared.commit.Commit.{Commit}
 use Rattle.core_state.specs.declared.view.View.{View}
-use Rattle.core_state.specs.memory.Lists.{IsEven}
 use Rattle.core_state.specs.memory.Memory.{Memory}
 use Rattle.core_state.specs.steps.Links.{HasCommit}
 use Rattle.core_state.specs.parts.FrontParts.{FrontParts}
 use Rattle.core_frames.proofs.frames.FrontFrame.{odd_by}
-use Rattle.list_laws.specs.Counts.{Each}
 use Rattle.list_laws.proofs.Lists.{at_below, each_set}
 
 module _ (m m' : Memory) (vs : List View) (id : ℕ) (v w : View) (there : get_elem? vs id ≡ some v) (h h' : List Mark)

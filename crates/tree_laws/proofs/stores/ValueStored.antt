@@ -26,7 +26,7 @@ use Rattle.core_state.specs.declared.view.SearchState.TheVariants.{Found}
 use Rattle.prcu_marks.specs.declared.commit.Commit.{Commit}
 use Rattle.core_state.specs.declared.view.View.{View}
 use Rattle.list_laws.specs.Counts.{IsIn}
-use Rattle.core_state.specs.memory.Lists.{IsEven, IsOdd, has}
+use Rattle.core_state.specs.memory.Lists.{IsOdd, has}
 use Rattle.core_state.specs.memory.Memory.{Memory, stored, slot_count}
 use Rattle.core_state.specs.views.Known.{lock_of, HasLock, note_lock, note_moving}
 use Rattle.core_state.specs.steps.Links.{NeedsReplace, after_replace}

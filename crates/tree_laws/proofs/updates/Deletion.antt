@@ -1,5 +1,5 @@
 -- The node of a delete that its view has marked: what the record of the delete and what was loaded under the locks say of it now.
-use Rattle.std.proofs.Common.{◌≡◌, ◌≢◌, ℕ, ◌+◌, ◌*◌, true, false, Some, None, sym, ap, subst, ◌∙◌, inr, arith}
+use Rattle.std.proofs.Common.{◌≡◌, ◌≢◌, ℕ, ◌+◌, ◌*◌, true, false, Some, None, sym, ap, subst, ◌∙◌, arith}
 use Rattle.std.specs.FinMap as finite
 use Rattle.prcu_marks.specs.declared.mark.Side.{Side}
 use Rattle.prcu_marks.specs.declared.mark.Side.TheVariants.{Left, Right}
@@ -21,7 +21,7 @@ use Rattle.core_state.specs.views.Known.{known_in, known_under, HasLock}
 use Rattle.core_state.specs.views.Views.{readings_of, open_reading}
 use Rattle.list_laws.proofs.Lists.{in_second}
 use Rattle.core_frames.proofs.chart.Unique.{one_key}
-use Rattle.tree_laws.proofs.locks.Locked.{loaded_known, under_lock, IsAlive, alive, alive_field, young_locked, no_end_of}
+use Rattle.tree_laws.proofs.locks.Locked.{loaded_known, IsAlive, alive, alive_field, young_locked, no_end_of}
 use Rattle.core_frames.proofs.frames.Stepper.{Stepper}
 use Rattle.tree_laws.proofs.locks.Marked.{marked_lock, marked_linked, marked_life, marked_field}
 use Rattle.tree_laws.proofs.updates.Updates.{there_of}

@@ -11,25 +11,25 @@ halves_are : (b : Side) (left right low high : ℕ) → low ≡ left % 429496729
 halves_are b left right low high low_is high_is = ap (λ n. link_on b (left % 4294967296) n) (sym high_is)
     ∙ ap (λ n. link_on b n high) (sym low_is)
 
-pub search_load_by-left-requires-clause-asks : goal.search_load_by-left-requires-clause-asks
-search_load_by-left-requires-clause-asks g c = may_load_left
+pub search_load-left-requires-clause-asks : goal.search_load-left-requires-clause-asks
+search_load-left-requires-clause-asks g c = may_load_left
     (shape_of g.W.WaitWords.WAY c.args.table.now) c.args.slot c.args.side c.args.seat.now.view c.requires.slot c.requires.searching
 
-pub search_load_by-right-requires-clause-asks : goal.search_load_by-right-requires-clause-asks
-search_load_by-right-requires-clause-asks g c = may_load_right
+pub search_load-right-requires-clause-asks : goal.search_load-right-requires-clause-asks
+search_load-right-requires-clause-asks g c = may_load_right
     (shape_of g.W.WaitWords.WAY c.args.table.now) c.args.slot c.args.side c.args.seat.now.view c.requires.slot c.requires.searching
-    c.search_load_by-left.result c.search_load_by-left.new.seat.view c.search_load_by-left.ensures.told
+    c.search_load-left.result c.search_load-left.new.seat.view c.search_load-left.ensures.told
 
 pub returns-clause-loads : goal.returns-clause-loads
 returns-clause-loads g c =
     let k : Shape = shape_of g.W.WaitWords.WAY c.args.table.now in
     let i = c.requires.searching in
-    let left = c.search_load_by-left.result in
-    let right = c.search_load_by-right.result in
-    let u = c.search_load_by-left.new.seat.view in
-    let w = c.search_load_by-right.new.seat.view in
-    let first = c.search_load_by-left.ensures.told in
-    let second = c.search_load_by-right.ensures.told in
+    let left = c.search_load-left.result in
+    let right = c.search_load-right.result in
+    let u = c.search_load-left.new.seat.view in
+    let w = c.search_load-right.new.seat.view in
+    let first = c.search_load-left.ensures.told in
+    let second = c.search_load-right.ensures.told in
     let loaded = both_loaded k c.args.seat.now.view u w c.args.slot c.args.side left right _ first second refl in
     both_loaded k c.args.seat.now.view u w c.args.slot c.args.side left right _ first second
     (half_on k i.1 c.args.slot c.args.side c.args.seat.now.view left right w loaded (i.0, i.2)

@@ -8,8 +8,8 @@ pub returns-then-ahead-eq0-clause-searching : goal.returns-then-ahead-eq0-clause
 returns-then-ahead-eq0-clause-searching g c v u slot side i l = ended_at
     (shape_of g.W.WaitWords.WAY c.args.table.now) c.args.key slot side u c.args.ahead c.args.seat.now.view l c.if-ahead-eq0.true v i
 
-pub search_load_by-found-requires-clause-asks : goal.search_load_by-found-requires-clause-asks
-search_load_by-found-requires-clause-asks g c = let a = c.requires.loaded.1 in may_read
+pub search_load-found-requires-clause-asks : goal.search_load-found-requires-clause-asks
+search_load-found-requires-clause-asks g c = let a = c.requires.loaded.1 in may_read
     (shape_of g.W.WaitWords.WAY c.args.table.now) c.args.key a.slot a.side a.before c.args.ahead c.args.seat.now.view a.loads
     c.if-ahead-eq0.false (c.requires.loaded.0, a.searching)
 
@@ -20,8 +20,8 @@ returns-in-None-clause-slot g c slot side _ = let a = c.requires.loaded.1 in slo
 
 pub returns-in-None-clause-searching : goal.returns-in-None-clause-searching
 returns-in-None-clause-searching g c v u slot side i l = found_at
-    (shape_of g.W.WaitWords.WAY c.args.table.now) c.args.key slot side u c.args.ahead c.args.seat.now.view l c.search_load_by-found.result
-    c.search_load_by-found.new.seat.view c.search_load_by-found.ensures.told c.if-ahead-eq0.false (sym c.step_side.ensures ∙ c.in-None.is) v i
+    (shape_of g.W.WaitWords.WAY c.args.table.now) c.args.key slot side u c.args.ahead c.args.seat.now.view l c.search_load-found.result
+    c.search_load-found.new.seat.view c.search_load-found.ensures.told c.if-ahead-eq0.false (sym c.step_side.ensures ∙ c.in-None.is) v i
 
 pub returns-in-Some-clause-slot : goal.returns-in-Some-clause-slot
 returns-in-Some-clause-slot g c slot side _ = let a = c.requires.loaded.1 in slot_on
@@ -30,8 +30,8 @@ returns-in-Some-clause-slot g c slot side _ = let a = c.requires.loaded.1 in slo
 
 pub returns-in-Some-clause-searching : goal.returns-in-Some-clause-searching
 returns-in-Some-clause-searching g c v u slot side i l = moved_on
-    (shape_of g.W.WaitWords.WAY c.args.table.now) c.args.key slot side u c.args.ahead c.args.seat.now.view l c.search_load_by-found.result
-    c.search_load_by-found.new.seat.view c.search_load_by-found.ensures.told c.in-Some.side c.if-ahead-eq0.false
+    (shape_of g.W.WaitWords.WAY c.args.table.now) c.args.key slot side u c.args.ahead c.args.seat.now.view l c.search_load-found.result
+    c.search_load-found.new.seat.view c.search_load-found.ensures.told c.in-Some.side c.if-ahead-eq0.false
     (sym c.step_side.ensures ∙ c.in-Some.is) v i
 
 pub returns-then-ahead-eq0-clause-place : goal.returns-then-ahead-eq0-clause-place
@@ -44,7 +44,7 @@ pub returns-in-Some-clause-place : goal.returns-in-Some-clause-place
 returns-in-Some-clause-place g c = c.requires.loaded.1.loads.left_told.before.tells.some_place
 
 pub returns-in-None-clause-more : goal.returns-in-None-clause-more
-returns-in-None-clause-more g c = let stepped = told_steps c.search_load_by-found.ensures.told in omega (arith, stepped)
+returns-in-None-clause-more g c = let stepped = told_steps c.search_load-found.ensures.told in omega (arith, stepped)
 
 pub returns-in-Some-clause-more : goal.returns-in-Some-clause-more
-returns-in-Some-clause-more g c = let stepped = told_steps c.search_load_by-found.ensures.told in omega (arith, stepped)
+returns-in-Some-clause-more g c = let stepped = told_steps c.search_load-found.ensures.told in omega (arith, stepped)

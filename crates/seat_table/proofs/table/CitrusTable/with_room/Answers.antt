@@ -35,6 +35,6 @@ invariant_of-result g c =
       t.2,
       t.3,
       t.4,
-      c.rows_of.ensures.rows _ (sym c.waiter_of-waiter.ensures) (sym t.3) (sym t.4),
+      c.rows_of.ensures.rows _ (sym t.3) (sym t.4),
       c.rows_of.ensures.few.0,
     )
