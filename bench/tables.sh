@@ -301,7 +301,7 @@ if [ $# -gt 0 ]; then
 fi
 out=$top/bench/out
 mkdir -p "$out"
-for name in tree waits writers shapes threads text limits cookies embed many ratios crowded size handles rust_map server; do
+for name in tree waits sections writers shapes threads text limits cookies embed many ratios crowded size handles rust_map server; do
     [ -e "$results/$name.csv" ] || continue
     grep -qxF "<!-- $name -->" "$top/docs/BENCHMARKS.md" "$top/bench/TABLES.md" || continue
     { echo; table "$name"; echo; } >"$out/table"
