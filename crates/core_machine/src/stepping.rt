@@ -5,7 +5,6 @@ ghost use Rattle.core_points.specs.Laws.{is_finished};
 ghost use Rattle.prcu_marks.specs.Accesses.{left_by, said_by, StaysWord};
 ghost use Rattle.core_acts.specs.Acts.{access_of};
 ghost use Rattle.core_state.specs.declared.shape.Shape.{Shape};
-ghost use Rattle.core_state.specs.declared.shape.Waiter.TheVariants.{Eer};
 ghost use Rattle.core_state.specs.memory.Memory.{word_of};
 ghost use Rattle.core_state.specs.steps.Waits.{turned_gate};
 ghost use Rattle.core_machine.specs.Stepped.{blocked as blocked_at};
@@ -18,7 +17,6 @@ use crate::caller::Caller;
 use core_acts::{index_of, rows_of};
 use core_points::stage::Stage;
 use core_state::Field;
-use core_state::shape::Waiter;
 use prcu_marks::{Access, Why};
 
 /// Makes the access, and answers the number that it tells: the one found, or stored where it is a store.
@@ -79,9 +77,9 @@ impl Caller {
     }
 }
 
-// Where the word of a field stands in the row of a table of the first waiter.
+// Where the word of a field stands in the row of such a table.
 fn index_at(slots: u32, places: u32, field: Field) -> usize
-    ensures index { (k : Shape) → k.waiter ≡ Eer → k.slots ≡ slots → k.places ≡ places → result ≡ word_of k field }
+    ensures index { (k : Shape) → k.slots ≡ slots → k.places ≡ places → result ≡ word_of k field }
 {
     index_of(&rows_of(slots, places), field)
 }

@@ -1,3 +1,4 @@
+pub mod Answered
 pub mod Chains
 pub mod Cookies
 pub mod Crossing

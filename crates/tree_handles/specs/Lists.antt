@@ -1,6 +1,6 @@
 -- What lists answer, of a caller before and after.
 -- Source: docs/TREE_CALLS.md, "Lists of a key range".
-use Rattle.std.specs.Prelude.{◌≡◌, ◌⊎◌, ℕ, ◌+◌, ◌<◌, ◌≤◌, List, [], ◌∷◌, ◌++◌, length, map, drop, Some, None}
+use Rattle.std.specs.Prelude.{◌≡◌, ◌⊎◌, ℕ, ◌<◌, ◌≤◌, List, ◌++◌, length, map, drop, Some, None}
 use Rattle.core_state.specs.memory.Bounds.{most_slots}
 use Rattle.key_interval.specs.Keys.{Interval, Holds}
 use Rattle.prcu_marks.specs.declared.mark.Side.{Side}

@@ -1,19 +1,12 @@
-use Rattle.std.proofs.Common.{rules, refl, inl}
+use Rattle.std.proofs.Common.{rules}
+use Rattle.tree_handles.proofs.Answered.{nothing_behind}
 use Rattle.tree_handles.proofs.Cookies.{cookie_called}
 use Rattle.tree_handles.proofs.caller.Caller.remove.Goals as goal
 
--- the seat as the removal left it, and nothing behind
 pub returns-in-Ok-clause-taken : goal.returns-in-Ok-clause-taken
 returns-in-Ok-clause-taken g c = (
   c.in-Ok.removed.told,
-  record {
-    index = search rules;
-    before = search rules;
-    enough = search rules;
-    answered = c.remove.new.seat;
-    tells = search rules;
-    behind = inl (record { seat = refl; may = search rules });
-  },
+  nothing_behind (search rules) (search rules) (search rules) (search rules) (search rules),
   search rules,
 )
 
