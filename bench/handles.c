@@ -1,7 +1,7 @@
 /* What open handles that do nothing cost the one that calls: `handles HANDLES WAITER`, an index for 20,000 pairs of which half are there. A line
  * `WAITER,HANDLES,mb,open_us,share_ns,reopen_ns,insert_ns,remove_ns,wait_ns,wait_all_ns`; the memory is what malloc gave, in MB of 1,000,000
  * bytes. */
-#include <citrus.h>
+#include "fixed_salt.h"
 #include <malloc.h>
 #include <stdio.h>
 #include <stdlib.h>
@@ -31,7 +31,7 @@ static double memory(void) {
 
 static double open_all(uint32_t count, uint32_t waiter, double *share) {
     double begun = now();
-    want(citrus_open(&handles[0], KEYS, count, waiter), CITRUS_DONE, "open");
+    want(open_fixed(&handles[0], KEYS, count, waiter), CITRUS_DONE, "open");
     const double opened = now() - begun;
     begun = now();
     for (uint32_t i = 1; i < count; i++) want(citrus_share(&handles[0], 1, 1000, &handles[i]), CITRUS_DONE, "share");

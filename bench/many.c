@@ -1,7 +1,7 @@
 /* Many gets at once: `many PAIRS RUNS` writes lines `what,lanes,pairs,ns`: what a lookup costs by citrus_get and by citrus_get_many with so many
  * lanes, and what a wait for all readers costs beside eight lanes, none open, idle, or in use by another thread. The least of all runs. */
 #define _GNU_SOURCE
-#include <citrus.h>
+#include "fixed_salt.h"
 #include <pthread.h>
 #include <stdatomic.h>
 #include <stdio.h>
@@ -109,7 +109,7 @@ int main(int count, char **words) {
     if (count != 3) return 2;
     pairs = strtoull(words[1], NULL, 10);
     const int runs = atoi(words[2]);
-    must(citrus_open(&handle, (uint32_t)pairs, HANDLES, CITRUS_EER));
+    must(open_fixed(&handle, (uint32_t)pairs, HANDLES, CITRUS_EER));
     for (uint64_t i = 0; i < pairs; i++) must(citrus_insert(&handle, key_at(i), i));
     for (int run = 0; run < runs; run++) best = least(best, gets(&handle));
     printf("look up,0,%llu,%.1f\n", (unsigned long long)pairs, best);

@@ -1,5 +1,6 @@
 /* What sections and waits of the C library cost, beside its gets: `sections THREADS PAIRS PLACES` writes lines as sections.h says. A thread has
  * a handle, and there are so many places for handles. */
+#include "fixed_salt.h"
 #include "sections.h"
 #include <prcu.h>
 
@@ -92,7 +93,7 @@ int main(int count, char **words) {
     const uint32_t handles = (uint32_t)atoi(words[3]);
     for (uint32_t waiter = CITRUS_EER; waiter <= CITRUS_DEER; waiter++) {
         char series[40];
-        if (citrus_open(&places[0].place, (uint32_t)pairs + 10000, handles, waiter) != CITRUS_DONE) return 1;
+        if (open_fixed(&places[0].place, (uint32_t)pairs + 10000, handles, waiter) != CITRUS_DONE) return 1;
         for (uint64_t i = 0; i < pairs; i++) citrus_insert(&places[0].place, mixed(i), i);
         for (uint32_t i = 1; i < threads; i++)
             if (citrus_share(&places[0].place, 1, CITRUS_ALL_TICKETS / 128, &places[i].place) != CITRUS_DONE) return 1;

@@ -84,7 +84,8 @@ else
     left_out "redis-server, which Debian's package of that name has"
 fi
 
-# The requests a second of one command: `rate PORT CONNECTIONS WORD..`. A key that isn't a number is no key of ours, so the words are given.
+# The requests a second of one command: `rate PORT CONNECTIONS WORD..`. A key that isn't a number is no key of ours, so the words are given: a
+# digit, and behind it the twelve that redis-benchmark draws, which may begin with zeros.
 rate() {
     local port=$1 connections=$2
     shift 2
@@ -101,8 +102,8 @@ for ((round = 1; round <= rounds; round++)); do
     for server in "${servers[@]}"; do
         read -r name port <<<"$server"
         for connections in 1 4 16; do
-            echo "$name,set,$connections,$(rate "$port" "$connections" SET __rand_int__ __rand_int__)" >>"$out/server_cells"
-            echo "$name,get,$connections,$(rate "$port" "$connections" GET __rand_int__)" >>"$out/server_cells"
+            echo "$name,set,$connections,$(rate "$port" "$connections" SET 1__rand_int__ 1__rand_int__)" >>"$out/server_cells"
+            echo "$name,get,$connections,$(rate "$port" "$connections" GET 1__rand_int__)" >>"$out/server_cells"
         done
     done
     echo "round $round of $rounds, after $SECONDS s" >&2

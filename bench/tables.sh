@@ -156,6 +156,26 @@ shapes() {
     awk -F, '/^#/ || /^order/ { next } { printf "| %s | %s | %s | %s | %s | %s | %s |\n", $1, $2, $3, $4, $5, $6, $7 }' "$1"
 }
 
+# Each row has both rules: what the library did with four attempts by all slots, and what it does.
+depth() {
+    head_of 'keys come' keys 'longest way, four attempts' 'times log2' '24 attempts' 'times log2' 'slots of a way, four' '24' \
+        'turns for 1,000 puts, four' '24' 'waits for 1,000 puts, four' '24'
+    awk -F, '/^#/ || /^order/ { next }
+        {
+            row = $1 "," $2
+            if (!(row in order)) { rows[++count] = row; order[row] = $1 " | " $2 }
+            rule = $3 == "24 attempts"
+            slots[row, rule] = $4; longest[row, rule] = $5; turns[row, rule] = $6; waits[row, rule] = $7; log2[row] = log($2) / log(2)
+        }
+        END {
+            for (i = 1; i <= count; i++) {
+                row = rows[i]
+                printf "| %s | %d | %.1f | %d | %.1f | %s | %s | %s | %s | %s | %s |\n", order[row], longest[row, 0], longest[row, 0] / log2[row], \
+                    longest[row, 1], longest[row, 1] / log2[row], slots[row, 0], slots[row, 1], turns[row, 0], turns[row, 1], waits[row, 0], waits[row, 1]
+            }
+        }' "$1"
+}
+
 # Medians of the Rust crate, and of other maps for Rust.
 rust_map() {
     head_of gets keys threads 'first waiter' second third 'BTreeMap, Mutex' RwLock DashMap
@@ -301,7 +321,7 @@ if [ $# -gt 0 ]; then
 fi
 out=$top/bench/out
 mkdir -p "$out"
-for name in tree waits sections writers shapes threads text limits cookies embed many ratios crowded size handles rust_map server; do
+for name in tree waits sections writers shapes depth threads text limits cookies embed many ratios crowded size handles rust_map server; do
     [ -e "$results/$name.csv" ] || continue
     grep -qxF "<!-- $name -->" "$top/docs/BENCHMARKS.md" "$top/bench/TABLES.md" || continue
     { echo; table "$name"; echo; } >"$out/table"

@@ -3,7 +3,7 @@
  * `LIST,WRITERS,LISTS,FAILED,UPDATES,P999,LONGEST`: how many lists came in a second and how many failed, the updates in a second of all
  * writers together, and how many microseconds 999 of 1,000 of them took at most, and the longest one. A library whose lists may answer
  * CITRUS_MOVED is measured too: these have failed. It ends with status 1 where a list, or the index at the end, isn't as it must be. */
-#include <citrus.h>
+#include "fixed_salt.h"
 #include <pthread.h>
 #include <stdatomic.h>
 #include <stdio.h>
@@ -129,7 +129,7 @@ static int ascends(const void *one, const void *other) {
 }
 
 static void fill(citrus_handle *index, uint32_t handles) {
-    must(citrus_open(index, PAIRS + MOST_WRITERS * OWN_KEYS, handles, CITRUS_EER) == CITRUS_DONE, "no index was opened");
+    must(open_fixed(index, PAIRS + MOST_WRITERS * OWN_KEYS, handles, CITRUS_EER) == CITRUS_DONE, "no index was opened");
     for (uint64_t i = 0; i < PAIRS; i++) {
         keys[i] = mixed(i);
         must(citrus_insert(index, keys[i], value_for(keys[i], 0)) == CITRUS_DONE, "a pair wasn't put in");

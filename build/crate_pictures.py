@@ -31,6 +31,7 @@ PICTURES = {
         "tree_watch": "scripts, and lists beside them",
         "tree_run": "scripts on one tree",
         "schedule_run": "scripts by a number",
+        "core_ends": "how its calls end",
         "core_machine": "the calls, step by step",
         "cookie_client": "a client with a cookie",
         "held_values": "why a value outlives its holders",

@@ -69,8 +69,7 @@ tests_of() {
         sed "s/$/ $1/"
 }
 
-rows_to_run >"$room/rows"
-build tool_rows --seconds "$limit" <"$room/rows" &
+build tool_rows </dev/null &
 rows=$!
 build tool_tests --test </dev/null &
 tool=$!

@@ -102,14 +102,14 @@ warn_of_load() {
     fi
 }
 
-# Builds the program without proofs, by a run that is long enough to be seen, and keeps it.
+# Builds the program without proofs, and keeps it.
 build_unproved() {
     find_toolchain || return
     say "building the program without proofs, which takes half a minute; it is kept, so later calls with --unproved answer at once"
     room=$(mktemp -d) || return $no_answer
     trap 'rm -rf "$room"' EXIT
     touch "$room/since"
-    if build_without_proofs "$room" "$top/crates/citrus_cli" --seconds 60 -- load 1 8 20000 </dev/null && keep_program; then
+    if build_without_proofs "$room" "$top/crates/citrus_cli" </dev/null && keep_program; then
         rm -rf "$room"
         return
     fi

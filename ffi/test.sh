@@ -50,12 +50,19 @@ end() {
 strict=(-O2 -Wall -Wextra -Werror "-I$prefix/include" -pthread)
 
 compile_c() { gcc -std=gnu11 "${strict[@]}" "$here/tests/$1.c" "${@:2}" -L"$prefix/lib" -lcitrus -o "$room/$1"; }
-compile_cpp() { g++ -std=c++17 "${strict[@]}" "$here/tests/$1.cpp" -L"$prefix/lib" -lcitrus -o "$room/$1_cpp"; }
+compile_cpp() {
+    g++ -std=c++17 "${strict[@]}" -c "$here/tests/$1.cpp" -o "$room/$1_cpp.o" && g++ -pthread "$room/$1_cpp.o" -L"$prefix/lib" -lcitrus -o "$room/$1_cpp"
+}
+
+# The same in two steps, for what is linked once more.
+object_of_c() { gcc -std=gnu11 "${strict[@]}" -c "$here/tests/$1.c" -o "$room/$1.o"; }
+object_of_cpp() { g++ -std=c++17 "${strict[@]}" -c "$here/tests/$1.cpp" -o "$room/$1.o"; }
+link_objects() { g++ -pthread "${@:2}" -L"$prefix/lib" -lcitrus -o "$room/$1"; }
 
 compile_all() {
-    compile_c answers && compile_c misuse && compile_c own_keys && compile_c moments && compile_c reopened && compile_c tidy && compile_c version &&
+    compile_c answers && compile_c misuse && compile_c own_keys && compile_c moments && compile_c reopened && compile_c tidy && compile_c version && compile_c salts &&
         compile_c always && compile_c many_handles && compile_c counters && compile_c lanes &&
-        compile_c memory -Wl,--wrap=malloc,--wrap=realloc,--wrap=free && compile_cpp answers && compile_cpp order &&
+        compile_c memory -Wl,--wrap=malloc,--wrap=realloc,--wrap=free && compile_cpp answers && compile_cpp order && compile_cpp whole &&
         compile_c holds && compile_c begun && compile_c objects && compile_c prcu && compile_cpp map && compile_debug
 }
 
@@ -95,9 +102,8 @@ in_rust() { CITRUS_LIB_DIR=$prefix/lib CARGO_TARGET_DIR=$room/rust timeout 100 "
 
 # An order of all calls of threads that share their keys, which the tool's check holds to be an account: `ordered WAITER THREADS OPERATIONS
 # KEYS SEED [tidy]`.
-ordered() {
-    "$room/order_cpp" "$@" >"$room/account" && [ "$("$checker" check <"$room/account")" = yes ]
-}
+ordered() { ordered_by "$room/order_cpp" "$@"; }
+ordered_by() { "$@" >"$room/account" && [ "$("$checker" check <"$room/account")" = yes ]; }
 
 # The same with a reply changed: check says no, so what it says of the others means something.
 a_changed_reply_is_refused() {
@@ -115,6 +121,100 @@ orders() {
         case_is "one order explains all replies, 8 threads, a tidy behind each put, waiter $waiter" ordered $waiter 8 4000 20 3 tidy
     done
     case_is 'a changed reply is refused' a_changed_reply_is_refused
+}
+
+# Threads that are stopped where they are, every 20 to 200 us, see more of what others do between two of their steps: `stopped SECONDS WORDS..`
+# runs a program so.
+stopped() { timeout "$1" env "LD_PRELOAD=$room/jitter.so" "${@:2}"; }
+
+compile_jitter() { gcc -std=gnu11 "${strict[@]}" -fPIC -shared "$here/tests/jitter.c" -o "$room/jitter.so" -ldl -lrt; }
+
+stopped_cases_of() {
+    local stops
+    echo "with threads that are stopped: ${1##*/}"
+    cases_of env "LD_PRELOAD=$room/jitter.so" "$@"
+    stops=$(sed -n 's/^jitter: \([0-9]*\) stops of .*/\1/p' "$room/told")
+    case_is "threads of ${1##*/} were stopped" [ "${stops:-0}" -gt 0 ]
+}
+
+threads_that_are_stopped() {
+    local waiter
+    case_is 'what stops threads compiles' compile_jitter
+    [ -x "$room/jitter.so" ] || return
+    stopped_cases_of "$room/whole_cpp"
+    stopped_cases_of "$room/own_keys" 2000
+    stopped_cases_of "$room/moments" 2000
+    stopped_cases_of "$room/counters" 2000
+    stopped_cases_of "$room/objects" 2000
+    stopped_cases_of "$room/map_cpp" threads
+    for waiter in 0 1 2; do
+        [ ! -x "$checker" ] || case_is "one order explains all replies, 4 threads that are stopped, waiter $waiter" \
+            ordered_by stopped 100 "$room/order_cpp" $waiter 4 4000 3 4
+    done
+}
+
+# Faults that are planted: in front of the library, for which planted.c has one for each of these calls, and in a twin of the library.
+wrapped=(get insert compare upsert remove list first last wait poll)
+
+# A judge over both: `compile_judge NAME OBJECT`.
+compile_judge() {
+    g++ -pthread "$room/$2.o" "$room/planted.o" "${wrapped[@]/#/-Wl,--wrap=citrus_}" -L"$prefix/lib" -lcitrus -o "$room/$1_planted" &&
+        g++ -pthread "$room/$2.o" "$room/twin.o" -o "$room/$1_twin"
+}
+
+compile_judges() {
+    local name
+    for name in planted own_keys moments counters objects; do
+        gcc -std=gnu11 "${strict[@]}" -c "$here/tests/$name.c" -o "$room/$name.o" || return
+    done
+    g++ -std=c++17 "${strict[@]}" -c "$here/tests/twin.cpp" -o "$room/twin.o" || return
+    for name in own_keys moments counters objects; do compile_judge "$name" "$name" || return; done
+    for name in whole order map; do compile_judge "$name" "${name}_cpp" || return; done
+}
+
+# The map without what keeps an object that is compared from being given up: then another one may come to stand at its address, and be taken for
+# it. AddressSanitizer doesn't let an address come back soon, so it wouldn't be seen there.
+compile_unkept() {
+    local line='while (one.object == object) std::this_thread::yield();'
+    cp -r "$prefix/include" "$room/unkept" && grep -qF "$line" "$room/unkept/citrus_map.hpp" &&
+        sed -i "s/$line/static_cast<void>(one);/" "$room/unkept/citrus_map.hpp" &&
+        g++ -std=c++17 "-I$room/unkept" "${strict[@]}" "$here/tests/map.cpp" -L"$prefix/lib" -lcitrus -o "$room/unkept_planted"
+}
+
+# The fault is told of by one of 40 runs: `is_seen FAULT PROGRAM WORDS..`. A case fails, no order is found, or what was given up is read.
+is_seen() {
+    local seed status
+    for ((seed = 1; seed <= 40; seed++)); do
+        status=0
+        PLANTED=$1 TWIN_FAULT=$1 JITTER_SEED=$seed stopped 10 "$room/$2" "${@:3}" >"$room/report" 2>&1 || status=$?
+        cat "$room/report"
+        if [ "$status" -ge 128 ] || grep -qE '^FAILED: |^no order explains ' "$room/report"; then return 0; fi
+    done
+    return 1
+}
+
+planted_faults() {
+    local fault
+    case_is 'tests compile with planted faults' compile_judges
+    [ -x "$room/map_twin" ] || return
+    for fault in get insert compare upsert remove list first last; do
+        case_is "a fault in front of the library is told of by one order of all calls: $fault" is_seen $fault whole_planted 400 1 0
+    done
+    for fault in list first last; do case_is "a fault in front of the library is told of by moments: $fault" is_seen $fault moments_planted 5000; done
+    for fault in wait poll; do case_is "a fault in front of the library is told of by objects: $fault" is_seen $fault objects_planted 2000; done
+    case_is 'a fault in front of the library is told of by who owns keys: get' is_seen get own_keys_planted 3000
+    case_is 'a fault in front of the library is told of by an order for each key: get' is_seen get order_planted 0 4 4000 3 1
+    case_is 'a fault in front of the library is told of by counters: compare' is_seen compare counters_planted 2000
+    case_is 'a fault in front of the library is told of by the C++ map: wait' is_seen wait map_planted 'threads read'
+    case_is 'the C++ map compiles with a fault' compile_unkept
+    case_is 'a fault of the C++ map is told of: an address that comes back' is_seen none unkept_planted 'threads update'
+    for fault in remove replace list; do
+        case_is "a fault in a twin of the library is told of by one order of all calls: $fault" is_seen $fault whole_twin 3000 1 0 6
+    done
+    case_is 'a fault in a twin of the library is told of by who owns keys: reclaim' is_seen reclaim own_keys_twin 3000
+    case_is 'a fault in a twin of the library is told of by moments: list' is_seen list moments_twin 5000
+    case_is 'a fault in a twin of the library is told of by objects: wait' is_seen wait objects_twin 2000
+    case_is 'a twin of the library without a fault has one order of all calls' stopped 100 "$room/whole_twin" 1000 1 0
 }
 
 # AddressSanitizer says what is read after it was freed. It watches the tests alone, since the library is compiled without its marks.
@@ -239,8 +339,10 @@ case_is 'the cache in C++' example '5: five' g++ -std=c++17 -Wall -Wextra -Werro
 if hash pkg-config 2>/dev/null; then case_is "the page's program by pkg-config" with_pkg_config; else echo 'left out: pkg-config'; fi
 case_is 'the tests compile' compile_all
 [ -x "$room/order_cpp" ] || end
-for program in answers misuse memory moments own_keys always many_handles counters reopened lanes tidy version answers_cpp; do cases_of "$room/$program"; done
-for program in holds begun objects prcu debug map_cpp; do cases_of "$room/$program"; done
+for program in answers misuse memory moments own_keys always many_handles counters reopened lanes tidy salts version answers_cpp; do cases_of "$room/$program"; done
+for program in holds begun objects prcu debug map_cpp whole_cpp; do cases_of "$room/$program"; done
+threads_that_are_stopped
+[ ! -x "$room/jitter.so" ] || planted_faults
 if has_thread_sanitizer; then hand_overs; else echo 'left out: ThreadSanitizer'; fi
 if has_sanitizer; then values_under_a_sanitizer; else echo 'left out: AddressSanitizer'; fi
 if [ -x "$checker" ]; then orders; else echo "left out: one order of all calls, since $checker isn't built"; fi

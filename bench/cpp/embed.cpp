@@ -8,7 +8,7 @@
 template <class Turns> class IndexOfRoom {
 public:
     IndexOfRoom(const Room &room, citrus::waiter waiter) {
-        handles_.emplace_back(uint32_t(room.keys), room.places, waiter);
+        handles_.emplace_back(citrus::options{uint32_t(room.keys), room.places, waiter, FIXED_SALT});
         for (uint32_t place = 1; place < room.places; place++) handles_.push_back(handles_[0].share());
     }
 

@@ -1,5 +1,6 @@
 // A handle of the C library as a place of a dictionary. Where many threads update, updates may take turns.
 #pragma once
+#include "../fixed_salt.h"
 #include "client.hpp"
 #include <citrus.hpp>
 #include <mutex>

@@ -29,7 +29,7 @@ class LanesOfRoom {
 public:
     LanesOfRoom(const Room &room, uint32_t lanes) : lanes_(lanes) {
         const uint32_t handles = lanes + 1;
-        handles_.emplace_back(uint32_t(room.keys), room.places * handles, citrus::waiter::eer);
+        handles_.emplace_back(citrus::options{uint32_t(room.keys), room.places * handles, citrus::waiter::eer, FIXED_SALT});
         for (uint32_t place = 1; place < room.places; place++) handles_.push_back(handles_[0].share(handles, 0));
     }
 

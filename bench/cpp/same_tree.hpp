@@ -107,7 +107,6 @@ protected:
         return {ahead, left ^ right ^ ahead};
     }
 
-private:
     Descent descend(TreeSeat &seat, uint64_t key) {
         this->enter(seat, key);
         uint32_t slot = 0;

@@ -11,8 +11,8 @@
  *     citrus_close(&mine);
  *
  * The library's side of each call is proved. It tests what can be tested, a closed handle too, and answers with a status. Not proved, but
- * tested: that a close leaves its section, and to a reopen all that the handle had, that a reopen finds it and hands it on as it was, and that
- * memory is freed.
+ * tested: that a close leaves its section, and to a reopen all that the handle had, that a reopen finds it and hands it on as it was, that no
+ * pair comes or goes by these two, by an open or a share over an open handle, or by a place that waits for a reopen, and that memory is freed.
  *
  * What a thread wrote before an insert, a replace, a compare or an upsert is seen by whoever is told that value of that key, and what a reader did before
  * its release is over where a wait for its key ends. For all steps are sequentially consistent: an insert stores the link to its node, and a
@@ -34,7 +34,8 @@
  * What is seen of a mistake, and what it may be:
  *   - CITRUS_CLOSED of a handle that is open, an answer to another key, SIGILL or SIGSEGV: two threads call with one handle, or it was copied;
  *   - a call that doesn't end: this thread is in a section by another handle, or another one is and waits for something of this one;
- *   - an object that is freed twice, or changes as it is read: a get in place of a hold, a free without a wait, a wait for other keys.
+ *   - an object that is freed twice, or changes as it is read: a get in place of a hold, a free without a wait, a wait for other keys;
+ *   - calls that are as slow as there are pairs: somebody chose keys by the salt of the index (citrus_options).
  *
  * What is written: *value, *old, *found, *key, *next and *cookie only where the status says so; *count of citrus_list and *made always. */
 #ifndef CITRUS_H
@@ -42,6 +43,13 @@
 
 #include <stddef.h>
 #include <stdint.h>
+#include <time.h>
+#if defined __linux__ && defined __has_include
+#if __has_include(<sys/random.h>)
+#include <sys/random.h>
+#define CITRUS_HAS_GETRANDOM
+#endif
+#endif
 
 /* Which version the header is of. citrus_version() tells the archive's. */
 #define CITRUS_VERSION "0.2.0"
@@ -137,7 +145,47 @@ const char *citrus_version(void);
 
 typedef struct { uint64_t key, value; } citrus_pair;
 
-/* Opens a new, empty index. At DONE, what the handle was open on before is closed.
+/* What an index is opened for. It begins with its size, and citrus_options_for fills all of it: so a program goes on with a later library,
+ * whose record has more at its end. A library answers BAD_ARGUMENT to each size that it doesn't know, a smaller one than this and a larger one
+ * than its own, since it can't do what it doesn't know; of a record of another size it reads nothing else. What an earlier record lacks is as it
+ * was before. This is the first record. */
+typedef struct {
+    size_t size; /* sizeof(citrus_options) */
+    uint32_t pairs, handles, waiter;
+    uint32_t flags; /* 0, since none is known */
+    uint64_t salt;  /* any number: by it the tree turns its nodes. Who knows it can choose keys by which each call is as slow as there are pairs */
+} citrus_options;
+
+/* A number from the system, which nobody can guess. Where the system gives none, as under some filters of system calls, it is made of the clock
+ * and of addresses, which some can guess. It waits for nobody. */
+static inline uint64_t citrus_drawn_salt(void) {
+    uint64_t drawn = 0;
+    time_t now = 0;
+#ifdef CITRUS_HAS_GETRANDOM
+    if (getrandom(&drawn, sizeof drawn, GRND_NONBLOCK) == 8) return drawn;
+#endif
+    time(&now);
+    drawn = (uint64_t)now * UINT64_C(0x9e3779b97f4a7c15) ^ (uint64_t)clock() * UINT64_C(0xbf58476d1ce4e5b9);
+    return drawn ^ (uint64_t)(uintptr_t)&drawn * UINT64_C(0x94d049bb133111eb);
+}
+
+/* The options of an index for so many pairs and handles, with this waiter: a drawn salt, and nothing else that isn't said. */
+static inline citrus_options citrus_options_for(uint32_t pairs, uint32_t handles, uint32_t waiter) {
+    citrus_options options;
+    options.size = sizeof options;
+    options.pairs = pairs;
+    options.handles = handles;
+    options.waiter = waiter;
+    options.flags = 0;
+    options.salt = citrus_drawn_salt();
+    return options;
+}
+
+/* Opens an index as citrus_open does, by a record of options: for a salt that is always the same, as tests want it.
+ * DONE; BAD_ARGUMENT where a number is out of range, the size or a flag too; NO_MEMORY. At all but DONE the handle is as it was. */
+CITRUS_STATUS_MATTERS int32_t citrus_open_with(citrus_handle *handle, const citrus_options *options);
+
+/* Opens a new, empty index with a salt of its own. At DONE, what the handle was open on before is closed.
  *   pairs    1 to CITRUS_MAX_PAIRS: so many always fit. Up to 68 more fit for each handle: as many slots are there for it, which its thread
  *            may have taken out of the index and not yet given back
  *   handles  1 to CITRUS_MAX_HANDLES: how many there can be at once. Each has a place, and a closed one leaves it to a reopen
@@ -147,12 +195,15 @@ typedef struct { uint64_t key, value; } citrus_pair;
  * keep 720 MB, and take 1.44 GB for a moment. Where the system promises memory that it hasn't, as Linux does, it may end the program in this
  * call instead of NO_MEMORY.
  * DONE; BAD_ARGUMENT or NO_MEMORY, and then the handle is as it was. */
-CITRUS_STATUS_MATTERS int32_t citrus_open(citrus_handle *handle, uint32_t pairs, uint32_t handles, uint32_t waiter);
+CITRUS_STATUS_MATTERS static inline int32_t citrus_open(citrus_handle *handle, uint32_t pairs, uint32_t handles, uint32_t waiter) {
+    const citrus_options options = citrus_options_for(pairs, handles, waiter);
+    return citrus_open_with(handle, &options);
+}
 
 /* Makes `other` a second handle of the index. So many of the handles that are left to the first one (1 or more; `other` itself is one of
  * them) and so many of its tickets (0 or more) go over to it, and can be shared from it in turn. What `other` was open on before is closed.
  * It waits for nobody and takes half a kilobyte of memory.
- * DONE; CLOSED; BAD_ARGUMENT where the first has fewer handles or tickets; NO_MEMORY; LOST. At all but DONE both are as they were. */
+ * DONE; CLOSED; HOLDS; BAD_ARGUMENT where the first has fewer handles or tickets; NO_MEMORY; LOST. At all but DONE both are as they were. */
 CITRUS_STATUS_MATTERS int32_t citrus_share(citrus_handle *handle, uint32_t handles, uint64_t tickets, citrus_handle *other);
 
 /* Tells how many more handles can be shared from this one, and how many tickets it has. It costs a few loads.
@@ -168,71 +219,78 @@ void citrus_close(citrus_handle *handle);
  * citrus_left tells what it has. So threads that come and go may close their handles and open them again without end, while one handle of
  * the index stays open. It waits for nobody: it looks at the places, one after the other, and again only where another reopen was first. It takes
  * half a kilobyte of memory.
- * DONE; UNCHANGED where no closed handle left a place; CLOSED; BAD_ARGUMENT where `other` is open; NO_MEMORY, and the place is left still;
- * LOST, where `handle` is. `handle` is as it was, and at all but DONE `other` too. */
+ * DONE; UNCHANGED where no closed handle left a place; CLOSED; HOLDS; BAD_ARGUMENT where `other` is open; NO_MEMORY, and the place is left
+ * still; LOST, where `handle` is. `handle` is as it was, and at all but DONE `other` too. */
 CITRUS_STATUS_MATTERS int32_t citrus_reopen(citrus_handle *handle, citrus_handle *other);
 
 /* Tells the key's value. Where values are pointers, take citrus_hold.
- * It takes no lock and waits for nobody: a few stores, and a load or two for each level of the tree. It needs 4 tickets and uses none.
- * DONE, and *value; UNCHANGED where the key is absent; CLOSED; SPENT; LOST. */
+ * It takes no lock and waits for nobody: a few stores, and two loads or three for each level of the tree. Writers can make its way longer, and
+ * never without end: it makes at most three steps for each slot of the index, and four. It needs 4 tickets and uses none.
+ * DONE, and *value; UNCHANGED where the key is absent; CLOSED; HOLDS; SPENT; LOST where an earlier call gave up. */
 CITRUS_STATUS_MATTERS int32_t citrus_get(citrus_handle *handle, uint64_t key, uint64_t *value);
 
 /* The updates. Each searches as a get does, locks the few nodes that it changes, and begins again where another thread changed them first.
  * Where another thread holds one of these locks it spins, since the library can't yield the processor: take no more threads that update
  * than there are processors, or let updates take turns by a mutex of yours. A thread that is in a section never waits for that, since whoever
  * has it may wait for the section. An update waits for a list that keeps updates off, and for readers, who are inside a call or a section,
- * only as said below. It needs 4 tickets and uses 4 at most, an insert that turns nodes up to 12 more; and so does each replace and insert
- * of an upsert. */
+ * only as said below. It needs 4 tickets and uses 4 at most, an insert that turns nodes up to 72 more; and so does each replace and insert
+ * of an upsert.
+ *
+ * One reader that stays stops writers, whatever their keys and the waiter: whoever holds a value, or was put aside by the system inside a
+ * get. After some 50 removes or 60 inserts of ascending keys, or sooner, where one waits for just this reader with locks held, each thread
+ * that writes spins until it leaves. So hold briefly, and take no more threads than processors. */
 
 /* Adds the pair, where the key is absent. Where no slot is free it first waits for all readers, to give back slots of its own.
- * Where it went deep to add the pair, and has 12 tickets left, it then turns nodes on the way, in four attempts at most, so that the tree
+ * Where it went deep to add the pair, and has 72 tickets left, it then turns nodes on the way, in 24 attempts at most, so that the tree
  * stays shallow in whatever order keys come. A turn locks three nodes, and is given up where one of them is locked. It waits for all readers
- * only where the way is more than twice as deep as it is to be, and the handle keeps back 63 slots or more.
- * DONE, and after a loss at a turn too: then the next call is LOST; UNCHANGED where the key is there; FULL; CLOSED; SPENT; LOST. */
+ * only where the way is a third deeper than it is to be, or more, and the handle keeps back 63 slots or more.
+ * DONE, and after a loss at a turn too: then the next call is LOST; UNCHANGED where the key is there; FULL; CLOSED; HOLDS; SPENT;
+ * LOST. */
 CITRUS_STATUS_MATTERS int32_t citrus_insert(citrus_handle *handle, uint64_t key, uint64_t value);
 
 /* Gives the key another value, where it is present. It waits for no reader.
- * DONE, and the value before in *old; UNCHANGED where the key is absent; CLOSED; SPENT; LOST. */
+ * DONE, and the value before in *old; UNCHANGED where the key is absent; CLOSED; HOLDS; SPENT; LOST. */
 CITRUS_STATUS_MATTERS int32_t citrus_replace(citrus_handle *handle, uint64_t key, uint64_t value, uint64_t *old);
 
-/* Gives the key another value, where its value is `expected` at that moment. It waits for no reader. Where the value is another it locks
- * nothing, and costs what a get costs. To raise a counter call it again with *found as `expected` while it is DIFFERENT: a round that is
- * lost was won by another thread. Of values that are pointers see below.
+/* Gives the key another value, where its value is `expected` at that moment. It waits for no reader. Where the value that it finds first is
+ * another it locks nothing, and costs what a get costs; so the code is, and no clause says it. To raise a counter call it again with *found
+ * as `expected` while it is DIFFERENT: a round that is lost was won by another thread. Of values that are pointers see below.
  * DONE where one update replaced `expected`; DIFFERENT where the key had the value *found, which isn't `expected`, at a moment of the call;
- * UNCHANGED where the key is absent; CLOSED; SPENT; LOST. */
+ * UNCHANGED where the key is absent; CLOSED; HOLDS; SPENT; LOST. */
 CITRUS_STATUS_MATTERS int32_t citrus_compare(citrus_handle *handle, uint64_t key, uint64_t expected, uint64_t value, uint64_t *found);
 
 /* Gives the key this value: a replace, or else an insert, in turn until one of the two told an update.
  * DONE, and the value before in *old, where the key was present; NEW where the pair was added; FULL; MOVED where other threads put the key
- * in and took it out in each of 1,000 rounds; CLOSED; SPENT; LOST. */
+ * in and took it out in each of 1,000 rounds; CLOSED; HOLDS; SPENT; LOST. */
 CITRUS_STATUS_MATTERS int32_t citrus_upsert(citrus_handle *handle, uint64_t key, uint64_t value, uint64_t *old);
 
 /* Takes the pair out, where the key is present. Where its node has two children it waits for the readers whose key lies above this key and
- * up to the next one; and where the handle keeps back 63 slots, a slot or two of each remove and two of each turn of an insert, it first
- * waits for all readers, a list too.
- * DONE, and the value in *old; UNCHANGED where the key is absent; CLOSED; SPENT; LOST. */
+ * up to the next one. Before that, and where the key is absent too, it may wait for all readers, a list too, to give back the slots that the
+ * handle keeps back, a slot or two of each remove and two of each turn of an insert: where these are 63; or where the index has no free slot,
+ * and a remove of a node with two children or a turn used the one that the handle has at hand.
+ * DONE, and the value in *old; UNCHANGED where the key is absent; CLOSED; HOLDS; SPENT; LOST. */
 CITRUS_STATUS_MATTERS int32_t citrus_remove(citrus_handle *handle, uint64_t key, uint64_t *old);
 
 /* Lists of a key range, and the pairs nearest to a key: each as it was at one moment of the call. Beside writers none fails. They need no
  * tickets and lock no node.
  *
- * What they cost others: where an update came in each of 4 tries, such a call keeps all updates off for one walk more, some 30 ns a pair,
- * or one way down. Lookups and sections go on meanwhile. So beside writers a list of 1,000,000 pairs holds each update up for some 30 ms:
- * where that is too long, list in pages. A thread that the system stops within that walk holds all updates up, as one does that is stopped
- * within an update. Lists and updates race for their turn; none has a place in a queue. */
+ * What they cost others: where an update came in each of 4 tries, such a call keeps all updates off for one walk more, which loads each
+ * value once, some 30 ns a pair, or for one way down. Lookups and sections go on meanwhile. So beside writers a list of 1,000,000 pairs
+ * holds each update up for some 30 ms: where that is too long, list in pages. A thread that the system stops within that walk holds all
+ * updates up, as one does that is stopped within an update. Lists and updates race for their turn; none has a place in a queue. */
 
 /* Lists the pairs with keys from low to high, both among them, keys ascending.
  * It fills pairs[0] to pairs[*count - 1], and *count is 0 except at DONE and MORE. It takes memory for `room` pairs, and gives it back.
  * DONE; MORE where there are more than `room` such pairs: these are the first ones, and the key after them is in *next; CLOSED;
- * BAD_ARGUMENT where low is above high, or room is 0 or above CITRUS_MAX_ROOM; NO_MEMORY; LOST. */
+ * HOLDS; BAD_ARGUMENT where low is above high, or room is 0 or above CITRUS_MAX_ROOM; NO_MEMORY; LOST. */
 CITRUS_STATUS_MATTERS int32_t citrus_list(citrus_handle *handle, uint64_t low, uint64_t high, citrus_pair *pairs, size_t room, size_t *count, uint64_t *next);
 
 /* Tells the pair with the least key at or above `low`. It costs what a get costs, and takes no memory.
- * DONE, and *key and *value; UNCHANGED where there is none; CLOSED; LOST. */
+ * DONE, and *key and *value; UNCHANGED where there is none; CLOSED; HOLDS; LOST. */
 CITRUS_STATUS_MATTERS int32_t citrus_first(citrus_handle *handle, uint64_t low, uint64_t *key, uint64_t *value);
 
 /* Tells the pair with the greatest key from low to high, both among them. It costs as much.
- * DONE, and *key and *value; UNCHANGED where there is none, as where low is above high; CLOSED; LOST. */
+ * DONE, and *key and *value; UNCHANGED where there is none, as where low is above high; CLOSED; HOLDS; LOST. */
 CITRUS_STATUS_MATTERS int32_t citrus_last(citrus_handle *handle, uint64_t low, uint64_t high, uint64_t *key, uint64_t *value);
 
 /* Makes the tree shallow on the ways to the keys from low to high, without a change of any pair: for an index that was filled and is only
@@ -277,11 +335,12 @@ CITRUS_STATUS_MATTERS int32_t citrus_tidy(citrus_handle *handle, uint64_t low, u
  *     replaced. */
 
 /* Finds the key's value, and stays in a section with the key: each wait for the key waits for it. A handle is in one section at a time, so a
- * program that needs two values at once takes two handles. Hold for as short as you would hold a lock: waits for the key wait for you, and
- * some removes and inserts do so with the locks of a few nodes; no lookup and no list does. So a thread that holds makes no update and no
- * wait by another handle of the index: what it waits for may be itself, or wait for it.
- * It costs what a get costs, takes no memory, needs no ticket, and waits for nobody.
- * DONE, and *value; UNCHANGED where the key is absent, and then the handle is in no section; CLOSED; HOLDS; LOST. */
+ * program that needs two values at once takes two handles. Hold for as short as you would hold a lock: waits for the key wait for you, and in
+ * the end removes and inserts of any key, some with the locks of a few nodes; no lookup and no list does. So a thread that holds makes no
+ * update and no wait by another handle of the index: what it waits for may be itself, or wait for it.
+ * It costs what a get costs, and comes to its end as one; it takes no memory, needs no ticket, and waits for nobody.
+ * DONE, and *value; UNCHANGED where the key is absent, and then the handle is in no section; CLOSED; HOLDS; LOST where an earlier call gave
+ * up. */
 CITRUS_STATUS_MATTERS int32_t citrus_hold(citrus_handle *handle, uint64_t key, uint64_t *value);
 
 /* Enters a section with the key without a search, for something else than the index: see prcu.h. A few steps, and no ticket.
@@ -347,11 +406,11 @@ CITRUS_STATUS_MATTERS int32_t citrus_open_lanes(citrus_handle *handle, citrus_la
 
 /* Looks up `count` keys (0 or more), and writes the answer of each at its index in `answers`, which has room for `room` of them. Each key's
  * answer was so at a moment of the call, as if citrus_get had been called for each; no two need be of one moment. A key may stand there twice.
- * It takes no lock and waits for nobody, and takes 16 bytes a key for the time of the call.
- * DONE; CLOSED; BAD_ARGUMENT where room is less than count; NO_MEMORY; LOST. Answers are written at DONE alone, and no more than `count`. */
+ * It takes no lock and waits for nobody, each lookup comes to its end as a get does, and it takes 16 bytes a key for the time of the call.
+ * DONE; CLOSED; BAD_ARGUMENT where room is less than count; NO_MEMORY. Answers are written at DONE alone, and no more than `count`. */
 CITRUS_STATUS_MATTERS int32_t citrus_get_many(citrus_lanes *lanes, const uint64_t *keys, size_t count, citrus_answer *answers, size_t room);
 
-/* Closes the lanes; closed ones may be closed again. Each place is left to citrus_reopen, as a handle with no ticket, unless the lanes are lost.
+/* Closes the lanes; closed ones may be closed again. Each place is left to citrus_reopen, as a handle with no ticket.
  * The index lives as long as one of its handles or lanes. */
 void citrus_close_lanes(citrus_lanes *lanes);
 

@@ -85,6 +85,15 @@ struct tidied {
     std::optional<uint64_t> next;
 };
 
+// What an index is opened for. The salt, by which its tree turns nodes, is drawn where nothing is said; a fixed one is for tests, whose tree is
+// to be the same each time.
+struct options {
+    uint32_t pairs;
+    uint32_t handles;
+    waiter how = waiter::eer;
+    std::optional<uint64_t> salt = std::nullopt;
+};
+
 // What a handle can give away.
 struct supply {
     uint32_t handles;
@@ -147,8 +156,13 @@ public:
     handle() noexcept = default;
 
     // The first handle of a new index, in which so many pairs always fit. Throws bad_argument or no_memory.
-    handle(uint32_t pairs, uint32_t handles, waiter how = waiter::eer) {
-        refuse_unless_done(citrus_open(&at_, pairs, handles, static_cast<uint32_t>(how)));
+    handle(uint32_t pairs, uint32_t handles, waiter how = waiter::eer) : handle(options{pairs, handles, how}) {}
+
+    // The same by options.
+    explicit handle(const options &asked) {
+        citrus_options all = citrus_options_for(asked.pairs, asked.handles, static_cast<uint32_t>(asked.how));
+        if (asked.salt) all.salt = *asked.salt;
+        refuse_unless_done(citrus_open_with(&at_, &all));
     }
 
     handle(handle &&other) noexcept : at_(std::exchange(other.at_, closed)) {}
@@ -527,7 +541,7 @@ public:
 
     bool is_open() const noexcept { return at_.at != nullptr; }
 
-    // Looks up so many keys, and writes the answer of each at its index. Each was so at a moment of the call. Throws closed, no_memory or lost.
+    // Looks up so many keys, and writes the answer of each at its index. Each was so at a moment of the call. Throws closed or no_memory.
     void get_many(const uint64_t *keys, size_t count, citrus_answer *answers) {
         if (!is_open()) throw error(fault::closed);
         if (count == 0) return; // then there may be no memory of keys

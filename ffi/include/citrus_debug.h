@@ -137,6 +137,15 @@ static inline int32_t citrus_debug_open(citrus_handle *handle, uint32_t pairs, u
     return status;
 }
 
+static inline int32_t citrus_debug_open_with(citrus_handle *handle, const citrus_options *options) {
+    const void *const before = handle->at;
+    int32_t status;
+    citrus_debug_only_begins("citrus_open_with", handle);
+    status = citrus_open_with(handle, options);
+    if (status == CITRUS_DONE) citrus_debug_leaves(before);
+    return status;
+}
+
 static inline int32_t citrus_debug_share(citrus_handle *handle, uint32_t handles, uint64_t tickets, citrus_handle *other) {
     const void *const before = other->at;
     void **const word = citrus_debug_begins("citrus_share", handle);
@@ -273,6 +282,7 @@ static inline void citrus_debug_close_lanes(citrus_lanes *lanes) {
 #define citrus_release citrus_debug_release
 #define citrus_close citrus_debug_close
 #define citrus_open citrus_debug_open
+#define citrus_open_with citrus_debug_open_with
 #define citrus_share citrus_debug_share
 #define citrus_insert citrus_debug_insert
 #define citrus_replace citrus_debug_replace

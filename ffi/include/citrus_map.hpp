@@ -63,7 +63,10 @@ public:
 
     // The first map object of a new map, in which so many pairs always fit. Throws bad_argument or no_memory.
     map(uint32_t pairs, uint32_t objects, waiter how = waiter::eer, updates go = updates::beside)
-        : map(handle(pairs, objects, how), objects, go) {}
+        : map(options{pairs, objects, how}, go) {}
+
+    // The same by options, whose handles are its map objects.
+    explicit map(const options &asked, updates go = updates::beside) : map(handle(asked), asked.handles, go) {}
 
     map(map &&) noexcept = default;
 

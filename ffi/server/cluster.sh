@@ -97,9 +97,10 @@ shows '1) "10" 2) "20" 3) (nil)' mget 1 2 99
 shows '(integer) 51' incr 5
 shows '(integer) 2' del 1 2 99
 shows '(nil)' get 1
+shows '(error) ERR key *' get 02
 shows OK mset 1 10 2 20 6 60 7 70 8 80 9 90 10 100
 echo 'redis-benchmark by the proxy, with words that are numbers:'
-for words in 'SET __rand_int__ __rand_int__' 'GET __rand_int__' 'MGET __rand_int__ __rand_int__'; do
+for words in 'SET 1__rand_int__ 1__rand_int__' 'GET 1__rand_int__' 'MGET 1__rand_int__ 1__rand_int__'; do
     # shellcheck disable=SC2086
     redis-benchmark -p "$proxy" -c 16 -P 16 -n 50000 -r 20000 --csv $words 2>/dev/null >"$room/rate"
     awk -F '","' -v words="$words" 'END { printf "  %-44s %.0f requests a second\n", words, $2 }' "$room/rate"

@@ -218,7 +218,7 @@ static void a_deep_insert_with_few_tickets(uint32_t waiter) {
         WANT(citrus_insert(&index, key, key), CITRUS_DONE);
         WANT(citrus_left(&index, &handles, &tickets), CITRUS_DONE);
         tickets = before - tickets;
-        WANT(tickets <= 16, 1);
+        WANT(tickets <= 76, 1);
     }
     WANT(tickets > 4, 1);
     WANT(citrus_insert(&few, 10000, 7), CITRUS_DONE);

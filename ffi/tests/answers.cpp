@@ -177,6 +177,29 @@ static void tidies(uint32_t waiter) {
     WANT(is_refused(citrus::fault::bad_argument, [&] { index.tidy(0, 1, 0); }), true);
 }
 
+// How many turns make the tree of some keys the one of its salt.
+static uint64_t turns_by(std::optional<uint64_t> salt) {
+    citrus::handle index(citrus::options{1000, 1, citrus::waiter::eer, salt});
+    for (uint64_t i = 0; i < 1000; i++) index.insert(i * 617 % 1000, i);
+    uint64_t made = 0;
+    for (std::optional<uint64_t> next = 0; next;) {
+        const citrus::tidied came = index.tidy(*next, UINT64_MAX);
+        made += came.made;
+        next = came.next;
+    }
+    return made;
+}
+
+static void salts() {
+    const uint64_t drawn = turns_by(std::nullopt);
+    bool is_another = false;
+    for (int i = 0; i < 10; i++) is_another = is_another || turns_by(std::nullopt) != drawn;
+    WANT(is_another, true);
+    WANT(turns_by(5), turns_by(5));
+    WANT(turns_by(5) != turns_by(6), true);
+    WANT(is_refused(citrus::fault::bad_argument, [] { citrus::handle(citrus::options{0, 1}); }), true);
+}
+
 static void pages(uint32_t waiter) {
     citrus::handle index(10, 1, static_cast<citrus::waiter>(waiter));
     for (uint64_t key = 1; key <= 5; key++) index.insert(key, 10 * key);
@@ -384,6 +407,7 @@ static const plain_case plain_cases[] = {
     {"C++: handles are opened again", handles_are_opened_again},
     {"C++: handles go to threads", handles_go_to_threads},
     {"C++: keys in order make no path", keys_in_order_make_no_path},
+    {"C++: a fixed salt makes the same tree, and drawn ones make others", salts},
 };
 
 int main() {

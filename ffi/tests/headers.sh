@@ -18,10 +18,13 @@ int hand_on(uint64_t key) {
     citrus_handle mine = CITRUS_CLOSED_HANDLE;
     prcu_place place = PRCU_CLOSED_PLACE;
     citrus_lanes lanes = CITRUS_CLOSED_LANES;
+    citrus_options options = citrus_options_for(100, 2, CITRUS_EER);
     citrus_answer answer;
     uint64_t value = 0;
     int32_t status = citrus_open(&mine, 100, 2, CITRUS_EER);
     kept = citrus_closed_handle();
+    options.salt = key;
+    if (status == CITRUS_DONE) status = citrus_open_with(&kept, &options);
     if (status == CITRUS_DONE) status = citrus_insert(&mine, key, 50);
     if (status == CITRUS_DONE) status = citrus_hold(&mine, key, &value);
     citrus_release(&mine);
@@ -42,8 +45,8 @@ static citrus_handle kept = CITRUS_CLOSED_HANDLE;
 bool is_kept();
 bool is_kept() {
     kept = citrus_closed_handle();
-    citrus::handle mine(100, 2);
-    return mine.insert(5, 50) && mine.hold(5) && kept.at;
+    citrus::handle mine(100, 2), fixed(citrus::options{100, 2, citrus::waiter::eer, 5});
+    return mine.insert(5, 50) && fixed.insert(5, 50) && mine.hold(5) && kept.at;
 }
 END
 printf '#include <citrus.h>\nvoid forget(citrus_handle *mine);\nvoid forget(citrus_handle *mine) { citrus_insert(mine, 5, 50); }\n' >"$room/forgotten.c"

@@ -1,4 +1,5 @@
-// The map of citrus_map.hpp: each answer, and four threads on one map. An object is counted, and tells whether it is there still.
+// The map of citrus_map.hpp: each answer, and four threads on one map. An object is counted, and tells whether it is there still. With a word
+// it runs the cases alone that have it in their names.
 #include "cases.h"
 #include <chrono>
 #include <functional>
@@ -351,8 +352,11 @@ static const waiter_case waiter_cases[] = {
 
 static const plain_case plain_cases[] = {{"C++ map: map objects are shared and moved", map_objects_are_shared_and_moved}};
 
-int main() {
-    run_waiter_cases(waiter_cases, COUNT_OF(waiter_cases));
-    run_plain_cases(plain_cases, COUNT_OF(plain_cases));
+int main(int count, char **words) {
+    std::vector<waiter_case> chosen;
+    for (const waiter_case &one : waiter_cases)
+        if (count == 1 || std::string(one.name).find(words[1]) != std::string::npos) chosen.push_back(one);
+    run_waiter_cases(chosen.data(), chosen.size());
+    if (count == 1) run_plain_cases(plain_cases, COUNT_OF(plain_cases));
     return failed_cases != 0;
 }

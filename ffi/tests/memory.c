@@ -96,6 +96,7 @@ static void each_allocation_fails(uint32_t waiter) {
     WANT(told, 50);
     citrus_close(&other_here);
     fail_each(reopen_it, 1);
+    WANT(list_it(), CITRUS_DONE);
     WANT(citrus_left(&other_here, &handles, &told), CITRUS_DONE);
     WANT(told, 100);
     citrus_close(&other_here);

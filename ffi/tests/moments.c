@@ -1,7 +1,9 @@
-/* Lists, firsts and lasts beside updates: what they tell was so at one moment. */
+/* Lists, firsts and lasts beside updates: what they tell was so at one moment. Usage: moments [STEPS]. */
 #include "crew.h"
 
-enum { KEYS = 40, STEPS = 20000 };
+enum { KEYS = 40 };
+
+static uint64_t steps = 20000;
 
 enum { THREADS = 4, PAIRS = 4000 };
 
@@ -15,7 +17,7 @@ struct stage {
 /* Raises the values of two far keys in turn, the upper one first: at each moment it is as large as the lower one, or larger by 1. */
 static void raise_in_turn(struct member *me) {
     uint64_t old = 0;
-    for (uint64_t step = 1; step <= STEPS; step++) {
+    for (uint64_t step = 1; step <= steps; step++) {
         member_wants(me, "a replace of", KEYS, citrus_replace(&me->handle, KEYS, step, &old), CITRUS_DONE);
         member_wants(me, "a replace of", 0, citrus_replace(&me->handle, 0, step, &old), CITRUS_DONE);
     }
@@ -68,7 +70,7 @@ static void a_list_is_of_one_moment(uint32_t waiter) { run_stage(waiter, raise_o
 /* Puts a second key in before it takes the first one out, so that at each moment there is a key, and at most two. */
 static void walk(struct member *me) {
     uint64_t old = 0;
-    for (uint64_t step = 1; step <= STEPS; step++) {
+    for (uint64_t step = 1; step <= steps; step++) {
         const int32_t put = citrus_insert(&me->handle, step % KEYS, step);
         member_wants(me, "an insert of", step, tidied(me, step % KEYS, put, CITRUS_DONE), CITRUS_DONE);
         member_wants(me, "a remove of", step - 1, citrus_remove(&me->handle, (step - 1) % KEYS, &old), CITRUS_DONE);
@@ -120,7 +122,8 @@ static const struct waiter_case cases[] = {
     {"there are a first and a last at each moment, with a tidy behind each put", there_are_both_beside_turns},
 };
 
-int main(void) {
+int main(int count, char **words) {
+    if (count > 1) steps = strtoull(words[1], NULL, 10);
     run_waiter_cases(cases, COUNT_OF(cases));
     return failed_cases != 0;
 }

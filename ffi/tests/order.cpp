@@ -3,48 +3,12 @@
 // Usage: order WAITER THREADS OPERATIONS KEYS SEED [tidy], and WAITER is 0, 1 or 2. With `tidy` nodes on the way to its key are turned behind
 // each put. Status 1 where no order was found.
 //
-// A call takes effect at a moment between its begin and its end (Herlihy and Wing, "Linearizability", 1990), and each key has such an order
-// for itself. One is looked for event by event, with all that may have taken effect so far (Lowe, "Testing for linearizability", 2017).
-#include <algorithm>
-#include <atomic>
-#include <citrus.hpp>
+// Each key has such an order for itself: one_order.hpp looks for it.
+#include "one_order.hpp"
 #include <cstdio>
 #include <cstdlib>
-#include <deque>
-#include <map>
-#include <set>
 #include <string>
 #include <thread>
-
-using Value = std::optional<uint64_t>;
-
-enum class Kind { Get, Put, Set, Del };
-
-// A call and its reply. An upsert is the set or the put by which it ended, and a compare the set or the get.
-struct Call {
-    Kind kind;
-    uint64_t key, value;      // what a put or a set gives the key
-    Value found;              // what the key had, where the reply tells it
-    bool is_found;            // whether the key was there
-    uint64_t begin, end;      // stamps of one clock
-    uint32_t script;
-    uint64_t moment = 0;      // the event at which it took effect in the order that was found
-    uint64_t turn = 0;        // and its turn among those of that event
-
-    bool is_update() const { return kind == Kind::Put ? !is_found : kind != Kind::Get && is_found; }
-
-    // Whether the reply is right where the key has this value.
-    bool is_explained(const Value &now) const {
-        if (!is_found || !found) return now.has_value() == is_found;
-        return now == found;
-    }
-
-    // What the key has after it.
-    Value after(const Value &now) const {
-        if (!is_update()) return now;
-        return kind == Kind::Del ? Value() : Value(value);
-    }
-};
 
 struct Settings {
     uint32_t waiter, threads;
@@ -52,86 +16,13 @@ struct Settings {
     bool tidies;
 };
 
-static std::atomic<uint64_t> stamps{0};
-
-static uint64_t draw(uint64_t &state) {
-    state ^= state << 13;
-    state ^= state >> 7;
-    state ^= state << 17;
-    return state;
-}
-
-// What a compare came to, where it found this value or none.
-static void told_of_compare(Call &call, citrus::compared told, uint64_t found) {
-    call.kind = told == citrus::compared::done ? Kind::Set : Kind::Get;
-    call.is_found = told != citrus::compared::absent;
-    if (call.is_found) call.found = found;
-}
-
-// What a hold tells is judged as what a get tells: its reply is known before the section is left.
-static Call call_of(citrus::handle &index, uint64_t which, uint64_t key, uint64_t value) {
-    Call call{};
-    citrus::section held;
-    uint64_t found = which == 5 ? index.get(key).value_or(value) : value;
-    call.key = key;
-    call.value = value;
-    call.begin = ++stamps;
-    switch (which) {
-    case 0:
-        call.kind = Kind::Get;
-        call.found = index.get(key);
-        call.is_found = call.found.has_value();
-        break;
-    case 1:
-        call.kind = Kind::Get;
-        held = index.hold(key);
-        call.is_found = bool(held);
-        if (held) call.found = held.value();
-        break;
-    case 2:
-        call.kind = Kind::Put;
-        call.is_found = !index.insert(key, value);
-        break;
-    case 3:
-        call.kind = Kind::Set;
-        call.found = index.replace(key, value);
-        call.is_found = call.found.has_value();
-        break;
-    case 4:
-        call.found = index.upsert(key, value);
-        call.is_found = call.found.has_value();
-        call.kind = call.is_found ? Kind::Set : Kind::Put;
-        break;
-    case 5: {
-        const citrus::compared told = index.compare_exchange(key, found, value);
-        told_of_compare(call, told, found);
-        break;
-    }
-    default:
-        call.kind = Kind::Del;
-        call.found = index.remove(key);
-        call.is_found = call.found.has_value();
-    }
-    call.end = ++stamps;
-    return call;
-}
-
-// Turns nodes on the way to the key, in four attempts at most. That no slot is free is no fault.
-static void tidy(citrus::handle &index, uint64_t key) {
-    try {
-        index.tidy(key, key, 4);
-    } catch (const citrus::error &refusal) {
-        if (refusal.why() != citrus::fault::full) throw;
-    }
-}
-
 // The calls of one thread. No value is given twice.
 static std::vector<Call> script_of(citrus::handle &index, uint32_t number, const Settings &settings) {
     std::vector<Call> calls;
     calls.reserve(settings.operations);
     uint64_t state = settings.seed * 1000003 + number + 1;
     for (uint64_t i = 0; i < settings.operations; i++) {
-        const uint64_t which = draw(state) % 7, key = draw(state) % settings.keys;
+        const uint64_t which = drawn(state) % KEY_CALLS, key = drawn(state) % settings.keys;
         calls.push_back(call_of(index, which, key, settings.threads * i + number));
         calls.back().script = number;
         if (settings.tidies && calls.back().kind == Kind::Put && calls.back().is_update()) tidy(index, key);
@@ -158,94 +49,6 @@ static std::vector<std::vector<Call>> scripts_of(const Settings &settings) {
     return scripts;
 }
 
-// The calls of one key, put into an order event by event.
-class KeyOrder {
-public:
-    // Gives each call its moment and its turn, and returns whether there is an order.
-    bool find(const std::vector<Call *> &calls) {
-        std::map<uint64_t, std::pair<Call *, bool>> events;
-        for (Call *call : calls) {
-            events[call->begin] = {call, false};
-            events[call->end] = {call, true};
-        }
-        ways_[{}] = Way{};
-        for (const auto &[moment, event] : events) {
-            const auto [call, is_end] = event;
-            moment_ = moment;
-            if (!is_end) {
-                under_way_.insert(call);
-            } else if (!end(call)) {
-                fprintf(stderr, "no order explains the call of script %u at key %llu\n", call->script, (unsigned long long)call->key);
-                return false;
-            }
-        }
-        tell(ways_.begin()->second.last);
-        return true;
-    }
-
-private:
-    struct Step {
-        Call *call;
-        uint64_t moment;
-        const Step *before;
-    };
-
-    // What the key has, and the calls under way that have taken effect: where two ways have come to the same, one is enough.
-    using State = std::pair<Value, std::set<Call *>>;
-
-    struct Way {
-        State state;
-        const Step *last = nullptr;
-    };
-
-    std::map<State, Way> ways_;
-    std::set<Call *> under_way_;
-    uint64_t moment_ = 0;
-    std::deque<Step> steps_;
-
-    Way after(Way way, Call *call) {
-        steps_.push_back({call, moment_, way.last});
-        way.state.first = call->after(way.state.first);
-        way.state.second.insert(call);
-        way.last = &steps_.back();
-        return way;
-    }
-
-    bool may_follow(const Way &way, Call *call) const { return !way.state.second.count(call) && call->is_explained(way.state.first); }
-
-    // Adds the ways that lead from this one to one in which the call has taken effect. A call under way that changes nothing takes effect
-    // as soon as its reply is explained, since it then stands in nobody's way.
-    void lead_to(Call *wanted, Way way, std::map<State, Way> &found, std::set<State> &seen) {
-        for (Call *call : under_way_)
-            if (!call->is_update() && may_follow(way, call)) way = after(way, call);
-        if (!seen.insert(way.state).second) return;
-        if (way.state.second.erase(wanted)) {
-            found.emplace(way.state, way);
-            return;
-        }
-        for (Call *call : under_way_)
-            if (call->is_update() && may_follow(way, call)) lead_to(wanted, after(way, call), found, seen);
-    }
-
-    // Lets the call have taken effect, and returns whether that can be.
-    bool end(Call *call) {
-        std::map<State, Way> found;
-        std::set<State> seen;
-        for (const auto &[state, way] : ways_) lead_to(call, way, found, seen);
-        under_way_.erase(call);
-        ways_ = std::move(found);
-        return !ways_.empty();
-    }
-
-    static void tell(const Step *last) {
-        uint64_t turn = UINT64_MAX;
-        for (const Step *step = last; step; step = step->before) {
-            step->call->moment = step->moment;
-            step->call->turn = turn--;
-        }
-    }
-};
-
 static std::vector<Call *> all_of(std::vector<std::vector<Call>> &scripts) {
     std::vector<Call *> all;
     for (auto &script : scripts)
@@ -258,7 +61,10 @@ static std::optional<std::vector<Call *>> history_of(std::vector<std::vector<Cal
     std::map<uint64_t, std::vector<Call *>> by_key;
     for (Call *call : all_of(scripts)) by_key[call->key].push_back(call);
     for (const auto &[key, calls] : by_key)
-        if (!KeyOrder().find(calls)) return std::nullopt;
+        if (const Call *unexplained = OneOrder<Call, Value>().find(calls)) {
+            fprintf(stderr, "no order explains the call of script %u at key %llu\n", unexplained->script, (unsigned long long)key);
+            return std::nullopt;
+        }
     std::vector<Call *> updates;
     for (Call *call : all_of(scripts))
         if (call->is_update()) updates.push_back(call);

@@ -14,9 +14,12 @@ static uint64_t scattered(uint64_t i) { return i * 1237 % KEYS; }
  * those for its pairs. */
 enum { ROOM = 100, EACH_HANDLE = 68 };
 
+/* The salt is fixed, so that each run has the same tree. */
 static citrus_handle filled(uint64_t (*key_of)(uint64_t), uint32_t room, uint32_t handles, uint32_t waiter) {
     citrus_handle index = CITRUS_CLOSED_HANDLE;
-    WANT(citrus_open(&index, KEYS + room - EACH_HANDLE, handles, waiter), CITRUS_DONE);
+    citrus_options options = citrus_options_for(KEYS + room - EACH_HANDLE, handles, waiter);
+    options.salt = 5;
+    WANT(citrus_open_with(&index, &options), CITRUS_DONE);
     for (uint64_t i = 0; i < KEYS; i++) WANT(citrus_insert(&index, key_of(i), 10 * key_of(i)), CITRUS_DONE);
     return index;
 }

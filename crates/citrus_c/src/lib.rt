@@ -14,12 +14,12 @@ ghost use Rattle.tree_handles.specs.Holding.{Makes};
 ghost use Rattle.tree_handles.specs.Holds.{HoldsValue, Enters, LeavesSection, Waits};
 ghost use Rattle.tree_handles.specs.Lanes.{ManyGets, OpensLanes, lanes_in};
 ghost use Rattle.tree_handles.specs.Lists.{ListsOut, Firsts, Lasts};
-ghost use Rattle.tree_handles.specs.Opening.{Opens, Shares, Reopens, HasLeft};
+ghost use Rattle.tree_handles.specs.Opening.{Opens, Shares, Reopens, HasLeft, options_of};
 ghost use Rattle.tree_handles.specs.Tidying.{Tidies};
 ghost use Rattle.citrus_c.specs.Numbers.{Says};
 
 use std::alloc::Global;
-use tree_handles::{Answer, Handle, Lanes, Pair};
+use tree_handles::{Answer, Handle, Lanes, Options, Pair};
 
 /// [`Handle::open`].
 #[unsafe(no_mangle)]
@@ -30,9 +30,17 @@ pub extern "C" fn citrus_open(
     handles: u32,
     waiter: u32,
 ) -> i32
-    ensures opened { Says result (λ status. Opens pairs handles waiter handle.old.held status handle.new.held) }
+    ensures opened { Says result (λ status. Opens (options_of pairs handles waiter) handle.old.held status handle.new.held) }
 {
     handle.open(alloc, pairs, handles, waiter).code()
+}
+
+/// [`Handle::open_with`].
+#[unsafe(no_mangle)]
+pub extern "C" fn citrus_open_with(alloc: Global, handle: &mut Handle, options: &Options) -> i32
+    ensures opened { Says result (λ status. Opens options.now handle.old.held status handle.new.held) }
+{
+    handle.open_with(alloc, options).code()
 }
 
 /// [`Handle::close`].

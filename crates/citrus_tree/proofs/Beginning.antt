@@ -1,16 +1,12 @@
 -- An update begins by a lookup: the first of its tries does.
-use Rattle.std.proofs.Common.{◌≡◌, ◌⊎◌, ⊎_elim, ℕ, List, [], ◌++◌, Option, sym, subst}
-use Rattle.prcu_model.specs.declared.operation.Op.{Op}
-use Rattle.prcu_model.specs.declared.operation.Op.TheVariants.{Get}
-use Rattle.prcu_model.specs.declared.operation.Told.{Told}
+use Rattle.std.proofs.Common.{◌≡◌, ◌⊎◌, ⊎_elim, ℕ, List, [], ◌++◌, Option, subst}
 use Rattle.prcu_marks.specs.declared.mark.Mark.{Mark}
-use Rattle.core_state.specs.declared.shape.Shape.{Shape}
 use Rattle.core_state.specs.declared.view.View.{View}
 use Rattle.tree_points.specs.Progress.{HasGone}
 use Rattle.tree_points.proofs.Gone.{gone_on, gone_same}
-use Rattle.citrus_tree.specs.Beginnings.{Begins, BeginsByLookup}
+use Rattle.citrus_tree.specs.Beginnings.{BeginsByLookup}
 use Rattle.citrus_tree.specs.Deletes.{HasSearched}
-use Rattle.citrus_tree.specs.Lookups.{Gets, Looked}
+use Rattle.citrus_tree.specs.Lookups.{Looked}
 use Rattle.citrus_tree.proofs.Leavings.{goes_looked}
 
 -- nothing was done yet, or a lookup was made first
@@ -62,7 +58,3 @@ begins_searched {v} {w} {x} {key} begun s = ⊎_elim
     (λ (e : w ≡ v). subst (λ z. BeginsByLookup z key x) e (searched_first s))
     (λ (b : BeginsByLookup v key w). begins_later b s.gone)
     begun
-
--- a get begins by its lookup, and so does the call of that operation
-pub got_first : (k : Shape) {v w : View} {key : ℕ} {told : Told} (op : Op) → op ≡ Get key → Gets v key told w → Begins k v op w
-got_first k {v} {w} op is gets = subst (λ o. Begins k v o w) (sym is) (looked_first gets.2)

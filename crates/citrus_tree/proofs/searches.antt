@@ -1,3 +1,4 @@
 pub mod Searching
+pub mod Bounding
 pub mod Descending
 pub mod Hopping

@@ -1,6 +1,7 @@
 pub mod Lookups
 pub mod Holds
 pub mod Hops
+pub mod Bounded
 pub mod Gone
 pub mod Going
 pub mod Putting

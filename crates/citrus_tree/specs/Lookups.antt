@@ -44,6 +44,7 @@ pub record IsSearching (v : View) (key : ℕ) (state : SearchState) (w : View) :
   pub inside : w.section ≡ Some (record entered.section { reading = reading })
   pub key_is : reading.key ≡ key
   pub state_is : reading.state ≡ state
+  pub no_walk : reading.walk ≡ None
   pub here : IsIn reading.stood (state_slot state)
   pub above : IsIn reading.stood (state_parent state)
   pub others : w ≡ record entry { section = w.section; trail = w.trail }

@@ -64,7 +64,7 @@ pub fn compare<P: Patience, W: WaitPart, G: Gate>(
 {
     let mut pauses = patience.pauses();
     for round in 0..u64::MAX {
-        let Some(seen) = find_value(patience, table, seat, gate, key)? else {
+        let Some(seen) = find_value(table, seat, gate, key) else {
             gate.pass(Point::Answered, seat.place());
             return Ok(Compared::Absent);
         };
@@ -95,36 +95,34 @@ pub fn compare<P: Patience, W: WaitPart, G: Gate>(
 }
 
 // The slot that has the key, with its value, or none where the key is absent.
-fn find_value<P: Patience, W: WaitPart, G: Gate>(
-    patience: &P,
+fn find_value<W: WaitPart, G: Gate>(
     table: &CitrusTable<W>,
     seat: &mut Seat<W>,
     gate: &G,
     key: u64,
-) -> Result<Option<Seen>, P::Tired>
+) -> Option<Seen>
     requires table { seat.old.table ≡ table.now }
     requires outside { seat.old.view.section ≡ None }
     requires unlocked { seat.old.view.locks ≡ [] }
     ensures seat { (seat.new.table ≡ seat.old.table) × (seat.new.listed ≡ seat.old.listed) }
-    ensures place { IfOk result (λ _. 1 ≤ table.now.places) }
-    ensures sought { IfOk result (λ answer. SoughtValue (shape_of W.WAY table.now) seat.old.view key answer seat.new.view) }
-    ensures stepped { IfOk result (λ _. HasStepped seat.old.view seat.new.view) }
-    ensures tired { IfErr result (λ _. HasMade (P.least patience.now) seat.new.view) }
+    ensures place { 1 ≤ table.now.places }
+    ensures sought { SoughtValue (shape_of W.WAY table.now) seat.old.view key result seat.new.view }
+    ensures stepped { HasStepped seat.old.view seat.new.view }
 {
-    match descend(patience, table, seat, gate, key)? {
+    match descend(table, seat, gate, key) {
         Descent::Found { slot, .. } => {
             let value = steps::search_load(table, seat, slot, Part::Value);
             let life = steps::search_load(table, seat, slot, Part::Life);
             W::leave(table, seat);
             let generation = generation_of(life);
-            Ok(Some(Seen {
+            Some(Seen {
                 holder: Holder { slot, generation },
                 value,
-            }))
+            })
         }
         Descent::Ended { .. } => {
             W::leave(table, seat);
-            Ok(None)
+            None
         }
     }
 }

@@ -231,7 +231,7 @@ fn delete<P: Patience, W: WaitPart, G: Gate>(
 {
     let mut pauses = patience.pauses();
     for round in 0..u64::MAX {
-        let Some(target) = find_target(patience, table, seat, gate, key)? else {
+        let Some(target) = find_target(table, seat, gate, key) else {
             return Ok(Removed {
                 told: Told {
                     reply: Reply::Absent,

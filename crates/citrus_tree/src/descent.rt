@@ -1,16 +1,15 @@
 //! The way down from the root, in a section and without a lock.
-ghost use Rattle.std.specs.Prelude.{◌≡◌, ℕ, ◌%◌, ◌≤◌, [], length, None, IfOk, IfErr};
+ghost use Rattle.std.specs.Prelude.{◌≡◌, ℕ, ◌%◌, ◌≤◌, [], length, None};
 ghost use Rattle.core_state.specs.declared.view.SearchState.TheVariants.{At};
 ghost use Rattle.core_state.specs.declared.view.View.{View};
 ghost use Rattle.core_state.specs.parts.ReaderParts.{state_slot};
 ghost use Rattle.seat_table.specs.Gains.{IsSlot};
-ghost use Rattle.seat_table.specs.Rounds.{HasMade};
 ghost use Rattle.seat_table.specs.Seats.{shape_of};
+ghost use Rattle.citrus_tree.specs.Bounded.{Costs, EndsWithin};
 ghost use Rattle.citrus_tree.specs.Hops.{Loads, LoadsLinks, LooksAhead, link_on, state_after};
 ghost use Rattle.citrus_tree.specs.Lookups.{IsSearching, state_of};
 
 use core_state::step_side;
-use patience::Patience;
 use prcu_marks::{Gate, Point, Side};
 use seat_table::{CitrusTable, Part, Seat, WaitPart, steps};
 
@@ -125,6 +124,9 @@ pub fn look_on<W: WaitPart>(
     ensures searching { (v u : View) (slot : ℕ) (side : Side) → IsSearching v key (At slot side) u
         → LoadsLinks (shape_of W.WAY table.now) u slot side ahead seat.old.view
         → IsSearching v key (state_after slot side result) seat.new.view }
+    ensures costs { (v u : View) (slot : ℕ) (side : Side) → IsSearching v key (At slot side) u
+        → LoadsLinks (shape_of W.WAY table.now) u slot side ahead seat.old.view
+        → Costs (shape_of W.WAY table.now) u result seat.new.view }
     ensures more { length seat.old.view.trail.steps ≤ length seat.new.view.trail.steps }
 {
     // The slot may have been unlinked meanwhile. Its links still lead to the tree, or to slots unlinked later.
@@ -163,53 +165,54 @@ pub(crate) fn go_down<W: WaitPart>(
     look_on(table, seat, key, links.ahead, Some(links.aside))
 }
 
-/// Enters a section with the key, and goes down from the root until a slot has the key or a side is empty. The section stays open.
+/// Enters a section with the key, and goes down from the root until a slot has the key or a side is empty. The section stays open. It comes to
+/// an end whatever others do: a search stands at no slot twice.
 // A call would hand its answer through memory.
 #[inline(always)]
-pub(crate) fn descend<P: Patience, W: WaitPart, G: Gate>(
-    patience: &P,
+pub(crate) fn descend<W: WaitPart, G: Gate>(
     table: &CitrusTable<W>,
     seat: &mut Seat<W>,
     gate: &G,
     key: u64,
-) -> Result<Descent, P::Tired>
+) -> Descent
     requires table { seat.old.table ≡ table.now }
     requires outside { seat.old.view.section ≡ None }
     requires unlocked { seat.old.view.locks ≡ [] }
     ensures seat { (seat.new.table ≡ seat.old.table) × (seat.new.listed ≡ seat.old.listed) }
-    ensures place { IfOk result (λ _. 1 ≤ table.now.places) }
-    ensures slot { IfOk result (λ answer. IsSlot (shape_of W.WAY table.now) (state_slot (state_of answer))) }
-    ensures searching { IfOk result (λ answer. IsSearching seat.old.view key (state_of answer) seat.new.view) }
-    ensures tired { IfErr result (λ _. HasMade (P.least patience.now) seat.new.view) }
+    ensures place { 1 ≤ table.now.places }
+    ensures slot { IsSlot (shape_of W.WAY table.now) (state_slot (state_of result)) }
+    ensures searching { IsSearching seat.old.view key (state_of result) seat.new.view }
+    ensures within { EndsWithin (shape_of W.WAY table.now) 2 seat.old.view seat.new.view }
 {
     W::enter(table, seat, key);
     gate.pass(Point::InSection, seat.place());
     let mut at = 0;
     let mut side = Side::Right;
+    let mut depth = 0;
     let mut links = load_links(table, seat, at, side);
-    for round in 0..u64::MAX {
+    loop {
         match look_on(table, seat, key, links.ahead, Some(links.aside)) {
             Step::Moved { slot, side: next } => {
                 at = slot;
                 side = next;
                 // Behind the comparison, which chooses one of them: else the choice would wait for one more turn.
                 links = load_links(table, seat, slot, next);
+                depth += 1;
             }
             Step::Found { slot } => {
-                return Ok(Descent::Found {
+                return Descent::Found {
                     slot,
                     parent: at,
                     side,
-                });
+                };
             }
             Step::Ended => {
-                return Ok(Descent::Ended {
+                return Descent::Ended {
                     slot: at,
                     side,
-                    depth: round,
-                });
+                    depth,
+                };
             }
         }
     }
-    Err(patience.tired())
 }

@@ -74,7 +74,7 @@ pub fn put<P: Patience, W: WaitPart, G: Gate>(
     // Without end, for all that a thread lives to see; the longer others are in the way, the longer the pauses.
     let mut pauses = patience.pauses();
     for round in 0..u64::MAX {
-        let Some(Reached { spot, depth }) = find_spot(patience, table, seat, gate, key)? else {
+        let Some(Reached { spot, depth }) = find_spot(table, seat, gate, key) else {
             give_up_leaf(table, seat);
             return Ok(Called {
                 told: answered(gate, seat, Reply::Old, 0),
@@ -101,32 +101,30 @@ pub fn put<P: Patience, W: WaitPart, G: Gate>(
 }
 
 // The empty side at which the key belongs, with the way there, or none where the key is present.
-fn find_spot<P: Patience, W: WaitPart, G: Gate>(
-    patience: &P,
+fn find_spot<W: WaitPart, G: Gate>(
     table: &CitrusTable<W>,
     seat: &mut Seat<W>,
     gate: &G,
     key: u64,
-) -> Result<Option<Reached>, P::Tired>
+) -> Option<Reached>
     requires table { seat.old.table ≡ table.now }
     requires outside { seat.old.view.section ≡ None }
     requires unlocked { seat.old.view.locks ≡ [] }
     ensures seat { (seat.new.table ≡ seat.old.table) × (seat.new.listed ≡ seat.old.listed) }
-    ensures place { IfOk result (λ _. 1 ≤ table.now.places) }
-    ensures searched { IfOk result (λ answer. Searched (shape_of W.WAY table.now) seat.old.view key answer seat.new.view) }
-    ensures stepped { IfOk result (λ _. HasStepped seat.old.view seat.new.view) }
-    ensures tired { IfErr result (λ _. HasMade (P.least patience.now) seat.new.view) }
+    ensures place { 1 ≤ table.now.places }
+    ensures searched { Searched (shape_of W.WAY table.now) seat.old.view key result seat.new.view }
+    ensures stepped { HasStepped seat.old.view seat.new.view }
 {
-    match descend(patience, table, seat, gate, key)? {
+    match descend(table, seat, gate, key) {
         Descent::Found { .. } => {
             W::leave(table, seat);
-            Ok(None)
+            None
         }
         Descent::Ended { slot, side, depth } => {
-            Ok(Some(Reached {
+            Some(Reached {
                 spot: leave_with_spot(table, seat, slot, side),
                 depth,
-            }))
+            })
         }
     }
 }

@@ -1,12 +1,15 @@
 //! Lookups, in a section and without a lock.
-ghost use Rattle.std.specs.Prelude.{◌≡◌, IfOk, IfErr};
-ghost use Rattle.seat_table.specs.Rounds.{HasMade};
-ghost use Rattle.seat_table.specs.Seats.{IsQuietSeat};
+ghost use Rattle.std.specs.Prelude.{◌≡◌};
+ghost use Rattle.seat_table.specs.Seats.{IsQuietSeat, shape_of};
+ghost use Rattle.seat_table.specs.Gains.{IsInformed};
+ghost use Rattle.tree_points.specs.Progress.{KeepsAllowance};
+ghost use Rattle.citrus_tree.specs.Beginnings.{BeginsByLookup};
+ghost use Rattle.citrus_tree.specs.Bounded.{EndsWithin};
+ghost use Rattle.citrus_tree.specs.Gone.{KeepsSlots, KeepsWait};
 ghost use Rattle.citrus_tree.specs.Lookups.{Looked, Gets, told_of};
 
 use crate::answer::answered;
-use crate::hold::{hold, release};
-use patience::Patience;
+use crate::holding::{hold, release};
 use prcu_marks::Gate;
 use prcu_model::{Reply, Told};
 use seat_table::{CitrusTable, Seat, WaitPart};
@@ -14,49 +17,54 @@ use seat_table::{CitrusTable, Seat, WaitPart};
 // What a hold finds, with its section left.
 // A call would hand its answer through memory.
 #[inline(always)]
-fn look_up<P: Patience, W: WaitPart, G: Gate>(
-    patience: &P,
+fn look_up<W: WaitPart, G: Gate>(
     table: &CitrusTable<W>,
     seat: &mut Seat<W>,
     gate: &G,
     key: u64,
-) -> Result<Option<u64>, P::Tired>
+) -> Option<u64>
     requires table { seat.old.table ≡ table.now }
     requires quiet { IsQuietSeat seat.old }
     ensures seat { (seat.new.table ≡ seat.old.table) × (seat.new.listed ≡ seat.old.listed) }
-    ensures looked { IfOk result (λ answer. Looked seat.old.view key answer seat.new.view) }
-    ensures tired { IfErr result (λ _. HasMade (P.least patience.now) seat.new.view) }
+    ensures looked { Looked seat.old.view key result seat.new.view }
+    ensures within { EndsWithin (shape_of W.WAY table.now) 4 seat.old.view seat.new.view }
 {
-    match hold(patience, table, seat, gate, key)? {
+    match hold(table, seat, gate, key) {
         Some(value) => {
             release(table, seat);
-            Ok(Some(value))
+            Some(value)
         }
-        None => Ok(None),
+        None => None,
     }
 }
 
-/// The key's value, or `Absent`, as the dictionary gave it at some time of the call. It takes no lock and waits for nobody's step, but
-/// others' updates can make the search longer.
+/// The key's value, or `Absent`, as the dictionary gave it at some time of the call. It takes no lock and waits for nobody's step. Others'
+/// updates can make the search longer, but it stands at no slot twice: the call makes at most three steps for each slot of the table, and four.
+/// docs/TREE.md#why-a-get-comes-to-its-end
 // A call would hand its answer through memory.
 #[inline(always)]
-pub fn get<P: Patience, W: WaitPart, G: Gate>(
-    patience: &P,
+pub fn get<W: WaitPart, G: Gate>(
     table: &CitrusTable<W>,
     seat: &mut Seat<W>,
     gate: &G,
     key: u64,
-) -> Result<Told, P::Tired>
+) -> Told
     requires table { seat.old.table ≡ table.now }
     requires quiet { IsQuietSeat seat.old }
     ensures seat { seat.new.table ≡ seat.old.table }
-    ensures listed { IfOk result (λ _. seat.new.listed ≡ seat.old.listed) }
-    ensures gets { IfOk result (λ answer. Gets seat.old.view key answer seat.new.view) }
-    ensures quiet { IfOk result (λ _. IsQuietSeat seat.new) }
-    ensures tired { IfErr result (λ _. HasMade (P.least patience.now) seat.new.view) }
+    ensures listed { seat.new.listed ≡ seat.old.listed }
+    ensures gets { Gets seat.old.view key result seat.new.view }
+    ensures begins { BeginsByLookup seat.old.view key seat.new.view }
+    ensures within { EndsWithin (shape_of W.WAY table.now) 4 seat.old.view seat.new.view }
+    ensures wait { KeepsWait seat.old.view seat.new.view }
+    ensures slots { KeepsSlots seat.old seat.new }
+    ensures tickets { seat.new.view.allowance.tickets ≡ seat.old.view.allowance.tickets }
+    ensures allowance { KeepsAllowance seat.old.view seat.new.view }
+    ensures quiet { IsQuietSeat seat.new }
+    ensures informed { IsInformed seat.new.view }
 {
-    let found = look_up(patience, table, seat, gate, key)?;
-    Ok(answered(gate, seat, reply_of(found), 0))
+    let found = look_up(table, seat, gate, key);
+    answered(gate, seat, reply_of(found), 0)
 }
 
 // What a get is told, by what was found.

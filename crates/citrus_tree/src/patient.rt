@@ -11,9 +11,8 @@ ghost use Rattle.citrus_tree.specs.Gone.{KeepsSlots, KeepsWait};
 use crate::answer::Called;
 pub use crate::comparing::compare;
 pub use crate::delete::{Removed, del, remove};
-pub use crate::hold::{hold, release};
 pub use crate::insert::put;
-pub use crate::lookup::get;
+use crate::lookup::get;
 pub use crate::replace::set;
 use patience::Patience;
 use prcu_marks::Gate;
@@ -49,7 +48,7 @@ pub fn call<P: Patience, W: WaitPart, G: Gate>(
         Op::Put { key, value } => put(patience, table, seat, gate, key, value),
         Op::Get { key } => {
             Ok(Called {
-                told: get(patience, table, seat, gate, key)?,
+                told: get(table, seat, gate, key),
                 depth: 0,
             })
         }

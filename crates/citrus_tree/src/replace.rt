@@ -63,7 +63,7 @@ pub fn set<P: Patience, W: WaitPart, G: Gate>(
 {
     let mut pauses = patience.pauses();
     for round in 0..u64::MAX {
-        let Some(holder) = find_holder(patience, table, seat, gate, key)? else {
+        let Some(holder) = find_holder(table, seat, gate, key) else {
             return Ok(answered(gate, seat, Reply::Absent, 0));
         };
         gate.pass(Point::BeforeLock, seat.place());
@@ -76,34 +76,32 @@ pub fn set<P: Patience, W: WaitPart, G: Gate>(
 }
 
 // The slot that has the key, or none where the key is absent.
-fn find_holder<P: Patience, W: WaitPart, G: Gate>(
-    patience: &P,
+fn find_holder<W: WaitPart, G: Gate>(
     table: &CitrusTable<W>,
     seat: &mut Seat<W>,
     gate: &G,
     key: u64,
-) -> Result<Option<Holder>, P::Tired>
+) -> Option<Holder>
     requires table { seat.old.table ≡ table.now }
     requires outside { seat.old.view.section ≡ None }
     requires unlocked { seat.old.view.locks ≡ [] }
     ensures seat { (seat.new.table ≡ seat.old.table) × (seat.new.listed ≡ seat.old.listed) }
-    ensures place { IfOk result (λ _. 1 ≤ table.now.places) }
-    ensures sought { IfOk result (λ answer. Sought (shape_of W.WAY table.now) seat.old.view key answer seat.new.view) }
-    ensures stepped { IfOk result (λ _. HasStepped seat.old.view seat.new.view) }
-    ensures tired { IfErr result (λ _. HasMade (P.least patience.now) seat.new.view) }
+    ensures place { 1 ≤ table.now.places }
+    ensures sought { Sought (shape_of W.WAY table.now) seat.old.view key result seat.new.view }
+    ensures stepped { HasStepped seat.old.view seat.new.view }
 {
-    match descend(patience, table, seat, gate, key)? {
+    match descend(table, seat, gate, key) {
         Descent::Found { slot, .. } => {
             let life = steps::search_load(table, seat, slot, Part::Life);
             W::leave(table, seat);
-            Ok(Some(Holder {
+            Some(Holder {
                 slot,
                 generation: generation_of(life),
-            }))
+            })
         }
         Descent::Ended { .. } => {
             W::leave(table, seat);
-            Ok(None)
+            None
         }
     }
 }

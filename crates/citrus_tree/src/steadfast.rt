@@ -4,7 +4,6 @@ ghost use Rattle.citrus_tree.specs.Beginnings.{Begins, BeginsByLookup, BeginsOnc
 ghost use Rattle.citrus_tree.specs.Clients.{IsTold};
 ghost use Rattle.citrus_tree.specs.Compares.{Compares};
 ghost use Rattle.citrus_tree.specs.Gone.{KeepsSlots, KeepsWait};
-ghost use Rattle.citrus_tree.specs.Lookups.{Gets};
 ghost use Rattle.citrus_tree.specs.Replies.{Dels, Puts, RetiresInOrder, Sets, TellsValue};
 ghost use Rattle.prcu_model.specs.declared.operation.Reply.TheVariants.{Gone};
 ghost use Rattle.seat_table.specs.Gains.{IsInformed};
@@ -20,28 +19,6 @@ use prcu_marks::Gate;
 use prcu_model::{Op, Told};
 use seat_table::{CitrusTable, Seat, WaitPart};
 use std::sync::Wait;
-
-/// The key's value, or `Absent`, as the dictionary gave it at some time of the call. It takes no lock and waits for nobody's step, but
-/// others' updates can make the search longer.
-pub fn get<R: Wait, W: WaitPart, G: Gate>(
-    rt: &R,
-    table: &CitrusTable<W>,
-    seat: &mut Seat<W>,
-    gate: &G,
-    key: u64,
-) -> Told
-    requires table { seat.old.table ≡ table.now }
-    requires quiet { IsQuietSeat seat.old }
-    ensures seat { seat.new.table ≡ seat.old.table }
-    ensures listed { seat.new.listed ≡ seat.old.listed }
-    ensures gets { Gets seat.old.view key result seat.new.view }
-    ensures quiet { IsQuietSeat seat.new }
-{
-    match patient::get(&Steadfast::new(rt), table, seat, gate, key) {
-        Ok(told) => told,
-        Err(never) => match never {},
-    }
-}
 
 /// Adds the pair, where the key is absent: `New` with the update's position. `Old` where the key is present, as at `get`, and `Full`
 /// where it is absent, no slot is free, and the caller has none to give back. It waits for the holder of the lock of the node above, for

@@ -1,5 +1,6 @@
 pub mod Ranges
 pub mod Hops
+pub mod Ways
 pub mod Endings
 pub mod Absent
 pub mod Unique

@@ -51,7 +51,7 @@ key_slot s p b (Some side) = refl
 walk_slot : (r : Reading) (d : ℕ) (w : Option Walk) (t : ℕ) (c : Side) (n s : ℕ) → state_slot r.state ≡ s
     → state_slot (walked r d w t c n).state ≡ s
 walk_slot r d None t Right n s e = either_slot (t == d && not (n == 0)) _ _ s e e
-walk_slot r d (Some w) t Right n s e = either_slot (t == d && not (n == 0)) _ _ s e e
+walk_slot r d (Some w) t Right n s e = e
 walk_slot r d None t Left n s e = e
 walk_slot r d (Some w) t Left n s e = either_slot (t == w.slot && not (n == 0)) _ _ s e e
 

@@ -33,7 +33,7 @@ use Rattle.core_points.specs.Programs.{act_at, after}
 use Rattle.core_points.specs.Facts.{AreClear, read_at, table_of}
 use Rattle.core_points.specs.DeleteFacts.{ReadsLives, WalksTo, ReadsParent, ReadsChildren, AreApart}
 use Rattle.core_points.specs.Fits.{Fits}
-use Rattle.core_points.proofs.FoundLoads.{StillFound, life_loaded, link_loaded, life_still, link_still, found_next}
+use Rattle.core_points.proofs.FoundLoads.{StillFound, life_loaded, link_loaded, life_walk, left_walk, life_still, link_still, found_next}
 use Rattle.core_points.proofs.Locking.{no_locks}
 use Rattle.core_points.proofs.Sets.{calm_quiet}
 use Rattle.core_points.proofs.Spares.{delete_owed, delete_no_put}
@@ -112,11 +112,12 @@ has_children left right e = (
     by false t e = absurd (let q : true ≡ false = sym t ∙ e in cc)
 
 -- a load of the node's right begins the walk, and a load of the left of the slot at which it stands goes on
-right_walks : (r : Reading) (d p : ℕ) (b : Side) (n : ℕ) → r.state ≡ FoundAt d p b None → n ≢ 0
+right_walks : (r : Reading) (d p : ℕ) (b : Side) (n : ℕ) → r.state ≡ FoundAt d p b None → r.walk ≡ None → n ≢ 0
     → loaded r (Link d Right) n ≡ walking (record r { loads = read_at (Link d Right) n ∷ r.loads }) d n
-right_walks r d p b n e ne =
+right_walks r d p b n e none ne =
     let r' : Reading = record r { loads = read_at (Link d Right) n ∷ r.loads } in
-    link_loaded r d p b d Right n e ∙ ap (λ z. cond (z && not (n == 0)) (walking r' d n) r') (eq-eqb d d refl)
+    link_loaded r d p b d Right n e ∙ ap (λ x. walked r' d x d Right n) none
+    ∙ ap (λ z. cond (z && not (n == 0)) (walking r' d n) r') (eq-eqb d d refl)
     ∙ ap (λ z. cond (not z) (walking r' d n) r') (ne_eqb n 0 ne)
 
 left_walks : (r : Reading) (d p : ℕ) (b : Side) (parent slot n : ℕ) → r.state ≡ FoundAt d p b None
@@ -137,9 +138,13 @@ module _ (k : Shape) (h : List Mark) (o : Own) (v : View) (n : ℕ) where
       → Fits (after o n (at.ParentLife p b d)) (after o n (at.ParentLife p b d)).stage (view_after v h n (act_at o (at.ParentLife p b d)))
   next_parent_life p b d f =
       let d' : Node = record { parent = p; side = b; node = d; parent_generation = n / 2; generation = 0; left = 0; right = 0 } in
-      found_next h o v n d p b (Life p) (λ r. IsIn r.stood p × Unit {0}) (λ r. IsIn r.stood p × LoadedGeneration r p (n / 2))
+      found_next h o v n d p b (Life p) (λ r. IsIn r.stood p × (r.walk ≡ None))
+      (λ r. IsIn r.stood p × (LoadedGeneration r p (n / 2) × (r.walk ≡ None)))
       (at.NodeLife d') f.owns (f.unraised refl) f.tickets (f.point).2
-      (λ r e here m. (let still = life_still r d p b p n e in (still, (still.stood p m.0, life_here r (loaded r (Life p) n) p n still))))
+      (λ r e here m. (let still = life_still r d p b p n e in (
+        still,
+        (still.stood p m.0, (life_here r (loaded r (Life p) n) p n still, life_walk r d p b p n e m.1)),
+      )))
       (λ section i. ((f.point).0, (f.point).1, i))
 
   pub needs_node_life : (d : Node) → Fits o (at.NodeLife d) v → Needs k v n (act_at o (at.NodeLife d))
@@ -152,18 +157,22 @@ module _ (k : Shape) (h : List Mark) (o : Own) (v : View) (n : ℕ) where
       → Fits (after o n (at.NodeLife d)) (after o n (at.NodeLife d)).stage (view_after v h n (act_at o (at.NodeLife d)))
   next_node_life d f =
       let d' : Node = record d { generation = n / 2 } in
-      found_next h o v n d.node d.parent d.side (Life d.node) (λ r. IsIn r.stood d.parent × LoadedGeneration r d.parent d.parent_generation)
-      (λ r. IsIn r.stood d.parent × ReadsLives r d') (at.NodeLeft d') f.owns (f.unraised refl) f.tickets (f.point).2
+      found_next h o v n d.node d.parent d.side (Life d.node)
+      (λ r. IsIn r.stood d.parent × (LoadedGeneration r d.parent d.parent_generation × (r.walk ≡ None)))
+      (λ r. IsIn r.stood d.parent × (ReadsLives r d' × (r.walk ≡ None))) (at.NodeLeft d') f.owns (f.unraised refl) f.tickets (f.point).2
       (λ r e here m. (let still = life_still r d.node d.parent d.side d.node n e in (
         still,
         (
           still.stood d.parent m.0,
-          record {
-            parent_life =
-                (λ ne. life_kept r (loaded r (Life d.node) n) (Life d.node) n d.parent d.parent_generation still
-                (life_apart d.node d.parent (λ s. ne (sym s))) m.1);
-            node_life = life_here r (loaded r (Life d.node) n) d.node n still;
-          },
+          (
+            record {
+              parent_life =
+                  (λ ne. life_kept r (loaded r (Life d.node) n) (Life d.node) n d.parent d.parent_generation still
+                  (life_apart d.node d.parent (λ s. ne (sym s))) (m.1).0);
+              node_life = life_here r (loaded r (Life d.node) n) d.node n still;
+            },
+            life_walk r d.node d.parent d.side d.node n e (m.1).1,
+          ),
         ),
       )))
       (λ section i. ((f.point).0, (f.point).1, i))
@@ -178,9 +187,10 @@ module _ (k : Shape) (h : List Mark) (o : Own) (v : View) (n : ℕ) where
       → Fits (after o n (at.NodeLeft d)) (after o n (at.NodeLeft d)).stage (view_after v h n (act_at o (at.NodeLeft d)))
   next_node_left d f =
       let d' : Node = record d { left = n } in
-      found_next h o v n d.node d.parent d.side (Link d.node Left) (λ r. IsIn r.stood d.parent × ReadsLives r d)
+      found_next h o v n d.node d.parent d.side (Link d.node Left)
+      (λ r. IsIn r.stood d.parent × (ReadsLives r d × (r.walk ≡ None)))
       (λ r. IsIn r.stood d.parent × (ReadsLives r d' × (known_in r.loads (Link d.node Left) ≡ Some n)
-      × IsIn r.loads (read_at (Link d.node Left) n))) (at.NodeRight d') f.owns (f.unraised refl) f.tickets (f.point).2
+      × IsIn r.loads (read_at (Link d.node Left) n) × (r.walk ≡ None))) (at.NodeRight d') f.owns (f.unraised refl) f.tickets (f.point).2
       (λ r e here m. (let still = link_still r d.node d.parent d.side d.node Left n e in
       let r' : Reading = loaded r (Link d.node Left) n in (
         still,
@@ -188,9 +198,10 @@ module _ (k : Shape) (h : List Mark) (o : Own) (v : View) (n : ℕ) where
           still.stood d.parent m.0,
           (
             lives_kept r r' (Link d.node Left) n d still (λ ne. link_no_life d.node d.parent Left)
-                (link_no_life d.node d.node Left) m.1,
+                (link_no_life d.node d.node Left) (m.1).0,
             here_loaded r r' (Link d.node Left) n still,
             first_load r r' (Link d.node Left) n still,
+            left_walk r d.node d.parent d.side d.node n e (m.1).1,
           ),
         ),
       )))
@@ -217,7 +228,7 @@ module _ (k : Shape) (h : List Mark) (o : Own) (v : View) (n : ℕ) where
           Fits (go o st) st (after_search_load v (section_of v) (Link d.node Right) n)
       by true e = found_next h o v n d.node d.parent d.side (Link d.node Right)
           (λ r. IsIn r.stood d.parent × (ReadsLives r d × (known_in r.loads (Link d.node Left) ≡ Some d.left)
-          × IsIn r.loads (read_at (Link d.node Left) d.left)))
+          × IsIn r.loads (read_at (Link d.node Left) d.left) × (r.walk ≡ None)))
           (λ r. IsIn r.stood d.parent × ReadsChildren r d' None) (at.Leave (then.Delete (record { node = d'; successor = None }))) f.owns
           (f.unraised refl)
           (let t = f.tickets in let two = delete_owed o.op o.hand o.retired (f.point).1 in omega arith) (f.point).2
@@ -243,12 +254,12 @@ module _ (k : Shape) (h : List Mark) (o : Own) (v : View) (n : ℕ) where
       by false e = let some = has_children d.left n e in
           found_next h o v n d.node d.parent d.side (Link d.node Right)
           (λ r. IsIn r.stood d.parent × (ReadsLives r d × (known_in r.loads (Link d.node Left) ≡ Some d.left)
-          × IsIn r.loads (read_at (Link d.node Left) d.left)))
+          × IsIn r.loads (read_at (Link d.node Left) d.left) × (r.walk ≡ None)))
           (λ r. IsIn r.stood d.parent × (ReadsLives r d' × WalksTo r d' u)) (at.SuccessorLeft d' u) f.owns (f.unraised refl) f.tickets
           (f.point).2
           (λ r s here m. (let still = link_still r d.node d.parent d.side d.node Right n s in
           let r' : Reading = loaded r (Link d.node Right) n in
-          let is = right_walks r d.node d.parent d.side n s some.1 in
+          let is = right_walks r d.node d.parent d.side n s (m.1).3 some.1 in
           let q = m.1 in (
             still,
             (

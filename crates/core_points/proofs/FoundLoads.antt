@@ -45,6 +45,15 @@ deeper xs x s (i, e) = (suc i, e)
 loaded_only : (r : Reading) (field : Field) (n : ℕ) → StillFound r (with_load r field n) field n
 loaded_only r field n = record { state = refl; key = refl; loads = refl; stood = λ s i. i }
 
+pub life_walk : (r : Reading) (s p : ℕ) (b : Side) (t n : ℕ) → r.state ≡ Found s p b None → r.walk ≡ None
+    → (loaded r (Life t) n).walk ≡ None
+life_walk r s p b t n e none = ap (λ (x : Reading). x.walk) (life_loaded r s p b t n e) ∙ none
+
+pub left_walk : (r : Reading) (s p : ℕ) (b : Side) (t n : ℕ) → r.state ≡ Found s p b None → r.walk ≡ None
+    → (loaded r (Link t Left) n).walk ≡ None
+left_walk r s p b t n e none = ap (λ (x : Reading). x.walk) (link_loaded r s p b t Left n e
+    ∙ ap (λ z. walked (with_load r (Link t Left) n) s z t Left n) none) ∙ none
+
 pub life_still : (r : Reading) (s p : ℕ) (b : Side) (t n : ℕ) → r.state ≡ Found s p b None → StillFound r (loaded r (Life t) n) (Life t) n
 life_still r s p b t n e = subst (λ (x : Reading). StillFound r x (Life t) n) (sym (life_loaded r s p b t n e)) (loaded_only r (Life t) n)
 
@@ -55,7 +64,8 @@ walk_on r d t c n parent false = loaded_only r (Link t c) n
 
 walked_still : (r : Reading) (d : ℕ) (walk : Option Walk) (t : ℕ) (c : Side) (n : ℕ)
     → StillFound r (walked (with_load r (Link t c) n) d walk t c n) (Link t c) n
-walked_still r d walk t Right n = walk_on r d t Right n d (t == d && not (n == 0))
+walked_still r d None t Right n = walk_on r d t Right n d (t == d && not (n == 0))
+walked_still r d (Some walk) t Right n = loaded_only r (Link t Right) n
 walked_still r d None t Left n = loaded_only r (Link t Left) n
 walked_still r d (Some walk) t Left n = walk_on r d t Left n walk.slot (t == walk.slot && not (n == 0))
 

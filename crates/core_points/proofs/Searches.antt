@@ -85,7 +85,7 @@ module _ (k : Shape) (h : List Mark) (o : Own) (v : View) (n : ℕ) where
             section = new_section v (key_now o) clock (clocked_at v) h;
             is = refl;
             stands = record { searches = refl; key_is = refl; sought = refl; state_is = refl; here = first_in [] 0 };
-            known = tt;
+            known = refl;
           },
         );
       }
@@ -120,9 +120,10 @@ module _ (k : Shape) (h : List Mark) (o : Own) (v : View) (n : ℕ) where
       (sym (section_is v _ i.is))
       (subst (λ (r : Reading). Fits (after o n (at.AtLink s b)) (after o n (at.AtLink s b)).stage
       (record v { section = Some (record section { reading = r }) })) (sym (link_moves section.reading s b n (i.stands).state_is))
-      (go_on (n == 0) section p.0 i.stands))
+      (go_on (n == 0) section p.0 i.stands i.known))
     where
-      go_on : (z : Bool) (section : Section) → Calm o v → Stands section (key_now o) (At s b) →
+      go_on : (z : Bool) (section : Section) → Calm o v → Stands section (key_now o) (At s b)
+          → section.reading.walk ≡ None →
           let r' : Reading = record section.reading {
             loads =
                 record { field = Link s b; number = n; stored = false } ∷ section.reading.loads;
@@ -134,7 +135,7 @@ module _ (k : Shape) (h : List Mark) (o : Own) (v : View) (n : ℕ) where
                   cond z (record r' { state = Missed s b }) (record r' { state = Unread n s b; stood = n ∷ r'.stood });
             });
           })
-      go_on true section calm stands = record {
+      go_on true section calm stands none = record {
         owns = f.owns;
         unraised = λ z. f.unraised refl;
         tickets = ended_owed (go o (ended o.op s b)) o.op s b (4 * length o.rest) o.kept v.allowance.tickets f.tickets;
@@ -145,7 +146,7 @@ module _ (k : Shape) (h : List Mark) (o : Own) (v : View) (n : ℕ) where
           known = tt;
         });
       }
-      go_on false section calm stands = record {
+      go_on false section calm stands none = record {
         owns = f.owns;
         unraised = λ z. f.unraised refl;
         tickets = f.tickets;
@@ -155,7 +156,7 @@ module _ (k : Shape) (h : List Mark) (o : Own) (v : View) (n : ℕ) where
             section = _;
             is = refl;
             stands = stands_on _ refl refl (first_in section.reading.stood n) stands;
-            known = deeper section.reading.stood n s stands.here;
+            known = (deeper section.reading.stood n s stands.here, none);
           },
         );
       }
@@ -174,11 +175,12 @@ module _ (k : Shape) (h : List Mark) (o : Own) (v : View) (n : ℕ) where
   nothing_more i = record { section = i.section; is = i.is; stands = i.stands; known = tt }
 
   found_point : (op : Op) → o.op ≡ op → (s p : ℕ) (b : Side) (w : View) → Calm o w
-      → Inside w (key_now o) (Found s p b None) (λ section. IsIn section.reading.stood p) → Point (go o (found op s p b)) (found op s p b) w
+      → Inside w (key_now o) (Found s p b None) (λ section. IsIn section.reading.stood p × (section.reading.walk ≡ None))
+      → Point (go o (found op s p b)) (found op s p b) w
   found_point (Put key value) e s p b w calm i = (calm, (ap is_put e, (s, p, b, nothing_more i)))
   found_point (Get key) e s p b w calm i = (calm, is_get key e, (p, b, nothing_more i))
   found_point (Del key) e s p b w calm i =
-      (calm, ap is_delete e, record { section = i.section; is = i.is; stands = i.stands; known = (i.known, tt) })
+      (calm, ap is_delete e, record { section = i.section; is = i.is; stands = i.stands; known = i.known })
   found_point (Set key value) e s p b w calm i = (calm, ap is_set e, (p, b, nothing_more i))
 
   found_owed : (w : Own) (op : Op) (s p : ℕ) (b : Side) (more kept m : ℕ) → owed_op w.op w.hand w.retired + more + kept ≤ m
@@ -204,7 +206,8 @@ module _ (k : Shape) (h : List Mark) (o : Own) (v : View) (n : ℕ) where
       }) (i.stands).sought))
       (go_on (step_side (key_now o) n) section (f.point).0 i.stands i.known))
     where
-      go_on : (z : Option Side) (section : Section) → Calm o v → Stands section (key_now o) (Unread s p b) → IsIn section.reading.stood p →
+      go_on : (z : Option Side) (section : Section) → Calm o v → Stands section (key_now o) (Unread s p b)
+          → IsIn section.reading.stood p × (section.reading.walk ≡ None) →
           Fits (go o (key_read o s p b z)) (key_read o s p b z)
           (record v {
             section = Some (record section {
@@ -236,7 +239,7 @@ module _ (k : Shape) (h : List Mark) (o : Own) (v : View) (n : ℕ) where
             section = _;
             is = refl;
             stands = stands_on _ refl refl stands.here stands;
-            known = tt;
+            known = stood.1;
           },
         );
       }

@@ -70,8 +70,9 @@ Point o at.EnterClock v = (v.section ≡ None) × Calm o v
 Point o (at.EnterKey clock) v = (v.section ≡ None) × Calm o v × ((c : Clocked) × (v.enter.clock ≡ Some c) × (c.number ≡ clock))
 Point o (at.EnterStamp clock) v = (v.section ≡ None) × Calm o v × ((c : Clocked) × (v.enter.clock ≡ Some c) × (c.number ≡ clock))
     × (v.enter.announced ≡ Some (key_now o))
-Point o (at.AtLink s b) v = Calm o v × Inside v (key_now o) (At s b) Nothing
-Point o (at.AtKey s p b) v = Calm o v × Inside v (key_now o) (Unread s p b) (λ section. IsIn section.reading.stood p)
+Point o (at.AtLink s b) v = Calm o v × Inside v (key_now o) (At s b) (λ section. section.reading.walk ≡ None)
+Point o (at.AtKey s p b) v = Calm o v × Inside v (key_now o) (Unread s p b)
+    (λ section. IsIn section.reading.stood p × (section.reading.walk ≡ None))
 Point o (at.Value s) v = Calm o v × (o.op ≡ Get (key_now o)) × ((p : ℕ) × (b : Side) × Inside v (key_now o) (Found s p b None) Nothing)
 Point o (at.Leave next) v = Calm o v × PointLeave o v next
 Point o (at.SpotTag s b) v = Calm o v × (is_put o.op ≡ true) × Inside v (key_now o) (Missed s b) Nothing
@@ -110,11 +111,13 @@ Point o (at.SetLock s generation) v = Setting o v s generation [] None
 Point o (at.SetCheck s generation) v = Setting o v s generation (one_lock s []) None
 Point o (at.SetValue s) v = (generation : ℕ) × Setting o v s generation (one_lock s (read_at (Life s) (2 * generation) ∷ [])) None
 -- a delete, in its section
-Point o (at.ParentLife p b d) v = OnNode o v d p b (λ r. Unit {0})
-Point o (at.NodeLife d) v = OnNode o v d.node d.parent d.side (λ r. LoadedGeneration r d.parent d.parent_generation)
-Point o (at.NodeLeft d) v = OnNode o v d.node d.parent d.side (λ r. ReadsLives r d)
+Point o (at.ParentLife p b d) v = OnNode o v d p b (λ r. r.walk ≡ None)
+Point o (at.NodeLife d) v = OnNode o v d.node d.parent d.side
+    (λ r. LoadedGeneration r d.parent d.parent_generation × (r.walk ≡ None))
+Point o (at.NodeLeft d) v = OnNode o v d.node d.parent d.side (λ r. ReadsLives r d × (r.walk ≡ None))
 Point o (at.NodeRight d) v = OnNode o v d.node d.parent d.side
-    (λ r. ReadsLives r d × (known_in r.loads (Link d.node Left) ≡ Some d.left) × IsIn r.loads (read_at (Link d.node Left) d.left))
+    (λ r. ReadsLives r d × (known_in r.loads (Link d.node Left) ≡ Some d.left) × IsIn r.loads (read_at (Link d.node Left) d.left)
+    × (r.walk ≡ None))
 Point o (at.SuccessorLeft d u) v = OnNode o v d.node d.parent d.side (λ r. ReadsLives r d × WalksTo r d u)
 Point o (at.SuccessorParentLife d u) v = OnNode o v d.node d.parent d.side (λ r. ReadsLives r d × WalksTo r d u × (u.parent ≢ d.node))
 Point o (at.SuccessorLife d u) v = OnNode o v d.node d.parent d.side

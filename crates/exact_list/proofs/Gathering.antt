@@ -1,5 +1,5 @@
 -- Pairs are gathered along a walk.
-use Rattle.std.proofs.Common.{◌≡◌, ℕ, ◌+◌, ◌^◌, ◌<◌, ◌≤◌, List, [], ◌∷◌, ◌++◌, None, refl, sym, subst, ◌∙◌, arith}
+use Rattle.std.proofs.Common.{◌≡◌, ◌≢◌, ℕ, ◌+◌, ◌^◌, ◌<◌, ◌≤◌, List, [], ◌∷◌, ◌++◌, None, refl, sym, subst, ◌∙◌, arith}
 use Rattle.prcu_marks.specs.declared.mark.Side.TheVariants.{Right}
 use Rattle.core_state.specs.declared.shape.Shape.{Shape}
 use Rattle.core_state.specs.declared.view.Listing.{Listing}
@@ -66,19 +66,19 @@ pub may_restart : {k : Shape} {v u : View} {low from link : ℕ} {pairs : List P
 may_restart {k} {v} {u} z = may_begin k v u (still_listing v u z.loaded)
 
 pub restarts : {k : Shape} {v u w : View} {low from n : ℕ} {pairs : List Pair} {way next : Way} {r : Next}
-    → Walks k v u low from 0 pairs way → NextIs way from r next → r ≡ Lost → Told k u (ListLoad 0 (part.Link Right)) n w
+    → Walks k v u low from 0 pairs way → NextIs way r next → r ≡ Lost → Told k u (ListLoad 0 (part.Link Right)) n w
     → Walks k v w low from n pairs next
 restarts {k} {v} {u} {w} {low} {from} {n} {pairs} {way} {next} {r} z is lost t =
-    let none = subst (λ x. NextIs way from x next) lost is in
-    let b = begins k v from next u w n z.loaded none.0 t in
+    let none = subst (λ x. NextIs way x next) lost is in
+    let b = begins k v from next u w n z.loaded none.2 t in
     record { loaded = b.0; cover = cover_more z.loaded.after b.0.after low from pairs b.1 z.cover; come = b.2 }
 
 -- there is no key more
 pub ends : {k : Shape} {v u : View} {low from : ℕ} {pairs : List Pair} {way : Way} {r : Next} (next : Way) (below : ℕ)
-    → Walks k v u low from 0 pairs way → NextIs way from r next → r ≡ Done → from ≤ below → below ≤ 2 ^ 64
+    → Walks k v u low from 0 pairs way → NextIs way r next → r ≡ Done → from ≤ below → below ≤ 2 ^ 64
     → Gathered v u low below pairs
 ends {k} {v} {u} {low} {from} {pairs} {way} {r} next below z is done more fits =
-    let none = subst (λ x. NextIs way from x next) done is in
+    let none = subst (λ x. NextIs way x next) done is in
     let c = z.come in
     let l = z.loaded.after in
     let high : c.bounds.high ≡ None = subst (λ ps. AreKept k l.visits c.first ps c.bounds.high) none.0 c.kept ∙ c.whole none.1 in (
@@ -96,9 +96,9 @@ ends {k} {v} {u} {low} {from} {pairs} {way} {r} next below z is done more fits =
     )
 
 pub meets : {k : Shape} {v u : View} {low from : ℕ} {pairs : List Pair} {way next : Way} {r : Next} {p : Passed}
-    → Walks k v u low from 0 pairs way → NextIs way from r next → r ≡ At p → Meets k v u low from pairs p next
-meets {k} {v} {u} {low} {from} {pairs} {way} {next} {r} {p} z given at =
-    let is = subst (λ x. NextIs way from x next) at given in
+    → Walks k v u low from 0 pairs way → NextIs way r next → r ≡ At p → from ≤ p.key → Meets k v u low from pairs p next
+meets {k} {v} {u} {low} {from} {pairs} {way} {next} {r} {p} z given at least =
+    let is = subst (λ x. NextIs way x next) at given in
     let last = at_last k z.loaded.after from way next p z.come is.0 is.1 in
     record {
       loaded = z.loaded;
@@ -109,8 +109,27 @@ meets {k} {v} {u} {low} {from} {pairs} {way} {next} {r} {p} z given at =
         (let low_is = gap.2 in omega (arith, low_is, least), subst (λ o. y < high_bound o) (sym gap.3) less),
       ));
       at = last.0;
-      least = is.2;
+      least = least;
     }
+
+-- the slot met has a lesser key
+module _ {k : Shape} {v u : View} {low from : ℕ} {pairs : List Pair} {way : Way} {r : Next} {p : Passed}
+    (z : Walks k v u low from 0 pairs way) (next : Way) (given : NextIs way r next) (at : r ≡ At p) where
+  lesser : IsAtKey k z.loaded.after p.slot p.key next
+  lesser =
+      let is = subst (λ x. NextIs way x next) at given in
+      (at_last k z.loaded.after from way next p z.come is.0 is.1).0
+
+  pub some_lesser : p.slot ≢ 0
+  some_lesser = lesser.known.node.0
+
+  pub may_go_past : Asks k u (ListLoad p.slot (part.Link Right))
+  may_go_past = may_go k v u z.loaded p.slot p.key lesser.bounds lesser.known Right
+
+  pub goes_past : {w : View} {n : ℕ} → p.key < from → Told k u (ListLoad p.slot (part.Link Right)) n w → Walks k v w low from n pairs next
+  goes_past {w} {n} less t =
+      let r = goes_right k v u z.loaded p.slot p.key next lesser from w n (omega (arith, less)) t in
+      record { loaded = r.0; cover = cover_more z.loaded.after r.0.after low from pairs r.1 z.cover; come = r.2 }
 
 module _ {k : Shape} {v u : View} {low from : ℕ} {pairs : List Pair} {p : Passed} {way : Way} (z : Meets k v u low from pairs p way) where
   -- none below another key, where the key that was met isn't below that one
@@ -120,6 +139,9 @@ module _ {k : Shape} {v u : View} {low from : ℕ} {pairs : List Pair} {p : Pass
     cover_gaps z.loaded.after.facts z.loaded.after.gaps low from below pairs z.cover more
         (λ y least under. z.gaps y least (omega (arith, under, less))),
   )
+
+  pub some_met : p.slot ≢ 0
+  some_met = z.at.known.node.0
 
   pub may_value_met : Asks k u (ListLoad p.slot part.Value)
   may_value_met = may_value k v u z.loaded p.slot p.key z.at.bounds z.at.known

@@ -3,6 +3,7 @@ use Rattle.std.proofs.Common.{◌≡◌, ℕ, ◌+◌, ◌*◌, ◌/◌, ◌≤�
 use Rattle.prcu_marks.specs.declared.commit.Commit.{Commit}
 use Rattle.prcu_marks.specs.declared.mark.Mark.{Mark}
 use Rattle.core_state.specs.declared.shape.Shape.{Shape}
+use Rattle.core_state.specs.declared.view.StepMade.{StepMade}
 use Rattle.core_state.specs.declared.view.View.{View}
 use Rattle.core_acts.specs.declared.act.Act.TheVariants.{LookAtFront, GiveFrontBack}
 use Rattle.key_interval.specs.Keys.{Interval}
@@ -16,9 +17,10 @@ use Rattle.exact_list.proofs.Taking.{may_give_back, gives_back}
 use Rattle.exact_list.specs.Alone.{HoldsUpTo, HasListedAlone}
 use Rattle.exact_list.specs.Answers.{Paged, IsBetweenFronts}
 use Rattle.exact_list.specs.Tries.{Try, HasTried}
+use Rattle.exact_list.specs.Loads.{HasWalked}
 use Rattle.exact_list.specs.Walked.{HasLoaded, Gathers}
 use Rattle.exact_list.proofs.Trying.{loaded_try}
-use Rattle.exact_list.proofs.Standing.{LooksTwice, looks_twice, tried_twice, second_own, held, recent, holds_up_to}
+use Rattle.exact_list.proofs.Standing.{LooksTwice, looks_twice, tried_twice, walked_twice, second_own, held, recent, holds_up_to}
 
 -- the commit of a front that was taken and not stored under
 abbrev pub unmade : ℕ → Commit
@@ -72,13 +74,17 @@ module _ {k : Shape} {v : View} {key front first n : ℕ} {d : View} (x : ListsH
     pub seen : w.seen ≡ d.seen
     seen = ap (λ (z : View). z.seen) gives.others
 
-    pub alone : HasListedAlone v key count w
-    alone = record {
+    tried : HasTried x.holding key (record { first = 2 * count + 1; second = Some (2 * count + 1) } ∷ []) d
+    tried = subst (λ (t : Try). HasTried x.holding key (t ∷ []) d) (λ i. record { first = first_is i; second = Some (second_is i) })
+        (tried_twice x.looks)
+
+    pub alone : {walk : List StepMade → Type 0} → HasWalked x.looks.first_seen walk x.looks.loaded → HasListedAlone v key count walk w
+    alone {walk} walked = record {
       holding = x.holding;
       listed = d;
       takes = subst (λ f. TakesFront v f x.holding) twice x.takes;
-      tried = subst (λ (t : Try). HasTried x.holding key (t ∷ []) d) (λ i. record { first = first_is i; second = Some (second_is i) })
-          (tried_twice x.looks);
+      tried = tried;
+      walked = walked_twice x.looks tried.made walked;
       gives = subst (λ f. GivesFrontBack d f w) twice gives;
     }
 
@@ -92,9 +98,9 @@ module _ {k : Shape} {v : View} {key front first n : ℕ} {d : View} (x : ListsH
         (subst (λ (h : List Mark). IsBetweenFronts count h d.seen) (ap (λ (z : View). z.seen) x.takes.others) (recent x.looks now half_first))
 
 -- who listed alone is as quiet as before
-pub quiet_alone : {s t : SeatAt} {key front : ℕ} → HasListedAlone s.view key front t.view → t.listed ≡ s.listed → IsQuietSeat s
-    → IsQuietSeat t
-quiet_alone {s} {t} {key} {front} a listed quiet =
+pub quiet_alone : {s t : SeatAt} {key front : ℕ} {walk : List StepMade → Type 0} → HasListedAlone s.view key front walk t.view
+    → t.listed ≡ s.listed → IsQuietSeat s → IsQuietSeat t
+quiet_alone {s} {t} {key} {front} {walk} a listed quiet =
     let gives = a.gives.others in
     let tried = a.tried.others in
     let takes = a.takes.others in
@@ -104,7 +110,8 @@ quiet_alone {s} {t} {key} {front} a listed quiet =
     (ap (λ (v : View). v.moving) gives ∙ ap (λ (v : View). v.moving) tried ∙ ap (λ (v : View). v.moving) takes)
     (ap (λ (v : View). v.commit) gives ∙ sym quiet.view.commit) listed quiet
 
-pub alone_tickets : {v w : View} {key front : ℕ} → HasListedAlone v key front w → w.allowance.tickets ≡ v.allowance.tickets
+pub alone_tickets : {v w : View} {key front : ℕ} {walk : List StepMade → Type 0} → HasListedAlone v key front walk w
+    → w.allowance.tickets ≡ v.allowance.tickets
 alone_tickets a = ap (λ (z : View). z.allowance.tickets) a.gives.others
     ∙ ap (λ (z : View). z.allowance.tickets) a.tried.others ∙ ap (λ (z : View). z.allowance.tickets) a.takes.others
 

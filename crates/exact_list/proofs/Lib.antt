@@ -1,6 +1,7 @@
 pub mod Covering
 pub mod Loading
 pub mod Following
+pub mod Counting
 pub mod Walking
 pub mod Gathering
 pub mod Seeking

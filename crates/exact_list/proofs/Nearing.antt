@@ -4,6 +4,7 @@ use Rattle.prcu_marks.specs.declared.mark.Mark.{Mark}
 use Rattle.prcu_marks.specs.declared.mark.Side.{Side}
 use Rattle.prcu_marks.specs.Marks.{updates_of}
 use Rattle.core_state.specs.declared.shape.Shape.{Shape}
+use Rattle.core_state.specs.declared.view.StepMade.{StepMade}
 use Rattle.core_state.specs.declared.view.View.{View}
 use Rattle.list_laws.specs.Counts.{Each}
 use Rattle.core_frames.proofs.First.{each_one, each_none, each_append}
@@ -79,8 +80,9 @@ module _ {v u : View} {key count : ℕ} (x : HasFailed v key count u) where
       moved = each_append HasMoved x.made (t.0 ∷ []) x.moved (each_one HasMoved t.0 (subst (λ o. ComesBy o t.0) is t.2));
     }
 
-    pub comes_by_try : {nearest : Nearest} → looked ≡ Some nearest → (most : ℕ) → count < most → HasListed v key nearest.front most w
-    comes_by_try {nearest} is most less =
+    pub comes_by_try : {nearest : Nearest} {walk : List StepMade → Type 0} → looked ≡ Some nearest → (most : ℕ) → count < most
+        → HasListed v key nearest.front most walk w
+    comes_by_try {nearest} {walk} is most less =
         let last : Try = record { first = 2 * nearest.front; second = Some (2 * nearest.front) } in
         let one : t.0 ≡ last = subst (λ o. ComesBy o t.0) is t.2 in
         let all = length-append x.made (t.0 ∷ []) in
@@ -92,6 +94,7 @@ module _ {v u : View} {key count : ℕ} (x : HasFailed v key count u) where
         })
 
   -- after all of them the seat goes on alone
-  pub comes_alone : {w : View} {front most : ℕ} → count ≡ most → HasListedAlone u key front w → HasListed v key front most w
-  comes_alone {w} {front} {most} all alone =
+  pub comes_alone : {w : View} {front most : ℕ} {walk : List StepMade → Type 0} → count ≡ most → HasListedAlone u key front walk w
+      → HasListed v key front most walk w
+  comes_alone {w} {front} {most} {walk} all alone =
       inr (record { tries = x.made; failed = u; tried = x.tried; all = x.many ∙ all; moved = x.moved; alone = alone })

@@ -1,5 +1,5 @@
 -- What a try tells whose second look found the number of the first, and how tries end.
-use Rattle.std.proofs.Common.{◌≡◌, ◌≢◌, ℕ, ◌+◌, ◌*◌, ◌/◌, ◌%◌, ◌==◌, ◌≤◌, true, false, List, [], ◌∷◌, ◌++◌, length, take, Option, Some, None, refl, sym, ap, subst, ◌∙◌, inl, inr, arith, eq-eqb, append_assoc, length-append}
+use Rattle.std.proofs.Common.{◌≡◌, ◌≢◌, ℕ, ◌+◌, ◌*◌, ◌/◌, ◌%◌, ◌==◌, ◌≤◌, Bool, true, false, List, [], ◌∷◌, ◌++◌, length, take, Option, Some, None, refl, sym, ap, subst, ◌∙◌, inl, inr, arith, eq-eqb, append_assoc, length-append}
 use Rattle.std.specs.FinMap as finite
 use Rattle.std.proofs.Math.Seq.{take-append_seam}
 use mathlib.Core.List.{IsPrefix}
@@ -14,7 +14,9 @@ use Rattle.prcu_marks.proofs.MarkLists.{updates_of-append, updates_below}
 use Rattle.core_state.specs.declared.shape.Shape.{Shape}
 use Rattle.core_state.specs.declared.view.Fact.{Fact}
 use Rattle.core_state.specs.declared.view.Gap.{Gap}
+use Rattle.core_state.specs.declared.view.StepMade.{StepMade}
 use Rattle.core_state.specs.declared.view.View.{View}
+use Rattle.core_state.specs.declared.words.Kind.{Kind}
 use Rattle.prcu_marks.specs.declared.commit.Commit.{Commit}
 use Rattle.core_state.specs.memory.Lists.{IsEven, IsOdd}
 use Rattle.core_state.specs.parts.TreeParts.{map_now}
@@ -24,7 +26,7 @@ use Rattle.core_frames.proofs.First.{each_one, each_none, each_append}
 use Rattle.core_acts.specs.declared.act.Act.TheVariants.{LookAtFront}
 use Rattle.seat_table.specs.Gains.{IsListedNow}
 use Rattle.seat_table.specs.Told.{Told}
-use Rattle.seat_table.specs.Sections.{HasEntered, HasLeft}
+use Rattle.seat_table.specs.Sections.{Makes, HasEntered, HasLeft}
 use Rattle.seat_table.proofs.Sections.{seen_more}
 use Rattle.exact_list.specs.declared.listing.Listed.{Listed}
 use Rattle.exact_list.specs.declared.listing.Listed.TheVariants.{Whole, Part, Moved}
@@ -32,7 +34,9 @@ use Rattle.exact_list.specs.Pairs.{Pair, had_at, ArePairs, fact_of, Cover}
 use Rattle.exact_list.specs.Tries.{Try, HasMoved, HasTried}
 use Rattle.exact_list.specs.Answers.{Paged, IsWhole, IsPart, IsBetweenFronts, IsRecent, HasStood, EndAs}
 use Rattle.exact_list.specs.Alone.{HoldsUpTo}
+use Rattle.exact_list.specs.Loads.{loads_of, HasWalked}
 use Rattle.exact_list.specs.Walked.{HasLoaded, Gathers}
+use Rattle.exact_list.proofs.Counting.{quiet_look, quiet_entry, quiet_exit, walked_within}
 use Rattle.exact_list.proofs.Covering.{covers_exact}
 use Rattle.exact_list.proofs.Trying.{InTry, first_try, looked_try, loaded_try, left_try, front_is}
 
@@ -61,6 +65,7 @@ pub record LooksTwice (k : Shape) (v : View) (key first n : ℕ) (d : View) : Ty
   pub told : Told k loaded LookAtFront n looked
   pub left : HasLeft looked d
   pub outside : v.section ≡ None
+  pub unloaded : loads_of first_seen.trail.steps ≡ loads_of v.trail.steps
 
 abbrev pub looks_twice : {k : Shape} {v e a b u d : View} {key entered first n : ℕ} → entered ≡ key → HasEntered v entered e
     → Told k e LookAtFront first a → HasLoaded a b → Told k b LookAtFront n u → HasLeft u d → v.section ≡ None
@@ -74,6 +79,7 @@ looks_twice {k} {v} {e} {a} {b} {u} {d} {key} {entered} {first} {n} same enters 
   told = told;
   left = left;
   outside = outside;
+  unloaded = quiet_look look ∙ quiet_entry enters;
 }
 
 module _ {k : Shape} {v : View} {key first n : ℕ} {d : View} (z : LooksTwice k v key first n d) where
@@ -84,6 +90,11 @@ module _ {k : Shape} {v : View} {key first n : ℕ} {d : View} (z : LooksTwice k
   tried_twice = left_try v key (first ∷ n ∷ []) z.looked
       (looked_try v key (first ∷ []) z.loaded before k n z.looked z.told) d z.outside z.left
       (record { first = first; second = Some n }) refl
+
+  -- its loads are those between the looks
+  pub walked_twice : {which : Kind → Bool} {walk : List StepMade → Type 0} (m : Makes which v.trail d.trail)
+      → HasWalked z.first_seen walk z.loaded → walk (loads_of m.steps)
+  walked_twice {which} {walk} m x = walked_within v d z.unloaded z.loads (quiet_exit z.left ∙ quiet_look z.told) m x
 
   pub moved_between : (first % 2 == 1) ≡ false → n ≢ first → EndAs (Moved first n) 1 (record { first = first; second = Some n } ∷ [])
   moved_between even ne = (

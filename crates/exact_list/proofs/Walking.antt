@@ -15,12 +15,11 @@ use Rattle.core_acts.specs.declared.act.Part.TheVariants as part
 use Rattle.core_acts.specs.declared.act.Act.TheVariants.{ListLoad}
 use Rattle.core_acts.specs.Acts.{Asks}
 use Rattle.seat_table.specs.Told.{Told}
-use Rattle.exact_list.specs.declared.way.TheConstants.{KEPT}
 use Rattle.exact_list.specs.declared.way.Passed.{Passed}
 use Rattle.exact_list.specs.declared.way.Way.{Way}
 use Rattle.exact_list.specs.Pairs.{fact_of}
 use Rattle.exact_list.specs.Walked.{HasFoundMore, HasLoaded, KnowsKey}
-use Rattle.exact_list.specs.Ways.{HasPassed, IsKept, AreKept, HasCome}
+use Rattle.exact_list.specs.Ways.{most_kept, HasPassed, IsKept, AreKept, HasCome}
 use Rattle.exact_list.proofs.Following.{child_is, no_child, known_more, leads_fits, leads_to_all, may_read, reads_key, may_go, reads_value, leads_past}
 
 module _ (k : Shape) where
@@ -166,7 +165,7 @@ module _ (k : Shape) (v : View) where
           goes Left from next at.first w n low (λ e. at.whole (sym x.1 ∙ e))
           (subst (λ ps. AreKept k l.after.visits at.first ps (Some key)) (sym x.0)
           (kept_passed k l.after.visits at.first at.bounds.high way.passed.items p at.kept is)) t)
-          (λ (x : (length way.passed.items ≡ KEPT) × (next.passed.items ≡ p ∷ []) × (next.cut ≡ true)).
+          (λ (x : (length way.passed.items ≡ most_kept) × (next.passed.items ≡ p ∷ []) × (next.cut ≡ true)).
           goes Left from next at.bounds.high w n low (λ e. absurd (let q : true ≡ false = sym x.2 ∙ e in cc))
           (subst (λ ps. AreKept k l.after.visits at.bounds.high ps (Some key)) (sym x.1) (is, refl)) t)
           passed

@@ -3,7 +3,8 @@ pub mod Laws
 pub mod Tries
 pub mod Answers
 pub mod Fronts
-pub mod Alone
 pub mod Walked
-pub mod Nearest
 pub mod Ways
+pub mod Loads
+pub mod Alone
+pub mod Nearest

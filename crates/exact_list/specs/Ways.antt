@@ -1,34 +1,37 @@
 -- The way of a walk: where it has come to, and the slots to which it goes back.
 -- Source: docs/TREE_CALLS.md, "Lists of a key range".
-use Rattle.std.specs.Prelude.{◌≡◌, ℕ, ◌<◌, ◌≤◌, ◌⊎◌, true, false, List, [], ◌∷◌, ◌++◌, length, Option, Some, None}
+use Rattle.std.specs.Prelude.{◌≡◌, ℕ, ◌+◌, ◌≤◌, ◌⊎◌, if◌then◌else◌, true, false, List, [], ◌∷◌, ◌++◌, length, Option, Some, None}
 use Rattle.core_state.specs.declared.shape.Shape.{Shape}
 use Rattle.core_state.specs.declared.view.Gap.{Gap}
 use Rattle.core_state.specs.declared.view.Listing.{Listing}
 use Rattle.core_state.specs.declared.view.Visit.{Visit}
 use Rattle.core_state.specs.parts.ListingParts.{low_bound}
-use Rattle.exact_list.specs.declared.way.TheConstants.{KEPT}
 use Rattle.exact_list.specs.declared.way.Next.{Next}
 use Rattle.exact_list.specs.declared.way.Next.TheVariants.{At, Done, Lost}
 use Rattle.exact_list.specs.declared.way.Passed.{Passed}
 use Rattle.exact_list.specs.declared.way.Way.{Way}
 use Rattle.exact_list.specs.Walked.{KnowsKey, Leads}
 
+-- so many slots of a way are kept
+abbrev pub most_kept : ℕ
+most_kept = 64
+
 -- One slot more on the way. Only where the way was full, it was cut, and the slot is the only one.
 abbrev pub HasPassed : Way → Passed → Way → Type 0
 HasPassed way p new =
     ((new.passed.items ≡ way.passed.items ++ p ∷ []) × (new.cut ≡ way.cut))
-    ⊎ ((length way.passed.items ≡ KEPT) × (new.passed.items ≡ p ∷ []) × (new.cut ≡ true))
+    ⊎ ((length way.passed.items ≡ most_kept) × (new.passed.items ≡ p ∷ []) × (new.cut ≡ true))
 
--- The rest of a way that was cut was given up, or the latest slot has a lesser key.
-abbrev pub IsLostAt : Way → ℕ → Type 0
-IsLostAt way from = ((way.passed.items ≡ []) × (way.cut ≡ true))
-    ⊎ ((earlier : List Passed) × (p : Passed) × (way.passed.items ≡ earlier ++ p ∷ []) × (p.key < from))
+-- where a walk goes on: at the latest slot; it is through; or at the root, only where the way was cut and no slot is left
+abbrev pub NextIs : Way → Next → Way → Type 0
+NextIs way (At p) new = (way.passed.items ≡ new.passed.items ++ p ∷ []) × (new.cut ≡ way.cut)
+NextIs way Done new = (way.passed.items ≡ []) × (way.cut ≡ false)
+NextIs way Lost new = (way.passed.items ≡ []) × (way.cut ≡ true) × (new.passed.items ≡ []) × (new.cut ≡ false)
 
--- where a walk goes on: at the latest slot, whose key isn't less; it is through; or only where it is lost at the root, and nothing is kept
-abbrev pub NextIs : Way → ℕ → Next → Way → Type 0
-NextIs way from (At p) new = (way.passed.items ≡ new.passed.items ++ p ∷ []) × (new.cut ≡ way.cut) × (from ≤ p.key)
-NextIs way from Done new = (way.passed.items ≡ []) × (way.cut ≡ false)
-NextIs way from Lost new = (new.passed.items ≡ []) × (new.cut ≡ false) × IsLostAt way from
+-- At least so many slots were passed to the left since the way began at the root: those kept, or where it was cut one more than there is
+-- room for.
+abbrev pub least_passed : Way → ℕ
+least_passed way = if way.cut then most_kept + 1 else length way.passed.items
 
 -- a slot where the walk has been, with the key that it found there, and this upper bound
 pub record IsKept (k : Shape) (visits : List Visit) (high : Option ℕ) (p : Passed) : Type 0 where

@@ -4,6 +4,7 @@ ghost use Rattle.seat_table.specs.Rounds.{HasMade};
 ghost use Rattle.seat_table.specs.Seats.{IsQuietSeat};
 ghost use Rattle.exact_list.specs.Alone.{HasListed, HasListedAlone, HoldsExactly};
 ghost use Rattle.exact_list.specs.Answers.{IsBetweenFronts};
+ghost use Rattle.exact_list.specs.Loads.{IsOneWalk};
 
 use crate::front::take_front;
 use crate::listing::{Listed, list};
@@ -38,7 +39,8 @@ fn list_alone<P: Patience, W: WaitPart>(
     ensures quiet { IsQuietSeat seat.new }
     ensures tickets { seat.new.view.allowance.tickets ≡ seat.old.view.allowance.tickets }
     ensures capacity { IfOk result (λ _. page.new.capacity ≡ page.old.capacity) }
-    ensures alone { IfOk result (λ answer. HasListedAlone seat.old.view keys.now.low answer.front seat.new.view) }
+    ensures alone { IfOk result (λ answer. HasListedAlone seat.old.view keys.now.low answer.front (IsOneWalk page.new.pairs answer.next)
+        seat.new.view) }
     ensures holds { IfOk result (λ answer. HoldsExactly answer keys.now seat.new.view.seen page.new) }
     ensures recent { IfOk result (λ answer. IsBetweenFronts answer.front seat.old.view.seen seat.new.view.seen) }
     ensures tired { IfErr result (λ _. HasMade (P.least patience.now) seat.new.view) }
@@ -64,8 +66,10 @@ fn list_alone<P: Patience, W: WaitPart>(
 /// always comes. First it makes so many tries, as [`list`](crate::list): without a lock, and each beside others' updates. Where updates
 /// were made in all of them it takes the front, so that no update comes between, lists, and gives the front back.
 ///
-/// Updates wait for it while it has the front: for one walk. It waits for the updates that have the front before it. Readers wait for
-/// nothing, and it waits for no reader. The front isn't before what the seat has seen. No memory is asked for, and no ticket is taken.
+/// Updates wait for it while it has the front: for one walk. That loads the value of each pair told once, the next one's too, and no other;
+/// it goes down from the root once, and again at most once for each 65 keys that it loads. It waits for the updates that have the front
+/// before it. Readers wait for nothing, and it waits for no reader. The front isn't before what the seat has seen. No memory is asked for,
+/// and no ticket is taken.
 pub fn list_always<P: Patience, W: WaitPart>(
     patience: &P,
     table: &CitrusTable<W>,
@@ -81,7 +85,8 @@ pub fn list_always<P: Patience, W: WaitPart>(
     ensures quiet { IsQuietSeat seat.new }
     ensures tickets { seat.new.view.allowance.tickets ≡ seat.old.view.allowance.tickets }
     ensures capacity { IfOk result (λ _. page.new.capacity ≡ page.old.capacity) }
-    ensures came { IfOk result (λ answer. HasListed seat.old.view keys.low answer.front tries seat.new.view) }
+    ensures came { IfOk result (λ answer. HasListed seat.old.view keys.low answer.front tries (IsOneWalk page.new.pairs answer.next)
+        seat.new.view) }
     ensures holds { IfOk result (λ answer. HoldsExactly answer keys seat.new.view.seen page.new) }
     ensures recent { IfOk result (λ answer. IsBetweenFronts answer.front seat.old.view.seen seat.new.view.seen) }
     ensures tired { IfErr result (λ _. HasMade (P.least patience.now) seat.new.view) }

@@ -3,6 +3,7 @@ ghost use Rattle.std.specs.Prelude.{◌≡◌, ◌↔◌, IsTrue, IfOk, IfErr};
 ghost use Rattle.core_state.specs.memory.Words.{across};
 ghost use Rattle.seat_table.specs.Rounds.{HasMade};
 ghost use Rattle.seat_table.specs.Seats.{shape_of};
+ghost use Rattle.exact_list.specs.Loads.{HasWalked, IsWayDown, IsOneWayDown};
 ghost use Rattle.exact_list.specs.Nearest.{IsOn, HasReached, FindsNearest};
 ghost use Rattle.exact_list.specs.Walked.{IsListing, HasLoaded};
 
@@ -48,6 +49,7 @@ fn seek<P: Patience, W: WaitWords>(
     ensures seat { (seat.new.table ≡ seat.old.table) × (seat.new.listed ≡ seat.old.listed) }
     ensures reached { IfOk result (λ answer. (loaded : HasLoaded seat.old.view seat.new.view)
         × HasReached (shape_of W.WAY table.now) loaded.after side from 0 answer) }
+    ensures down { IfOk result (λ _. HasWalked seat.old.view (IsWayDown 0) seat.new.view) }
     ensures left_off { IfErr result (λ _. HasLoaded seat.old.view seat.new.view) }
     ensures tired { IfErr result (λ _. HasMade (P.least patience.now) seat.new.view) }
 {
@@ -82,6 +84,7 @@ pub(crate) fn seek_pair<P: Patience, W: WaitWords>(
     ensures seat { (seat.new.table ≡ seat.old.table) × (seat.new.listed ≡ seat.old.listed) }
     ensures found { IfOk result (λ answer. (loaded : HasLoaded seat.old.view seat.new.view)
         × FindsNearest loaded.after side from answer) }
+    ensures walked { IfOk result (λ answer. HasWalked seat.old.view (IsOneWayDown answer) seat.new.view) }
     ensures left_off { IfErr result (λ _. HasLoaded seat.old.view seat.new.view) }
     ensures tired { IfErr result (λ _. HasMade (P.least patience.now) seat.new.view) }
 {

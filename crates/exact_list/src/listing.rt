@@ -73,8 +73,9 @@ fn attempt<P: Patience, W: WaitPart>(
 ///
 /// The front isn't before what the seat has seen. No memory is asked for, and no ticket is taken.
 ///
-/// It walks the tree in order, and loads some four words for each pair, beside those on the first way down. Where more than 64 slots were
-/// passed to the left it goes down from the root again now and then. The looks at the front are as the sequence numbers of a seqlock.
+/// It walks the tree in order, and loads some four words for each pair, beside those on the first way down. Where it passed more than 64
+/// slots to the left it goes down from the root again now and then, at most once for each 65 keys that it loads. The looks at the front are
+/// as the sequence numbers of a seqlock.
 pub fn list<P: Patience, W: WaitPart>(
     patience: &P,
     table: &CitrusTable<W>,

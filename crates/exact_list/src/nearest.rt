@@ -5,6 +5,7 @@ ghost use Rattle.seat_table.specs.Rounds.{HasMade};
 ghost use Rattle.seat_table.specs.Seats.{IsQuietSeat};
 ghost use Rattle.exact_list.specs.Alone.{HasListed, HasListedAlone};
 ghost use Rattle.exact_list.specs.Answers.{IsBetweenFronts};
+ghost use Rattle.exact_list.specs.Loads.{IsOneWayDown};
 ghost use Rattle.exact_list.specs.Nearest.{IsNearest, ComesBy, IsTold};
 ghost use Rattle.exact_list.specs.Pairs.{had_at};
 ghost use Rattle.exact_list.specs.Tries.{Try, HasTried};
@@ -82,7 +83,7 @@ fn look_alone<P: Patience, W: WaitPart>(
     ensures seat { (seat.new.table ≡ seat.old.table) × (seat.new.listed ≡ seat.old.listed) }
     ensures quiet { IsQuietSeat seat.new }
     ensures tickets { seat.new.view.allowance.tickets ≡ seat.old.view.allowance.tickets }
-    ensures alone { IfOk result (λ answer. HasListedAlone seat.old.view from answer.front seat.new.view) }
+    ensures alone { IfOk result (λ answer. HasListedAlone seat.old.view from answer.front (IsOneWayDown answer.pair) seat.new.view) }
     ensures holds { IfOk result (λ answer. IsNearest (had_at (updates_of seat.new.view.seen) answer.front) side from answer.pair) }
     ensures recent { IfOk result (λ answer. IsBetweenFronts answer.front seat.old.view.seen seat.new.view.seen) }
     ensures tired { IfErr result (λ _. HasMade (P.least patience.now) seat.new.view) }
@@ -110,9 +111,9 @@ fn look_alone<P: Patience, W: WaitPart>(
 /// It always comes. First it makes so many tries, without a lock, and each beside others' updates. Where updates were made in all of them,
 /// or there are to be none, it takes the front, so that no update comes between, looks once more, and gives the front back.
 ///
-/// It goes down from the root once, and loads two words of each slot on the way, and a value. Updates wait for it while it has the front:
-/// for one way down. It waits for the updates that have the front before it. Readers wait for nothing, and it waits for no reader. The front
-/// isn't before what the seat has seen. No memory is asked for, and no ticket is taken.
+/// It goes down from the root once, and loads of each slot on the way its key and one link, and a pair's value. Updates wait for it while
+/// it has the front: for one such way down. It waits for the updates that have the front before it. Readers wait for nothing, and it waits
+/// for no reader. The front isn't before what the seat has seen. No memory is asked for, and no ticket is taken.
 pub fn nearest_always<P: Patience, W: WaitPart>(
     patience: &P,
     table: &CitrusTable<W>,
@@ -126,7 +127,7 @@ pub fn nearest_always<P: Patience, W: WaitPart>(
     ensures seat { (seat.new.table ≡ seat.old.table) × (seat.new.listed ≡ seat.old.listed) }
     ensures quiet { IsQuietSeat seat.new }
     ensures tickets { seat.new.view.allowance.tickets ≡ seat.old.view.allowance.tickets }
-    ensures came { IfOk result (λ answer. HasListed seat.old.view from answer.front tries seat.new.view) }
+    ensures came { IfOk result (λ answer. HasListed seat.old.view from answer.front tries (IsOneWayDown answer.pair) seat.new.view) }
     ensures holds { IfOk result (λ answer. IsNearest (had_at (updates_of seat.new.view.seen) answer.front) side from answer.pair) }
     ensures recent { IfOk result (λ answer. IsBetweenFronts answer.front seat.old.view.seen seat.new.view.seen) }
     ensures tired { IfErr result (λ _. HasMade (P.least patience.now) seat.new.view) }

@@ -4,6 +4,7 @@ ghost use Rattle.prcu_marks.specs.Marks.{updates_of};
 ghost use Rattle.seat_table.specs.Seats.{IsQuietSeat};
 ghost use Rattle.exact_list.specs.Alone.{HasListed, HoldsExactly};
 ghost use Rattle.exact_list.specs.Answers.{Holds, IsBetweenFronts, IsRecent, EndAs};
+ghost use Rattle.exact_list.specs.Loads.{IsOneWalk, IsOneWayDown};
 ghost use Rattle.exact_list.specs.Nearest.{IsNearest};
 ghost use Rattle.exact_list.specs.Pairs.{had_at};
 ghost use Rattle.exact_list.specs.Tries.{Try, HasTried};
@@ -25,8 +26,9 @@ use std::sync::Wait;
 ///
 /// The front isn't before what the seat has seen. No memory is asked for, and no ticket is taken.
 ///
-/// It walks the tree in order, and loads some four words for each pair, beside those on the first way down. Where more than 64 slots were
-/// passed to the left it goes down from the root again now and then. The looks at the front are as the sequence numbers of a seqlock.
+/// It walks the tree in order, and loads some four words for each pair, beside those on the first way down. Where it passed more than 64
+/// slots to the left it goes down from the root again now and then, at most once for each 65 keys that it loads. The looks at the front are
+/// as the sequence numbers of a seqlock.
 pub fn list<R: Wait, W: WaitPart>(
     rt: &R,
     table: &CitrusTable<W>,
@@ -56,8 +58,10 @@ pub fn list<R: Wait, W: WaitPart>(
 /// always comes. First it makes so many tries, as [`list`]: without a lock, and each beside others' updates. Where updates were made in
 /// all of them it takes the front, so that no update comes between, lists, and gives the front back.
 ///
-/// Updates wait for it while it has the front: for one walk. It waits for the updates that have the front before it. Readers wait for
-/// nothing, and it waits for no reader. The front isn't before what the seat has seen. No memory is asked for, and no ticket is taken.
+/// Updates wait for it while it has the front: for one walk. That loads the value of each pair told once, the next one's too, and no other;
+/// it goes down from the root once, and again at most once for each 65 keys that it loads. It waits for the updates that have the front
+/// before it. Readers wait for nothing, and it waits for no reader. The front isn't before what the seat has seen. No memory is asked for,
+/// and no ticket is taken.
 pub fn list_always<R: Wait, W: WaitPart>(
     rt: &R,
     table: &CitrusTable<W>,
@@ -73,7 +77,7 @@ pub fn list_always<R: Wait, W: WaitPart>(
     ensures quiet { IsQuietSeat seat.new }
     ensures tickets { seat.new.view.allowance.tickets ≡ seat.old.view.allowance.tickets }
     ensures capacity { page.new.capacity ≡ page.old.capacity }
-    ensures came { HasListed seat.old.view keys.low result.front tries seat.new.view }
+    ensures came { HasListed seat.old.view keys.low result.front tries (IsOneWalk page.new.pairs result.next) seat.new.view }
     ensures holds { HoldsExactly result keys seat.new.view.seen page.new }
     ensures recent { IsBetweenFronts result.front seat.old.view.seen seat.new.view.seen }
 {
@@ -90,9 +94,9 @@ pub fn list_always<R: Wait, W: WaitPart>(
 /// It always comes. First it makes so many tries, without a lock, and each beside others' updates. Where updates were made in all of them,
 /// or there are to be none, it takes the front, so that no update comes between, looks once more, and gives the front back.
 ///
-/// It goes down from the root once, and loads two words of each slot on the way, and a value. Updates wait for it while it has the front:
-/// for one way down. It waits for the updates that have the front before it. Readers wait for nothing, and it waits for no reader. The front
-/// isn't before what the seat has seen. No memory is asked for, and no ticket is taken.
+/// It goes down from the root once, and loads of each slot on the way its key and one link, and a pair's value. Updates wait for it while
+/// it has the front: for one such way down. It waits for the updates that have the front before it. Readers wait for nothing, and it waits
+/// for no reader. The front isn't before what the seat has seen. No memory is asked for, and no ticket is taken.
 pub fn nearest_always<R: Wait, W: WaitPart>(
     rt: &R,
     table: &CitrusTable<W>,
@@ -106,7 +110,7 @@ pub fn nearest_always<R: Wait, W: WaitPart>(
     ensures seat { (seat.new.table ≡ seat.old.table) × (seat.new.listed ≡ seat.old.listed) }
     ensures quiet { IsQuietSeat seat.new }
     ensures tickets { seat.new.view.allowance.tickets ≡ seat.old.view.allowance.tickets }
-    ensures came { HasListed seat.old.view from result.front tries seat.new.view }
+    ensures came { HasListed seat.old.view from result.front tries (IsOneWayDown result.pair) seat.new.view }
     ensures holds { IsNearest (had_at (updates_of seat.new.view.seen) result.front) side from result.pair }
     ensures recent { IsBetweenFronts result.front seat.old.view.seen seat.new.view.seen }
 {

@@ -2,6 +2,7 @@
 ghost use Rattle.std.specs.Prelude.{◌≡◌, ◌<◌, ◌≤◌, [], length, IfOk, IfErr};
 ghost use Rattle.seat_table.specs.Rounds.{HasMade};
 ghost use Rattle.seat_table.specs.Seats.{shape_of};
+ghost use Rattle.exact_list.specs.Loads.{HasWalked, GoesDown, IsOneWalk};
 ghost use Rattle.exact_list.specs.Walked.{IsListing, HasLoaded, Gathers};
 ghost use Rattle.exact_list.specs.Ways.{HasCome};
 
@@ -33,6 +34,7 @@ fn descend<P: Patience, W: WaitWords>(
     ensures seat { (seat.new.table ≡ seat.old.table) × (seat.new.listed ≡ seat.old.listed) }
     ensures ended { IfOk result (λ _. (loaded : HasLoaded seat.old.view seat.new.view)
         × HasCome (shape_of W.WAY table.now) loaded.after from 0 way.new) }
+    ensures down { IfOk result (λ _. HasWalked seat.old.view (GoesDown way.old way.new) seat.new.view) }
     ensures left_off { IfErr result (λ _. HasLoaded seat.old.view seat.new.view) }
     ensures tired { IfErr result (λ _. HasMade (P.least patience.now) seat.new.view) }
 {
@@ -53,7 +55,7 @@ fn descend<P: Patience, W: WaitWords>(
 
 // Gathers the pairs with these keys on the page, the least first, and answers the key for which it has no room, if there is one. From a
 // slot whose pair it took the walk goes on to the right, and from an end to the latest slot past which it went to the left: what it found
-// there still holds as long as nothing was updated. docs/TREE_CALLS.md#lists-of-a-key-range
+// there still holds as long as nothing was updated. It loads each value once. docs/TREE_CALLS.md#lists-of-a-key-range
 pub(crate) fn gather<P: Patience, W: WaitWords>(
     patience: &P,
     table: &CitrusTable<W>,
@@ -68,6 +70,7 @@ pub(crate) fn gather<P: Patience, W: WaitWords>(
     ensures page { IfOk result (λ _. (page.new.capacity ≡ page.old.capacity) × (length page.new.pairs ≤ page.new.capacity)) }
     ensures gathered { IfOk result (λ answer. (loaded : HasLoaded seat.old.view seat.new.view)
         × Gathers loaded.after keys.now page.new answer) }
+    ensures walked { IfOk result (λ answer. HasWalked seat.old.view (IsOneWalk page.new.pairs answer) seat.new.view) }
     ensures left_off { IfErr result (λ _. HasLoaded seat.old.view seat.new.view) }
     ensures tired { IfErr result (λ _. HasMade (P.least patience.now) seat.new.view) }
 {
@@ -77,7 +80,7 @@ pub(crate) fn gather<P: Patience, W: WaitWords>(
     let mut link = steps::list_load(table, seat, 0, RIGHT);
     for round in 0..u64::MAX {
         descend(patience, table, seat, from, link, &mut way)?;
-        let passed = match way.next(from) {
+        let passed = match way.next() {
             Next::Done => return Ok(None),
             Next::Lost => {
                 link = steps::list_load(table, seat, 0, RIGHT);
@@ -86,6 +89,11 @@ pub(crate) fn gather<P: Patience, W: WaitWords>(
             Next::At(passed) => passed,
         };
         let key = passed.key;
+        // Only where an update came between. All pairs up to there are on the page.
+        if key < from {
+            link = steps::list_load(table, seat, passed.slot, RIGHT);
+            continue;
+        }
         if key > high {
             return Ok(None);
         }

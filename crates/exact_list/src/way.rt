@@ -28,7 +28,7 @@ pub(crate) enum Next {
     At(Passed),
     /// Nowhere: it is through.
     Done,
-    /// At the root: the rest of the way was given up, or the tree has changed.
+    /// At the root: the rest of the way was given up.
     Lost,
 }
 
@@ -57,9 +57,9 @@ impl Way {
         self.passed.push(Passed { slot, key });
     }
 
-    // Takes off the latest slot, where its key is at least `from`. It is less only where an update came between.
-    pub(crate) fn next(&mut self, from: u64) -> Next
-        ensures { NextIs self.old from result self.new }
+    // Takes off the latest slot.
+    pub(crate) fn next(&mut self) -> Next
+        ensures { NextIs self.old result self.new }
     {
         let Some(passed) = self.passed.pop() else {
             if !self.cut {
@@ -68,11 +68,6 @@ impl Way {
             self.cut = false;
             return Next::Lost;
         };
-        if passed.key < from {
-            self.passed.clear();
-            self.cut = false;
-            return Next::Lost;
-        }
         Next::At(passed)
     }
 }

@@ -23,11 +23,13 @@ use Rattle.core_state.specs.declared.view.View.{View}
 use Rattle.core_state.specs.declared.view.Waiting.{Waiting}
 use Rattle.core_state.specs.Marks.{Grace}
 use Rattle.core_state.specs.steps.Waits.{new_wait}
+use Rattle.citrus_tree.specs.declared.comparing.Compared.TheVariants.{Replaced}
+use Rattle.citrus_tree.specs.Compares.{Compares, ComparesBy}
 use Rattle.citrus_tree.specs.Holds.{IsHolding}
 use Rattle.citrus_tree.specs.Lookups.{Looked}
-use Rattle.citrus_tree.specs.Replies.{Dels, DelsBy, Sets, SetsBy}
+use Rattle.citrus_tree.specs.Replies.{Dels, DelsBy, HasUpdated, Sets, SetsBy}
 use Rattle.held_values.specs.Held.{HasFound, WasWaited, LeftFirst, Puts, WasPut}
-use Rattle.held_values.specs.Outlives.{TakesOrReplaces, OutlivesItsHolders, OutlivesItsLookups, HoldsBack, WaitsCount, PollsCount, OwnWaitsAreLater}
+use Rattle.held_values.specs.Outlives.{TakesOrReplaces, by_del, by_set, by_compare, OutlivesItsHolders, OutlivesItsLookups, HoldsBack, WaitsCount, PollsCount, OwnWaitsAreLater}
 use Rattle.held_values.proofs.Lists.{without_last, counted}
 use Rattle.held_values.proofs.Held.{is_or_not, left_before, put_later}
 
@@ -77,25 +79,37 @@ of_del k d e key told gone dels =
           sym (ap (λ m. finite.get m key) (map_of-push (updates_of by.0) u) ∙ get-del (map_of (updates_of by.0)) key) ∙ has in cc);
     }
 
+-- the update of a call that gave the key another value
+of_gift : (d e : View) (key other old number : ℕ) (tries before : List Mark) → HasUpdated d (Set key other) tries before [] number e
+    → finite.get (map_of (updates_of before)) key ≡ Some old → IsMade key number e
+of_gift d e key other old number tries before updated has_old =
+    let u : Update = record { caller = d.allowance.place; op = Set key other } in
+    let m = map_of (updates_of before) in
+    record {
+      before = before;
+      update = u;
+      stands = updated.stands;
+      number_is = updated.number_is;
+      leaves = λ value has. inr (let now : Some other ≡ Some value = sym (ap (λ m. finite.get m key) (map_of-push (updates_of before) u)
+          ∙ get-set m key other (ap (λ o. is_some o) has_old)) ∙ has in
+          let same : other ≡ value = cc in ap (λ z. Set key z) same);
+    }
+
 of_set : (d e : View) (key other old : ℕ) (told : Told) → told.reply ≡ Was old → Sets d key other told e → IsMade key told.number e
 of_set d e key other old told was sets =
     let by : SetsBy d key other sets.0 (Was old) told.number e =
     subst (λ (r : Reply). SetsBy d key other sets.0 r told.number e) was sets.1 in
-    let u : Update = record { caller = d.allowance.place; op = Set key other } in
-    let m = map_of (updates_of by.0) in
-    record {
-      before = by.0;
-      update = u;
-      stands = by.1.stands;
-      number_is = by.1.number_is;
-      leaves = λ value has. inr (let now : Some other ≡ Some value = sym (ap (λ m. finite.get m key) (map_of-push (updates_of by.0) u)
-          ∙ get-set m key other (ap (λ o. is_some o) by.2)) ∙ has in
-          let same : other ≡ value = cc in ap (λ z. Set key z) same);
-    }
+    of_gift d e key other old told.number sets.0 by.0 by.1 by.2
 
-made_of : (k : Shape) (d e : View) (key : ℕ) (told : Told) → TakesOrReplaces k d key told e → IsMade key told.number e
-made_of k d e key told (inl (dels, gone)) = of_del k d e key told gone dels
-made_of k d e key told (inr (old, other, sets, was)) = of_set d e key other old told was sets
+of_compare : (d e : View) (key expected other number : ℕ) → Compares d key expected other (Replaced number) e → IsMade key number e
+of_compare d e key expected other number compares =
+    let by : ComparesBy d key expected other compares.0 (Replaced number) e = compares.1 in
+    of_gift d e key other expected number compares.0 by.0 by.1 by.2
+
+made_of : (k : Shape) (d e : View) (key number : ℕ) → TakesOrReplaces k d key number e → IsMade key number e
+made_of k d e key number (by_del told is gone dels) = subst (λ n. IsMade key n e) is (of_del k d e key told gone dels)
+made_of k d e key number (by_set told old other is was sets) = subst (λ n. IsMade key n e) is (of_set d e key other old told was sets)
+made_of k d e key number (by_compare expected other compares) = of_compare d e key expected other number compares
 
 module _ (h until : List Mark) (q c key value : ℕ) (found : HasFound until q c key value) (past : IsPrefix until h) (e : View) (number : ℕ)
     (made : IsMade key number e) (seen : IsPrefix e.seen h) where
@@ -131,16 +145,16 @@ module _ (h until : List Mark) (q c key value : ℕ) (found : HasFound until q c
       (λ above. inr (put_then (omega arith)))
 
 pub outlives_its_holders : OutlivesItsHolders
-outlives_its_holders k h v w d e key value p n told keys grace held past taken seen waited holds =
+outlives_its_holders k h v w d e key value number p n keys grace held past taken seen waited holds =
     ⊎_elim (λ (left : _ × _). inl left.0) (λ put. inr put)
-    (left_or_put h held.marks v.allowance.place v.counts.sections key value (held_found v w key value held) past e told.number
-    (made_of k d e key told taken) seen p n keys grace waited holds)
+    (left_or_put h held.marks v.allowance.place v.counts.sections key value (held_found v w key value held) past e number
+    (made_of k d e key number taken) seen p n keys grace waited holds)
 
 pub outlives_its_lookups : OutlivesItsLookups
-outlives_its_lookups k h v x d e key value p n told keys grace looked past taken seen waited holds =
+outlives_its_lookups k h v x d e key value number p n keys grace looked past taken seen waited holds =
     ⊎_elim (λ (left : _ × _). inl left.0) (λ put. inr put)
-    (left_or_put h x.seen v.allowance.place v.counts.sections key value (looked_found v x key value looked) past e told.number
-    (made_of k d e key told taken) seen p n keys grace waited holds)
+    (left_or_put h x.seen v.allowance.place v.counts.sections key value (looked_found v x key value looked) past e number
+    (made_of k d e key number taken) seen p n keys grace waited holds)
 
 own_below : (p : ℕ) (a b : List Mark) → IsPrefix a b → length (own_of p a) ≤ length (own_of p b)
 own_below p a b begins =
@@ -160,7 +174,7 @@ moved_on h q c key entered left enters leaves same =
     omega arith
 
 pub holds_back : HoldsBack
-holds_back k h v w d e key value p n told keys grace held past still taken seen waited holds =
+holds_back k h v w d e key value number p n keys grace held past still taken seen waited holds =
     let q = v.allowance.place in
     let c = v.counts.sections in
     let entered = held.found.entered.leaves.before in
@@ -170,8 +184,8 @@ holds_back k h v w d e key value p n told keys grace held past still taken seen 
     (prefix_trans (first.0.left ++ Left q c ∷ []) first.0.ended h first.0.leaves (without_last first.0.ended (Ended p n) h first.0.ends))
     (still ∙ ap (own_of q) (seen_is v w key value held))))
     (λ put. put)
-    (left_or_put h held.marks q c key value (held_found v w key value held) past e told.number
-    (made_of k d e key told taken) seen p n keys grace waited holds)
+    (left_or_put h held.marks q c key value (held_found v w key value held) past e number
+    (made_of k d e key number taken) seen p n keys grace waited holds)
 
 pub polls_count : PollsCount
 polls_count h until g f keys number begun later seen ends = record {
@@ -202,8 +216,8 @@ waits_count k h g f keys number waited later seen =
     (subst (λ (z : ℕ × ℕ). IsPrefix (ended.before ++ Ended z.0 z.1 ∷ []) h) (λ i. (place i, count i)) all)
 
 pub own_waits_are_later : OwnWaitsAreLater
-own_waits_are_later k d e g f key told keys taken seen begun =
-    let made = made_of k d e key told taken in
+own_waits_are_later k d e g f key number keys taken seen begun =
+    let made = made_of k d e key number taken in
     let is = made.number_is in
     let more = counted made.before made.update begun.leaves.before
     (prefix_trans (made.before ++ Done made.update ∷ []) e.seen begun.leaves.before made.stands

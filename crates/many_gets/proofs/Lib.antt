@@ -1,3 +1,4 @@
 pub mod Hopping
 pub mod Going
 pub mod Turning
+pub mod Budget

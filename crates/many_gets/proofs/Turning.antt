@@ -164,14 +164,14 @@ module _ (way : ℕ) (table : TableAt) (keys : List ℕ) (answers : List (Option
         (over n lane.0 inside lane.1) p.at in
         (lane.0, p, out.0, out.1)
 
-    pub all_looked_up : LooksUpAll keys answers before after
+    pub all_looked_up : LooksUpAll (shape_of way table) keys answers before after
     all_looked_up n s t at_s at_t =
         let e = ended n s t at_s at_t in
         let none_left = e.2 in
         let index_is = e.1.index_is in (
           e.1.count,
           omega (arith, none_left, index_is),
-          subst (λ (z : SeatAt). LooksUpEach keys answers (length before) n e.1.count s.view z.view) (sym e.3) e.1.looked_up,
+          subst (λ (z : SeatAt). LooksUpEach (shape_of way table) keys answers (length before) n e.1.count s.view z.view) (sym e.3) e.1.looked_up,
         )
 
     pub all_quiet : Each after IsQuietSeat

@@ -7,8 +7,10 @@ use Rattle.prcu_marks.specs.declared.mark.Side.{Side}
 use Rattle.core_state.specs.declared.shape.Shape.{Shape}
 use Rattle.core_state.specs.declared.view.SearchState.TheVariants as at
 use Rattle.core_state.specs.declared.view.View.{View}
+use Rattle.core_state.specs.memory.Memory.{slot_count}
 use Rattle.seat_table.specs.Gains.{IsSlot}
 use Rattle.seat_table.specs.Seats.{SeatAt, TableAt, IsQuietSeat, shape_of}
+use Rattle.citrus_tree.specs.Bounded.{EndsWithin, KeepsPace, slots_met}
 use Rattle.citrus_tree.specs.Hops.{LooksAhead}
 use Rattle.citrus_tree.specs.Lookups.{IsSearching}
 use Rattle.many_gets.specs.declared.lane.Lane.{Lane}
@@ -16,8 +18,15 @@ use Rattle.many_gets.specs.Many.{LooksUpAt, LooksUpEach}
 
 -- The search of an open section is over: it came to a slot with the key, or to an empty side.
 abbrev pub HasCome : Shape → Option ℕ → View → ℕ → View → Type 0
-HasCome k (Some holder) v key w = IsSlot k holder × ((parent : ℕ) × (side : Side) × IsSearching v key (at.Found holder parent side None) w)
-HasCome k None v key w = (slot : ℕ) × (side : Side) × IsSearching v key (at.Missed slot side) w
+HasCome k (Some holder) v key w = IsSlot k holder × EndsWithin k 2 v w
+    × ((parent : ℕ) × (side : Side) × IsSearching v key (at.Found holder parent side None) w)
+HasCome k None v key w = EndsWithin k 2 v w × ((slot : ℕ) × (side : Side) × IsSearching v key (at.Missed slot side) w)
+
+-- Or it goes on by a link that was loaded, after at most three steps for each slot at which it has stood.
+pub record LooksOn (k : Shape) (ahead : ℕ) (v : View) (key : ℕ) (w : View) : Type 0 where
+  pub looks : LooksAhead k v key ahead w
+  pub pace : KeepsPace v looks.before
+  pub few : slots_met looks.before ≤ slot_count k
 
 -- From the seat s a section was entered with the key of that index, and its search has come so far.
 pub record Sought (keys : List ℕ) (index : ℕ) (s : SeatAt) (far : View → ℕ → View → Type 0) (t : SeatAt) : Type 0 where
@@ -30,16 +39,16 @@ pub record Sought (keys : List ℕ) (index : ℕ) (s : SeatAt) (far : View → �
 abbrev pub StandsAt : Shape → List ℕ → ℕ → SeatAt → Bool → ℕ → ℕ → SeatAt → Type 0
 StandsAt k keys index s false key ahead t = (length keys ≤ index) × (t ≡ s)
 StandsAt k keys index s true key ahead t =
-    (key ≡ slice_index keys index) × Sought keys index s (λ v sought w. LooksAhead k v sought ahead w) t
+    (key ≡ slice_index keys index) × Sought keys index s (LooksOn k ahead) t
 
 abbrev pub IsAt : ℕ → TableAt → List ℕ → ℕ → SeatAt → Lane → SeatAt → Type 0
 IsAt way table keys index s lane t = StandsAt (shape_of way table) keys index s lane.searches lane.key lane.ahead t
 
 -- The seat looked up the key of that index, and the answer stands there.
-pub record HasGot (keys : List ℕ) (answers : List (Option ℕ)) (index : ℕ) (s t : SeatAt) : Type 0 where
+pub record HasGot (k : Shape) (keys : List ℕ) (answers : List (Option ℕ)) (index : ℕ) (s t : SeatAt) : Type 0 where
   pub same_table : t.table ≡ s.table
   pub same_list : t.listed ≡ s.listed
-  pub looked_up : LooksUpAt keys answers index s.view t.view
+  pub looked_up : LooksUpAt k keys answers index s.view t.view
 
 -- Since it was s the seat of this number, of so many, has looked up some of its keys, and is at the next one now.
 pub record IsLane (way : ℕ) (table : TableAt) (keys : List ℕ) (answers : List (Option ℕ)) (seats number : ℕ) (s : SeatAt) (lane : Lane)
@@ -50,7 +59,7 @@ pub record IsLane (way : ℕ) (table : TableAt) (keys : List ℕ) (answers : Lis
   pub quiet : IsQuietSeat last
   pub same_table : last.table ≡ s.table
   pub same_list : last.listed ≡ s.listed
-  pub looked_up : LooksUpEach keys answers seats number count s.view last.view
+  pub looked_up : LooksUpEach (shape_of way table) keys answers seats number count s.view last.view
   pub at : IsAt way table keys lane.index last lane t
 
 -- So it is of all seats.

@@ -77,7 +77,7 @@ fn leave<W: WaitPart>(
         × Sought keys index s (HasCome (shape_of W.WAY table.now) found) seat.old }
     ensures seat { (seat.new.table ≡ seat.old.table) × (seat.new.listed ≡ seat.old.listed) }
     ensures got { (keys : List ℕ) (s : SeatAt) → length answers.old ≡ length keys
-        → Sought keys index s (HasCome (shape_of W.WAY table.now) found) seat.old → HasGot keys answers.new index s seat.new }
+        → Sought keys index s (HasCome (shape_of W.WAY table.now) found) seat.old → HasGot (shape_of W.WAY table.now) keys answers.new index s seat.new }
     ensures others { (i : ℕ) → i ≢ index → slice_index_or answers.new i None ≡ slice_index_or answers.old i None }
     ensures more { length seat.old.view.trail.steps ≤ length seat.new.view.trail.steps }
 {
@@ -119,7 +119,7 @@ fn take_next<W: WaitPart>(
     ensures index { lane.new.index ≡ lane.old.index + count }
     ensures next { (s : SeatAt) → length answers.old ≡ length keys.now
         → Sought keys.now lane.old.index s (HasCome (shape_of W.WAY table.now) found) seat.old
-        → (x : SeatAt) × HasGot keys.now answers.new lane.old.index s x
+        → (x : SeatAt) × HasGot (shape_of W.WAY table.now) keys.now answers.new lane.old.index s x
         × IsAt W.WAY table.now keys.now (lane.old.index + count) x lane.new seat.new }
     ensures others { (i : ℕ) → i ≢ lane.old.index → slice_index_or answers.new i None ≡ slice_index_or answers.old i None }
     ensures stepped { result ≡ true → HasStepped seat.old.view seat.new.view }

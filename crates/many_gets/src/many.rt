@@ -1,14 +1,13 @@
 //! Lookups beside each other, and the turns that they take.
-ghost use Rattle.std.specs.Prelude.{◌≡◌, ℕ, ◌<◌, ◌≤◌, false, true, List, length, IfOk, IfErr};
+ghost use Rattle.std.specs.Prelude.{◌≡◌, ℕ, ◌<◌, ◌≤◌, false, true, List, length};
 ghost use Rattle.std.specs.declared.option.Option.{Option};
 ghost use Rattle.list_laws.specs.Counts.{Each};
-ghost use Rattle.seat_table.specs.Seats.{SeatAt, IsQuietSeat};
+ghost use Rattle.seat_table.specs.Seats.{SeatAt, IsQuietSeat, shape_of};
 ghost use Rattle.many_gets.specs.Lanes.{AreLanes, AreOver};
-ghost use Rattle.many_gets.specs.Many.{AreKept, HaveMade, LooksUpAll, steps_of};
+ghost use Rattle.many_gets.specs.Many.{AreKept, LooksUpAll, steps_of};
 ghost use Rattle.many_gets.specs.declared.lane.Lane.{Lane};
 
 use crate::lane::{Lane, enter, take_turn};
-use patience::Patience;
 use seat_table::{CitrusTable, Seat, WaitPart};
 
 /// How many lookups are made beside each other at most.
@@ -17,32 +16,25 @@ pub const MOST_LANES: usize = 8;
 /// Looks up each of the keys, and writes its value, or `None`, at its index: the dictionary gave it at some time of the call. Each seat
 /// looks up one key after another, each in a section of its own: the first seat the first key, and each then the one that stands as many
 /// further on as there are seats. They take turns, and a turn is one hop of a search: so a processor waits for the words of all of them
-/// together. It takes no lock and waits for nobody's step, but others' updates can make a search longer. All seats begin and end outside a
-/// section; where the call gives up, some may be in one.
-pub fn get_many<P: Patience, W: WaitPart>(
-    patience: &P,
+/// together. It takes no lock and waits for nobody's step. Others' updates can make a search longer, but it stands at no slot twice: each
+/// lookup makes at most three steps for each slot of the table, and four. All seats begin and end outside a section.
+pub fn get_many<W: WaitPart>(
     table: &CitrusTable<W>,
     seats: &mut [Seat<W>],
     keys: &[u64],
     answers: &mut [Option<u64>],
-) -> Result<(), P::Tired>
+)
     requires seats { (1 ≤ length seats.old) × (length seats.old ≤ MOST_LANES) }
     requires table { Each seats.old (λ (s : SeatAt). s.table ≡ table.now) }
     requires quiet { Each seats.old IsQuietSeat }
     requires room { length answers.old ≡ length keys.now }
     ensures kept { AreKept seats.old seats.new }
-    ensures looked_up { IfOk result (λ _. LooksUpAll keys.now answers.new seats.old seats.new) }
-    ensures quiet { IfOk result (λ _. Each seats.new IsQuietSeat) }
-    ensures tired { IfErr result (λ _. HaveMade (P.least patience.now) seats.new) }
+    ensures looked_up { LooksUpAll (shape_of W.WAY table.now) keys.now answers.new seats.old seats.new }
+    ensures quiet { Each seats.new IsQuietSeat }
 {
     let mut lanes = [Lane::outside(0); MOST_LANES];
     enter_all(table, seats, &mut lanes, keys);
-    for turn in 0..u64::MAX {
-        if !take_turns(table, seats, &mut lanes, keys, answers) {
-            return Ok(());
-        }
-    }
-    Err(patience.tired())
+    while take_turns(table, seats, &mut lanes, keys, answers) {}
 }
 
 // Each seat enters a section with its first key, if it has one.

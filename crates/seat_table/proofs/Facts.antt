@@ -7,7 +7,7 @@ use native.Mathlib.Decide.{ℕ_discrete}
 use mathlib.Core.Option.{some}
 use lib.ListN.{get_elem?}
 use Rattle.atomic_table.proofs.Lists.{at_longer}
-use Rattle.list_laws.specs.Counts.{times, total}
+use Rattle.list_laws.specs.Counts.{IsIn, times, total}
 use Rattle.list_laws.proofs.Lists.{at_below, in_first, times_in, total_part, total_set}
 use Rattle.prcu_marks.specs.declared.mark.Mark.{Mark}
 use Rattle.prcu_marks.specs.declared.mark.Mark.TheVariants.{Entered, Left as LeftMark, Began, Ended, Done, Given, Unlinked, Freed}
@@ -55,6 +55,7 @@ use Rattle.prcu_marks.specs.declared.access.Access.TheVariants.{Load, Store, Exc
 use Rattle.prcu_marks.specs.Accesses.{left_by, said_by, StaysWord}
 use Rattle.core_acts.specs.Acts.{field_of, access_of, Asks}
 use Rattle.core_acts.proofs.Acting.{has_word}
+use Rattle.core_frames.proofs.chart.Ways.{way_short}
 use Rattle.seat_table.specs.Gains.{Sees, IsInformed, WordFits, IsApart, IsSlot, StoodInside, HasSide, StaysIn, TellsApart}
 use Rattle.core_acts.proofs.Places.{word_inside}
 
@@ -310,14 +311,23 @@ module _ (k : Shape) (m : Memory) (vs : List View) (h : List Mark) (i : HoldsNow
   -- the slots at which an open section stood are the table's
   pub stood_inside : StoodInside k v
   stood_inside = record {
-    stood = λ section s inside has. slot (⊎_elim (λ linked. i.tree.shape.within s linked)
-        (λ held. let back = held.0 in gone_within k m vs h i s back.at back.gone)
-        ((i.readers.served id v at section inside).stood s has).here);
+    stood = λ section s inside has. slot (below section s inside has);
+    few = λ section inside.
+        let short = way_short i.chart section.reading (slot_count k) (i.readers.served id v at section inside).way
+        (λ s has. below section s inside has) in
+        let slots = i.table.few_slots in
+        let places = i.table.few_places in
+        record { inside = short; fits = omega (arith, short, slots, places) };
     listed = λ section listing t inside lists has. slot
         (⊎_elim (λ linked. i.tree.shape.within t.slot linked) (λ back. gone_within k m vs h i t.slot back.at back.gone)
         ((i.listings.listings id v at section listing inside lists).visits has.0 t has.1).here);
   }
     where
+      below : (section : Section) (s : ℕ) → v.section ≡ Some section → IsIn section.reading.stood s → s < slot_count k
+      below section s inside has = ⊎_elim (λ linked. i.tree.shape.within s linked)
+          (λ held. let back = held.0 in gone_within k m vs h i s back.at back.gone)
+          ((i.readers.served id v at section inside).stood s has).here
+
       slot : {s : ℕ} → s < slot_count k → IsSlot k s
       slot {s} below = let few = i.table.few_slots in let places = i.table.few_places in record { inside = below; fits = omega arith }
 

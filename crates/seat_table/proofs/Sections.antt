@@ -244,6 +244,7 @@ module _ (k : Shape) (v v1 : View) (key gate : ℕ) (outside : v.section ≡ Non
 left_by : (v w : View) (kind : Kind) (field : Field) (number : ℕ) (section : Section) (h : List Mark) → is_exit kind ≡ true
     → v.section ≡ Some section → Sees v h → w ≡ leaving (stepped v kind field number) (section_of v) h → LeavesAnswer v w → IsInformed w
     → HasLeft v w
+unfolding made_none
 left_by v w kind field number section h exit was sees goes answers informed =
     let is : w ≡ leaving (stepped v kind field number) section h =
     goes ∙ ap (λ s. leaving (stepped v kind field number) s h) (section_is v section was) in
@@ -253,6 +254,7 @@ left_by v w kind field number section h exit was sees goes answers informed =
       leaves = record { before = h; seen = sees; marked = refl };
       outside = refl;
       made = made_more is_exit v.trail v kind field number exit (made_none is_exit v.trail);
+      once = refl;
       others = refl;
       answer = subst (λ z. GivesAnswer z section) (ap (λ (z : View). z.seen) is) (answers.answer section was);
       informed = subst IsInformed is informed;

@@ -72,9 +72,15 @@ pub record IsSlot (k : Shape) (s : ℕ) : Type 0 where
   pub inside : s < slot_count k
   pub fits : s < 4294967296
 
--- The slots at which the open section has stood are the table's, and so are those where its listing has been.
+-- as many slots as a table has, or fewer; the number fits 32 bits
+pub record AreFew (k : Shape) (n : ℕ) : Type 0 where
+  pub inside : n ≤ slot_count k
+  pub fits : n < 4294967296
+
+-- The slots at which the open section has stood are the table's, and no more than it has; so are those where its listing has been.
 pub record StoodInside (k : Shape) (w : View) : Type 0 where
   pub stood : (section : Section) (s : ℕ) → w.section ≡ Some section → IsIn section.reading.stood s → IsSlot k s
+  pub few : (section : Section) → w.section ≡ Some section → AreFew k (length section.reading.stood)
   pub listed : (section : Section) (listing : Listing) (t : Visit) → w.section ≡ Some section → section.listing ≡ Some listing
       → IsIn listing.visits t → IsSlot k t.slot
 

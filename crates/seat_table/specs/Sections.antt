@@ -109,13 +109,14 @@ pub record EntersBy (waiter : Waiter) (v : View) (key : ℕ) (w : View) : Type 0
   pub makes : w.trail ≡ record v.trail { steps = v.trail.steps ++ steps }
   pub are : AreOfEntry waiter v.allowance.place key steps
 
--- The open section was left. What its search found, the dictionary said at some front since it was entered.
+-- The open section was left, by one step. What its search found, the dictionary said at some front since it was entered.
 pub record HasLeft (v : View) (w : View) : Type 0 where
   pub section : Section
   pub was : v.section ≡ Some section
   pub leaves : Leaves v (Left v.allowance.place section.count) w
   pub outside : w.section ≡ None
   pub made : Makes is_exit v.trail w.trail
+  pub once : length made.steps ≡ 1
   pub others : w ≡ record v { enter = w.enter; section = None; records = section.reading ∷ v.records; trail = w.trail; seen = w.seen }
   pub answer : GivesAnswer w.seen section
   pub informed : IsInformed w

@@ -25,8 +25,8 @@ const SALT: u64 = 0x9e37_79b9_7f4a_7c15;
 
 /// Makes the operation by its own call. After a put whose way was deep it lifts nodes on that way, by four attempts at most, and only then
 /// returns what the put was told. A way is deep where it leads over more slots than `most_depth` allows for as many keys as the table has
-/// slots: that bounds the pairs, and it is known without a step. Where half of the way would be deep already, the lift may stand still
-/// for all readers, since it needs room for two more retired slots. What the call itself waits for is said at `put`, `get`, `del` and `set`.
+/// slots: that bounds the pairs, and it is known without a step. Where three quarters of the way would be deep already, the lift may stand
+/// still for all readers, since it needs room for two more retired slots. What the call itself waits for is said at `put`, `get`, `del` and `set`.
 // A call would hand the operation and its answer through memory.
 #[inline(always)]
 pub fn call_and_lift<R: Wait, W: WaitPart, G: Gate>(

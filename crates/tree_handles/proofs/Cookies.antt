@@ -3,6 +3,7 @@ use Rattle.std.proofs.Common.{◌≡◌, ℕ, ◌+◌, Bool, true, false, List, 
 use mathlib.Core.List.{IsPrefix}
 use Rattle.prcu_model.proofs.ListFacts.{prefix_trans}
 use Rattle.core_state.specs.declared.shape.Shape.{Shape}
+use Rattle.core_state.specs.declared.view.StepMade.{StepMade}
 use Rattle.core_state.specs.declared.view.View.{View}
 use Rattle.core_state.specs.steps.Seating.{first_of}
 use Rattle.seat_table.specs.Seats.{SeatAt}
@@ -96,7 +97,8 @@ module _ {k : Shape} {cookie : Option CookieAt} where
   cookie_front {v} {w} allowance seen counts wait has = stays_good (keeps_latest v w (ap (λ a. a.place) allowance)
       ([], append-nil v.seen ∙ sym seen) (ap (λ c. c.waits) counts) wait) has
 
-  cookie_alone : {v w : View} {key front : ℕ} → HasListedAlone v key front w → HasCookie k cookie v → HasCookie k cookie w
+  cookie_alone : {v w : View} {key front : ℕ} {walk : List StepMade → Type 0} → HasListedAlone v key front walk w → HasCookie k cookie v
+      → HasCookie k cookie w
   cookie_alone {v} {w} a has =
       let takes = a.takes.others in
       let gives = a.gives.others in
@@ -105,10 +107,11 @@ module _ {k : Shape} {cookie : Option CookieAt} where
       (cookie_front (ap (λ (z : View). z.allowance) takes) (ap (λ (z : View). z.seen) takes) (ap (λ (z : View). z.counts) takes)
       (ap (λ (z : View). z.wait) takes) has))
 
-  pub cookie_listed : {v w : View} {key front most : ℕ} → HasListed v key front most w → HasCookie k cookie v → HasCookie k cookie w
-  cookie_listed {v} {w} {key} {front} {most} came has = ⊎_elim
+  pub cookie_listed : {v w : View} {key front most : ℕ} {walk : List StepMade → Type 0} → HasListed v key front most walk w
+      → HasCookie k cookie v → HasCookie k cookie w
+  cookie_listed {v} {w} {key} {front} {most} {walk} came has = ⊎_elim
       (λ (x : HasListedByTry v key front most w). cookie_tried x.tried has)
-      (λ (x : HasListedAfterTries v key front most w). cookie_alone x.alone (cookie_tried x.tried has)) came
+      (λ (x : HasListedAfterTries v key front most walk w). cookie_alone x.alone (cookie_tried x.tried has)) came
 
   pub cookie_waited : {other : Shape} {v w : View} {low high : ℕ} → HasWaited other v low high w → HasCookie k cookie v
       → HasCookie k cookie w

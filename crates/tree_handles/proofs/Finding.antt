@@ -36,7 +36,7 @@ module _ {c d : CallerAt} {side : Side} {keys : Interval} {n : Nearest} where
 
   finds_so : ((key : ℕ) → Holds keys key → had_at (updates_of d.seat.view.seen) n.front key ≡ None) → Seeks c side (end_of side keys) n d
       → FindsNoneIn c side keys d
-  finds_so none seeks = record { front = n.front; looks = seeks.looks; none = none; recent = seeks.recent }
+  finds_so none seeks = record { nearest = n; seeks = seeks; none = none }
 
   pub finds_none : keys.high < 18446744073709551616 → n.pair ≡ None → Seeks c side (end_of side keys) n d → FindsNoneIn c side keys d
   finds_none few is seeks = finds_so

@@ -17,11 +17,11 @@ use Rattle.tree_handles.specs.declared.status.Status.{Status}
 use Rattle.tree_handles.specs.declared.status.Status.TheVariants.{Done, Unchanged, Full, More, Moved, New, Different, Closed, BadArgument, NoMemory, Spent, Lost, Holds}
 
 pub index_on : (c b d : CallerAt) → AreOfOneIndex c b → AreOfOneIndex b d → AreOfOneIndex c d
-index_on c b d one two = record { way = two.way ∙ one.way; table = two.table ∙ one.table }
+index_on c b d one two = record { way = two.way ∙ one.way; table = two.table ∙ one.table; salt = two.salt ∙ one.salt }
 
 -- the same caller is of the same index
 pub of_one_index : (c d : CallerAt) → IsSameCaller c d → AreOfOneIndex c d
-of_one_index c d same = record { way = same.way; table = same.table }
+of_one_index c d same = record { way = same.way; table = same.table; salt = same.salt }
 
 -- A caller that could go on came to another that could, which is lost now.
 pub lost_on : (c b d : CallerAt) → MayGoOn c → AreOfOneIndex c b → MayGoOn b → IsLost b d → IsLost c d

@@ -6,6 +6,7 @@ use Rattle.prcu_model.proofs.ListFacts.{all_append}
 use mathlib.Core.List.{IsPrefix}
 use Rattle.prcu_marks.specs.declared.mark.Mark.{Mark}
 use Rattle.prcu_marks.specs.Marks.{own_of}
+use Rattle.core_state.specs.declared.view.StepMade.{StepMade}
 use Rattle.core_state.specs.declared.view.View.{View}
 use Rattle.tree_points.proofs.Gone.{gone_on, gone_same}
 use Rattle.citrus_tree.specs.Gone.{IsOfTry}
@@ -13,6 +14,7 @@ use Rattle.exact_list.specs.Answers.{Paged}
 use Rattle.exact_list.specs.Pairs.{Pair}
 use Rattle.exact_list.specs.declared.alone.Exact.{Exact}
 use Rattle.exact_list.specs.Alone.{HasListedAfterTries, HasListedAlone, HasListedByTry}
+use Rattle.exact_list.specs.Loads.{IsOneWalk}
 use Rattle.exact_list.specs.Tries.{Try, HasTried, marks_from}
 use Rattle.tree_lift.specs.declared.lifting.Stop.{Stop}
 use Rattle.tree_lift.specs.declared.lifting.Stop.TheVariants as stop
@@ -80,8 +82,9 @@ plain_front v w allowance seen steps = record {
   each = tt;
 }
 
-plain_alone : (v : View) (key front : ℕ) (w : View) → HasListedAlone v key front w → LeavesNoUpdates v w
-plain_alone v key front w a =
+plain_alone : (v : View) (key front : ℕ) (walk : List StepMade → Type 0) (w : View) → HasListedAlone v key front walk w
+    → LeavesNoUpdates v w
+plain_alone v key front walk w a =
     let takes = a.takes.others in
     let gives = a.gives.others in
     plain_on v a.listed w (plain_on v a.holding a.listed
@@ -95,8 +98,9 @@ plain_listed : (c : CallerAt) (keys : Interval) (page : Paged) (exact : Exact) (
     → LeavesNoUpdates c.seat.view d.seat.view
 plain_listed c keys page exact d listed = ⊎_elim
     (λ (x : HasListedByTry c.seat.view keys.low exact.front 4 d.seat.view). plain_tried c.seat.view keys.low x.tries d.seat.view x.tried)
-    (λ (x : HasListedAfterTries c.seat.view keys.low exact.front 4 d.seat.view). plain_on c.seat.view x.failed d.seat.view
-    (plain_tried c.seat.view keys.low x.tries x.failed x.tried) (plain_alone x.failed keys.low exact.front d.seat.view x.alone))
+    (λ (x : HasListedAfterTries c.seat.view keys.low exact.front 4 (IsOneWalk page.pairs exact.next) d.seat.view).
+    plain_on c.seat.view x.failed d.seat.view (plain_tried c.seat.view keys.low x.tries x.failed x.tried)
+    (plain_alone x.failed keys.low exact.front (IsOneWalk page.pairs exact.next) d.seat.view x.alone))
     listed.looks.came
 
 plain_next : (key turns : ℕ) (ended : Stop) (c : CallerAt) (before : Tally) (d : CallerAt) (after : Tally)

@@ -5,6 +5,7 @@ use Rattle.key_interval.specs.Keys.{Interval}
 use Rattle.prcu_marks.specs.declared.mark.Why.{Why}
 use Rattle.core_state.specs.declared.shape.Shape.{Shape}
 use Rattle.core_state.specs.declared.view.View.{View}
+use Rattle.seat_table.specs.Onward.{LooksAt, IsOnward, IsWithin}
 use Rattle.seat_table.specs.Sections.{HasBegun}
 use Rattle.seat_table.specs.Seats.{shape_of}
 use Rattle.grace_cookie.specs.declared.answers.Ask.{Ask}
@@ -52,7 +53,8 @@ abbrev pub IsKeptBy : Ask → CookieAt → Option CookieAt → Type 0
 IsKeptBy Over now left = left ≡ None
 IsKeptBy _ now left = left ≡ Some now
 
--- The caller had the cookie with this number, and asked about it once.
+-- The caller had the cookie with this number, and asked about it once, from where the last poll stopped: at no spot before that, as long as
+-- the keys have the class at which the cookie stands or a later one.
 pub record HasAsked (c : CallerAt) (number : ℕ) (answer : Ask) (d : CallerAt) : Type 0 where
   pub index : AreOfOneIndex c d
   pub before : MayGoOn c
@@ -63,6 +65,7 @@ pub record HasAsked (c : CallerAt) (number : ℕ) (answer : Ask) (d : CallerAt) 
   pub now : CookieAt
   pub same : IsSameCookie cookie now
   pub asked : Asked (shape_of c.way c.table) cookie c.seat.view answer now d.seat.view
+  pub onward : IsWithin cookie.keys cookie.reached.class → LooksAt (IsOnward cookie.reached) c.seat.view d.seat.view
   pub kept : IsKeptBy answer now d.cookie
   pub after : MayGoOn d
 

@@ -12,11 +12,12 @@ use Rattle.seat_table.specs.Seats.{SeatAt, TableAt, IsQuietSeat}
 use Rattle.seat_table.specs.Sections.{IsQuietReader}
 use Rattle.grace_cookie.specs.Cookies.{CookieAt}
 
--- what a clause sees of a caller: the number of its waiter, its table, its seat, whether a call of it gave up, and the cookie of the wait
--- that it may ask about
+-- what a clause sees of a caller: the number of its waiter, its table, the salt by which the index's nodes rise, its seat, whether a call of
+-- it gave up, and the cookie of the wait that it may ask about
 pub record CallerAt : Type 0 where
   pub way : ℕ
   pub table : TableAt
+  pub salt : ℕ
   pub seat : SeatAt
   pub lost : Bool
   pub cookie : Option CookieAt
@@ -25,11 +26,13 @@ pub record CallerAt : Type 0 where
 pub record AreOfOneIndex (c d : CallerAt) : Type 0 where
   pub way : d.way ≡ c.way
   pub table : d.table ≡ c.table
+  pub salt : d.salt ≡ c.salt
 
 -- The second is the first one later on: a caller of the same index, with the same cookie.
 pub record IsSameCaller (c d : CallerAt) : Type 0 where
   pub way : d.way ≡ c.way
   pub table : d.table ≡ c.table
+  pub salt : d.salt ≡ c.salt
   pub cookie : d.cookie ≡ c.cookie
 
 -- The caller may go on: it isn't lost, and its seat is one of its table, and quiet.
@@ -53,10 +56,11 @@ pairs_that_fit table = table.slots - (table.room + 4) * (table.places - 1)
 pub record IsFilled (c : CallerAt) : Type 0 where
   pub pairs : pairs_that_fit c.table ≤ finite.len (map_of (updates_of c.seat.view.seen))
 
--- The first caller of a new index with this waiter, in which so many pairs always fit, and 68 more, for so many handles, with all tickets. A
--- place may hold back 64 retired slots.
-pub record IsFresh (way pairs handles : ℕ) (c : CallerAt) : Type 0 where
+-- The first caller of a new index with this waiter and salt, in which so many pairs always fit, and 68 more, for so many handles, with all
+-- tickets. A place may hold back 64 retired slots.
+pub record IsFresh (way pairs handles salt : ℕ) (c : CallerAt) : Type 0 where
   pub way_is : c.way ≡ way
+  pub salt_is : c.salt ≡ salt
   pub pairs_are : pairs_that_fit c.table ≡ pairs + 68
   pub handles_are : c.table.places ≡ handles
   pub room_is : c.table.room ≡ 64

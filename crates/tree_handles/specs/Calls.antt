@@ -12,11 +12,15 @@ use Rattle.seat_table.specs.Seats.{SeatAt, IsQuietSeat, shape_of}
 use Rattle.tree_points.specs.Progress.{KeepsAllowance}
 use Rattle.citrus_tree.specs.declared.comparing.Compared.{Compared}
 use Rattle.citrus_tree.specs.declared.comparing.Compared.TheVariants as compared
+use Rattle.citrus_tree.specs.Beginnings.{Begins, BeginsByLookup}
+use Rattle.citrus_tree.specs.Bounded.{EndsWithin}
 use Rattle.citrus_tree.specs.Clients.{IsTold}
 use Rattle.citrus_tree.specs.Compares.{Compares}
 use Rattle.citrus_tree.specs.Gone.{KeepsWait}
 use Rattle.citrus_tree.specs.Replies.{TellsValue}
-use Rattle.tree_lift.specs.Lifts.{LeavesNoUpdate}
+use Rattle.tree_lift.specs.declared.lifting.Aim.{Aim}
+use Rattle.tree_lift.specs.declared.lifting.Lifted.{Lifted}
+use Rattle.tree_lift.specs.Lifts.{LeavesNoUpdate, HasLifted as TriesTurns}
 use Rattle.tree_handles.specs.Callers.{CallerAt, AreOfOneIndex, IsSameCaller, IsFilled, IsInside, MayGoOn}
 use Rattle.tree_handles.specs.declared.status.Status.{Status}
 use Rattle.tree_handles.specs.declared.status.Status.TheVariants.{Done, Unchanged, Full, Moved, New, Different, Spent, Lost, Holds}
@@ -25,10 +29,12 @@ use Rattle.tree_handles.specs.declared.status.Status.TheVariants.{Done, Unchange
 abbrev pub patient_steps : ℕ
 patient_steps = 18446744073709551615
 
--- The tree's call told this of the operation, and left this seat, with at most four tickets less.
+-- The tree's call told this of the operation, and left this seat, with at most four tickets less. It began by a lookup of the key; a remove
+-- by that once its place had room for what it takes out.
 pub record TreeTells (c : CallerAt) (op : Op) (told : Told) (s : SeatAt) : Type 0 where
   pub table : s.table ≡ c.table
   pub answer : IsTold (shape_of c.way c.table) c.seat.view op told s.view
+  pub begins : Begins (shape_of c.way c.table) c.seat.view op s.view
   pub wait : KeepsWait c.seat.view s.view
   pub tickets : c.seat.view.allowance.tickets ≤ s.view.allowance.tickets + 4
   pub allowance : KeepsAllowance c.seat.view s.view
@@ -46,12 +52,22 @@ pub record HasAdded (key : ℕ) (op : Op) (told : Told) : Type 0 where
   pub put : op ≡ Put key value
   pub new : told.reply ≡ reply.New
 
--- Nodes on the way to the key were lifted, with at most twelve tickets: of the place no marks were left but those of sections with the key,
--- and of waits for everybody.
+-- how many tickets the lift behind an insert uses at most: three for each of 24 attempts
+abbrev pub lift_tickets : ℕ
+lift_tickets = 72
+
+-- Nodes on the way to the key were lifted by the index's salt, with at most so many tickets: turns were tried, as a lift says, and between them all readers were
+-- waited for only where the place had no room for two more retired slots. Of the place no marks were left but those of sections with the
+-- key, and of such waits.
 pub record HasLifted (key : ℕ) (s : SeatAt) (d : CallerAt) : Type 0 where
+  pub aim : Aim
+  pub key_is : aim.key ≡ key
+  pub salt_is : aim.salt ≡ d.salt
+  pub lifted : Lifted
+  pub turns : TriesTurns (shape_of d.way d.table) aim lifted s.view d.seat.view
   pub updates : LeavesNoUpdate s.view key d.seat.view
   pub wait : KeepsWait s.view d.seat.view
-  pub tickets : s.view.allowance.tickets ≤ d.seat.view.allowance.tickets + 12
+  pub tickets : s.view.allowance.tickets ≤ d.seat.view.allowance.tickets + lift_tickets
   pub allowance : KeepsAllowance s.view d.seat.view
   pub informed : IsInformed d.seat.view
   pub may : MayGoOn d
@@ -111,11 +127,15 @@ IsHinderedBy needed status c d = IsStoppedBy status c d
 abbrev pub CausedBy : Status → CallerAt → CallerAt → Type 0
 CausedBy status c d = IsHinderedBy 4 status c d
 
--- What a get answers. `was` is what stood where the value is told.
+-- Whatever others did, the call made at most three steps for each slot of the table, and four.
+abbrev pub IsWaitFree : CallerAt → CallerAt → Type 0
+IsWaitFree c d = EndsWithin (shape_of c.way c.table) 4 c.seat.view d.seat.view
+
+-- What a get answers. `was` is what stood where the value is told. It gives up in no case, so it is Lost only where an earlier call gave up.
 abbrev pub Gets : CallerAt → ℕ → ℕ → Status → ℕ → CallerAt → Type 0
-Gets c key was Done value d = IsAnswered c (Get key) (reply.Val value) d
-Gets c key was Unchanged value d = IsAnswered c (Get key) reply.Absent d × (value ≡ was)
-Gets c key was status value d = CausedBy status c d × (value ≡ was)
+Gets c key was Done value d = IsAnswered c (Get key) (reply.Val value) d × IsWaitFree c d
+Gets c key was Unchanged value d = IsAnswered c (Get key) reply.Absent d × IsWaitFree c d × (value ≡ was)
+Gets c key was status value d = CausedBy status c d × (d ≡ c) × (value ≡ was)
 
 -- What an insert answers. It is Full only where as many pairs are there as always fit.
 abbrev pub Inserts : CallerAt → ℕ → ℕ → Status → CallerAt → Type 0
@@ -138,12 +158,14 @@ Removes c key was Done old d = IsRemoved c key (Some old) d
 Removes c key was Unchanged old d = IsRemoved c key None d × (old ≡ was)
 Removes c key was status old d = CausedBy status c d × (old ≡ was)
 
--- The caller, which had four tickets or more, made a compare, which was answered so by the tree's. Nothing comes behind it.
+-- The caller, which had four tickets or more, made a compare, which was answered so by the tree's, and began by a lookup of the key. Nothing
+-- comes behind it.
 pub record IsCompared (c : CallerAt) (key expected value : ℕ) (answer : Compared) (d : CallerAt) : Type 0 where
   pub index : IsSameCaller c d
   pub before : MayGoOn c
   pub enough : 4 ≤ c.seat.view.allowance.tickets
   pub told : Compares c.seat.view key expected value answer d.seat.view
+  pub begins : BeginsByLookup c.seat.view key d.seat.view
   pub wait : KeepsWait c.seat.view d.seat.view
   pub tickets : c.seat.view.allowance.tickets ≤ d.seat.view.allowance.tickets + 4
   pub allowance : KeepsAllowance c.seat.view d.seat.view

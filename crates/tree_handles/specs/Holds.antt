@@ -1,13 +1,13 @@
 -- What calls answer that leave a section open, leave it, or wait for the sections of others.
 -- Source: docs/EMBEDDING.md, "Statuses".
-use Rattle.std.specs.Prelude.{◌≡◌, ℕ, ◌+◌, ◌<◌, ◌≤◌, true, Option, Some, None}
+use Rattle.std.specs.Prelude.{◌≡◌, ◌⊎◌, ℕ, ◌+◌, ◌<◌, ◌≤◌, true, Option, Some, None}
 use Rattle.key_interval.specs.Keys.{Interval}
-use Rattle.seat_table.specs.Sections.{HasEntered, HasLeft}
-use Rattle.seat_table.specs.Seats.{shape_of}
+use Rattle.seat_table.specs.Sections.{HasEntered, EntersBy, HasLeft}
+use Rattle.seat_table.specs.Seats.{SeatAt, shape_of, way_of}
 use Rattle.seat_table.specs.Waits.{HasWaited}
 use Rattle.citrus_tree.specs.Holds.{HoldsOrNot, Releases}
 use Rattle.tree_handles.specs.Callers.{CallerAt, IsSameCaller, IsInside, MayGoOn}
-use Rattle.tree_handles.specs.Calls.{IsSpent, IsStoppedBy}
+use Rattle.tree_handles.specs.Calls.{IsSpent, IsStoppedBy, IsWaitFree}
 use Rattle.tree_handles.specs.Lists.{IsLeft}
 use Rattle.tree_handles.specs.declared.status.Status.{Status}
 use Rattle.tree_handles.specs.declared.status.Status.TheVariants.{Done, Unchanged, BadArgument, Spent, Lost}
@@ -17,24 +17,26 @@ abbrev pub IsLeftBy : Option ℕ → CallerAt → Type 0
 IsLeftBy (Some value) d = IsInside d
 IsLeftBy None d = MayGoOn d
 
--- The caller looked the key up in a section, which is open where the key has a value.
+-- The caller looked the key up in a section, which is open where the key has a value, with few steps whatever others did.
 pub record HasHeld (c : CallerAt) (key : ℕ) (value : Option ℕ) (d : CallerAt) : Type 0 where
   pub index : IsSameCaller c d
   pub before : MayGoOn c
   pub held : HoldsOrNot c.seat.view key value d.seat.view
+  pub soon : IsWaitFree c d
   pub after : IsLeftBy value d
 
--- What a hold answers. `was` is what stood where the value is told.
+-- What a hold answers. `was` is what stood where the value is told. It gives up in no case, so it is Lost only where an earlier call gave up.
 abbrev pub HoldsValue : CallerAt → ℕ → ℕ → Status → ℕ → CallerAt → Type 0
 HoldsValue c key was Done value d = HasHeld c key (Some value) d
 HoldsValue c key was Unchanged value d = HasHeld c key None d × (value ≡ was)
-HoldsValue c key was status value d = IsStoppedBy status c d × (value ≡ was)
+HoldsValue c key was status value d = IsStoppedBy status c d × (d ≡ c) × (value ≡ was)
 
--- The caller entered a section with the key.
+-- The caller entered a section with the key, by just the steps of its waiter.
 pub record IsEntered (c : CallerAt) (key : ℕ) (d : CallerAt) : Type 0 where
   pub index : IsSameCaller c d
   pub before : MayGoOn c
   pub entered : HasEntered c.seat.view key d.seat.view
+  pub steps : EntersBy (way_of c.way) c.seat.view key d.seat.view
   pub after : IsInside d
 
 -- What an enter answers.
@@ -56,6 +58,10 @@ LeavesSection c Done d = IsReleased c d
 LeavesSection c Unchanged d = IsLeft c d
 LeavesSection c Lost d = (c.lost ≡ true) × (d ≡ c)
 LeavesSection c _ d = ⊥
+
+-- What a close does with its seat before another may have it: the open section is left; or none was open, and no step is made.
+abbrev pub EndsOutside : SeatAt → SeatAt → Type 0
+EndsOutside s t = HasLeft s.view t.view ⊎ ((s.view.section ≡ None) × (t ≡ s))
 
 -- The caller waited for the sections with these keys, by one ticket.
 pub record HasOutwaited (c : CallerAt) (keys : Interval) (d : CallerAt) : Type 0 where

@@ -1,24 +1,23 @@
 -- What lanes hold, and what is answered where they are opened and look up many keys.
 -- Source: docs/TREE_CALLS.md, "The calls".
-use Rattle.std.specs.Prelude.{◌≡◌, ◌⊎◌, ℕ, ◌<◌, ◌≤◌, Bool, true, false, List, [], ◌∷◌, ◌++◌, length, map, drop, Option, Some, None}
+use Rattle.std.specs.Prelude.{◌≡◌, ◌⊎◌, ℕ, ◌<◌, ◌≤◌, true, List, [], ◌∷◌, ◌++◌, length, map, drop, Option, Some, None}
 use Rattle.core_state.specs.declared.view.View.{View}
 use Rattle.core_state.specs.steps.Seating.{first_of, second_of}
 use Rattle.list_laws.specs.Counts.{Each}
-use Rattle.many_gets.specs.Many.{LooksUpAll, HaveMade}
-use Rattle.seat_table.specs.Seats.{SeatAt, TableAt, IsQuietSeat}
+use Rattle.many_gets.specs.Many.{LooksUpAll}
+use Rattle.seat_table.specs.Seats.{SeatAt, TableAt, IsQuietSeat, shape_of}
 use Rattle.tree_handles.specs.Callers.{CallerAt, IsSameCaller, MayGoOn}
-use Rattle.tree_handles.specs.Calls.{StaysInside, patient_steps}
+use Rattle.tree_handles.specs.Calls.{StaysInside}
 use Rattle.tree_handles.specs.Lists.{IsLeft}
 use Rattle.tree_handles.specs.declared.answers.Answer.{Answer}
 use Rattle.tree_handles.specs.declared.status.Status.{Status}
 use Rattle.tree_handles.specs.declared.status.Status.TheVariants.{Done, Closed, BadArgument, NoMemory, Lost, Holds}
 
--- what a clause sees of lanes: the number of their waiter, their table, the seat of each lane, and whether a call of them gave up
+-- what a clause sees of lanes: the number of their waiter, their table, and the seat of each lane
 pub record LanesAt : Type 0 where
   pub way : ℕ
   pub table : TableAt
   pub seats : List SeatAt
-  pub lost : Bool
 
 -- what is held where there may be no place for lanes, or none in it
 abbrev pub lanes_in : Option (Option LanesAt) → Option LanesAt
@@ -31,9 +30,8 @@ pub record AreSeated (table : TableAt) (seats : List SeatAt) : Type 0 where
   pub few : length seats ≤ 8
   pub tables : Each seats (λ (s : SeatAt). s.table ≡ table)
 
--- The lanes may look up: they aren't lost, and their seats are of their table, and quiet.
+-- The lanes may look up: their seats are of their table, and quiet.
 pub record MayLookUp (l : LanesAt) : Type 0 where
-  pub kept : l.lost ≡ false
   pub seated : AreSeated l.table l.seats
   pub quiet : Each l.seats IsQuietSeat
 
@@ -75,16 +73,8 @@ pub record HaveLookedUp (l : LanesAt) (keys : List ℕ) (found : List (Option �
   pub before : MayLookUp l
   pub room : length found ≡ length keys
   pub same_count : length m.seats ≡ length l.seats
-  pub looked_up : LooksUpAll keys found l.seats m.seats
+  pub looked_up : LooksUpAll (shape_of l.way l.table) keys found l.seats m.seats
   pub after : MayLookUp m
-
--- The call gave up in its midst, when the seats had made that many steps together; or an earlier one had, and then nothing has changed.
-pub record AreLost (l m : LanesAt) : Type 0 where
-  pub way : m.way ≡ l.way
-  pub table : m.table ≡ l.table
-  pub lost : m.lost ≡ true
-  pub tired : l.lost ≡ false → HaveMade patient_steps m.seats
-  pub earlier : l.lost ≡ true → m ≡ l
 
 -- what was found of a key, as it is written
 abbrev pub answer_of : Option ℕ → Answer
@@ -95,17 +85,11 @@ answer_of None = record { value = 0; found = 0 }
 abbrev pub WritesAnswers : List Answer → List (Option ℕ) → List Answer → Type 0
 WritesAnswers was found out = out ≡ map answer_of found ++ drop (length found) was
 
--- The lanes may look up, and nothing has changed.
-pub record AreLeft (l m : LanesAt) : Type 0 where
-  pub same : m ≡ l
-  pub may : MayLookUp l
-
--- What many gets answer. `was` is what stood where they are told. It is a bad argument where there is room for fewer answers than keys.
+-- What many gets answer. `was` is what stood where they are told. They come to an end whatever others do. It is a bad argument where there is room for fewer answers than keys.
 abbrev pub GetsMany : LanesAt → List ℕ → List Answer → Status → List Answer → LanesAt → Type 0
 GetsMany l keys was Done out m = (found : List (Option ℕ)) × HaveLookedUp l keys found m × WritesAnswers was found out
-GetsMany l keys was BadArgument out m = (length was < length keys) × AreLeft l m × (out ≡ was)
-GetsMany l keys was NoMemory out m = (length keys ≤ length was) × AreLeft l m × (out ≡ was)
-GetsMany l keys was Lost out m = AreLost l m × (out ≡ was)
+GetsMany l keys was BadArgument out m = (length was < length keys) × (m ≡ l) × (out ≡ was)
+GetsMany l keys was NoMemory out m = (length keys ≤ length was) × (m ≡ l) × (out ≡ was)
 GetsMany l keys was _ out m = ⊥
 
 -- No lanes are there, which the status says, and nothing was written.

@@ -2,6 +2,7 @@
 -- Source: docs/TREE_CALLS.md, "Lists of a key range".
 use Rattle.std.specs.Prelude.{◌≡◌, ◌⊎◌, ℕ, ◌<◌, ◌≤◌, List, ◌++◌, length, map, drop, Some, None}
 use Rattle.core_state.specs.memory.Bounds.{most_slots}
+use Rattle.core_state.specs.declared.view.StepMade.{StepMade}
 use Rattle.key_interval.specs.Keys.{Interval, Holds}
 use Rattle.prcu_marks.specs.declared.mark.Side.{Side}
 use Rattle.prcu_marks.specs.declared.mark.Side.TheVariants.{Left, Right}
@@ -10,6 +11,7 @@ use Rattle.exact_list.specs.declared.alone.Exact.{Exact}
 use Rattle.exact_list.specs.Alone.{HasListed, HoldsExactly}
 use Rattle.exact_list.specs.declared.nearest.Nearest.{Nearest}
 use Rattle.exact_list.specs.Answers.{Paged, IsBetweenFronts}
+use Rattle.exact_list.specs.Loads.{IsOneWalk, IsOneWayDown}
 use Rattle.exact_list.specs.Nearest.{IsNearest}
 use Rattle.exact_list.specs.Pairs.{had_at}
 use Rattle.exact_list.specs.Pairs as found
@@ -20,17 +22,18 @@ use Rattle.tree_handles.specs.declared.status.Status.{Status}
 use Rattle.tree_handles.specs.declared.status.Status.TheVariants.{Done, Unchanged, More, BadArgument, NoMemory}
 
 -- The caller looked in sections with this key, and what it found is so after so many updates: by one of at most four tries, each a section
--- with looks at the front, or under the front, which it held for one more. It may go on, and no ticket was taken.
-pub record Looks (c : CallerAt) (key front : ℕ) (d : CallerAt) : Type 0 where
+-- with looks at the front, or under the front, which it held for one more. All that it loaded under the front is this walk. It may go on,
+-- and no ticket was taken.
+pub record Looks (c : CallerAt) (key front : ℕ) (walk : List StepMade → Type 0) (d : CallerAt) : Type 0 where
   pub index : IsSameCaller c d
   pub before : MayGoOn c
   pub after : MayGoOn d
   pub tickets : d.seat.view.allowance.tickets ≡ c.seat.view.allowance.tickets
-  pub came : HasListed c.seat.view key front 4 d.seat.view
+  pub came : HasListed c.seat.view key front 4 walk d.seat.view
 
 -- The caller listed these keys on the page.
 pub record Lists (c : CallerAt) (keys : Interval) (page : Paged) (exact : Exact) (d : CallerAt) : Type 0 where
-  pub looks : Looks c keys.low exact.front d
+  pub looks : Looks c keys.low exact.front (IsOneWalk page.pairs exact.next) d
   pub holds : HoldsExactly exact keys d.seat.view.seen page
   pub recent : IsBetweenFronts exact.front c.seat.view.seen d.seat.view.seen
 
@@ -81,7 +84,7 @@ ListsOut c keys was status out d = IsStoppedBy status c d × IsUnwritten was out
 
 -- The caller looked for the pair at this key, or the nearest one on that side of it, and it is the one after so many updates.
 pub record Seeks (c : CallerAt) (side : Side) (from : ℕ) (nearest : Nearest) (d : CallerAt) : Type 0 where
-  pub looks : Looks c from nearest.front d
+  pub looks : Looks c from nearest.front (IsOneWayDown nearest.pair) d
   pub is : IsNearest (had_at (updates_of d.seat.view.seen) nearest.front) side from nearest.pair
   pub recent : IsBetweenFronts nearest.front c.seat.view.seen d.seat.view.seen
 
@@ -98,10 +101,9 @@ pub record FindsPairIn (c : CallerAt) (side : Side) (keys : Interval) (pair : fo
 
 -- It had none in the range.
 pub record FindsNoneIn (c : CallerAt) (side : Side) (keys : Interval) (d : CallerAt) : Type 0 where
-  pub front : ℕ
-  pub looks : Looks c (end_of side keys) front d
-  pub none : (key : ℕ) → Holds keys key → had_at (updates_of d.seat.view.seen) front key ≡ None
-  pub recent : IsBetweenFronts front c.seat.view.seen d.seat.view.seen
+  pub nearest : Nearest
+  pub seeks : Seeks c side (end_of side keys) nearest d
+  pub none : (key : ℕ) → Holds keys key → had_at (updates_of d.seat.view.seen) nearest.front key ≡ None
 
 -- What a search answers for a pair of the range: for the first one to the right, for the last one to the left. `was` is what stood where the
 -- pair is told.

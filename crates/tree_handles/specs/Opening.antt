@@ -5,6 +5,7 @@ use Rattle.core_state.specs.memory.Bounds.{most_slots, most_places}
 use Rattle.tree_handles.specs.Callers.{CallerAt, IsFresh, IsShared, IsReopened}
 use Rattle.tree_handles.specs.Calls.{StaysInside}
 use Rattle.tree_handles.specs.Lists.{IsLeft}
+use Rattle.tree_handles.specs.declared.opening.Options.{Options}
 use Rattle.tree_handles.specs.declared.status.Status.{Status}
 use Rattle.tree_handles.specs.declared.status.Status.TheVariants.{Done, Unchanged, BadArgument, NoMemory, Lost, Holds}
 
@@ -13,18 +14,40 @@ use Rattle.tree_handles.specs.declared.status.Status.TheVariants.{Done, Unchange
 abbrev pub most_pairs : ℕ
 most_pairs = most_slots - 68 * most_places
 
--- An index can be made for so many pairs and handles, with this waiter.
-pub record CanOpen (pairs handles way : ℕ) : Type 0 where
-  pub pairs_are : (1 ≤ pairs) × (pairs ≤ most_pairs)
-  pub handles_are : (1 ≤ handles) × (handles ≤ most_places)
-  pub way_is : way ≤ 2
+-- how many bytes a record of options takes. There is one form of it yet.
+abbrev pub options_size : ℕ
+options_size = 32
+
+-- the salt of an index that was opened without one: who has the library knows it
+abbrev pub known_salt : ℕ
+known_salt = 0x9e3779b97f4a7c15
+
+-- the options of an open without a salt
+abbrev pub options_of : ℕ → ℕ → ℕ → Options
+options_of pairs handles waiter = record {
+  size = options_size;
+  pairs = pairs;
+  handles = handles;
+  waiter = waiter;
+  flags = 0;
+  salt = known_salt;
+}
+
+-- An index can be made by these options: for so many pairs and handles, with this waiter, and the record is of the size that is known, with
+-- no flag, since none is known.
+pub record CanOpen (o : Options) : Type 0 where
+  pub size_is : o.size ≡ options_size
+  pub flags_are : o.flags ≡ 0
+  pub pairs_are : (1 ≤ o.pairs) × (o.pairs ≤ most_pairs)
+  pub handles_are : (1 ≤ o.handles) × (o.handles ≤ most_places)
+  pub way_is : o.waiter ≤ 2
 
 -- What an open answers, of what the handle holds before and after.
-abbrev pub Opens : ℕ → ℕ → ℕ → Option CallerAt → Status → Option CallerAt → Type 0
-Opens pairs handles way before Done after = (c : CallerAt) × (after ≡ Some c) × IsFresh way pairs handles c
-Opens pairs handles way before BadArgument after = (CanOpen pairs handles way → ⊥) × (after ≡ before)
-Opens pairs handles way before NoMemory after = CanOpen pairs handles way × (after ≡ before)
-Opens pairs handles way before _ after = ⊥
+abbrev pub Opens : Options → Option CallerAt → Status → Option CallerAt → Type 0
+Opens o before Done after = (c : CallerAt) × (after ≡ Some c) × IsFresh o.waiter o.pairs o.handles o.salt c
+Opens o before BadArgument after = (CanOpen o → ⊥) × (after ≡ before)
+Opens o before NoMemory after = CanOpen o × (after ≡ before)
+Opens o before _ after = ⊥
 
 -- so many of the caller's unused handles, and so many of its tickets, can go over to another
 pub record CanShare (c : CallerAt) (handles tickets : ℕ) : Type 0 where

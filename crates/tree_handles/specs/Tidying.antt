@@ -31,11 +31,12 @@ pub record AreAttempts (most tickets attempts : ℕ) : Type 0 where
   pub paid : 3 * attempts ≤ tickets
   pub all : (attempts ≡ most) ⊎ (tickets < 3 * attempts + 3)
 
--- Nodes on the way to the key were turned, in so many attempts at most: what a lift says. It stands still for readers where it has to.
+-- Nodes on the way to the key were turned by the index's salt, in so many attempts at most: what a lift says. It stands still for readers where it has to.
 pub record LiftsWay (c : CallerAt) (key most : ℕ) (lifted : Lifted) (d : CallerAt) : Type 0 where
   pub index : IsSameCaller c d
   pub aim : Aim
   pub key_is : aim.key ≡ key
+  pub salt_is : aim.salt ≡ c.salt
   pub hard_is : aim.hard ≡ true
   pub attempts : AreAttempts most c.seat.view.allowance.tickets aim.attempts
   pub turns : HasLifted (shape_of c.way c.table) aim lifted c.seat.view d.seat.view

@@ -4,7 +4,7 @@ ghost use Rattle.prcu_model.specs.declared.operation.Op.TheVariants.{Get, Put, S
 ghost use Rattle.core_state.specs.memory.Bounds.{most_places};
 ghost use Rattle.tree_handles.specs.Begun.{HasStarted, Polls};
 ghost use Rattle.tree_handles.specs.Callers.{MayGoOn, IsFresh, IsShared, IsReopened};
-ghost use Rattle.tree_handles.specs.Calls.{IsCalled, IsCompared, IsLost, IsRemoved, CausedBy, IsHinderedBy, IsStoppedBy};
+ghost use Rattle.tree_handles.specs.Calls.{IsCalled, IsCompared, IsLost, IsRemoved, IsWaitFree, CausedBy, IsHinderedBy, IsStoppedBy};
 ghost use Rattle.tree_handles.specs.Holds.{HasHeld, HasOutwaited, IsEntered, LeavesSection};
 ghost use Rattle.tree_handles.specs.Lanes.{HasLanes};
 ghost use Rattle.tree_handles.specs.Lists.{Lists, Seeks};
@@ -51,27 +51,28 @@ impl Model for AnyCaller {
 }
 
 impl AnyCaller {
-    /// The first caller on a new table in which so many pairs always fit, for so many handles, with all tickets.
+    /// The first caller on a new table in which so many pairs always fit, for so many handles, with all tickets. Its nodes rise by this salt.
     pub(crate) fn new(
         alloc: Global,
         pairs: u32,
         handles: u32,
         waiter: u32,
+        salt: u64,
     ) -> Result<AnyCaller, NoMemory>
         requires pairs { (1 ≤ pairs) × (pairs ≤ most_pairs) }
         requires handles { (1 ≤ handles) × (handles ≤ most_places) }
         requires waiter { waiter ≤ 2 }
-        ensures { IfOk result (λ caller. IsFresh waiter pairs handles caller) }
+        ensures { IfOk result (λ caller. IsFresh waiter pairs handles salt caller) }
     {
         match waiter {
             0 => Ok(AnyCaller {
-                caller: ByWaiter::Eer(Caller::new(alloc, pairs, handles)?),
+                caller: ByWaiter::Eer(Caller::new(alloc, pairs, handles, salt)?),
             }),
             1 => Ok(AnyCaller {
-                caller: ByWaiter::Domain(Caller::new(alloc, pairs, handles)?),
+                caller: ByWaiter::Domain(Caller::new(alloc, pairs, handles, salt)?),
             }),
             _ => Ok(AnyCaller {
-                caller: ByWaiter::Deer(Caller::new(alloc, pairs, handles)?),
+                caller: ByWaiter::Deer(Caller::new(alloc, pairs, handles, salt)?),
             }),
         }
     }
@@ -114,7 +115,9 @@ impl AnyCaller {
     #[inline(always)]
     pub(crate) fn get(&mut self, key: u64) -> Result<Told, Status>
         ensures called { IfOk result (λ told. IsCalled self.old (Get key) told self.new) }
+        ensures soon { IfOk result (λ _. IsWaitFree self.old self.new) }
         ensures cause { IfErr result (λ status. CausedBy status self.old self.new) }
+        ensures same { IfErr result (λ _. self.new ≡ self.old) }
     {
         match &mut self.caller {
             ByWaiter::Eer(caller) => caller.get(key),
@@ -207,6 +210,7 @@ impl AnyCaller {
     pub(crate) fn hold(&mut self, key: u64) -> Result<Option<u64>, Status>
         ensures held { IfOk result (λ value. HasHeld self.old key value self.new) }
         ensures cause { IfErr result (λ status. IsStoppedBy status self.old self.new) }
+        ensures same { IfErr result (λ _. self.new ≡ self.old) }
     {
         match &mut self.caller {
             ByWaiter::Eer(caller) => caller.hold(key),

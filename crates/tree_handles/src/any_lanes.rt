@@ -1,10 +1,9 @@
 //! Lanes, whatever their waiter.
-ghost use Rattle.std.specs.Prelude.{◌≡◌, ◌≤◌, false, length, IfOk, IfErr};
-ghost use Rattle.tree_handles.specs.Lanes.{AreLost, GetsMany, HaveLookedUp, MayLookUp};
+ghost use Rattle.std.specs.Prelude.{◌≡◌, ◌≤◌, length};
+ghost use Rattle.tree_handles.specs.Lanes.{GetsMany, HaveLookedUp, MayLookUp};
 
 use crate::answers::{Answer, write_answers};
 use crate::lane_seats::LaneSeats;
-use crate::spinning::GaveUp;
 use crate::status::Status;
 use d_wait::Domain;
 use deer_wait::Deer;
@@ -36,24 +35,10 @@ impl Model for AnyLanes {
 }
 
 impl AnyLanes {
-    // Whether a call gave up in its midst.
-    fn is_lost(&self) -> bool
-        ensures lost { result ≡ self.now.lost }
-        ensures may { result ≡ false → MayLookUp self.now }
-    {
-        match &self.lanes {
-            LanesByWaiter::Eer(lanes) => lanes.is_lost(),
-            LanesByWaiter::Domain(lanes) => lanes.is_lost(),
-            LanesByWaiter::Deer(lanes) => lanes.is_lost(),
-        }
-    }
-
     // Looks up each of the keys, and notes its value, or `None`, at its index.
-    fn look_up(&mut self, keys: &[u64], found: &mut [Option<u64>]) -> Result<(), GaveUp>
-        requires may { MayLookUp self.old }
+    fn look_up(&mut self, keys: &[u64], found: &mut [Option<u64>])
         requires room { length found.old ≡ length keys.now }
-        ensures looked_up { IfOk result (λ _. HaveLookedUp self.old keys.now found.new self.new) }
-        ensures lost { IfErr result (λ _. AreLost self.old self.new) }
+        ensures looked_up { HaveLookedUp self.old keys.now found.new self.new }
     {
         match &mut self.lanes {
             LanesByWaiter::Eer(lanes) => lanes.get_many(keys, found),
@@ -64,27 +49,19 @@ impl AnyLanes {
 
     // Looks up each of the keys, and writes the answers. What was found is noted before.
     fn answer(&mut self, keys: &[u64], found: &mut [Option<u64>], answers: &mut [Answer]) -> Status
-        requires may { MayLookUp self.old }
         requires noted { length found.old ≡ length keys.now }
         requires room { length keys.now ≤ length answers.old }
         ensures { GetsMany self.old keys.now answers.old result answers.new self.new }
     {
-        match self.look_up(keys, found) {
-            Ok(()) => {
-                write_answers(found, answers);
-                Status::Done
-            }
-            Err(GaveUp) => Status::Lost,
-        }
+        self.look_up(keys, found);
+        write_answers(found, answers);
+        Status::Done
     }
 
     /// Tells the values of the keys, at the same indices.
     pub(crate) fn get_many(&mut self, alloc: Global, keys: &[u64], answers: &mut [Answer]) -> Status
         ensures { GetsMany self.old keys.now answers.old result answers.new self.new }
     {
-        if self.is_lost() {
-            return Status::Lost;
-        }
         if answers.len() < keys.len() {
             return Status::BadArgument;
         }

@@ -2,14 +2,15 @@
 ghost use Rattle.std.specs.Prelude.{◌≡◌, ◌≤◌, ◌<◌, ◌+◌, false, true, MatchBool, IfOk, IfErr, IfNone, IfSome};
 ghost use Rattle.prcu_model.specs.declared.operation.Op.TheVariants.{Get, Put, Set};
 ghost use Rattle.seat_table.specs.Seats.{IsQuietSeat};
+ghost use Rattle.seat_table.specs.Sections.{IsQuietReader};
 ghost use Rattle.core_state.specs.steps.Seating.{first_of, second_of};
 ghost use Rattle.seat_table.specs.Gains.{IsInformed};
 ghost use Rattle.core_state.specs.memory.Bounds.{most_places};
 ghost use Rattle.tree_handles.specs.Begun.{HasStarted, Polls};
 ghost use Rattle.tree_handles.specs.Callers.{IsSameCaller, MayGoOn, IsFresh, IsShared, IsReopened};
 ghost use Rattle.tree_handles.specs.Opening.{FailsToReopen, most_pairs};
-ghost use Rattle.tree_handles.specs.Calls.{ComesBehind, IsCalled, IsCompared, IsLost, IsRemoved, CausedBy, IsHinderedBy, IsStoppedBy};
-ghost use Rattle.tree_handles.specs.Holds.{HasHeld, HasOutwaited, IsEntered, LeavesSection};
+ghost use Rattle.tree_handles.specs.Calls.{ComesBehind, IsCalled, IsCompared, IsLost, IsRemoved, IsWaitFree, CausedBy, IsHinderedBy, IsStoppedBy};
+ghost use Rattle.tree_handles.specs.Holds.{EndsOutside, HasHeld, HasOutwaited, IsEntered, LeavesSection};
 ghost use Rattle.tree_handles.specs.Lanes.{HasLanes};
 ghost use Rattle.tree_handles.specs.Lists.{Lists, Seeks};
 ghost use Rattle.tree_handles.specs.Tidying.{GivesBack, HasNoneBack, LiftsWay};
@@ -19,8 +20,8 @@ use crate::shared::Shared;
 use crate::spinning::{GaveUp, Spinning};
 use crate::status::Status;
 use crate::tidying::attempts_for;
-use citrus_tree::patient::{call, compare, hold, put, release, remove, set};
-use citrus_tree::{Called, Compared};
+use citrus_tree::patient::{compare, put, remove, set};
+use citrus_tree::{Called, Compared, get, hold, release};
 use core::mem::replace_with;
 use exact_list::patient::{list_always, nearest_always};
 use exact_list::{Exact, Nearest, Page};
@@ -32,7 +33,7 @@ use seat_table::{CitrusTable, Seat, WaitPart, wait_in_grace};
 use std::alloc::Global;
 use std::marker::Model;
 use std::sync::Arc;
-use tree_lift::{Aim, Lifted, give_all_back, is_deep, is_far_too_deep, lift};
+use tree_lift::{Aim, Lifted, attempts_behind, give_all_back, is_far_too_deep, lift, most_keys};
 
 /// How many tickets a call may use.
 pub(crate) const TICKETS: u64 = 4;
@@ -45,11 +46,8 @@ const ONE_HANDLE: u32 = 1;
 
 const NO_TICKET: u64 = 0;
 
-/// How often a lift tries to turn a node.
-const ATTEMPTS: u32 = 4;
-
-/// How many tickets a lift may use: three for each attempt.
-const LIFT_TICKETS: u64 = 12;
+/// How many tickets the lift behind an insert may use: three for each of 24 attempts.
+const LIFT_TICKETS: u64 = 72;
 
 /// The tickets of a new index, all that a table can have.
 const ALL_TICKETS: u64 = 144_115_188_075_855_872;
@@ -73,6 +71,8 @@ pub(crate) struct Caller<W: WaitPart> {
     shared: Arc<Shared<W>, Global>,
     seat: Seat<W>,
     lost: bool,
+    // By which the nodes of the index rise. All callers of an index have the same.
+    salt: u64,
     cookie: Option<Cookie<W>>,
 }
 
@@ -87,7 +87,7 @@ impl<W: WaitPart> Model for Caller<W> {
 
     ghost Value = { CallerAt };
 
-    ghost view = { λ c. record { way = W.WAY; table = arc_value c.shared; seat = c.seat; lost = c.lost; cookie = c.cookie } };
+    ghost view = { λ c. record { way = W.WAY; table = arc_value c.shared; salt = c.salt; seat = c.seat; lost = c.lost; cookie = c.cookie } };
 
     ghost invariant = { λ c. (c.seat.table ≡ arc_value c.shared) × (c.lost ≡ false → IsQuietReader c.seat)
         × (c.lost ≡ false → HasCookie (shape_of W.WAY (arc_value c.shared)) c.cookie c.seat.view) };
@@ -98,20 +98,32 @@ impl<W: WaitPart> Drop for Caller<W> {
     fn drop(self) {
         let Self {
             shared,
-            mut seat,
+            seat,
             lost,
+            salt: _,
             cookie: _,
         } = self;
         if lost {
             return;
         }
-        if seat.section().is_none() {
-            shared.leave(seat);
-            return;
-        }
-        release(shared.table(), &mut seat);
+        let seat = outside(shared.table(), seat);
         shared.leave(seat);
     }
+}
+
+// All that a close does with its seat before others may have it: an open section is left, and no other step is made.
+fn outside<W: WaitPart>(table: &CitrusTable<W>, mut seat: Seat<W>) -> Seat<W>
+    requires table { seat.table ≡ table.now }
+    requires quiet { IsQuietReader seat }
+    ensures table { result.table ≡ seat.table }
+    ensures left { EndsOutside seat result }
+    ensures quiet { IsQuietSeat result }
+{
+    if seat.section().is_none() {
+        return seat;
+    }
+    release(table, &mut seat);
+    seat
 }
 
 /// What a seat gives away, and the table that it is of.
@@ -136,12 +148,18 @@ fn divide<W: WaitPart>(seat: Seat<W>, gift: Gift<W>) -> (Seat<W>, Seat<W>)
 }
 
 impl<W: WaitPart> Caller<W> {
-    /// The first caller on a new table in which so many pairs always fit, and 68 more, for so many handles, with all tickets.
-    pub(crate) fn new(alloc: Global, pairs: u32, handles: u32) -> Result<Caller<W>, NoMemory>
+    /// The first caller on a new table in which so many pairs always fit, and 68 more, for so many handles, with all tickets. Its nodes rise by
+    /// this salt.
+    pub(crate) fn new(
+        alloc: Global,
+        pairs: u32,
+        handles: u32,
+        salt: u64,
+    ) -> Result<Caller<W>, NoMemory>
         requires way { W.WAY ≤ 2 }
         requires pairs { (1 ≤ pairs) × (pairs ≤ most_pairs) }
         requires handles { (1 ≤ handles) × (handles ≤ most_places) }
-        ensures { IfOk result (λ caller. IsFresh W.WAY pairs handles caller) }
+        ensures { IfOk result (λ caller. IsFresh W.WAY pairs handles salt caller) }
     {
         // For the first handle too: where so many pairs are there, a turn finds slots free, or gets those that its handle kept back. Without
         // them keys that come in order, each in the place of one that goes, would make the tree a path.
@@ -158,6 +176,7 @@ impl<W: WaitPart> Caller<W> {
                 shared,
                 seat,
                 lost: false,
+                salt,
                 cookie: None,
             }),
             Err(_) => Err(NoMemory),
@@ -211,20 +230,14 @@ impl<W: WaitPart> Caller<W> {
     #[inline(always)]
     pub(crate) fn get(&mut self, key: u64) -> Result<Told, Status>
         ensures called { IfOk result (λ told. IsCalled self.old (Get key) told self.new) }
+        ensures soon { IfOk result (λ _. IsWaitFree self.old self.new) }
         ensures cause { IfErr result (λ status. CausedBy status self.old self.new) }
+        ensures same { IfErr result (λ _. self.new ≡ self.old) }
     {
         if let Some(status) = self.hindrance(TICKETS) {
             return Err(status);
         }
-        let table = self.shared.table();
-        // By `call`, whose clauses tell what a get keeps of waits, slots and tickets; those of `get` tell its answer alone.
-        match call(&Spinning, table, &mut self.seat, &OpenGate, Op::Get { key }) {
-            Ok(called) => Ok(called.told),
-            Err(GaveUp) => {
-                self.lost = true;
-                Err(Status::Lost)
-            }
-        }
+        Ok(get(self.shared.table(), &mut self.seat, &OpenGate, key))
     }
 
     /// Adds the pair, where the key is absent, and lifts nodes on its way where that was deep. While it waits for other threads it spins.
@@ -269,7 +282,7 @@ impl<W: WaitPart> Caller<W> {
     }
 
     // Lifts nodes on the way to a key that was added, where the way was deep and there are tickets for it. What bounds the pairs is known
-    // without a step: the slots. Where the lift gives up the caller is lost from now on.
+    // without a step: the slots that weren't free when the seat reserved the key's. Where the lift gives up the caller is lost from now on.
     #[inline(always)]
     fn lift_behind(&mut self, op: Op, called: Called)
         requires may { MayGoOn self.old }
@@ -284,14 +297,15 @@ impl<W: WaitPart> Caller<W> {
             return;
         };
         let table = self.shared.table();
-        let most = u64::from(table.slots());
-        if self.seat.tickets() < LIFT_TICKETS || !is_deep(called.depth, most) {
+        let most = most_keys(u64::from(table.slots()), self.seat.free_seen());
+        let attempts = attempts_behind(called.depth, most);
+        if attempts == 0 || self.seat.tickets() < LIFT_TICKETS {
             return;
         }
         let aim = Aim {
             key,
-            salt: self.shared.salt(),
-            attempts: ATTEMPTS,
+            salt: self.salt,
+            attempts,
             hard: is_far_too_deep(called.depth, most),
         };
         match lift(&Spinning, table, &mut self.seat, aim) {
@@ -390,18 +404,12 @@ impl<W: WaitPart> Caller<W> {
     pub(crate) fn hold(&mut self, key: u64) -> Result<Option<u64>, Status>
         ensures held { IfOk result (λ value. HasHeld self.old key value self.new) }
         ensures cause { IfErr result (λ status. IsStoppedBy status self.old self.new) }
+        ensures same { IfErr result (λ _. self.new ≡ self.old) }
     {
         if let Some(status) = self.stopped() {
             return Err(status);
         }
-        let table = self.shared.table();
-        match hold(&Spinning, table, &mut self.seat, &OpenGate, key) {
-            Ok(value) => Ok(value),
-            Err(GaveUp) => {
-                self.lost = true;
-                Err(Status::Lost)
-            }
-        }
+        Ok(hold(self.shared.table(), &mut self.seat, &OpenGate, key))
     }
 
     /// Enters a section with the key.
@@ -499,7 +507,7 @@ impl<W: WaitPart> Caller<W> {
         let table = self.shared.table();
         let aim = Aim {
             key,
-            salt: self.shared.salt(),
+            salt: self.salt,
             attempts: attempts_for(most, self.seat.tickets()),
             hard: true,
         };
@@ -547,6 +555,7 @@ impl<W: WaitPart> Caller<W> {
             shared,
             seat,
             lost: false,
+            salt: self.salt,
             cookie: None,
         })
     }
@@ -605,6 +614,7 @@ impl<W: WaitPart> Caller<W> {
                 shared,
                 seat,
                 lost: false,
+                salt: self.salt,
                 cookie: None,
             }),
             None => Err(Status::Unchanged),

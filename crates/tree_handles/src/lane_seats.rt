@@ -1,27 +1,24 @@
 //! The seats by which one thread looks up many keys at once, by their waiter.
-ghost use Rattle.std.specs.Prelude.{◌≡◌, false, length, IfOk, IfErr};
+ghost use Rattle.std.specs.Prelude.{◌≡◌, length};
 ghost use Rattle.std.specs.Arc.{arc_value};
 ghost use Rattle.list_laws.specs.Counts.{Each};
 ghost use Rattle.seat_table.specs.Seats.{SeatAt, IsQuietSeat};
-ghost use Rattle.tree_handles.specs.Lanes.{AreLost, AreSeated, HaveLookedUp, MayLookUp};
+ghost use Rattle.tree_handles.specs.Lanes.{AreSeated, HaveLookedUp, MayLookUp};
 
 use crate::shared::Shared;
-use crate::spinning::{GaveUp, Spinning};
 use many_gets::get_many;
 use seat_table::{Seat, WaitPart};
 use std::alloc::Global;
 use std::marker::Model;
 use std::sync::Arc;
 
-/// 1 to 8 seats, and their table, which they share. They are lost where a call gave up in its midst: then some may be in a section.
+/// 1 to 8 seats, and their table, which they share.
 pub(crate) struct LaneSeats<W: WaitPart> {
     shared: Arc<Shared<W>, Global>,
     seats: Vec<Seat<W>, Global>,
-    lost: bool,
 }
 
 impl<W: WaitPart> Model for LaneSeats<W> {
-    ghost use Rattle.std.specs.Prelude.{◌≡◌, false};
     ghost use Rattle.std.specs.Arc.{arc_value};
     ghost use Rattle.list_laws.specs.Counts.{Each};
     ghost use Rattle.seat_table.specs.Seats.{IsQuietSeat};
@@ -29,9 +26,9 @@ impl<W: WaitPart> Model for LaneSeats<W> {
 
     ghost Value = { LanesAt };
 
-    ghost view = { λ l. record { way = W.WAY; table = arc_value l.shared; seats = l.seats.items; lost = l.lost } };
+    ghost view = { λ l. record { way = W.WAY; table = arc_value l.shared; seats = l.seats.items } };
 
-    ghost invariant = { λ l. AreSeated (arc_value l.shared) l.seats.items × (l.lost ≡ false → Each l.seats.items IsQuietSeat) };
+    ghost invariant = { λ l. AreSeated (arc_value l.shared) l.seats.items × Each l.seats.items IsQuietSeat };
 }
 
 // Leaves the seats to other callers.
@@ -48,16 +45,9 @@ fn leave_all<W: WaitPart>(shared: &Shared<W>, mut seats: Vec<Seat<W>, Global>)
 }
 
 impl<W: WaitPart> Drop for LaneSeats<W> {
-    /// The seats are left to other callers, unless some may be in a section.
+    /// The seats are left to other callers.
     fn drop(self) {
-        let Self {
-            shared,
-            seats,
-            lost,
-        } = self;
-        if lost {
-            return;
-        }
+        let Self { shared, seats } = self;
         leave_all(&shared, seats);
     }
 }
@@ -67,38 +57,17 @@ impl<W: WaitPart> LaneSeats<W> {
     pub(crate) fn new(shared: Arc<Shared<W>, Global>, seats: Vec<Seat<W>, Global>) -> LaneSeats<W>
         requires seated { AreSeated (arc_value shared) seats.items }
         requires quiet { Each seats.items IsQuietSeat }
-        ensures is { result ≡ record { way = W.WAY; table = arc_value shared; seats = seats.items; lost = false } }
+        ensures is { result ≡ record { way = W.WAY; table = arc_value shared; seats = seats.items } }
         ensures may { MayLookUp result }
     {
-        LaneSeats {
-            shared,
-            seats,
-            lost: false,
-        }
-    }
-
-    /// Whether a call gave up in its midst.
-    pub(crate) fn is_lost(&self) -> bool
-        ensures lost { result ≡ self.now.lost }
-        ensures may { result ≡ false → MayLookUp self.now }
-    {
-        self.lost
+        LaneSeats { shared, seats }
     }
 
     /// Looks up each of the keys, and writes its value, or `None`, at its index.
-    pub(crate) fn get_many(&mut self, keys: &[u64], found: &mut [Option<u64>]) -> Result<(), GaveUp>
-        requires may { MayLookUp self.old }
+    pub(crate) fn get_many(&mut self, keys: &[u64], found: &mut [Option<u64>])
         requires room { length found.old ≡ length keys.now }
-        ensures looked_up { IfOk result (λ _. HaveLookedUp self.old keys.now found.new self.new) }
-        ensures lost { IfErr result (λ _. AreLost self.old self.new) }
+        ensures looked_up { HaveLookedUp self.old keys.now found.new self.new }
     {
-        let table = self.shared.table();
-        match get_many(&Spinning, table, self.seats.as_mut_slice(), keys, found) {
-            Ok(()) => Ok(()),
-            Err(GaveUp) => {
-                self.lost = true;
-                Err(GaveUp)
-            }
-        }
+        get_many(self.shared.table(), self.seats.as_mut_slice(), keys, found);
     }
 }

@@ -32,4 +32,5 @@ pub use answers::Answer;
 pub use handle::Handle;
 pub use lanes::Lanes;
 pub use lists::Pair;
+pub use opening::Options;
 pub use status::Status;

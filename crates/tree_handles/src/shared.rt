@@ -10,11 +10,6 @@ use std::marker::Model;
 use std::sync::atomic::AtomicU64;
 use std::sync::atomic::Ordering::SeqCst;
 
-/// By which salt the nodes of an index rise. It is the same for all, since the library has no source of chance. Who knows it can choose keys
-/// whose mixes with it fall as the keys rise: then no lift turns a node, the tree is a path, and a call makes as many steps as there are
-/// pairs. What the calls answer stays as it is.
-const SALT: u64 = 0x9e37_79b9_7f4a_7c15;
-
 /// A seat that a closed caller left. It doesn't own the table, so an index goes with its last caller.
 #[derive(Drop)]
 pub(crate) struct Left<W: WaitPart> {
@@ -31,7 +26,6 @@ impl<W: WaitPart> Fits for Left<W> {
 #[derive(Drop)]
 pub(crate) struct Shared<W: WaitPart> {
     table: CitrusTable<W>,
-    salt: u64,
     cells: Vec<Counted<Option<Left<W>>>, Global>,
     // How many seats lie in the cells, less those that a call is about to take.
     count: AtomicU64,
@@ -67,7 +61,6 @@ impl<W: WaitPart> Shared<W> {
         }
         Ok(Shared {
             table,
-            salt: SALT,
             cells,
             count: AtomicU64::new(0),
         })
@@ -78,11 +71,6 @@ impl<W: WaitPart> Shared<W> {
         ensures { result.now ≡ self.now }
     {
         &self.table
-    }
-
-    /// The salt by which the tree's nodes rise.
-    pub(crate) fn salt(&self) -> u64 {
-        self.salt
     }
 
     /// Leaves the seat for another caller. Its cell is free, since whoever took a seat out freed its cell first.

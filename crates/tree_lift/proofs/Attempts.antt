@@ -1,6 +1,6 @@
 -- The parts of an attempt, one after another, and attempts one after another.
 use Rattle.std.specs.List.{AllByRecursion}
-use Rattle.std.proofs.Common.{◌≡◌, ◌≢◌, ◌⊎◌, ℕ, ◌+◌, ◌*◌, ◌<◌, ◌≤◌, Bool, true, false, cond, List, [], ◌∷◌, ◌++◌, length, map, Some, None, inl, inr, ⊎_elim, refl, sym, ap, subst, ◌∙◌, arith, append-nil, length-append}
+use Rattle.std.proofs.Common.{◌≡◌, ◌≢◌, ◌⊎◌, ℕ, ◌+◌, ◌*◌, ◌<◌, ◌≤◌, Bool, true, false, cond, List, [], ◌∷◌, ◌++◌, length, map, Some, None, inl, inr, ⊎_elim, refl, sym, ap, subst, ◌∙◌, arith, length-append}
 use Rattle.std.proofs.lemmas.List.{map-append}
 use mir.Val.{bool_byte as from_bool}
 use Rattle.prcu_model.proofs.ListFacts.{all_append}
@@ -30,11 +30,11 @@ use Rattle.tree_turn.specs.declared.turn.Turn.{Turn}
 use Rattle.tree_turn.specs.Turns.{HasRecorded, HasTurned, HasTurnedNone, IsQuietButHand, IsReadyToTurn}
 use Rattle.tree_lift.specs.declared.lifting.Aim.{Aim}
 use Rattle.tree_lift.specs.Ways.{HasRead, RecordsTurn, Finds}
-use Rattle.tree_lift.specs.Rooms.{MakesRoom, Reclaims, TakesSlots}
+use Rattle.tree_lift.specs.Rooms.{MakesRoom, Reclaims, TakesSlots, WaitsForRoom, waits_none, waits_once}
 use Rattle.tree_lift.specs.declared.lifting.Attempt.TheVariants.{Tried, Ended as EndedBy}
 use Rattle.tree_lift.specs.declared.lifting.Stop.{Stop}
 use Rattle.tree_lift.specs.declared.lifting.Stop.TheVariants.{Level, NoRoom, NoSlot, Spent}
-use Rattle.tree_lift.specs.Lifts.{LeavesNoUpdate, Proceeds, TurnTried, WereTried, made_among, EndsBy, Attempts, HasAttempted, HasLifted}
+use Rattle.tree_lift.specs.Lifts.{LeavesNoUpdate, Proceeds, TurnTried, ComesOf, WasTried, ComesBetween, WereTried, made_among, EndsBy, RestsBehind, WasAttempted, Attempts, HasAttempted, HasLifted}
 use Rattle.tree_lift.proofs.Ways.{goes_read, read_quiet}
 use Rattle.tree_lift.proofs.Slots.{goes_back, put_back_quiet}
 
@@ -98,6 +98,11 @@ pub none_listed : (listed : List ℕ) (rs : List Retired) → listed ≡ [] → 
 none_listed listed [] none long = refl
 none_listed listed (r ∷ rs) none long = absurd (let empty = ap (length {A = ℕ}) none in omega (arith, long, empty))
 
+-- and where none is retired none is listed
+pub none_retired : (listed : List ℕ) (rs : List Retired) → rs ≡ [] → length listed ≡ length rs → listed ≡ []
+none_retired [] rs none long = refl
+none_retired (x ∷ listed) rs none long = absurd (let empty = ap (length {A = Retired}) none in omega (arith, long, empty))
+
 -- All retired slots were given back.
 module _ (k : Shape) (s t : SeatAt) (back : HasReclaimed k s.view s.listed t.view) where
   pub back_left : (key : ℕ) → LeavesNoUpdate s.view key t.view
@@ -130,18 +135,35 @@ may_reclaim_room s q paid = record {
   unraised = none_raised s.view.hands.retired q.view.raised;
 }
 
+-- Nothing was waited for, and as many slots stayed retired, before a moment or behind it.
+waits_later : {k : Shape} {hard : Bool} {u v w : View} → v.counts.waits ≡ u.counts.waits → v.hands.retired ≡ u.hands.retired
+    → WaitsForRoom k hard v w → WaitsForRoom k hard u w
+waits_later {k} same kept (waits_none none all) = waits_none (none ∙ same) (all ∙ kept)
+waits_later {k} same kept (waits_once hard many one back) =
+    waits_once hard (subst (λ (rs : List Retired). k.room ≤ length rs + 1) kept many) (one ∙ ap (λ n. n + 1) same) back
+
+waits_still : {k : Shape} {hard : Bool} {u v w : View} → WaitsForRoom k hard u v → w.counts.waits ≡ v.counts.waits
+    → w.hands.retired ≡ v.hands.retired → WaitsForRoom k hard u w
+waits_still (waits_none none all) same kept = waits_none (same ∙ none) (kept ∙ all)
+waits_still (waits_once hard many one back) same kept = waits_once hard many (same ∙ one) (kept ∙ back)
+
+between_none : {k : Shape} {key : ℕ} {hard : Bool} {v w : View} → HasGone v w [] → w.counts.waits ≡ v.counts.waits
+    → w.hands.retired ≡ v.hands.retired → ComesBetween k key hard v w
+between_none {k} {key} gone waits retired = record { updates = left_none key gone; waits = waits_none waits retired }
+
 -- What an attempt knows once there is room: two more slots may be retired, and it has three tickets left, or two and a spare.
 pub record HasRoom (k : Shape) (key : ℕ) (hard : Bool) (s t : SeatAt) : Type 0 where
   pub proceeds : Proceeds key hard s t
   pub quiet : IsQuietSeat t
   pub few : length t.view.hands.retired + 1 < k.room
+  pub waits : WaitsForRoom k hard s.view t.view
   pub tickets : (s.view.allowance.tickets ≡ t.view.allowance.tickets)
       ⊎ ((s.view.allowance.tickets ≤ t.view.allowance.tickets + 1) × (t.view.hands.spare ≢ None))
 
 room_there : (k : Shape) (key : ℕ) (hard : Bool) (s t : SeatAt) → t ≡ s → length s.view.hands.retired + 1 < k.room → IsQuietSeat s
     → HasRoom k key hard s t
 room_there k key hard s t same few q = subst (HasRoom k key hard s) (sym same)
-    (record { proceeds = proceeds_same key hard s; quiet = q; few = few; tickets = inl refl })
+    (record { proceeds = proceeds_same key hard s; quiet = q; few = few; waits = waits_none refl refl; tickets = inl refl })
 
 some_retired : (most : ℕ) (rs : List Retired) → 2 ≤ most → most ≤ length rs + 1 → rs ≢ []
 some_retired most rs roomy many none = let long = ap length none in absurd (omega (arith, roomy, many, long))
@@ -170,6 +192,7 @@ room_reclaimed k key hard s t back informed q =
       proceeds = proceeds_reclaimed k key hard s t back informed;
       quiet = reclaimed_quiet k s t s.listed back.back back.listed q;
       few = (let long = ap (length {A = Retired}) (reclaim_retired back.back) in let roomy = back.roomy in omega arith);
+      waits = waits_once back.stands_still back.many (ap (λ (z : View). z.counts.waits) back.back.rest) (reclaim_retired back.back);
       tickets = inr (all.paid, all.spare);
     }
 
@@ -185,7 +208,7 @@ pub room_lacking : (k : Shape) (aim : Aim) (s t : SeatAt) → MakesRoom k aim.ha
     → HasAttempted k aim s (EndedBy NoRoom) t
 room_lacking k aim s t none q = subst (HasAttempted k aim s (EndedBy NoRoom)) (sym none.0) (record {
   proceeds = proceeds_same aim.key aim.hard s;
-  attempts = (left_none aim.key gone_same, (none.1, none.2), (λ e. absurd (let other : NoRoom ≡ Spent = e in cc)));
+  attempts = (between_none gone_same refl refl, (none.1, none.2), (λ e. absurd (let other : NoRoom ≡ Spent = e in cc)));
   tickets = omega arith;
   quiet = q;
 })
@@ -196,6 +219,12 @@ module _ (k : Shape) (key : ℕ) (hard : Bool) (s t : SeatAt) (room : HasRoom k 
     pub proceeds_read : Proceeds key hard s u
     proceeds_read = proceeds_on key hard s t u room.proceeds
         (proceeds_goes key hard t u _ (goes_read read) ((refl, refl), (refl, tt)) listed (λ told. read.informed))
+
+    pub between_read : ComesBetween k key hard s.view u.view
+    between_read = record {
+      updates = proceeds_read.updates;
+      waits = waits_still room.waits (ap (λ (z : View). z.counts.waits) read.others) (ap (λ (z : View). z.hands.retired) read.others);
+    }
 
     pub read_tickets : s.view.allowance.tickets ≤ u.view.allowance.tickets + 3
     read_tickets = ⊎_elim
@@ -218,6 +247,12 @@ module _ (k : Shape) (key : ℕ) (hard : Bool) (s t : SeatAt) (room : HasRoom k 
     module _ (some : Bool) (x : SeatAt) (takes : TakesSlots k u some x) (same : x.listed ≡ u.listed) where
       pub proceeds_takes : Proceeds key hard s x
       proceeds_takes = proceeds_on key hard s u x proceeds_read (proceeds_goes key hard u x [] takes.goes tt same takes.informed)
+
+      pub between_takes : ComesBetween k key hard s.view x.view
+      between_takes = record {
+        updates = proceeds_takes.updates;
+        waits = waits_still between_read.waits takes.goes.waits takes.goes.retired;
+      }
 
       -- one ticket is left for the turn
       pub takes_tickets : s.view.allowance.tickets ≤ x.view.allowance.tickets + 2
@@ -294,12 +329,10 @@ module _ (k : Shape) (key : ℕ) (hard : Bool) (s t : SeatAt) (room : HasRoom k 
               → Proceeds key hard s y
           all_turned turned retires informed = proceeds_on key hard s x y proceeds_takes (proceeds_turned turned retires informed)
 
-          pub turn_made : HasTurned x.view turn y.view → (m : TurnTried) × (m.made ≡ true) × WereTried k key salt s.view (m ∷ []) y.view
-          turn_made turned = (
-            record { turn = turn; reading = r; made = true; before = x.view; after = y.view },
-            refl,
-            (proceeds_takes.updates, record { recorded = recorded; kept = kept_takes; comes = turned }, left_none key gone_same),
-          )
+          -- what was tried, and what came of it
+          pub was_tried : (made : Bool) → ComesOf made x.view turn y.view
+              → WasTried k key salt (record { turn = turn; reading = r; made = made; before = x.view; after = y.view })
+          was_tried made comes = record { recorded = recorded; kept = kept_takes; comes = comes }
 
           pub turned_tickets : HasTurned x.view turn y.view → s.view.allowance.tickets ≤ y.view.allowance.tickets + 3
           turned_tickets turned =
@@ -327,16 +360,10 @@ module _ (k : Shape) (key : ℕ) (hard : Bool) (s t : SeatAt) (room : HasRoom k 
               all_lost = proceeds_on key hard s x z proceeds_takes
                   (proceeds_goes key hard x z [] (goes_on none_goes (goes_back back)) tt (last ∙ same_list) (λ was. told))
 
-              pub turn_lost : (m : TurnTried) × (m.made ≡ false) × WereTried k key salt s.view (m ∷ []) z.view
-              turn_lost = (
-                record { turn = turn; reading = r; made = false; before = x.view; after = y.view },
-                refl,
-                (
-                  proceeds_takes.updates,
-                  record { recorded = recorded; kept = kept_takes; comes = none },
-                  left_none key (goes_back back).gone,
-                ),
-              )
+              pub lost_behind : RestsBehind key y.view z.view
+              lost_behind =
+                  let goes = goes_back back in
+                  record { updates = left_none key goes.gone; waits = goes.waits; retired = goes.retired }
 
               pub lost_quiet : IsQuietSeat z
               lost_quiet = put_back_quiet y z back last still
@@ -354,7 +381,11 @@ module _ (k : Shape) (aim : Aim) (s t : SeatAt) (room : HasRoom k aim.key aim.ha
   level_attempt found =
       let on = proceeds_read k aim.key aim.hard s t room u found.0 found.1 listed in record {
         proceeds = on;
-        attempts = (on.updates, (t.view, found), (λ e. absurd (let other : Level ≡ Spent = e in cc)));
+        attempts = (
+          between_read k aim.key aim.hard s t room u found.0 found.1 listed,
+          (t.view, found),
+          (λ e. absurd (let other : Level ≡ Spent = e in cc)),
+        );
         tickets = read_tickets k aim.key aim.hard s t room u found.0 found.1 listed;
         quiet = quiet_read k aim.key aim.hard s t room u found.0 found.1 listed;
       }
@@ -371,7 +402,11 @@ module _ (k : Shape) (aim : Aim) (s t : SeatAt) (room : HasRoom k aim.key aim.ha
         let on = proceeds_takes k aim.key aim.hard s t room u found.0 found.1 listed false x takes same in
         let none = takes.none refl in record {
           proceeds = on;
-          attempts = (on.updates, none.full, (λ e. absurd (let other : NoSlot ≡ Spent = e in cc)));
+          attempts = (
+            between_takes k aim.key aim.hard s t room u found.0 found.1 listed false x takes same,
+            none.full,
+            (λ e. absurd (let other : NoSlot ≡ Spent = e in cc)),
+          );
           tickets = (let a = takes_tickets k aim.key aim.hard s t room u found.0 found.1 listed false x takes same in omega arith);
           quiet = none.quiet;
         }
@@ -392,7 +427,13 @@ module _ (k : Shape) (aim : Aim) (s t : SeatAt) (room : HasRoom k aim.key aim.ha
         turned_attempt turned retires informed quiet = record {
           proceeds = all_turned k aim.key aim.hard s t room u found.0 found.1 listed true x takes same turn aim.salt found.2 y gone turned
               retires informed;
-          attempts = turn_made k aim.key aim.hard s t room u found.0 found.1 listed true x takes same turn aim.salt found.2 y gone turned;
+          attempts = record {
+            turn = record { turn = turn; reading = found.0; made = true; before = x.view; after = y.view };
+            made = refl;
+            before = between_takes k aim.key aim.hard s t room u found.0 found.1 listed true x takes same;
+            tried = was_tried k aim.key aim.hard s t room u found.0 found.1 listed true x takes same turn aim.salt found.2 y gone true turned;
+            behind = record { updates = left_none aim.key gone_same; waits = refl; retired = refl };
+          };
           tickets = turned_tickets k aim.key aim.hard s t room u found.0 found.1 listed true x takes same turn aim.salt found.2 y gone turned;
           quiet = quiet;
         }
@@ -408,20 +449,45 @@ module _ (k : Shape) (aim : Aim) (s t : SeatAt) (room : HasRoom k aim.key aim.ha
               let on = all_lost k aim.key aim.hard s t room u found.0 found.1 listed true x takes same turn aim.salt found.2 y gone none
               still same_list z held_there.0.slot back last told in record {
                 proceeds = on;
-                attempts = turn_lost k aim.key aim.hard s t room u found.0 found.1 listed true x takes same turn aim.salt found.2 y gone none
-                    still same_list z held_there.0.slot back last told;
+                attempts = record {
+                  turn = record { turn = turn; reading = found.0; made = false; before = x.view; after = y.view };
+                  made = refl;
+                  before = between_takes k aim.key aim.hard s t room u found.0 found.1 listed true x takes same;
+                  tried = was_tried k aim.key aim.hard s t room u found.0 found.1 listed true x takes same turn aim.salt found.2 y gone
+                      false none;
+                  behind = lost_behind k aim.key aim.hard s t room u found.0 found.1 listed true x takes same turn aim.salt found.2 y gone
+                      none still same_list z held_there.0.slot back last told;
+                };
                 tickets = lost_tickets k aim.key aim.hard s t room u found.0 found.1 listed true x takes same turn aim.salt found.2 y gone
                     none still same_list z held_there.0.slot back last told;
                 quiet = lost_quiet k aim.key aim.hard s t room u found.0 found.1 listed true x takes same turn aim.salt found.2 y gone none
                     still same_list z held_there.0.slot back last told;
               }
 
--- attempts one after another
-tries_on : (k : Shape) (key salt : ℕ) (u v w : View) (a b : List TurnTried) → WereTried k key salt u a v → WereTried k key salt v b w
-    → WereTried k key salt u (a ++ b) w
-tries_on k key salt u v w [] [] first second = left_on first second
-tries_on k key salt u v w [] (t ∷ later) first second = (left_on first second.0, second.1, second.2)
-tries_on k key salt u v w (t ∷ earlier) b first second = (first.0, first.1, tries_on k key salt t.after v w earlier b first.2 second)
+-- Turns that were tried, one after another, with nothing behind the last one yet.
+abbrev pub TriedSo : Shape → Aim → View → List TurnTried → View → Type 0
+TriedSo k aim v [] w = RestsBehind aim.key v w
+TriedSo k aim v (t ∷ later) w =
+    ComesBetween k aim.key aim.hard v t.before × WasTried k aim.key aim.salt t × TriedSo k aim t.after later w
+
+between_later : {k : Shape} {key : ℕ} {hard : Bool} {u v w : View} → RestsBehind key u v → ComesBetween k key hard v w
+    → ComesBetween k key hard u w
+between_later rests between = record {
+  updates = left_on rests.updates between.updates;
+  waits = waits_later rests.waits rests.retired between.waits;
+}
+
+-- and one more
+tries_on : (k : Shape) (aim : Aim) (turned : Bool) (u v w : View) (a : List TurnTried) → TriedSo k aim u a v
+    → (one : WasAttempted k aim turned v w) → TriedSo k aim u (a ++ one.turn ∷ []) w
+tries_on k aim turned u v w [] so one = (between_later so one.before, one.tried, one.behind)
+tries_on k aim turned u v w (t ∷ later) so one = (so.0, so.1, tries_on k aim turned t.after v w later so.2 one)
+
+-- and the end
+tries_end : (k : Shape) (aim : Aim) (u v w : View) (a : List TurnTried) → TriedSo k aim u a v → ComesBetween k aim.key aim.hard v w
+    → WereTried k aim u a w
+tries_end k aim u v w [] so between = between_later so between
+tries_end k aim u v w (t ∷ later) so between = (so.0, so.1, tries_end k aim t.after v w later so.2 between)
 
 made_more : (a : List TurnTried) (t : TurnTried) → made_among (a ++ t ∷ []) ≡ made_among a + cond t.made 1 0
 made_more [] t = omega arith
@@ -432,10 +498,15 @@ pub record HasTried (k : Shape) (aim : Aim) (turns tries : ℕ) (v w : View) : T
   pub tried : List TurnTried
   pub many : length tried ≡ tries
   pub turned : made_among tried ≡ turns
-  pub were : WereTried k aim.key aim.salt v tried w
+  pub were : TriedSo k aim v tried w
 
 pub tried_none : (k : Shape) (aim : Aim) (v : View) → HasTried k aim 0 0 v v
-tried_none k aim v = record { tried = []; many = refl; turned = refl; were = left_none aim.key gone_same }
+tried_none k aim v = record {
+  tried = [];
+  many = refl;
+  turned = refl;
+  were = record { updates = left_none aim.key gone_same; waits = refl; retired = refl };
+}
 
 made_one : (turned : Bool) (t : TurnTried) → t.made ≡ turned → cond t.made 1 0 ≡ from_bool turned
 made_one true t is = ap (λ b. cond b 1 0) is
@@ -444,19 +515,10 @@ made_one false t is = ap (λ b. cond b 1 0) is
 pub tried_more : (k : Shape) (aim : Aim) (turns i : ℕ) (turned : Bool) (u v w : View) → HasTried k aim turns i u v
     → Attempts k aim v (Tried turned) w → HasTried k aim (turns + from_bool turned) (i + 1) u w
 tried_more k aim turns i turned u v w has one = record {
-  tried = has.tried ++ one.0 ∷ [];
-  many = length-append has.tried (one.0 ∷ []) ∙ ap (λ n. n + 1) has.many;
-  turned = made_more has.tried one.0 ∙ (λ j. has.turned j + made_one turned one.0 one.1 j);
-  were = tries_on k aim.key aim.salt u v w has.tried (one.0 ∷ []) has.were one.2;
-}
-
-tried_still : (k : Shape) (aim : Aim) (turns i : ℕ) (u v w : View) → HasTried k aim turns i u v → LeavesNoUpdate v aim.key w
-    → HasTried k aim turns i u w
-tried_still k aim turns i u v w has none = record {
-  tried = has.tried;
-  many = has.many;
-  turned = has.turned;
-  were = subst (λ l. WereTried k aim.key aim.salt u l w) (append-nil has.tried) (tries_on k aim.key aim.salt u v w has.tried [] has.were none);
+  tried = has.tried ++ one.turn ∷ [];
+  many = length-append has.tried (one.turn ∷ []) ∙ ap (λ n. n + 1) has.many;
+  turned = made_more has.tried one.turn ∙ (λ j. has.turned j + made_one turned one.turn one.made j);
+  were = tries_on k aim turned u v w has.tried has.were one;
 }
 
 pub one_at_most : (turned : Bool) → from_bool turned ≤ 1
@@ -468,7 +530,7 @@ pub spent_lift : (k : Shape) (aim : Aim) (turns i : ℕ) (v w : View) → HasTri
     → HasLifted k aim (record { turns = turns; tried = aim.attempts; stop = Spent }) v w
 spent_lift k aim turns i v w has all = record {
   tried = has.tried;
-  were = has.were;
+  were = tries_end k aim v w w has.tried has.were (between_none gone_same refl refl);
   many = has.many ∙ all;
   few = (let many = has.many in omega arith);
   turns = has.turned;
@@ -488,14 +550,14 @@ pub ended_lift : (k : Shape) (aim : Aim) (turns i : ℕ) (stop : Stop) (s t u : 
     → HasTried k aim turns i s.view t.view → s.view.allowance.tickets ≤ t.view.allowance.tickets + 3 * i → i < aim.attempts
     → HasAttempted k aim t (EndedBy stop) u → HasEnded k aim turns i stop s u
 ended_lift k aim turns i stop s t u proceeds tried tickets more made =
-    let still = tried_still k aim turns i s.view t.view u.view tried made.attempts.0 in record {
+    record {
       proceeds = proceeds_on aim.key aim.hard s t u proceeds made.proceeds;
       lifted = record {
-        tried = still.tried;
-        were = still.were;
-        many = still.many;
-        few = (let many = still.many in omega arith);
-        turns = still.turned;
+        tried = tried.tried;
+        were = tries_end k aim s.view t.view u.view tried.tried tried.were made.attempts.0;
+        many = tried.many;
+        few = (let many = tried.many in omega arith);
+        turns = tried.turned;
         spent = λ e. absurd (made.attempts.2 e);
       };
       ends = made.attempts.1;

@@ -1,5 +1,5 @@
 -- Loads in a section, one after another, and what they find out.
-use Rattle.std.proofs.Common.{◌≡◌, ◌≢◌, ◌/◌, ℕ, ◌&&◌, cond, true, false, List, [], ◌∷◌, ◌++◌, Some, None, refl, sym, ap, subst, ◌∙◌, eq-eqb, ne_eqb, append_assoc}
+use Rattle.std.proofs.Common.{◌≡◌, ◌≢◌, ◌/◌, ℕ, ◌+◌, ◌&&◌, cond, true, false, List, [], ◌∷◌, ◌++◌, length, arith, Some, None, refl, sym, ap, subst, ◌∙◌, eq-eqb, ne_eqb, append_assoc}
 use mathlib.Core.List.{IsPrefix}
 use Rattle.prcu_marks.specs.declared.mark.Mark.{Mark}
 use Rattle.prcu_marks.specs.declared.mark.Mark.TheVariants.{Entered, Left as LeftMark}
@@ -38,6 +38,7 @@ use Rattle.seat_table.proofs.Sections.{made_none, made_more, made_both}
 use Rattle.seat_table.proofs.Seating.{still_quiet}
 use Rattle.tree_points.proofs.Gone.{allowed, further_by}
 use Rattle.prcu_model.proofs.ListFacts.{prefix_trans}
+use Rattle.citrus_tree.specs.Bounded.{slots_in, slots_met}
 use Rattle.citrus_tree.specs.Going.{Goes}
 use Rattle.tree_laws.proofs.searches.Readings.{in_more}
 use Rattle.citrus_tree.specs.Lookups.{is_load, is_of_lookup}
@@ -86,7 +87,15 @@ went_is r s b c e some =
     ap (λ z. loaded z (Key c.slot) c.key) (linked_is r s b c.slot e some)
     ∙ keyed_is (record (noted_load r (Link s b) c.slot) { state = Unread c.slot s b; stood = c.slot ∷ r.stood }) c.slot s b c.key refl
 
--- then it stands at that slot
+-- then it has stood at one slot more
+pub went_met : {v w x : View} {key : ℕ} (r : Reading) (s : ℕ) (b : Side) (c : Child) → r.state ≡ At s b → c.slot ≢ 0 → IsReading v key r w
+    → IsReading v key (went_down r s b c) x → slots_met x ≡ slots_met w + 1
+went_met r s b c e some i j =
+    let there = ap slots_in j.inside ∙ ap (λ (z : Reading). length z.stood) (went_is r s b c e some) in
+    let here = ap slots_in i.inside in
+    omega (arith, there, here)
+
+-- and stands at that slot
 pub stood_below : (r : Reading) (s : ℕ) (b : Side) (n : ℕ) → StandsBy s b r → n ≢ 0 → IsIn (loaded r (Link s b) n).stood n
 stood_below r s b n by some = subst (λ (z : Reading). IsIn z.stood n) (sym (linked_is r s b n by.state_is some)) (0, refl)
 

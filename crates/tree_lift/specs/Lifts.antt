@@ -19,6 +19,7 @@ use Rattle.tree_lift.specs.declared.lifting.Lifted.{Lifted}
 use Rattle.tree_lift.specs.declared.lifting.Attempt.TheVariants.{Tried, Ended}
 use Rattle.tree_lift.specs.declared.lifting.Stop.{Stop}
 use Rattle.tree_lift.specs.declared.lifting.Stop.TheVariants.{Level, NoRoom, NoSlot, Spent}
+use Rattle.tree_lift.specs.Rooms.{WaitsForRoom}
 use Rattle.tree_lift.specs.Ways.{RecordsTurn, Finds}
 
 -- Of its place no marks were left but those of sections with the key, and of waits for everybody: so none of an update.
@@ -55,10 +56,16 @@ pub record WasTried (k : Shape) (key salt : ℕ) (t : TurnTried) : Type 0 where
   pub kept : IsIn t.before.records t.reading
   pub comes : ComesOf t.made t.before t.turn t.after
 
--- Between two moments these turns were tried, one after another, and the place made no update.
-abbrev pub WereTried : Shape → ℕ → ℕ → View → List TurnTried → View → Type 0
-WereTried k key salt v [] w = LeavesNoUpdate v key w
-WereTried k key salt v (t ∷ later) w = LeavesNoUpdate v key t.before × WasTried k key salt t × WereTried k key salt t.after later w
+-- Before a turn, and behind the last one: no update was made, and readers were waited for only so that there is room for a turn.
+pub record ComesBetween (k : Shape) (key : ℕ) (hard : Bool) (v w : View) : Type 0 where
+  pub updates : LeavesNoUpdate v key w
+  pub waits : WaitsForRoom k hard v w
+
+-- Between two moments these turns were tried, one after another, and nothing else but what comes between turns.
+abbrev pub WereTried : Shape → Aim → View → List TurnTried → View → Type 0
+WereTried k aim v [] w = ComesBetween k aim.key aim.hard v w
+WereTried k aim v (t ∷ later) w =
+    ComesBetween k aim.key aim.hard v t.before × WasTried k aim.key aim.salt t × WereTried k aim t.after later w
 
 -- how many of them were made
 abbrev pub made_among : List TurnTried → ℕ
@@ -74,10 +81,24 @@ EndsBy k aim NoRoom w = (aim.hard ≡ false) × (k.room ≤ length w.hands.retir
 EndsBy k aim NoSlot w = IsFull k w
 EndsBy k aim Spent w = Unit {0}
 
+-- Right behind a turn that was tried no wait was begun, and no slot retired or given back.
+pub record RestsBehind (key : ℕ) (v w : View) : Type 0 where
+  pub updates : LeavesNoUpdate v key w
+  pub waits : w.counts.waits ≡ v.counts.waits
+  pub retired : w.hands.retired ≡ v.hands.retired
+
+-- an attempt at one turn
+pub record WasAttempted (k : Shape) (aim : Aim) (turned : Bool) (v w : View) : Type 0 where
+  pub turn : TurnTried
+  pub made : turn.made ≡ turned
+  pub before : ComesBetween k aim.key aim.hard v turn.before
+  pub tried : WasTried k aim.key aim.salt turn
+  pub behind : RestsBehind aim.key turn.after w
+
 -- what an attempt came to
 abbrev pub Attempts : Shape → Aim → View → Attempt → View → Type 0
-Attempts k aim v (Tried turned) w = (t : TurnTried) × (t.made ≡ turned) × WereTried k aim.key aim.salt v (t ∷ []) w
-Attempts k aim v (Ended stop) w = LeavesNoUpdate v aim.key w × EndsBy k aim stop w × (stop ≢ Spent)
+Attempts k aim v (Tried turned) w = WasAttempted k aim turned v w
+Attempts k aim v (Ended stop) w = ComesBetween k aim.key aim.hard v w × EndsBy k aim stop w × (stop ≢ Spent)
 
 -- What an attempt leaves, with at most three tickets.
 pub record HasAttempted (k : Shape) (aim : Aim) (s : SeatAt) (answer : Attempt) (t : SeatAt) : Type 0 where
@@ -90,7 +111,7 @@ pub record HasAttempted (k : Shape) (aim : Aim) (s : SeatAt) (answer : Attempt) 
 -- tried all.
 pub record HasLifted (k : Shape) (aim : Aim) (lifted : Lifted) (v w : View) : Type 0 where
   pub tried : List TurnTried
-  pub were : WereTried k aim.key aim.salt v tried w
+  pub were : WereTried k aim v tried w
   pub many : length tried ≡ lifted.tried
   pub few : length tried ≤ aim.attempts
   pub turns : made_among tried ≡ lifted.turns

@@ -3,6 +3,7 @@
 use Rattle.std.specs.Prelude.{◌≡◌, ◌≢◌, ◌⊎◌, ◌+◌, ◌<◌, ◌≤◌, Bool, true, false, [], length, Some, None}
 use Rattle.core_state.specs.declared.shape.Shape.{Shape}
 use Rattle.core_state.specs.declared.view.Held.{Held}
+use Rattle.core_state.specs.declared.view.View.{View}
 use Rattle.seat_table.specs.Gains.{IsFull, IsInformed}
 use Rattle.seat_table.specs.Seats.{SeatAt, IsQuietSeat}
 use Rattle.node_slots.specs.Reclaiming.{HasReclaimed}
@@ -23,9 +24,16 @@ abbrev pub MakesRoom : Shape → Bool → SeatAt → Bool → SeatAt → Type 0
 MakesRoom k hard s true t = ((t ≡ s) × (length s.view.hands.retired + 1 < k.room)) ⊎ Reclaims k hard s t
 MakesRoom k hard s false t = (t ≡ s) × (hard ≡ false) × (k.room ≤ length s.view.hands.retired + 1)
 
+-- When a lift waits for all readers, between two moments of it: once, where it is to stand still and the place had no room for two more
+-- retired slots, and then it gave all of them back. Else it began no wait, and the same slots are retired.
+pub data WaitsForRoom (k : Shape) (hard : Bool) (v w : View) : Type 0 where
+  waits_none : w.counts.waits ≡ v.counts.waits → w.hands.retired ≡ v.hands.retired → WaitsForRoom k hard v w
+  waits_once : hard ≡ true → k.room ≤ length v.hands.retired + 1 → w.counts.waits ≡ v.counts.waits + 1 → w.hands.retired ≡ []
+      → WaitsForRoom k hard v w
+
 -- Whether the place had retired slots: all were given back, by one wait for everybody. Where it had none nothing was done.
 abbrev pub GivesAllBack : Shape → SeatAt → Bool → SeatAt → Type 0
-GivesAllBack k s true t = HasReclaimed k s.view s.listed t.view × (t.listed ≡ [])
+GivesAllBack k s true t = HasReclaimed k s.view s.listed t.view × (t.listed ≡ []) × (s.view.hands.retired ≢ [])
 GivesAllBack k s false t = (t ≡ s) × (s.view.hands.retired ≡ [])
 
 -- Whether the place has a spare: it had, or it has one for a ticket. Where it hasn't no slot was free, and the dictionary is as large as

@@ -1,6 +1,6 @@
 -- The rule by which the tree is kept shallow.
 -- Source: docs/TREE.md, "A tree that stays shallow".
-use Rattle.std.specs.Prelude.{◌≡◌, ℕ, ◌+◌, ◌*◌, ◌/◌, ◌%◌, ◌^◌, ◌<◌, ◌≤◌, Bool, nat_lt, bit_xor}
+use Rattle.std.specs.Prelude.{◌≡◌, if◌then◌else◌, ℕ, ◌+◌, ◌*◌, ◌/◌, ◌%◌, ◌^◌, ◌<◌, ◌≤◌, Bool, nat_lt, bit_xor}
 
 -- a number with its high bits folded down by so many places, times a factor
 abbrev pub folded : ℕ → ℕ → ℕ → ℕ
@@ -24,3 +24,8 @@ pub record HasDigits (size digits : ℕ) : Type 0 where
 -- how deep a way may be in a tree of this size
 abbrev pub IsMostDepth : ℕ → ℕ → Type 0
 IsMostDepth size most = (digits : ℕ) × HasDigits size digits × (most ≡ 2 * digits + 2)
+
+-- How often a turn is tried behind a put whose way led over so many slots: 24 times where that is deep in a tree of this size, and
+-- else never.
+abbrev pub AreTriedBehind : ℕ → ℕ → ℕ → Type 0
+AreTriedBehind depth size attempts = (most : ℕ) × IsMostDepth size most × (attempts ≡ (if nat_lt most depth then 24 else 0))

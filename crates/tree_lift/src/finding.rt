@@ -1,16 +1,16 @@
 //! The way down from the root to a node whose child is to stand above it.
-ghost use Rattle.std.specs.Prelude.{◌≡◌, ◌≢◌, ℕ, [], None, ◌≤◌, IfSome, IfOk, IfErr};
+ghost use Rattle.std.specs.Prelude.{◌≡◌, ◌≢◌, ℕ, [], None, ◌+◌, ◌≤◌, IfSome};
 ghost use Rattle.core_state.specs.declared.view.Reading.{Reading};
 ghost use Rattle.core_state.specs.declared.view.View.{View};
+ghost use Rattle.core_state.specs.memory.Memory.{slot_count};
 ghost use Rattle.seat_table.specs.Gains.{IsSlot};
-ghost use Rattle.seat_table.specs.Rounds.{HasMade, HasStepped};
 ghost use Rattle.seat_table.specs.Seats.{IsQuietSeat, shape_of};
 ghost use Rattle.seat_table.specs.Sections.{HasEntered};
+ghost use Rattle.citrus_tree.specs.Bounded.{slots_met};
 ghost use Rattle.tree_lift.specs.Ways.{Comes, Finds, IsCrossing, IsFinding, IsReading, StandsBy, Starts, after_step};
 
 use crate::rule::rises_above;
 use core_state::{generation_of, step_side};
-use patience::Patience;
 use prcu_marks::Side;
 use seat_table::{CitrusTable, Part, Seat, WaitPart, steps};
 use tree_turn::Turn;
@@ -41,75 +41,69 @@ struct Crossing {
 
 /// Goes down from the root along the key, in a section with it, to the topmost node whose child on the way is to stand above it, and
 /// records both and the node's parent, with their generations. `None` where there is none.
-pub(crate) fn find_turn<P: Patience, W: WaitPart>(
-    patience: &P,
+pub(crate) fn find_turn<W: WaitPart>(
     table: &CitrusTable<W>,
     seat: &mut Seat<W>,
     key: u64,
     salt: u64,
-) -> Result<Option<Turn>, P::Tired>
+) -> Option<Turn>
     requires table { seat.old.table ≡ table.now }
     requires outside { seat.old.view.section ≡ None }
     requires unlocked { seat.old.view.locks ≡ [] }
     ensures seat { (seat.new.table ≡ seat.old.table) × (seat.new.listed ≡ seat.old.listed) }
-    ensures finds { IfOk result (λ answer. Finds (shape_of W.WAY table.now) seat.old.view key salt answer seat.new.view) }
-    ensures quiet { IfOk result (λ _. IsQuietSeat seat.old → IsQuietSeat seat.new) }
-    ensures tired { IfErr result (λ _. HasMade (P.least patience.now) seat.new.view) }
+    ensures finds { Finds (shape_of W.WAY table.now) seat.old.view key salt result seat.new.view }
+    ensures quiet { IsQuietSeat seat.old → IsQuietSeat seat.new }
 {
     W::enter(table, seat, key);
-    let turn = find_inside(patience, table, seat, key, salt)?;
+    let turn = find_inside(table, seat, key, salt);
     W::leave(table, seat);
-    Ok(turn)
+    turn
 }
 
 // The same, in the section that was just entered.
-fn find_inside<P: Patience, W: WaitPart>(
-    patience: &P,
+fn find_inside<W: WaitPart>(
     table: &CitrusTable<W>,
     seat: &mut Seat<W>,
     key: u64,
     salt: u64,
-) -> Result<Option<Turn>, P::Tired>
+) -> Option<Turn>
     requires table { seat.old.table ≡ table.now }
     requires entered { (v : View) × HasEntered v key seat.old.view }
     ensures seat { (seat.new.table ≡ seat.old.table) × (seat.new.listed ≡ seat.old.listed) }
-    ensures finds { IfOk result (λ answer. (v : View) → HasEntered v key seat.old.view
-        → IsFinding (shape_of W.WAY table.now) v key salt answer seat.new.view) }
-    ensures tired { IfErr result (λ _. HasMade (P.least patience.now) seat.new.view) }
+    ensures finds { (v : View) → HasEntered v key seat.old.view
+        → IsFinding (shape_of W.WAY table.now) v key salt result seat.new.view }
 {
-    let Some(crossing) = find_crossing(patience, table, seat, key, salt)? else {
-        return Ok(None);
+    let Some(crossing) = find_crossing(table, seat, key, salt) else {
+        return None;
     };
-    Ok(record_turn(table, seat, crossing))
+    record_turn(table, seat, crossing)
 }
 
-// The topmost node on the way whose child on the way is to stand above it.
-fn find_crossing<P: Patience, W: WaitPart>(
-    patience: &P,
+// The topmost node on the way whose child on the way is to stand above it. The way comes to an end: it stands at no slot twice.
+fn find_crossing<W: WaitPart>(
     table: &CitrusTable<W>,
     seat: &mut Seat<W>,
     key: u64,
     salt: u64,
-) -> Result<Option<Crossing>, P::Tired>
+) -> Option<Crossing>
     requires table { seat.old.table ≡ table.now }
     requires entered { (v : View) × HasEntered v key seat.old.view }
     ensures seat { (seat.new.table ≡ seat.old.table) × (seat.new.listed ≡ seat.old.listed) }
-    ensures comes { IfOk result (λ answer. (v : View) → HasEntered v key seat.old.view
-        → Comes (shape_of W.WAY table.now) v key salt answer seat.new.view) }
-    ensures tired { IfErr result (λ _. HasMade (P.least patience.now) seat.new.view) }
+    ensures comes { (v : View) → HasEntered v key seat.old.view
+        → Comes (shape_of W.WAY table.now) v key salt result seat.new.view }
 {
     let Some(mut at) = first_stand(table, seat, key) else {
-        return Ok(None);
+        return None;
     };
-    for round in 0..u64::MAX {
+    loop {
         let Some(child) = go_down(table, seat, at.node, at.turn) else {
-            return Ok(None);
+            return None;
         };
         if rises_above(salt, child.key, at.key) {
-            return Ok(Some(Crossing { at, child }));
+            return Some(Crossing { at, child });
         }
         let Some(turn) = step_side(key, child.key) else {
-            return Ok(None);
+            return None;
         };
         at = Stand {
             parent: at.node,
@@ -119,7 +113,6 @@ fn find_crossing<P: Patience, W: WaitPart>(
             turn,
         };
     }
-    Err(patience.tired())
 }
 
 // The topmost node, where there is one and it hasn't the key itself.
@@ -155,7 +148,8 @@ fn go_down<W: WaitPart>(
     ensures slot { IfSome result (λ child. (child.slot ≢ 0) × IsSlot (shape_of W.WAY table.now) child.slot) }
     ensures reading { (v : View) (key : ℕ) (r : Reading) → IsReading v key r seat.old.view
         → IsReading v key (after_step r slot side result) seat.new.view }
-    ensures steps { HasStepped seat.old.view seat.new.view }
+    ensures further { IfSome result (λ _. (slots_met seat.new.view ≡ slots_met seat.old.view + 1)
+        × (slots_met seat.new.view ≤ slot_count (shape_of W.WAY table.now))) }
 {
     let link = steps::search_load(table, seat, slot, Part::Link { side });
     if link == 0 {

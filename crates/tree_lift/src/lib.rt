@@ -9,4 +9,4 @@ mod rule;
 
 pub use lifting::{Aim, Lifted, Stop, lift};
 pub use room::give_all_back;
-pub use rule::{is_deep, is_far_too_deep, most_depth, rises_above};
+pub use rule::{attempts_behind, is_deep, is_far_too_deep, most_depth, most_keys, rises_above};

@@ -126,7 +126,7 @@ fn make_attempt<P: Patience, W: WaitPart>(
     if !make_room(patience, table, seat, aim.hard)? {
         return Ok(Attempt::Ended { stop: Stop::NoRoom });
     }
-    let Some(turn) = find_turn(patience, table, seat, aim.key, aim.salt)? else {
+    let Some(turn) = find_turn(table, seat, aim.key, aim.salt) else {
         return Ok(Attempt::Ended { stop: Stop::Level });
     };
     if !take_slots(patience, table, seat)? {

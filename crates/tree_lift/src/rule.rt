@@ -1,6 +1,9 @@
 //! The rule by which the tree is kept shallow: which of a node and its child is to stand above the other, and when a way is deep.
-ghost use Rattle.std.specs.Prelude.{◌≡◌, ◌/◌, ℕ, nat_lt};
-ghost use Rattle.tree_lift.specs.Rule.{IsMostDepth, mixed, rises};
+ghost use Rattle.std.specs.Prelude.{◌≡◌, ◌-◌, ◌/◌, ◌≤◌, ℕ, nat_lt};
+ghost use Rattle.tree_lift.specs.Rule.{AreTriedBehind, IsMostDepth, mixed, rises};
+
+/// How often a turn is tried behind a put whose way was deep.
+const ATTEMPTS: u32 = 24;
 
 // The finalizer of SplitMix64 (Steele, Lea and Flood, "Fast splittable pseudorandom number generators", 2014).
 fn mix(number: u64) -> u64
@@ -36,9 +39,25 @@ pub fn is_deep(depth: u64, size: u64) -> bool
     most_depth(size) < depth
 }
 
-/// Whether half of the way would be deep already, so that it is worth to stand still for readers.
+/// Whether three quarters of the way would be deep already, so that it is worth to stand still for readers.
 pub fn is_far_too_deep(depth: u64, size: u64) -> bool
-    ensures { (most : ℕ) × IsMostDepth size most × (result ≡ nat_lt most (depth / 2)) }
+    ensures { (most : ℕ) × IsMostDepth size most × (result ≡ nat_lt most (depth - depth / 4)) }
 {
-    most_depth(size) < depth / 2
+    most_depth(size) < depth - depth / 4
+}
+
+/// How many keys are there at most in a table with so many slots, of which so many were found free: the slots that aren't.
+pub fn most_keys(slots: u64, free: u64) -> u64
+    ensures { result ≡ slots - free }
+{
+    slots.saturating_sub(free)
+}
+
+/// How often a turn is to be tried behind a put whose way led over so many slots, in a tree of so many keys: 24 times where the way is
+/// deep, and else never. So many turns retire 48 slots, fewer than the room of the library's places: so a lift stands still once at most.
+pub fn attempts_behind(depth: u64, size: u64) -> u32
+    ensures tried { AreTriedBehind depth size result }
+    ensures few { result ≤ 24 }
+{
+    if is_deep(depth, size) { ATTEMPTS } else { 0 }
 }

@@ -67,7 +67,7 @@ fn assert_there<R: Abort + Wait, W: WaitPart>(
     } else {
         Reply::Absent
     };
-    let Told { reply, number: _ } = get(rt, table, seat, &OpenGate, key);
+    let Told { reply, number: _ } = get(table, seat, &OpenGate, key);
     assert_same(rt, reply, wanted, key);
 }
 

@@ -1,10 +1,12 @@
 use crate::handle::Handle;
 use crate::lanes::{open_sets, Lanes, LANES};
-use crate::library::{citrus_open, citrus_share, status, RawHandle, RawLanes};
+use crate::library::{citrus_open_with, citrus_share, status, RawHandle, RawLanes, RawOptions};
 use crate::sections::Sections;
 use crate::turns::Turns;
 use crate::{Error, ALL_TICKETS, MAX_HANDLES, MAX_PAIRS};
+use std::collections::hash_map::RandomState;
 use std::fmt;
+use std::hash::{BuildHasher, Hasher};
 use std::sync::atomic::{AtomicU64, Ordering::Relaxed};
 use std::sync::{Arc, Mutex, MutexGuard, PoisonError};
 
@@ -95,6 +97,7 @@ pub struct Builder {
     waiter: Waiter,
     in_turn: bool,
     lane_sets: u32,
+    salt: Option<u64>,
 }
 
 impl Builder {
@@ -107,6 +110,18 @@ impl Builder {
     /// The way in which removals wait; [`Waiter::Eer`] where nothing is said. All three answer the same.
     pub fn waiter(self, waiter: Waiter) -> Builder {
         Builder { waiter, ..self }
+    }
+
+    /// The salt by which the tree turns its nodes; it is drawn where nothing is said. A fixed one is for tests, whose tree is to be the same
+    /// each time: who knows it can choose keys by which each call is as slow as there are pairs.
+    ///
+    /// ```
+    /// let index = citrus_map::Index::builder(1_000, 1).salt(5).build()?;
+    /// assert_eq!(index.handle()?.insert(5, 50), Ok(true));
+    /// # Ok::<(), citrus_map::Error>(())
+    /// ```
+    pub fn salt(self, salt: u64) -> Builder {
+        Builder { salt: Some(salt), ..self }
     }
 
     /// Whether updates take turns, one at a time; they don't where nothing is said. It is for programs with many more threads that update than
@@ -132,7 +147,7 @@ impl Builder {
 
     /// The same with so many tickets in all, which its handles share.
     pub(crate) fn build_with(self, tickets: u64) -> Result<Index, Error> {
-        let Builder { pairs, handles, waiter, in_turn, lane_sets } = self;
+        let Builder { pairs, handles, waiter, in_turn, lane_sets, salt } = self;
         if !(1..=MAX_PAIRS).contains(&pairs) {
             return Err(Error::Pairs);
         }
@@ -143,8 +158,9 @@ impl Builder {
             return Err(Error::Handles);
         }
         let mut first = RawHandle::CLOSED;
-        // SAFETY: `first` is a closed handle of our own.
-        done(unsafe { citrus_open(&mut first, pairs, handles + lane_sets * LANES, waiter.number()) })?;
+        let options = RawOptions::new(pairs, handles + lane_sets * LANES, waiter.number(), salt.unwrap_or_else(drawn));
+        // SAFETY: `first` is a closed handle of our own, and `options` a whole record.
+        done(unsafe { citrus_open_with(&mut first, &options) })?;
         let lanes = open_sets(&mut first, lane_sets)?;
         let mut all = Vec::with_capacity(handles as usize);
         for _ in 1..handles {
@@ -158,7 +174,12 @@ impl Builder {
     }
 }
 
-/// Tells the causes of `citrus_open` and `citrus_share` that arguments in range may have.
+/// A number that nobody can guess: the hash of nothing, by keys that the standard library drew from the system.
+fn drawn() -> u64 {
+    RandomState::new().build_hasher().finish()
+}
+
+/// Tells the causes of `citrus_open_with` and `citrus_share` that arguments in range may have.
 fn done(status: i32) -> Result<(), Error> {
     match status {
         status::DONE => Ok(()),
@@ -200,7 +221,7 @@ impl Index {
 
     /// The same as [`Index::new`], with more to say before the index is made.
     pub fn builder(pairs: u32, handles: u32) -> Builder {
-        Builder { pairs, handles, waiter: Waiter::default(), in_turn: false, lane_sets: 0 }
+        Builder { pairs, handles, waiter: Waiter::default(), in_turn: false, lane_sets: 0, salt: None }
     }
 
     /// A handle for a thread. It goes back to the index when it is dropped.

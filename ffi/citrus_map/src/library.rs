@@ -1,6 +1,7 @@
 //! The C library, as its header `citrus.h` declares it.
 
 use std::ffi::c_void;
+use std::mem::size_of;
 use std::ptr::null_mut;
 
 /// What C calls a `citrus_handle`: closed, or open on an index. It is closed when it is dropped.
@@ -20,6 +21,23 @@ impl Drop for RawHandle {
     fn drop(&mut self) {
         // SAFETY: the handle is closed or as the last call left it, and nobody else has it.
         unsafe { citrus_close(self) }
+    }
+}
+
+/// What C calls `citrus_options`, as the first version of its header has it.
+#[repr(C)]
+pub(crate) struct RawOptions {
+    size: usize,
+    pub(crate) pairs: u32,
+    pub(crate) handles: u32,
+    pub(crate) waiter: u32,
+    flags: u32,
+    pub(crate) salt: u64,
+}
+
+impl RawOptions {
+    pub(crate) fn new(pairs: u32, handles: u32, waiter: u32, salt: u64) -> RawOptions {
+        RawOptions { size: size_of::<RawOptions>(), pairs, handles, waiter, flags: 0, salt }
     }
 }
 
@@ -82,7 +100,7 @@ pub(crate) mod status {
 // Each handle is closed or as the last call with it left it, and one call at a time is made with it. The pointers of one call are distinct,
 // and lead to memory of their type. Whatever else a call may ask the library tests itself.
 extern "C" {
-    pub(crate) fn citrus_open(handle: *mut RawHandle, pairs: u32, handles: u32, waiter: u32) -> i32;
+    pub(crate) fn citrus_open_with(handle: *mut RawHandle, options: *const RawOptions) -> i32;
     pub(crate) fn citrus_share(handle: *mut RawHandle, handles: u32, tickets: u64, other: *mut RawHandle) -> i32;
     pub(crate) fn citrus_close(handle: *mut RawHandle);
     pub(crate) fn citrus_get(handle: *mut RawHandle, key: u64, value: *mut u64) -> i32;

@@ -1,6 +1,6 @@
 //! Sections of an index: what is read in them, who waits for them, and what is refused meanwhile.
 
-use citrus_map::{Error, GracePeriod, Index, Tidied, Waiter};
+use citrus_map::{Builder, Error, GracePeriod, Index, Tidied, Waiter};
 use std::mem::forget;
 use std::sync::atomic::{AtomicBool, Ordering::SeqCst};
 use std::thread;
@@ -183,6 +183,30 @@ fn a_tree_is_tidied_range_by_range() {
     assert_eq!(handle.list(..), Ok(before));
     assert_eq!(handle.tidy(5..5, 4), Ok(Tidied { made: 0, next: None }));
     assert!(handle.tidy(5..6, 0).is_ok());
+}
+
+/// How many turns make the tree of some keys the one of its index's salt.
+fn turns_of(builder: Builder) -> u64 {
+    let handle = builder.build().unwrap().handle().unwrap();
+    for i in 0..1_000 {
+        handle.insert(i * 617 % 1_000, i).unwrap();
+    }
+    let (mut made, mut from) = (0, Some(0));
+    while let Some(low) = from {
+        let told = handle.tidy(low.., u32::MAX).unwrap();
+        made += u64::from(told.made);
+        from = told.next;
+    }
+    made
+}
+
+#[test]
+fn a_fixed_salt_makes_the_same_tree_and_drawn_ones_make_others() {
+    let builder = Index::builder(1_000, 1);
+    assert_eq!(turns_of(builder.salt(5)), turns_of(builder.salt(5)));
+    assert_ne!(turns_of(builder.salt(5)), turns_of(builder.salt(6)));
+    let drawn = turns_of(builder);
+    assert!((0..10).any(|_| turns_of(builder) != drawn));
 }
 
 #[test]

@@ -173,8 +173,8 @@ mod tests {
                 ("GET 5", "$-1"),
                 ("SET 5 50", "+OK"),
                 ("get 5", "$2 50"),
-                ("SET 05 0051", "+OK"),
-                ("GET 000000000000000000000000005", "$2 51"),
+                ("SET 5 51", "+OK"),
+                ("GET 5", "$2 51"),
                 ("SETNX 5 52", ":0"),
                 ("SETNX 18446744073709551615 0", ":1"),
                 ("EXISTS 5 6 5 18446744073709551615", ":3"),
@@ -281,21 +281,68 @@ mod tests {
         );
     }
 
+    /// Each command that takes keys, with a key that isn't one in the place of each of its keys.
+    fn with_bad_key(key: &str) -> Vec<String> {
+        let alone = ["GET", "MGET", "INCR", "DECR", "DEL", "GETDEL", "EXISTS"].map(|name| format!("{name} {key}"));
+        let first = ["SET", "MSET", "SETNX", "GETSET", "INCRBY", "DECRBY"].map(|name| format!("{name} {key} 1"));
+        let last = ["MGET 5", "DEL 5", "EXISTS 5", "RANGE 0", "REVRANGE 9"].map(|begin| format!("{begin} {key}"));
+        let between = [format!("MSET 5 1 {key} 1"), format!("RANGE {key} 9"), format!("REVRANGE {key} 0")];
+        alone.into_iter().chain(first).chain(last).chain(between).collect()
+    }
+
+    #[test]
+    fn a_key_has_one_spelling() {
+        const ZEROS: &str = "-ERR key is not in its one spelling, which has no zeros before its digits";
+        const NO_KEY: &str = "-ERR key is not an integer or out of range";
+        let store = new_store(100, 1);
+        check_at(&store, &[("SET 5 50", "+OK"), ("SET 0 10", "+OK")]);
+        let zeros = ["05", "00", "000000000005", "00000000000000000000000005"].map(|key| (key, ZEROS));
+        let others =
+            ["+5", "-5", "-0", "5.0", "0x5", "\" 5\"", "\"5 \"", "\"\"", "x", "key:5", "18446744073709551616"].map(|key| (key, NO_KEY));
+        for (key, error) in zeros.into_iter().chain(others) {
+            for line in with_bad_key(key) {
+                check_at(&store, &[(&line, error)]);
+            }
+        }
+        check_at(&store, &[("RANGE - +", "*2 $-1 *4 $1 0 $2 10 $1 5 $2 50"), ("DBSIZE", ":2")]);
+    }
+
+    #[test]
+    fn a_value_comes_back_as_it_was_sent() {
+        const ZEROS: &str = "-ERR value is not in its one spelling, which has no zeros before its digits";
+        check(
+            100,
+            &[
+                ("SET 5 0", "+OK"),
+                ("GET 5", "$1 0"),
+                ("SET 5 00", ZEROS),
+                ("SET 5 007", ZEROS),
+                ("SETNX 6 007", ZEROS),
+                ("GETSET 5 007", ZEROS),
+                ("MSET 5 1 6 007", ZEROS),
+                ("INCRBY 5 007", ZEROS),
+                ("INCRBY 5 -0", ZEROS),
+                ("DECRBY 5 -01", ZEROS),
+                ("RANGE 0 9 LIMIT 01", ZEROS),
+                ("INCRBY 5 0", ":0"),
+                ("MGET 5 6", "*2 $1 0 $-1"),
+            ],
+        );
+    }
+
     #[test]
     fn bad_requests_change_nothing() {
+        const NO_KEY: &str = "-ERR key is not an integer or out of range";
         const NO_NUMBER: &str = "-ERR value is not an integer or out of range";
         check(
             100,
             &[
                 ("SET 5 50", "+OK"),
-                ("DEL 5 x", NO_NUMBER),
+                ("DEL 5 x", NO_KEY),
                 ("GET 5", "$2 50"),
-                ("GET \"\"", NO_NUMBER),
-                ("GET +5", NO_NUMBER),
-                ("GET -5", NO_NUMBER),
-                ("GET 5.0", NO_NUMBER),
                 ("SET 5 18446744073709551616", NO_NUMBER),
-                ("SET key:000000000001 1", NO_NUMBER),
+                ("SET 5 +6", NO_NUMBER),
+                ("SET key:000000000001 1", NO_KEY),
                 ("SET 5 60 EX 10", "-ERR syntax error"),
                 ("SET 5", "-ERR wrong number of arguments for 'set' command"),
                 ("Get", "-ERR wrong number of arguments for 'get' command"),
@@ -305,7 +352,7 @@ mod tests {
                 ("MSET 5 60 6", "-ERR wrong number of arguments for 'mset' command"),
                 ("MSET", "-ERR wrong number of arguments for 'mset' command"),
                 ("MSET 5 60 6 x", NO_NUMBER),
-                ("MGET 5 x", NO_NUMBER),
+                ("MGET 5 x", NO_KEY),
                 ("MGET", "-ERR wrong number of arguments for 'mget' command"),
                 ("INCR", "-ERR wrong number of arguments for 'incr' command"),
                 ("INCRBY 5 1.5", NO_NUMBER),

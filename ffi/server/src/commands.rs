@@ -2,6 +2,7 @@
 
 use crate::parser::Request;
 use std::fmt;
+use std::str::FromStr;
 
 /// So many pairs a `RANGE` or `REVRANGE` tells where it has no limit.
 pub const DEFAULT_LIMIT: usize = 1_000;
@@ -87,6 +88,24 @@ pub enum Command<'a> {
     Http,
 }
 
+/// What a number stands for in a request.
+#[derive(Clone, Copy, Debug, PartialEq, Eq)]
+pub enum Role {
+    /// It is a key, or an end of a range.
+    Key,
+    /// It is a value, an amount or a limit.
+    Value,
+}
+
+impl fmt::Display for Role {
+    fn fmt(&self, text: &mut fmt::Formatter<'_>) -> fmt::Result {
+        text.write_str(match self {
+            Role::Key => "key",
+            Role::Value => "value",
+        })
+    }
+}
+
 /// Why a request is no command.
 #[derive(Clone, Debug, PartialEq, Eq)]
 pub enum Refusal {
@@ -101,7 +120,9 @@ pub enum Refusal {
         name: String,
     },
     /// A key or a value isn't decimal digits or is above 2^64 - 1, or an amount isn't from -2^63 to 2^63 - 1.
-    Number,
+    Number(Role),
+    /// A number has zeros before its digits, or a minus before 0.
+    Spelling(Role),
     /// An amount to take away is -2^63, which can't be added.
     Decrement,
     /// A word stands where none of the command's may.
@@ -119,7 +140,8 @@ impl fmt::Display for Refusal {
                 arguments.iter().try_for_each(|word| write!(text, "'{word}' "))
             }
             Refusal::Arguments { name } => write!(text, "ERR wrong number of arguments for '{name}' command"),
-            Refusal::Number => text.write_str("ERR value is not an integer or out of range"),
+            Refusal::Number(role) => write!(text, "ERR {role} is not an integer or out of range"),
+            Refusal::Spelling(role) => write!(text, "ERR {role} is not in its one spelling, which has no zeros before its digits"),
             Refusal::Decrement => text.write_str("ERR decrement would overflow"),
             Refusal::Syntax => text.write_str("ERR syntax error"),
             Refusal::Limit(most) => write!(text, "ERR LIMIT is out of range, must be from 1 to {most}"),
@@ -132,16 +154,33 @@ fn shown(word: &[u8]) -> String {
     String::from_utf8_lossy(&word[..word.len().min(128)]).into_owned()
 }
 
-/// Decimal digits, with zeros before them or not.
-fn number(word: &[u8]) -> Result<u64, Refusal> {
-    let digits = std::str::from_utf8(word).ok().filter(|text| text.bytes().all(|byte| byte.is_ascii_digit()));
-    digits.and_then(|text| text.parse().ok()).ok_or(Refusal::Number)
+/// The number that a word spells, in the one way in which it may be spelled. So a proxy, which shares keys out by their bytes, takes no key
+/// for two, and a value comes back as it was sent.
+fn number<N: FromStr>(word: &[u8], role: Role) -> Result<N, Refusal> {
+    let text = std::str::from_utf8(word).ok().filter(|text| !text.starts_with('+')).ok_or(Refusal::Number(role))?;
+    let number = text.parse().map_err(|_| Refusal::Number(role))?;
+    let digits = text.strip_prefix('-').unwrap_or(text);
+    if digits.starts_with('0') && text != "0" {
+        return Err(Refusal::Spelling(role));
+    }
+    Ok(number)
 }
 
-/// Decimal digits, with a minus before them or not.
+fn key_of(word: &[u8]) -> Result<u64, Refusal> {
+    number(word, Role::Key)
+}
+
+fn keys_of(words: &[&[u8]]) -> Result<Vec<u64>, Refusal> {
+    words.iter().map(|word| key_of(word)).collect()
+}
+
+fn value_of(word: &[u8]) -> Result<u64, Refusal> {
+    number(word, Role::Value)
+}
+
+/// What is to be added, with a minus before it or not.
 fn amount(word: &[u8]) -> Result<i64, Refusal> {
-    let digits = std::str::from_utf8(word).ok().filter(|text| !text.starts_with('+'));
-    digits.and_then(|text| text.parse().ok()).ok_or(Refusal::Number)
+    number(word, Role::Value)
 }
 
 /// What is added where this is to be taken away.
@@ -149,16 +188,12 @@ fn negative(word: &[u8]) -> Result<i64, Refusal> {
     amount(word)?.checked_neg().ok_or(Refusal::Decrement)
 }
 
-fn numbers(words: &[&[u8]]) -> Result<Vec<u64>, Refusal> {
-    words.iter().map(|word| number(word)).collect()
-}
-
 /// The pairs of an `MSET`, where their number is even and there is one.
 fn pairs(words: &[&[u8]]) -> Result<Vec<(u64, u64)>, Refusal> {
     if words.is_empty() || words.len() % 2 != 0 {
         return Err(Refusal::Arguments { name: "mset".into() });
     }
-    words.chunks_exact(2).map(|pair| Ok((number(pair[0])?, number(pair[1])?))).collect()
+    words.chunks_exact(2).map(|pair| Ok((key_of(pair[0])?, value_of(pair[1])?))).collect()
 }
 
 impl Range {
@@ -167,13 +202,13 @@ impl Range {
         let end = |word: &[u8]| match word {
             b"-" => Ok(0),
             b"+" => Ok(u64::MAX),
-            _ => number(word),
+            _ => key_of(word),
         };
         let most = if is_down { MAX_LIMIT_DOWN } else { MAX_LIMIT };
         let limit = match rest {
             [] => DEFAULT_LIMIT,
             [word, limit] if word.eq_ignore_ascii_case(b"LIMIT") => {
-                usize::try_from(number(limit)?).ok().filter(|limit| (1..=most).contains(limit)).ok_or(Refusal::Limit(most))?
+                usize::try_from(value_of(limit)?).ok().filter(|limit| (1..=most).contains(limit)).ok_or(Refusal::Limit(most))?
             }
             _ => return Err(Refusal::Syntax),
         };
@@ -204,20 +239,20 @@ impl<'a> Command<'a> {
     /// A command on pairs. The name is in capitals.
     fn with_keys(name: &[u8], arguments: &[&[u8]]) -> Result<Option<Command<'a>>, Refusal> {
         Ok(Some(match (name, arguments) {
-            (b"GET", [key]) => Command::Get(number(key)?),
-            (b"MGET", [_, ..]) => Command::GetMany(numbers(arguments)?),
-            (b"SET", [key, value]) => Command::Set { key: number(key)?, value: number(value)? },
+            (b"GET", [key]) => Command::Get(key_of(key)?),
+            (b"MGET", [_, ..]) => Command::GetMany(keys_of(arguments)?),
+            (b"SET", [key, value]) => Command::Set { key: key_of(key)?, value: value_of(value)? },
             (b"SET", [_, _, _, ..]) => return Err(Refusal::Syntax),
             (b"MSET", _) => Command::SetMany(pairs(arguments)?),
-            (b"SETNX", [key, value]) => Command::SetIfAbsent { key: number(key)?, value: number(value)? },
-            (b"GETSET", [key, value]) => Command::Exchange { key: number(key)?, value: number(value)? },
-            (b"INCR", [key]) => Command::Add { key: number(key)?, amount: 1 },
-            (b"DECR", [key]) => Command::Add { key: number(key)?, amount: -1 },
-            (b"INCRBY", [key, more]) => Command::Add { key: number(key)?, amount: amount(more)? },
-            (b"DECRBY", [key, less]) => Command::Add { key: number(key)?, amount: negative(less)? },
-            (b"DEL", [_, ..]) => Command::Delete(numbers(arguments)?),
-            (b"GETDEL", [key]) => Command::Take(number(key)?),
-            (b"EXISTS", [_, ..]) => Command::Exist(numbers(arguments)?),
+            (b"SETNX", [key, value]) => Command::SetIfAbsent { key: key_of(key)?, value: value_of(value)? },
+            (b"GETSET", [key, value]) => Command::Exchange { key: key_of(key)?, value: value_of(value)? },
+            (b"INCR", [key]) => Command::Add { key: key_of(key)?, amount: 1 },
+            (b"DECR", [key]) => Command::Add { key: key_of(key)?, amount: -1 },
+            (b"INCRBY", [key, more]) => Command::Add { key: key_of(key)?, amount: amount(more)? },
+            (b"DECRBY", [key, less]) => Command::Add { key: key_of(key)?, amount: negative(less)? },
+            (b"DEL", [_, ..]) => Command::Delete(keys_of(arguments)?),
+            (b"GETDEL", [key]) => Command::Take(key_of(key)?),
+            (b"EXISTS", [_, ..]) => Command::Exist(keys_of(arguments)?),
             (b"RANGE", [low, high, rest @ ..]) => Command::Range(Range::of(low, high, rest, false)?),
             (b"REVRANGE", [high, low, rest @ ..]) => Command::Range(Range::of(low, high, rest, true)?),
             _ => return Ok(None),

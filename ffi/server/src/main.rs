@@ -1,4 +1,5 @@
-//! `citrus_server [--bind ADDRESS] [--port N] [--pairs N] [--workers N] [--connections N] [--timeout SECONDS] [--waiter eer|domain|deer]`
+//! `citrus_server [--bind ADDRESS] [--port N] [--pairs N] [--workers N] [--connections N] [--timeout SECONDS] [--waiter eer|domain|deer]
+//! [--salt N]`
 
 use citrus_map::{Error, Index, Waiter, LANES, MAX_HANDLES, MAX_PAIRS};
 use citrus_server::files;
@@ -8,7 +9,7 @@ use std::thread::available_parallelism;
 use std::time::Duration;
 
 const USAGE: &str = "usage: citrus_server [--bind ADDRESS] [--port N] [--pairs N] [--workers N] [--connections N] [--timeout SECONDS] \
-                     [--waiter eer|domain|deer]";
+                     [--waiter eer|domain|deer] [--salt N]";
 /// Where the system doesn't say how many processors there are.
 const SOME_WORKERS: usize = 4;
 /// Above that the times of a worker's connections take it too long to look through.
@@ -23,6 +24,8 @@ struct Options {
     connections: Option<usize>,
     idle: Option<Duration>,
     waiter: Waiter,
+    /// Drawn where nothing is said.
+    salt: Option<u64>,
 }
 
 impl Default for Options {
@@ -36,6 +39,7 @@ impl Default for Options {
             connections: None,
             idle: Limits::default().idle,
             waiter: Waiter::Eer,
+            salt: None,
         }
     }
 }
@@ -53,6 +57,7 @@ impl Options {
                 "--connections" => options.connections = Some(value.parse().ok()?),
                 "--timeout" => options.idle = Some(Duration::from_secs(value.parse().ok()?)).filter(|time| !time.is_zero()),
                 "--waiter" => options.waiter = waiter(&value)?,
+                "--salt" => options.salt = Some(value.parse().ok()?),
                 _ => return None,
             }
         }
@@ -77,7 +82,8 @@ impl Options {
     /// Each worker has lanes, as far as there are places for them.
     fn index(&self) -> Result<Index, Error> {
         let lanes = self.workers.min((MAX_HANDLES - self.workers) / LANES);
-        Index::builder(self.pairs, self.workers).lanes(lanes).waiter(self.waiter).build()
+        let builder = Index::builder(self.pairs, self.workers).lanes(lanes).waiter(self.waiter);
+        self.salt.map_or(builder, |salt| builder.salt(salt)).build()
     }
 
     /// A server whose index isn't full before it has so many pairs, and what it says of itself.

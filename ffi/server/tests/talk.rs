@@ -87,6 +87,17 @@ fn a_bad_request_is_told_and_the_session_goes_on() {
 }
 
 #[test]
+fn two_spellings_are_never_one_key() {
+    const ZEROS: &[u8] = b"-ERR key is not in its one spelling, which has no zeros before its digits\r\n";
+    let stream = client(server(10, 1));
+    expect(&stream, b"SET 2 20\n", b"+OK\r\n");
+    expect(&stream, b"*2\r\n$3\r\nGET\r\n$12\r\n000000000002\r\n", ZEROS);
+    expect(&stream, b"*3\r\n$3\r\nSET\r\n$12\r\n000000000002\r\n$2\r\n30\r\n", ZEROS);
+    expect(&stream, b"MGET 2 02\n", ZEROS);
+    expect(&stream, b"GET 2\nDBSIZE\n", b"$2\r\n20\r\n:1\r\n");
+}
+
+#[test]
 fn bytes_that_are_no_request_end_the_session_behind_all_replies() {
     let stream = client(server(10, 1));
     (&stream).write_all(&[b"SET 5 50\nGET 5\n*1\r\n:5\r\n".to_vec(), vec![b'x'; 1 << 20]].concat()).unwrap();

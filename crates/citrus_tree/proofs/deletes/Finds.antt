@@ -1,10 +1,14 @@
 -- What a delete loads in its section: the node that it found, and the successor of that.
-use Rattle.std.proofs.Common.{◌≡◌, ◌≢◌, ℕ, ◌/◌, ◌<◌, ◌==◌, ◌||◌, true, Some, None, sym, ap, subst, ◌∙◌, eq-eqb, ne_eqb}
+use Rattle.std.proofs.Common.{◌≡◌, ◌≢◌, ℕ, ◌+◌, ◌/◌, ◌<◌, ◌≤◌, ◌==◌, ◌&&◌, ◌||◌, cond, not, true, false, ◌∷◌, length, Some, None, arith, refl, sym, ap, subst, ◌∙◌, eq-eqb, ne_eqb}
 use Rattle.prcu_marks.specs.declared.mark.Side.{Side}
 use Rattle.prcu_marks.specs.declared.mark.Side.TheVariants.{Left, Right}
 use Rattle.prcu_model.specs.declared.operation.Op.{Op}
 use Rattle.core_state.specs.declared.shape.Shape.{Shape}
+use Rattle.core_state.specs.declared.view.Reading.{Reading}
 use Rattle.core_state.specs.declared.view.View.{View}
+use Rattle.core_state.specs.declared.words.Field.TheVariants.{Link}
+use Rattle.core_state.specs.memory.Memory.{slot_count}
+use Rattle.core_state.specs.steps.Loads.{after_search_load, searched, walked, walking}
 use Rattle.core_points.specs.declared.stage.Node.{Node}
 use Rattle.core_points.specs.declared.stage.Successor.{Successor}
 use Rattle.core_points.specs.declared.stage.Then.TheVariants as next
@@ -12,11 +16,14 @@ use Rattle.core_points.specs.declared.stage.Stage.TheVariants as at
 use Rattle.core_points.specs.Programs.{past_left, past_right}
 use Rattle.core_acts.specs.declared.act.Act.TheVariants as acts
 use Rattle.core_acts.specs.declared.act.Part.TheVariants as part
+use Rattle.core_acts.specs.Acts.{noted}
+use Rattle.core_acts.proofs.Acting.{section_is}
 use Rattle.seat_table.specs.Gains.{StoodInside}
 use Rattle.seat_table.specs.Told.{IsAsked, Told}
 use Rattle.tree_points.specs.At.{IsAt}
 use Rattle.tree_points.proofs.Deleting.{needs_successor_left, passes_node_left, passes_node_life, passes_node_right, passes_parent_life, passes_successor_left, passes_successor_life, passes_successor_parent_life}
 use Rattle.tree_points.proofs.Steps.{at_false, at_true}
+use Rattle.citrus_tree.specs.Bounded.{slots_in, slots_met}
 use Rattle.citrus_tree.specs.Deletes.{Comes, OnlyLoads, StandsAt, walked_to}
 use Rattle.citrus_tree.proofs.deletes.Keeping.{loads_self, loads_search_load, loads_on}
 
@@ -84,6 +91,35 @@ pub walk_fits : (k : Shape) (d : Node) (parent slot n : ℕ) (v w x : View) → 
     → n ≢ 0 → Walks k d parent slot v w → Told k w (acts.SearchLoad slot (part.Link Left)) n x → n < 4294967296
 walk_fits k d parent slot n v w x a some i told =
     slot_fits d (walked_to slot n) (walks_to d parent slot some (i.at a.0 a.1 a.2) told) told.stood
+
+-- a walk that goes on stands at a slot more
+walk_met : {k : Shape} {op : Op} {kept n : ℕ} {w x : View} (d : Node) (parent slot : ℕ) → n ≢ 0
+    → IsAt k op kept (at.SuccessorLeft d (walked_to parent slot)) w → Told k w (acts.SearchLoad slot (part.Link Left)) n x
+    → slots_met x ≡ slots_met w + 1
+walk_met {k} {op} {kept} {n} {w} {x} d parent slot some a told =
+    let p = (a.fits.point).2 in
+    let r : Reading = record p.section.reading
+    { loads = record { field = Link slot Left; number = n; stored = false } ∷ p.section.reading.loads } in
+    let there = ap slots_met (told.goes
+    ∙ ap (λ z. after_search_load (noted w (acts.SearchLoad slot (part.Link Left)) n) z (Link slot Left) n) (section_is w p.section p.is))
+    ∙ ap (λ z. length (searched r z (Link slot Left) n).stood) p.stands.state_is
+    ∙ ap (λ z. length (walked r d.node z slot Left n).stood) (((p.known).1).1).walk
+    ∙ ap (λ z. length (cond z (walking r slot n) r).stood)
+    (ap (λ z. z && not (n == 0)) (eq-eqb slot slot refl) ∙ ap not (ne_eqb n 0 some)) in
+    let here = ap slots_in p.is in
+    omega (arith, there, here)
+
+-- So it comes to an end.
+pub walk_further : (k : Shape) (d : Node) (parent slot n : ℕ) (v w x : View)
+    → StandsAt k (at.SuccessorLeft d (walked_to d.node d.right)) v
+    → n ≢ 0 → Walks k d parent slot v w → Told k w (acts.SearchLoad slot (part.Link Left)) n x
+    → (slots_met x ≡ slots_met w + 1) × (slots_met x ≤ slot_count k)
+walk_further k d parent slot n v w x a some i told =
+    let on = walks_to d parent slot some (i.at a.0 a.1 a.2) told in
+    let p = (on.fits.point).2 in
+    let few = (told.stood.few p.section p.is).inside in
+    let here = ap slots_in p.is in
+    (walk_met d parent slot some (i.at a.0 a.1 a.2) told, omega (arith, few, here))
 
 pub walk_ends : (k : Shape) (d : Node) (parent slot n : ℕ) (v w x : View) → n ≡ 0 → Walks k d parent slot v w
     → Told k w (acts.SearchLoad slot (part.Link Left)) n x

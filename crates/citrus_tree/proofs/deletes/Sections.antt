@@ -72,7 +72,7 @@ module _ {k : Shape} {kept key : ℕ} where
               state_is = i.state_is;
               here = i.here;
             };
-            known = (i.above, tt);
+            known = (i.above, i.no_walk);
           },
         );
       }))

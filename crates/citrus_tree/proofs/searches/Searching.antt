@@ -47,17 +47,17 @@ use Rattle.citrus_tree.specs.Lookups.{is_load, is_of_lookup, state_parent, IsSea
 use Rattle.tree_laws.proofs.searches.Readings.{in_more}
 
 -- what a load makes of what a section found out, where its search stands at the word loaded
-abbrev noting_load : Reading → Field → ℕ → Reading
+abbrev pub noting_load : Reading → Field → ℕ → Reading
 noting_load r field n = record r { loads = record { field = field; number = n; stored = false } ∷ r.loads }
 
-link_moves : (r : Reading) (s : ℕ) (b : Side) (n : ℕ) → r.state ≡ At s b
+pub link_moves : (r : Reading) (s : ℕ) (b : Side) (n : ℕ) → r.state ≡ At s b
     → loaded r (Link s b) n ≡ linked_on (noting_load r (Link s b) n) s b n
 link_moves r s b n e =
     let r' : Reading = noting_load r (Link s b) n in
     ap (λ z. searched r' z (Link s b) n) e ∙ ap (λ z. cond z (linked_on r' s b n) r')
     (ap (λ z. z && same_side b b) (eq-eqb s s refl) ∙ side_self b)
 
-key_moves : (r : Reading) (s p : ℕ) (b : Side) (n : ℕ) → r.state ≡ Unread s p b
+pub key_moves : (r : Reading) (s p : ℕ) (b : Side) (n : ℕ) → r.state ≡ Unread s p b
     → loaded r (Key s) n ≡ record (noting_load r (Key s) n) { state = key_stand s p b (step_side r.key n) }
 key_moves r s p b n e =
     let r' : Reading = noting_load r (Key s) n in
@@ -97,6 +97,7 @@ module _ (k : Shape) (v : View) (key : ℕ) where
     inside = e.inside ∙ ap (λ z. Some (record e.section { reading = z })) e.reading_is;
     key_is = refl;
     state_is = refl;
+    no_walk = refl;
     here = (0, refl);
     above = (0, refl);
     others = refl;
@@ -106,9 +107,9 @@ module _ (k : Shape) (v : View) (key : ℕ) where
   -- a load, after which what it found out is known
   pub moved_as : (state state' : SearchState) (s : ℕ) (p : Part) (n : ℕ) (w x : View) (i : IsSearching v key state w)
       → Told k w (SearchLoad s p) n x → (r : Reading) → loaded i.reading (in_slot s p) n ≡ r → r.key ≡ key → r.state ≡ state'
-      → IsIn r.stood (state_slot state') → IsIn r.stood (state_parent state')
+      → r.walk ≡ None → IsIn r.stood (state_slot state') → IsIn r.stood (state_parent state')
       → (j : IsSearching v key state' x) × (j.reading ≡ r)
-  moved_as state state' s p n w x i t r is sought stands here above =
+  moved_as state state' s p n w x i t r is sought stands no_walk here above =
       let u : View = noted w (SearchLoad s p) n in
       let goes : x ≡ record u { section = Some (record i.entered.section { reading = r }) } =
       t.goes ∙ ap (λ z. after_search_load u z (in_slot s p) n) (opened w _ i.inside)
@@ -121,6 +122,7 @@ module _ (k : Shape) (v : View) (key : ℕ) where
           inside = refl;
           key_is = sought;
           state_is = stands;
+          no_walk = no_walk;
           here = here;
           above = above;
           others = ap (λ (z : View). record z { section = Some (record i.entered.section { reading = r }); trail = u.trail }) i.others;
@@ -131,8 +133,9 @@ module _ (k : Shape) (v : View) (key : ℕ) where
 
   moved : (state state' : SearchState) (s : ℕ) (p : Part) (n : ℕ) (w x : View) (i : IsSearching v key state w)
       → Told k w (SearchLoad s p) n x → (r : Reading) → loaded i.reading (in_slot s p) n ≡ r → r.key ≡ key → r.state ≡ state'
-      → IsIn r.stood (state_slot state') → IsIn r.stood (state_parent state') → IsSearching v key state' x
-  moved state state' s p n w x i t r is sought stands here above = (moved_as state state' s p n w x i t r is sought stands here above).0
+      → r.walk ≡ None → IsIn r.stood (state_slot state') → IsIn r.stood (state_parent state') → IsSearching v key state' x
+  moved state state' s p n w x i t r is sought stands no_walk here above =
+      (moved_as state state' s p n w x i t r is sought stands no_walk here above).0
 
   -- a load that moves the search nowhere only adds what it loaded
   stays : (state : SearchState) (s : ℕ) (p : Part) (n : ℕ) (w x : View) (i : IsSearching v key state w) → Told k w (SearchLoad s p) n x
@@ -141,7 +144,7 @@ module _ (k : Shape) (v : View) (key : ℕ) where
   stays state s p n w x i t nowhere =
       moved_as state state s p n w x i t (noting_load i.reading (in_slot s p) n)
       (ap (λ z. searched (noting_load i.reading (in_slot s p) n) z (in_slot s p) n) i.state_is
-      ∙ nowhere (noting_load i.reading (in_slot s p) n)) i.key_is i.state_is i.here i.above
+      ∙ nowhere (noting_load i.reading (in_slot s p) n)) i.key_is i.state_is i.no_walk i.here i.above
 
   -- where it stands is a slot of the table
   pub slot_at : (state : SearchState) (s : ℕ) (p : Part) (n : ℕ) (w x : View) → IsSearching v key state x → Told k w (SearchLoad s p) n x
@@ -174,27 +177,27 @@ module _ (k : Shape) (v : View) (key : ℕ) where
 
   at_link : (s : ℕ) (b : Side) (n : ℕ) (w x : View) (i : IsSearching v key (At s b) w) → Told k w (SearchLoad s (part.Link b)) n x
       → (r : Reading) → linked_on (noting_load i.reading (Link s b) n) s b n ≡ r → (state : SearchState) → r.key ≡ key → r.state ≡ state
-      → IsIn r.stood (state_slot state) → IsIn r.stood (state_parent state) → IsSearching v key state x
-  at_link s b n w x i t r is state sought stands here above =
-      moved (At s b) state s (part.Link b) n w x i t r (link_moves i.reading s b n i.state_is ∙ is) sought stands here above
+      → r.walk ≡ None → IsIn r.stood (state_slot state) → IsIn r.stood (state_parent state) → IsSearching v key state x
+  at_link s b n w x i t r is state sought stands no_walk here above =
+      moved (At s b) state s (part.Link b) n w x i t r (link_moves i.reading s b n i.state_is ∙ is) sought stands no_walk here above
 
   -- the link is empty, or leads on
-  missed : (s : ℕ) (b : Side) (n : ℕ) (w x : View) → n ≡ 0 → IsSearching v key (At s b) w → Told k w (SearchLoad s (part.Link b)) n x
+  pub missed : (s : ℕ) (b : Side) (n : ℕ) (w x : View) → n ≡ 0 → IsSearching v key (At s b) w → Told k w (SearchLoad s (part.Link b)) n x
       → IsSearching v key (Missed s b) x
   missed s b n w x none i t =
       let r : Reading = record (noting_load i.reading (Link s b) n) { state = Missed s b } in
       at_link s b n w x i t r (ap (λ z. cond z r (record (noting_load i.reading (Link s b) n)
-      { state = Unread n s b; stood = n ∷ i.reading.stood })) (eq-eqb n 0 none)) (Missed s b) i.key_is refl i.here i.here
+      { state = Unread n s b; stood = n ∷ i.reading.stood })) (eq-eqb n 0 none)) (Missed s b) i.key_is refl i.no_walk i.here i.here
 
-  reached : (s : ℕ) (b : Side) (n : ℕ) (w x : View) → n ≢ 0 → IsSearching v key (At s b) w → Told k w (SearchLoad s (part.Link b)) n x
+  pub reached : (s : ℕ) (b : Side) (n : ℕ) (w x : View) → n ≢ 0 → IsSearching v key (At s b) w → Told k w (SearchLoad s (part.Link b)) n x
       → IsSearching v key (Unread n s b) x
   reached s b n w x some_slot i t =
       let r : Reading = record (noting_load i.reading (Link s b) n) { state = Unread n s b; stood = n ∷ i.reading.stood } in
       at_link s b n w x i t r (ap (λ z. cond z (record (noting_load i.reading (Link s b) n) { state = Missed s b }) r)
-      (ne_eqb n 0 some_slot)) (Unread n s b) i.key_is refl (0, refl) (in_more i.reading.stood n s i.here)
+      (ne_eqb n 0 some_slot)) (Unread n s b) i.key_is refl i.no_walk (0, refl) (in_more i.reading.stood n s i.here)
 
   -- the other link was loaded, before that of the side or after it
-  other : (s : ℕ) (b c : Side) (n : ℕ) (w x : View) → same_side c b ≡ false → IsSearching v key (At s b) w
+  pub other : (s : ℕ) (b c : Side) (n : ℕ) (w x : View) → same_side c b ≡ false → IsSearching v key (At s b) w
       → Told k w (SearchLoad s (part.Link c)) n x → IsSearching v key (At s b) x
   other s b c n w x apart i t = (stays (At s b) s (part.Link c) n w x i t (λ r. ap (λ z. cond z (linked_on r s b n) r)
       (ap (λ z. z && same_side c b) (eq-eqb s s refl) ∙ apart))).0
@@ -232,11 +235,11 @@ module _ (k : Shape) (v : View) (key : ℕ) where
   read s p b n w x None is i t =
       moved (Unread s p b) (Found s p b None) s part.Key n w x i t (record (noting_load i.reading (Key s) n) { state = Found s p b None })
       (key_moves i.reading s p b n i.state_is ∙ ap (λ z. record (noting_load i.reading (Key s) n) { state = key_stand s p b z })
-      (ap (λ z. step_side z n) i.key_is ∙ is)) i.key_is refl i.here i.above
+      (ap (λ z. step_side z n) i.key_is ∙ is)) i.key_is refl i.no_walk i.here i.above
   read s p b n w x (Some c) is i t =
       moved (Unread s p b) (At s c) s part.Key n w x i t (record (noting_load i.reading (Key s) n) { state = At s c })
       (key_moves i.reading s p b n i.state_is ∙ ap (λ z. record (noting_load i.reading (Key s) n) { state = key_stand s p b z })
-      (ap (λ z. step_side z n) i.key_is ∙ is)) i.key_is refl i.here i.here
+      (ap (λ z. step_side z n) i.key_is ∙ is)) i.key_is refl i.no_walk i.here i.here
 
   pub needs_value : (s p : ℕ) (b : Side) (w : View) → IsSearching v key (Found s p b None) w → IsSlot k s
       → IsAsked k w (SearchLoad s part.Value)
@@ -247,7 +250,7 @@ module _ (k : Shape) (v : View) (key : ℕ) where
   valued s p b n w x i t =
       moved (Found s p b None) (Found s p b (Some n)) s part.Value n w x i t
       (record (noting_load i.reading (Value s) n) { state = Found s p b (Some n) })
-      (value_moves i.reading s p b n i.state_is) i.key_is refl i.here i.above
+      (value_moves i.reading s p b n i.state_is) i.key_is refl i.no_walk i.here i.above
 
   -- The value was loaded: the dictionary gave it by then, and the section stays open.
   pub held : (s p : ℕ) (b : Side) (n : ℕ) (w x : View) → IsSearching v key (Found s p b None) w → Told k w (SearchLoad s part.Value) n x

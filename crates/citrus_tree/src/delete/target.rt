@@ -1,11 +1,11 @@
 //! What is deleted, as a section finds it.
-ghost use Rattle.std.specs.Prelude.{◌≡◌, ◌<◌, ◌^◌, ℕ, IfSome, IfNone, Some, None, IfOk, IfErr};
+ghost use Rattle.std.specs.Prelude.{◌≡◌, ◌<◌, ◌^◌, ℕ, IfSome, IfNone, Some, None};
 ghost use Rattle.prcu_model.specs.declared.operation.Op.TheVariants.{Del};
 ghost use Rattle.core_points.specs.declared.stage.Then.TheVariants as next;
 ghost use Rattle.core_points.specs.declared.stage.Stage.TheVariants as at;
 ghost use Rattle.core_points.specs.Programs.{past_left, past_right};
 ghost use Rattle.seat_table.specs.Gains.{IsInformed, StoodInside};
-ghost use Rattle.seat_table.specs.Rounds.{HasMade, HasStepped};
+ghost use Rattle.seat_table.specs.Rounds.{HasStepped};
 ghost use Rattle.seat_table.specs.Seats.{shape_of};
 ghost use Rattle.tree_points.specs.At.{IsAt, IsDone};
 ghost use Rattle.citrus_tree.specs.Deletes.{StandsAt, Comes, OnlyLoads, HasSearched, walked_to};
@@ -15,77 +15,72 @@ ghost use Rattle.citrus_tree.specs.Replies.{WasAnswered};
 use crate::descent::{Descent, descend};
 use core_points::stage::{Node, Successor, Target};
 use core_state::generation_of;
-use patience::Patience;
 use prcu_marks::{Gate, Side};
 use seat_table::{CitrusTable, Part, Seat, WaitPart, steps};
 
 /// Finds the node with the key, in a section of its own, and its successor where it has two children; or nothing, where the key is absent.
-pub(crate) fn find_target<P: Patience, W: WaitPart, G: Gate>(
-    patience: &P,
+pub(crate) fn find_target<W: WaitPart, G: Gate>(
     table: &CitrusTable<W>,
     seat: &mut Seat<W>,
     gate: &G,
     key: u64,
-) -> Result<Option<Target>, P::Tired>
+) -> Option<Target>
     requires table { seat.old.table ≡ table.now }
     requires at { (kept : ℕ) × MayBegin (shape_of W.WAY table.now) (Del key) kept seat.old.view }
     ensures seat { (seat.new.table ≡ seat.old.table) × (seat.new.listed ≡ seat.old.listed) }
-    ensures found { IfOk result (λ answer. IfSome answer
+    ensures found { IfSome result
         (λ target. (kept : ℕ) → MayBegin (shape_of W.WAY table.now) (Del key) kept seat.old.view
-        → IsAt (shape_of W.WAY table.now) (Del key) kept (at.TargetLock target 0) seat.new.view)) }
-    ensures done { IfOk result (λ answer. IfNone answer
+        → IsAt (shape_of W.WAY table.now) (Del key) kept (at.TargetLock target 0) seat.new.view) }
+    ensures done { IfNone result
         ((kept : ℕ) → MayBegin (shape_of W.WAY table.now) (Del key) kept seat.old.view
-        → IsDone (shape_of W.WAY table.now) (Del key) kept seat.new.view)) }
-    ensures absent { IfOk result (λ answer. IfNone answer (WasAnswered seat.old.view key None seat.new.view)) }
-    ensures searched { IfOk result (λ _. HasSearched seat.old.view key seat.new.view) }
-    ensures informed { IfOk result (λ _. IsInformed seat.new.view) }
-    ensures stepped { IfOk result (λ _. HasStepped seat.old.view seat.new.view) }
-    ensures tired { IfErr result (λ _. HasMade (P.least patience.now) seat.new.view) }
+        → IsDone (shape_of W.WAY table.now) (Del key) kept seat.new.view) }
+    ensures absent { IfNone result (WasAnswered seat.old.view key None seat.new.view) }
+    ensures searched { HasSearched seat.old.view key seat.new.view }
+    ensures informed { IsInformed seat.new.view }
+    ensures stepped { HasStepped seat.old.view seat.new.view }
 {
-    match descend(patience, table, seat, gate, key)? {
+    match descend(table, seat, gate, key) {
         Descent::Found { slot, parent, side } => {
-            let target = load_target(patience, table, seat, parent, side, slot)?;
+            let target = load_target(table, seat, parent, side, slot);
             W::leave(table, seat);
-            Ok(Some(target))
+            Some(target)
         }
         Descent::Ended { .. } => {
             W::leave(table, seat);
-            Ok(None)
+            None
         }
     }
 }
 
 // What has to be known again of the node that was found, under its locks.
-fn load_target<P: Patience, W: WaitPart>(
-    patience: &P,
+fn load_target<W: WaitPart>(
     table: &CitrusTable<W>,
     seat: &mut Seat<W>,
     parent: u32,
     side: Side,
     slot: u32,
-) -> Result<Target, P::Tired>
+) -> Target
     requires table { seat.old.table ≡ table.now }
     requires at { StandsAt (shape_of W.WAY table.now) (at.ParentLife parent side slot) seat.old.view }
     ensures seat { (seat.new.table ≡ seat.old.table) × (seat.new.listed ≡ seat.old.listed) }
-    ensures at { IfOk result (λ answer. Comes (shape_of W.WAY table.now) (at.ParentLife parent side slot) seat.old.view
-        (at.Leave (next.Delete answer)) seat.new.view) }
-    ensures inside { IfOk result (λ _. StoodInside (shape_of W.WAY table.now) seat.new.view) }
-    ensures same { IfOk result (λ _. OnlyLoads seat.old.view seat.new.view) }
-    ensures tired { IfErr result (λ _. HasMade (P.least patience.now) seat.new.view) }
+    ensures at { Comes (shape_of W.WAY table.now) (at.ParentLife parent side slot) seat.old.view
+        (at.Leave (next.Delete result)) seat.new.view }
+    ensures inside { StoodInside (shape_of W.WAY table.now) seat.new.view }
+    ensures same { OnlyLoads seat.old.view seat.new.view }
 {
     let node = load_node(table, seat, parent, side, slot);
     if node.left == 0 || node.right == 0 {
-        return Ok(Target {
+        return Target {
             node,
             successor: None,
-        });
+        };
     }
-    let (parent, slot) = walk(patience, table, seat, node)?;
+    let (parent, slot) = walk(table, seat, node);
     let successor = load_successor(table, seat, node, parent, slot);
-    Ok(Target {
+    Target {
         node,
         successor: Some(successor),
-    })
+    }
 }
 
 // The node with its links and its generation, and that of its parent.
@@ -118,34 +113,27 @@ fn load_node<W: WaitPart>(
     }
 }
 
-// Goes right of the node, and then left as far as there is a left: the slot at which it ends, after the slot above that one.
-fn walk<P: Patience, W: WaitPart>(
-    patience: &P,
-    table: &CitrusTable<W>,
-    seat: &mut Seat<W>,
-    node: Node,
-) -> Result<(u32, u32), P::Tired>
+// Goes right of the node, and then left as far as there is a left: the slot at which it ends, after the slot above that one. Nor does a walk
+// stand at a slot twice.
+fn walk<W: WaitPart>(table: &CitrusTable<W>, seat: &mut Seat<W>, node: Node) -> (u32, u32)
     requires table { seat.old.table ≡ table.now }
     requires at { StandsAt (shape_of W.WAY table.now) (at.SuccessorLeft node (walked_to node.node node.right)) seat.old.view }
     requires inside { StoodInside (shape_of W.WAY table.now) seat.old.view }
     ensures seat { (seat.new.table ≡ seat.old.table) × (seat.new.listed ≡ seat.old.listed) }
-    ensures at { IfOk result (λ answer. Comes (shape_of W.WAY table.now)
-        (at.SuccessorLeft node (walked_to node.node node.right)) seat.old.view
-        (past_left node (walked_to answer.0 answer.1) 0) seat.new.view) }
-    ensures same { IfOk result (λ _. OnlyLoads seat.old.view seat.new.view) }
-    ensures tired { IfErr result (λ _. HasMade (P.least patience.now) seat.new.view) }
+    ensures at { Comes (shape_of W.WAY table.now) (at.SuccessorLeft node (walked_to node.node node.right)) seat.old.view
+        (past_left node (walked_to result.0 result.1) 0) seat.new.view }
+    ensures same { OnlyLoads seat.old.view seat.new.view }
 {
     let mut parent = node.node;
     let mut slot = node.right as u32;
-    for round in 0..u64::MAX {
+    loop {
         let left = steps::search_load(table, seat, slot, Part::Link { side: Side::Left });
         if left == 0 {
-            return Ok((parent, slot));
+            return (parent, slot);
         }
         parent = slot;
         slot = left as u32;
     }
-    Err(patience.tired())
 }
 
 // The successor with its generation, and that of its parent where this isn't the node.

@@ -172,6 +172,7 @@ module _ (m m' : Memory) (nodes : SameNodes m m') (g : Chart) (vs us : List View
       key = λ key e. nodes.key s ∙ p.key key e;
       life = λ life e. ap (λ x. x / 2) (nodes.life s) ∙ p.life life e;
     });
+    way = i.way;
   }
 
   pub record_by : (r : Reading) → IsRecord m g vs r → IsRecord m' g us r
@@ -219,8 +220,10 @@ module _ (m m' : Memory) (nodes : SameNodes m m') (g : Chart) (vs : List View) (
           inside = sym z.2 ∙ met.inside;
           before = met.before;
         } in
-        ⊎_elim (λ l. inl l) (λ (x : (later : ℕ) × (gone_at c h ≡ Some later) × (at < later)). inr (x.0, quiet.gone c ∙ x.1, x.2))
-        (t.ages s at c b (sym (quiet.gone s) ∙ gone) before (sym (nodes.link s b) ∙ link) ne));
+        let aged = t.ages s at c b (sym (quiet.gone s) ∙ gone) before (sym (nodes.link s b) ∙ link) ne in (
+          aged.0,
+          ⊎_elim (λ l. inl l) (λ (x : (later : ℕ) × (gone_at c h ≡ Some later) × (at < later)). inr (x.0, quiet.gone c ∙ x.1, x.2)) aged.1,
+        ));
   }
 
 module _ (m m' : Memory) (nodes : SameNodes m m') (g : Chart) (vs : List View) (id : ℕ) (v w : View) (h h' : List Mark)
@@ -263,6 +266,8 @@ module _ (m m' : Memory) (nodes : SameNodes m m') (g : Chart) (vs : List View) (
         (λ j u other e i r is. record_same r (t.records j u e i r is));
     ages = λ s at c b gone met link ne.
         (let was_gone = sym (quiet.gone s) ∙ gone in
-        ⊎_elim (λ l. inl l) (λ (x : (later : ℕ) × (gone_at c h ≡ Some later) × (at < later)). inr (x.0, quiet.gone c ∙ x.1, x.2))
-        (t.ages s at c b was_gone (met_back own at (gone_at-below s h at was_gone) met) (sym (nodes.link s b) ∙ link) ne));
+        let aged = t.ages s at c b was_gone (met_back own at (gone_at-below s h at was_gone) met) (sym (nodes.link s b) ∙ link) ne in (
+          aged.0,
+          ⊎_elim (λ l. inl l) (λ (x : (later : ℕ) × (gone_at c h ≡ Some later) × (at < later)). inr (x.0, quiet.gone c ∙ x.1, x.2)) aged.1,
+        ));
   }

@@ -1,6 +1,6 @@
 -- The invariant on readers, their records and walks, and on how old an unlinked slot is that a section may meet.
 -- Source: docs/TREE_INVARIANT.md, "The invariant of the tree".
-use Rattle.std.specs.Prelude.{◌≡◌, ◌≢◌, ℕ, ◌*◌, ◌/◌, ◌^◌, ◌<◌, ◌⊎◌, true, List, [], Option, Some, None}
+use Rattle.std.specs.Prelude.{◌≡◌, ◌≢◌, ℕ, ◌*◌, ◌/◌, ◌^◌, ◌<◌, ◌⊎◌, true, List, [], ◌∷◌, Option, Some, None}
 use mathlib.Core.Option.{some}
 use lib.ListN.{get_elem?}
 use Rattle.prcu_marks.specs.declared.mark.Mark.{Mark}
@@ -96,13 +96,30 @@ pub record HasStood (m : Memory) (g : Chart) (h : List Mark) (section : Section)
   pub key : (key : ℕ) → known_in section.reading.loads (Key s) ≡ Some key → m (Key s) ≡ key
   pub life : (life : ℕ) → known_in section.reading.loads (Life s) ≡ Some life → m (Life s) / 2 ≡ life / 2
 
--- What holds of an open section. A listing's search never begins.
+-- The slots come before a slot, the last one first: each has a smaller rank than the one after it.
+abbrev pub Falls : (ℕ → ℕ) → ℕ → List ℕ → Type 0
+Falls rank s [] = Unit {0}
+Falls rank s (q ∷ before) = (rank q < rank s) × Falls rank q before
+
+-- the last slot at which a search stood, or its walk where one began
+abbrev pub last_stood : Option Walk → ℕ → ℕ
+last_stood None s = s
+last_stood (Some walk) s = walk.slot
+
+-- A search or its walk stands at the last slot of its way, and the rank grows along the way: so it stood at no slot twice.
+pub record IsWay (g : Chart) (r : Reading) : Type 0 where
+  pub before : List ℕ
+  pub stood : r.stood ≡ last_stood r.walk (state_slot r.state) ∷ before
+  pub falls : Falls g.rank (last_stood r.walk (state_slot r.state)) before
+
+-- What holds of an open section. A listing's search never begins. The slots at which it stood are a way.
 pub record IsServed (m : Memory) (g : Chart) (h : List Mark) (vs : List View) (section : Section) : Type 0 where
   pub placed : section.listing ≡ None → IsPlaced m g h vs section
   pub lists : (listing : Listing) → section.listing ≡ Some listing → section.reading.loads ≡ []
   pub walking : (node parent : ℕ) (b : Side) (value : Option ℕ) (walk : Walk) → section.reading.state ≡ Found node parent b value
       → section.reading.walk ≡ Some walk → IsWalking m g h section node walk
   pub stood : (s : ℕ) → IsIn section.reading.stood s → HasStood m g h section s
+  pub way : IsWay g section.reading
 
 -- the slot has the generation that the section loaded, and is unmarked
 abbrev pub IsAsRecorded : Memory → Reading → ℕ → Type 0
@@ -145,10 +162,11 @@ pub record IsMetBefore (vs : List View) (at : ℕ) : Type 0 where
   pub inside : view.section ≡ Some section
   pub before : section.entered < at
 
--- A link of an unlinked slot that a section may still meet is 0, or leads to a linked slot, or to one that was unlinked later.
+-- A link of an unlinked slot that a section may still meet is 0, or leads to a linked slot, or to one that was unlinked later; of a
+-- greater rank.
 abbrev pub AreAged : Memory → Chart → List View → List Mark → Type 0
 AreAged m g vs h = (s at c : ℕ) (b : Side) → gone_at s h ≡ Some at → IsMetBefore vs at → m (Link s b) ≡ c → c ≢ 0
-    → (g.linked c ≡ true) ⊎ ((later : ℕ) × (gone_at c h ≡ Some later) × (at < later))
+    → (g.rank s < g.rank c) × ((g.linked c ≡ true) ⊎ ((later : ℕ) × (gone_at c h ≡ Some later) × (at < later)))
 
 -- Each open search will answer what the dictionary said since it was entered; walks, records and slots met are as they should be.
 pub record ReaderParts (m : Memory) (g : Chart) (vs : List View) (h : List Mark) : Type 0 where

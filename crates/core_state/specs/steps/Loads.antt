@@ -30,10 +30,11 @@ key_stand s parent b (Some side) = At s side
 abbrev pub walking : Reading → ℕ → ℕ → Reading
 walking r parent slot = record r { walk = Some (record { parent = parent; slot = slot }); stood = slot ∷ r.stood }
 
--- A walk begins with the right link of the node found, and goes on with left links; a link that is 0 moves it nowhere.
+-- A walk begins once, with the right link of the node found, and goes on with left links; a link that is 0 moves it nowhere.
 abbrev pub walked : Reading → ℕ → Option Walk → ℕ → Side → ℕ → Reading
-walked r d walk t Right number = if t == d && not (number == 0) then walking r d number else r
+walked r d None t Right number = if t == d && not (number == 0) then walking r d number else r
 walked r d None t Left number = r
+walked r d (Some walk) t Right number = r
 walked r d (Some walk) t Left number = if t == walk.slot && not (number == 0) then walking r walk.slot number else r
 
 -- with a search that loaded the link at which it stood

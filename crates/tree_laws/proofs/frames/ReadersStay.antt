@@ -80,6 +80,7 @@ module _ (P : ℕ → Type 0) (z : ChartStep P) where
               key = λ key y. z.contents.key s is_kind ∙ p.key key y;
               life = λ life y. z.half s is_kind ∙ p.life life y;
             });
+        way = i.way;
       }
 
   -- a record says what it said
@@ -123,15 +124,18 @@ module _ (P : ℕ → Type 0) (z : ChartStep P) where
   aged_stays s at c b gone met link ne =
       let was_gone = z.gone s at gone in
       let past = met_before at met in
-      ⊎_elim (λ l. inl l) (λ (x : (later : ℕ) × (gone_at c h ≡ Some later) × (at < later)). ⊎_elim (λ (l : g.linked c ≡ true). inl l)
-      (λ (off : g.linked c ≡ false). inr (
-        x.0,
-        (z.met past.id past.view past.section past.there past.inside c
-            (record { out = off; at = x.0; gone = x.1; later = (let a = x.2 in let d = past.before in omega arith) })).1 ∙ x.1,
-        x.2,
-      ))
-      (bool_cases (g.linked c)))
-      (z.who.inv.readers.ages s at c b was_gone.0 past (sym (was_gone.1 b) ∙ link) ne)
+      let aged = z.who.inv.readers.ages s at c b was_gone.0 past (sym (was_gone.1 b) ∙ link) ne in (
+        aged.0,
+        ⊎_elim (λ l. inl l) (λ (x : (later : ℕ) × (gone_at c h ≡ Some later) × (at < later)). ⊎_elim (λ (l : g.linked c ≡ true). inl l)
+            (λ (off : g.linked c ≡ false). inr (
+              x.0,
+              (z.met past.id past.view past.section past.there past.inside c
+                  (record { out = off; at = x.0; gone = x.1; later = (let a = x.2 in let d = past.before in omega arith) })).1 ∙ x.1,
+              x.2,
+            ))
+            (bool_cases (g.linked c)))
+            aged.1,
+      )
 
   readings_same : readings_of w ≡ readings_of v
   readings_same = λ j. open_reading (z.view.section j) ++ z.view.records j

@@ -21,6 +21,7 @@ use Rattle.core_state.specs.tree.Nodes.{OnRightLeft}
 use Rattle.core_state.specs.tree.Chart.{Belongs, IsInRange}
 use Rattle.core_state.specs.tree.Readers.{IsHeldBack, MayPass, IsOldFor, IsEmptied, Place}
 use Rattle.core_state.specs.parts.LockParts.{IsReadingKept}
+use Rattle.core_frames.proofs.chart.Ways.{way_same}
 use Rattle.core_state.specs.parts.ReaderParts.{state_slot, StandsWell, GoesTo, IsReading, IsServed, IsAsRecorded, IsStillLinked, IsRecord, IsMetBefore, AreAged, ReaderParts}
 use Rattle.core_state.specs.parts.TreeParts.{map_now}
 use Rattle.list_laws.proofs.Lists.{each_set, in_second}
@@ -128,6 +129,9 @@ module _ (z : LinkStep) where
           key = q.key;
           life = q.life;
         });
+        way = way_same g to section.reading (λ s has. changes.rank s (λ e. ⊎_elim
+            (λ (l : g.linked s ≡ true). ap g.linked (sym e) ∙ l) (λ (x : live s × IsOdd (m (Life s))). fresh_unmet s x.0 e)
+            (was.stood s has).here)) was.way;
       }
         where
           stood_here : (s : ℕ) → (to.linked s ≡ true) ⊎ later s → g.linked s ≡ true → (to.linked s ≡ true) ⊎ (later s × IsOdd (m (Life s)))
@@ -204,6 +208,14 @@ module _ (z : LinkStep) where
     aged_after s at y a gone met link nz = ⊎_elim (λ (e : s ≡ d). at_gone e (cases_eq d 0)) (λ ne. other (λ e. absurd (ne e)))
         (cases_eq s d)
       where
+        rank_gone : (t p : ℕ) → gone_at t h ≡ Some p → to.rank t ≡ g.rank t
+        rank_gone t p is = changes.rank t (λ e. ⊎_elim (λ l. l) (λ off. absurd
+            (let none = (z.fresh off).0 in let q : None ≡ Some p = sym none ∙ ap (λ x. gone_at x h) (sym e) ∙ is in cc))
+            (bool_cases (g.linked c)))
+
+        rank_on : (t : ℕ) → g.linked t ≡ true → to.rank t ≡ g.rank t
+        rank_on t l = changes.rank t (λ e. ap g.linked (sym e) ∙ l)
+
         led : at < length h → (g.linked y ≡ true) ⊎ ((after : ℕ) × (gone_at y h ≡ Some after) × (at < after))
             → (to.linked y ≡ true) ⊎ ((after : ℕ) × (gone_at y hs ≡ Some after) × (at < after))
         led small (inl l) = ⊎_elim
@@ -212,20 +224,28 @@ module _ (z : LinkStep) where
             (λ ne. inl (still_linked z y l ne)) (cases_eq y d)
         led small (inr q) = inr (q.0, z.gone_same y (off_not_gone z y (unlinked_off z y q.0 q.1)) ∙ q.1, q.2)
 
-        other : (s ≡ d → s ≡ 0) → (to.linked y ≡ true) ⊎ ((after : ℕ) × (gone_at y hs ≡ Some after) × (at < after))
+        other : (s ≡ d → s ≡ 0)
+            → (to.rank s < to.rank y) × ((to.linked y ≡ true) ⊎ ((after : ℕ) × (gone_at y hs ≡ Some after) × (at < after)))
         other not =
             let was : gone_at s h ≡ Some at = sym (z.gone_same s not) ∙ gone in
             let off = unlinked_off z s at was in
-            led (gone_at-below s h at was) (i.readers.ages s at y a was (met_back at met)
-            (sym (changes.stores.link s a (λ e. absurd (let on = changes.parent in cc (ap g.linked e)))) ∙ link) nz)
+            let aged = i.readers.ages s at y a was (met_back at met)
+            (sym (changes.stores.link s a (λ e. absurd (let on = changes.parent in cc (ap g.linked e)))) ∙ link) nz in
+            let lt = aged.0 in
+            let rank_y : to.rank y ≡ g.rank y =
+            ⊎_elim (λ l. rank_on y l) (λ (x : (after : ℕ) × (gone_at y h ≡ Some after) × (at < after)). rank_gone y x.0 x.1) aged.1 in
+            (omega (arith, lt, rank_gone s at was, rank_y), led (gone_at-below s h at was) aged.1)
 
-        at_gone : s ≡ d → (d ≡ 0) ⊎ (d ≢ 0) → (to.linked y ≡ true) ⊎ ((after : ℕ) × (gone_at y hs ≡ Some after) × (at < after))
+        at_gone : s ≡ d → (d ≡ 0) ⊎ (d ≢ 0)
+            → (to.rank s < to.rank y) × ((to.linked y ≡ true) ⊎ ((after : ℕ) × (gone_at y hs ≡ Some after) × (at < after)))
         at_gone e (inl q) = other (λ _. e ∙ q)
         at_gone e (inr some_d) =
             let apart : s ≢ p = λ f. omega (arith, (below z some_d).rank, ap g.rank (sym f ∙ e)) in
             let child = i.tree.shape.below d y a (below z some_d).linked
-            (ap (λ q. m (Link q a)) (sym e) ∙ sym (changes.stores.link s a (λ f. absurd (apart f))) ∙ link) nz in
-            inl (still_linked z y child.linked (λ f. omega (arith, child.rank, ap g.rank f)))
+            (ap (λ q. m (Link q a)) (sym e) ∙ sym (changes.stores.link s a (λ f. absurd (apart f))) ∙ link) nz in (
+              omega (arith, child.rank, rank_on y child.linked, rank_on d (below z some_d).linked, ap to.rank e),
+              inl (still_linked z y child.linked (λ f. omega (arith, child.rank, ap g.rank f))),
+            )
 
     readings : readings_of w ≡ readings_of v
     readings = λ y. open_reading (z.same.section y) ++ z.records y

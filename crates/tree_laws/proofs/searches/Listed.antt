@@ -166,7 +166,7 @@ module _ (k : Shape) (m : Memory) (vs : List View) (h : List Mark) (i : HoldsNow
           node = nz;
           key = λ y q. absurd (let f : None ≡ Some y = q in cc);
           here = ⊎_elim (λ x. inl x) (λ (x : IsHeldBack g h section.entered (m (Link s b)) × IsOdd (m (Life (m (Link s b))))). inr x.0)
-              (child_met k m vs h i id t.slot (m (Link s b)) b v section there inside is.here (ap (λ z. m (Link z b)) (sym l)) nz);
+              (child_met k m vs h i id t.slot (m (Link s b)) b v section there inside is.here (ap (λ z. m (Link z b)) (sym l)) nz).1;
         })
     visits_found _ _ e l = each_none (IsVisit m g h section.entered)
 

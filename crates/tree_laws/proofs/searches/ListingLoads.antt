@@ -73,6 +73,7 @@ module _ (k : Shape) (m : Memory) (vs : List View) (h : List Mark) (id : ℕ) (v
     walking = λ node parent b value walk found on. (let w = x.walking node parent b value walk found on in
         record { walks = w.walks; parent = w.parent });
     stood = λ s has. (let w = x.stood s has in record { here = w.here; key = w.key; life = w.life });
+    way = x.way;
   }
 
   first_reading : get_elem? (readings_of v) 0 ≡ some section.reading

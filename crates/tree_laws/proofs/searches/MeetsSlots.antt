@@ -57,17 +57,20 @@ module _ (k : Shape) (m : Memory) (vs : List View) (h : List Mark) (i : HoldsNow
   -- the slot to which a link of a slot leads that is linked, or unlinked since the section was entered
   pub child_met : (id s c : ℕ) (b : Side) (v : View) (section : Section) → get_elem? vs id ≡ some v → v.section ≡ Some section
       → (i.chart.linked s ≡ true) ⊎ IsHeldBack i.chart h section.entered s
-      → m (Link s b) ≡ c → c ≢ 0 → (i.chart.linked c ≡ true) ⊎ (IsHeldBack i.chart h section.entered c × IsOdd (m (Life c)))
+      → m (Link s b) ≡ c → c ≢ 0
+      → (i.chart.rank s < i.chart.rank c) × ((i.chart.linked c ≡ true) ⊎ (IsHeldBack i.chart h section.entered c × IsOdd (m (Life c))))
   child_met id s c b v section there inside here link nz =
-      ⊎_elim (λ l. inl (i.tree.shape.below s c b l link nz).linked)
-      (λ (back : IsHeldBack i.chart h section.entered s).
-      ⊎_elim (λ l. inl l)
-      (λ (x : (later : ℕ) × (gone_at c h ≡ Some later) × (back.at < later)).
-      (let since = back.later in let more = x.2 in let lt : section.entered < x.0 = omega arith in
-      inr (
-        record { out = gone_off m (slot_count k) i.chart vs h i.slots c x.0 x.1; at = x.0; gone = x.1; later = lt },
-        unraised_life id c x.0 v section there inside x.1 lt,
+      ⊎_elim (λ l. (let below = i.tree.shape.below s c b l link nz in (below.rank, inl below.linked)))
+      (λ (back : IsHeldBack i.chart h section.entered s). (let aged = i.readers.ages s back.at c b back.gone
+      (record { id = id; view = v; section = section; there = there; inside = inside; before = back.later }) link nz in (
+        aged.0,
+        ⊎_elim (λ l. inl l)
+            (λ (x : (later : ℕ) × (gone_at c h ≡ Some later) × (back.at < later)).
+            (let since = back.later in let more = x.2 in let lt : section.entered < x.0 = omega arith in
+            inr (
+              record { out = gone_off m (slot_count k) i.chart vs h i.slots c x.0 x.1; at = x.0; gone = x.1; later = lt },
+              unraised_life id c x.0 v section there inside x.1 lt,
+            )))
+            aged.1,
       )))
-      (i.readers.ages s back.at c b back.gone
-      (record { id = id; view = v; section = section; there = there; inside = inside; before = back.later }) link nz))
       here

@@ -190,7 +190,7 @@ module _ (m : Memory) (r : Reading) (field : Field) (slot : ℕ) (was : IsReadin
         loads = loads_more r.stood (λ t i. i);
         first = no_first (record (noted m r field) { state = Found s parent b (Some value) }) _ _ refl;
       }
-  reading_more to (began {s = s} {parent = parent} {c = c} {b = b} {value = value} e link nz) = let w = stands_found s parent b value e in
+  reading_more to (began {s = s} {parent = parent} {c = c} {b = b} {value = value} e none link nz) = let w = stands_found s parent b value e in
       walks_on s parent b value e s c nz (let g = w.1 in g.0.some_slot) w.0
   reading_more to (went_on {s = s} {parent = parent} {c = c} {b = b} {value = value} {walk = walk} e on link nz) = let w =
       was.walk walk on in walks_on s parent b value e walk.slot c nz w.some_slot w.slot_stood

@@ -1,5 +1,5 @@
 -- A load in a section keeps the invariant: K17.
-use Rattle.std.proofs.Common.{◌≡◌, ◌≢◌, ◌⊎◌, ℕ, ◌/◌, ◌≤◌, true, false, List, [], ◌++◌, set, Some, None, refl, sym, ap, subst, ◌∙◌, inl, inr, ⊎_elim, arith, append-nil}
+use Rattle.std.proofs.Common.{◌<◌, ◌≡◌, ◌≢◌, ◌⊎◌, ℕ, ◌/◌, ◌≤◌, true, false, List, [], ◌++◌, set, Some, None, refl, sym, ap, subst, ◌∙◌, inl, inr, ⊎_elim, arith, append-nil}
 use mathlib.Core.Option.{some}
 use lib.ListN.{get_elem?}
 use Rattle.prcu_marks.specs.declared.mark.Mark.{Mark}
@@ -50,7 +50,7 @@ outcome_loads m r field to (hopped e link nz) = (refl, refl)
 outcome_loads m r field to (turned e is_key goes) = (refl, refl)
 outcome_loads m r field to (found e is_key here) = (refl, refl)
 outcome_loads m r field to (valued e is) = (refl, refl)
-outcome_loads m r field to (began e link nz) = (refl, refl)
+outcome_loads m r field to (began e none link nz) = (refl, refl)
 outcome_loads m r field to (went_on e on link nz) = (refl, refl)
 
 module _ (k : Shape) (m : Memory) (vs : List View) (h : List Mark) (id : ℕ) (v : View) (i : HoldsNow k m vs h)
@@ -69,7 +69,7 @@ module _ (k : Shape) (m : Memory) (vs : List View) (h : List Mark) (id : ℕ) (v
   said_now = told_now k m vs h i id v section there inside
 
   child_stood : (s c : ℕ) (b : Side) → IsIn section.reading.stood s → m (Link s b) ≡ c → c ≢ 0
-      → (i.chart.linked c ≡ true) ⊎ (IsHeldBack i.chart h section.entered c × IsOdd (m (Life c)))
+      → (i.chart.rank s < i.chart.rank c) × ((i.chart.linked c ≡ true) ⊎ (IsHeldBack i.chart h section.entered c × IsOdd (m (Life c))))
   child_stood s c b has link nz =
       child_met k m vs h i id s c b v section there inside
       (⊎_elim (λ l. inl l) (λ (x : IsHeldBack i.chart h section.entered s × IsOdd (m (Life s))). inr x.0)
@@ -154,6 +154,7 @@ module _ (k : Shape) (m : Memory) (vs : List View) (h : List Mark) (id : ℕ) (v
           walking = λ node parent b value walk is on. (let w = served.walking node parent b value walk is on in
               record { walks = w.walks; parent = w.parent });
           stood = λ s has. (let w = served.stood s has in record { here = w.here; key = w.key; life = w.life });
+          way = served.way;
         })
         (λ l is. (let same : listed listing slot field (m field) ≡ l = cc in subst (λ z. IsListing m i.chart h listed_section z) same
         (listed_more k m vs h i id v section there inside listing needs.lists slot field needs.loadable)))

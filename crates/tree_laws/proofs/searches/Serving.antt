@@ -23,7 +23,7 @@ use Rattle.core_state.specs.steps.Loads.{walking}
 use Rattle.core_state.specs.tree.Nodes.{next, OnRightLeft, first, further}
 use Rattle.core_state.specs.tree.Chart.{Chart, IsShaped, HoldsMap}
 use Rattle.core_state.specs.tree.Readers.{IsHeldBack, MayPass, Place, Walks, at_linked, at_stop, at_live}
-use Rattle.core_state.specs.parts.ReaderParts.{state_slot, GoesTo, StandsWell, IsReading, Answered, IsWalking, HasStood, IsServed}
+use Rattle.core_state.specs.parts.ReaderParts.{state_slot, GoesTo, StandsWell, IsReading, Answered, IsWalking, HasStood, last_stood, Falls, IsWay, IsServed}
 use Rattle.core_state.specs.parts.TreeParts.{map_now}
 use Rattle.core_frames.proofs.chart.Ranges.{next-left, next-right, next-here}
 use Rattle.core_frames.proofs.chart.Places.{hop, ended_told}
@@ -51,7 +51,7 @@ module _ (m : Memory) (n : ℕ) (g : Chart) (h : List Mark) (vs : List View) (se
     (sought : section.reading.key ≡ section.key) (searches : section.listing ≡ None) (was : IsReading section.reading)
     (served : IsServed m g h vs section)
     (child : (s c : ℕ) (b : Side) → IsIn section.reading.stood s → m (Link s b) ≡ c → c ≢ 0
-    → (g.linked c ≡ true) ⊎ (IsHeldBack g h section.entered c × IsOdd (m (Life c))))
+    → (g.rank s < g.rank c) × ((g.linked c ≡ true) ⊎ (IsHeldBack g h section.entered c × IsOdd (m (Life c)))))
     (stood : IsIn section.reading.stood slot) (loadable : IsLoadable slot field) where
   abbrev r : Reading
   r = section.reading
@@ -145,7 +145,7 @@ module _ (m : Memory) (n : ℕ) (g : Chart) (h : List Mark) (vs : List View) (se
   stood_new : (to : Reading) → to.loads ≡ (noted m r field).loads → (q c : ℕ) (b : Side) → IsIn r.stood q → m (Link q b) ≡ c → c ≢ 0
       → (s : ℕ) → IsIn (c ∷ r.stood) s → HasStood m g h (record section { reading = to }) s
   stood_new to same q c b has link nz s (zero, e) =
-      subst (HasStood m g h (record section { reading = to })) (some-injective c s e) (stood_more to same c (child q c b has link nz))
+      subst (HasStood m g h (record section { reading = to })) (some-injective c s e) (stood_more to same c (child q c b has link nz).1)
   stood_new to same q c b has link nz s (suc j, e) = stood_old to same s (j, e)
 
   walking_old : (to : Reading) (node : ℕ) (walk : Walk) → IsWalking m g h section node walk
@@ -164,6 +164,30 @@ module _ (m : Memory) (n : ℕ) (g : Chart) (h : List Mark) (vs : List View) (se
   walk_none_unread : (s parent : ℕ) (b : Side) → r.state ≡ Unread s parent b → r.walk ≡ None
   walk_none_unread s parent b e = let w = subst (StandsWell r) e was.well in w.1
 
+  -- the way of a search that stays where it stands
+  way_stays : (to : Reading) → to.stood ≡ r.stood → to.walk ≡ r.walk → state_slot r.state ≡ state_slot to.state → IsWay g to
+  way_stays to same walk at =
+      let w = served.way in
+      let last : last_stood r.walk (state_slot r.state) ≡ last_stood to.walk (state_slot to.state) =
+      ap (λ z. last_stood z (state_slot r.state)) (sym walk) ∙ ap (last_stood to.walk) at in
+      record {
+        before = w.before;
+        stood = same ∙ (w.stood ∙ ap (λ z. z ∷ w.before) last);
+        falls = subst (λ z. Falls g.rank z w.before) last w.falls;
+      }
+
+  -- the way of one that goes on from the last slot to another
+  way_on : (to : Reading) (q c : ℕ) (b : Side) → to.stood ≡ c ∷ r.stood → last_stood to.walk (state_slot to.state) ≡ c
+      → last_stood r.walk (state_slot r.state) ≡ q → IsIn r.stood q → m (Link q b) ≡ c → c ≢ 0 → IsWay g to
+  way_on to q c b more now_at was_at has link nz =
+      let w = served.way in
+      let lt = (child q c b has link nz).0 in
+      record {
+        before = q ∷ w.before;
+        stood = more ∙ (ap (λ l. c ∷ l) (w.stood ∙ ap (λ z. z ∷ w.before) was_at) ∙ ap (λ z. z ∷ (q ∷ w.before)) (sym now_at));
+        falls = subst (λ z. Falls g.rank z (q ∷ w.before)) (sym now_at) (lt, subst (λ z. Falls g.rank z w.before) was_at w.falls);
+      }
+
   -- a walk goes on
   walk_first : (s c : ℕ) → m (Link s Right) ≡ c → c ≢ 0 → g.linked s ≡ true → Walks m g s live c
   walk_first s c link nz l = at_linked (shape.below s c Right l link nz).linked (first link nz)
@@ -175,10 +199,10 @@ module _ (m : Memory) (n : ℕ) (g : Chart) (h : List Mark) (vs : List View) (se
 
   -- the section with a walk that goes on from q to c
   walks_served : (s parent : ℕ) (b : Side) (value : Option ℕ) → r.state ≡ Found s parent b value → (q c : ℕ) (a : Side) → IsIn r.stood q
-      → m (Link q a) ≡ c → c ≢ 0
+      → m (Link q a) ≡ c → c ≢ 0 → last_stood r.walk (state_slot r.state) ≡ q
       → (g.linked s ≡ true → Walks m g s live c) → (g.linked s ≡ true → g.linked q ≡ true → (q ≡ s) ⊎ OnRightLeft m s q)
       → IsServed m g h vs (record section { reading = walking (noted m r field) q c })
-  walks_served s parent b value e q c a has link nz walks above =
+  walks_served s parent b value e q c a has link nz last walks above =
       let to : Reading = walking (noted m r field) q c in
       record {
         placed = λ none. record { place = place_now; answered = answered_more to r.state (served.placed searches).answered };
@@ -189,6 +213,7 @@ module _ (m : Memory) (n : ℕ) (g : Chart) (h : List Mark) (vs : List View) (se
             subst (λ (z : ℕ × Walk). IsWalking m g h (record section { reading = to }) z.0 z.1) (λ i. (same i, step i))
             (record { walks = walks; parent = above }));
         stood = stood_new to refl q c a has link nz;
+        way = way_on to q c a refl refl last has link nz;
       }
     where
       cc_node : {node up : ℕ} {side : Side} {v : Option ℕ} → r.state ≡ Found s parent b value → r.state ≡ Found node up side v → s ≡ node
@@ -200,12 +225,14 @@ module _ (m : Memory) (n : ℕ) (g : Chart) (h : List Mark) (vs : List View) (se
     lists = λ listing lists. absurd (no_list listing lists);
     walking = λ node up side v walk is on. walking_old (noted m r field) node walk (served.walking node up side v walk is on);
     stood = stood_old (noted m r field) refl;
+    way = way_stays (noted m r field) refl refl refl;
   }
   served_more to (ended {s = s} {b = b} e empty) = let last : Reading = record (noted m r field) { state = Missed s b } in record {
     placed = λ none. record { place = place_at s (At s b) e refl; answered = told_none s b e empty };
     lists = λ listing lists. absurd (no_list listing lists);
     walking = λ node up side v walk is on. absurd (no_walk walk (walk_none_at s b e) on);
     stood = stood_old last refl;
+    way = way_stays last refl refl (ap state_slot e);
   }
   served_more to (hopped {s = s} {c = c} {b = b} e link nz) = let last : Reading =
       record (noted m r field) { state = Unread c s b; stood = c ∷ r.stood } in record {
@@ -213,6 +240,9 @@ module _ (m : Memory) (n : ℕ) (g : Chart) (h : List Mark) (vs : List View) (se
         lists = λ listing lists. absurd (no_list listing lists);
         walking = λ node up side v walk is on. absurd (no_walk walk (walk_none_at s b e) on);
         stood = stood_new last refl s c b (subst (λ z. IsIn r.stood (state_slot z)) e was.stands) link nz;
+        way = way_on last s c b refl (ap (λ z. last_stood z c) (walk_none_at s b e))
+            (ap (λ z. last_stood z (state_slot r.state)) (walk_none_at s b e) ∙ ap state_slot e)
+            (subst (λ z. IsIn r.stood (state_slot z)) e was.stands) link nz;
       }
   served_more to (turned {s = s} {parent = parent} {b = b} {side = side} e is_key goes) = let last : Reading =
       record (noted m r field) { state = At s side } in record {
@@ -220,6 +250,7 @@ module _ (m : Memory) (n : ℕ) (g : Chart) (h : List Mark) (vs : List View) (se
         lists = λ listing lists. absurd (no_list listing lists);
         walking = λ node up a v walk is on. absurd (no_walk walk (walk_none_unread s parent b e) on);
         stood = stood_old last refl;
+        way = way_stays last refl refl (ap state_slot e);
       }
   served_more to (found {s = s} {parent = parent} {b = b} e is_key here) = let last : Reading =
       record (noted m r field) { state = Found s parent b None } in record {
@@ -227,6 +258,7 @@ module _ (m : Memory) (n : ℕ) (g : Chart) (h : List Mark) (vs : List View) (se
         lists = λ listing lists. absurd (no_list listing lists);
         walking = λ node up a v walk is on. absurd (no_walk walk (walk_none_unread s parent b e) on);
         stood = stood_old last refl;
+        way = way_stays last refl refl (ap state_slot e);
       }
   served_more to (valued {s = s} {parent = parent} {value = value} {b = b} {before = before} e is) = let last : Reading =
       record (noted m r field) { state = Found s parent b (Some value) } in record {
@@ -236,12 +268,15 @@ module _ (m : Memory) (n : ℕ) (g : Chart) (h : List Mark) (vs : List View) (se
             (let same : s ≡ node = ap state_slot at in
             walking_old last node walk (subst (λ z. IsWalking m g h section z walk) same (served.walking s parent b before walk e on)));
         stood = stood_old last refl;
+        way = way_stays last refl refl (ap state_slot e);
       }
-  served_more to (began {s = s} {parent = parent} {c = c} {b = b} {value = value} e link nz) =
+  served_more to (began {s = s} {parent = parent} {c = c} {b = b} {value = value} e none link nz) =
       walks_served s parent b value e s c Right (subst (λ z. IsIn r.stood (state_slot z)) e was.stands) link nz
+      (ap (λ z. last_stood z (state_slot r.state)) none ∙ ap state_slot e)
       (λ l. walk_first s c link nz l) (λ l k. inl refl)
   served_more to (went_on {s = s} {parent = parent} {c = c} {b = b} {value = value} {walk = walk} e on link nz) =
       let w = was.walk walk on in
       let at = served.walking s parent b value walk e on in
-      walks_served s parent b value e walk.slot c Left w.slot_stood link nz (λ l. walk_hop s walk.slot c (at.walks l) link nz)
+      walks_served s parent b value e walk.slot c Left w.slot_stood link nz
+      (ap (λ z. last_stood z (state_slot r.state)) on) (λ l. walk_hop s walk.slot c (at.walks l) link nz)
       (λ l k. inr (walk_path m g s live walk.slot (λ t held. held.out) k (at.walks l)))

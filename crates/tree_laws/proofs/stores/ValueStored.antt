@@ -250,6 +250,7 @@ module _ (k : Shape) (m : Memory) (vs : List View) (h : List Mark) (i : HoldsNow
     key = stores.key;
     tag = stores.tag;
     linked_back = λ s l. l;
+    rank = λ s. refl;
     said = said;
     place = λ j z section e is.
         place_same m m' any others contents g on (λ u l o same. (let f : true ≡ false = sym o ∙ ap g.old same ∙ young in
@@ -326,7 +327,7 @@ module _ (k : Shape) (m : Memory) (vs : List View) (h : List Mark) (i : HoldsNow
     };
     readers = readers_after m m' g g vs id v w there h h' read
         (aged_same m m' g g vs id v w there h h' outside (gone_done h update) (λ s a. refl)
-        (λ s l. l) i.readers.ages) i.locks.readings i.readers;
+        (λ s l. l) (λ s. refl) i.readers.ages) i.locks.readings i.readers;
     front = front_made m m' vs id v w there h h' (stores.within.beside Front tt) i.front commit needs.has_commit refl one_longer
         (subst IsLegal (sym more_updates) (legal_more (updates_of h) update i.front.legal there_now));
     listings = listings_behind m m' g g vs id w h h' outside stores.key

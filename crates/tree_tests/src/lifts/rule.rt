@@ -2,7 +2,7 @@
 use super::NO_SALT;
 use crate::same::assert_same;
 use std::test::Fail;
-use tree_lift::{is_deep, is_far_too_deep, most_depth, rises_above};
+use tree_lift::{attempts_behind, is_deep, is_far_too_deep, most_depth, most_keys, rises_above};
 
 // Keys, with what SplitMix64's finalizer makes of them by its reference in C and by Java's SplittableRandom. The first twelve are its states
 // from the seed 0 on. Which of the last two is the greater turns on the last fold alone.
@@ -59,12 +59,28 @@ fn a_way_is_deep_beyond_twice_the_digits_and_two(rt: HostRuntime) -> Result<(), 
         assert_same(&rt, most_depth(size), most, size);
         let deep = (is_deep(most, size), is_deep(most + 1, size));
         assert_same(&rt, deep, (false, true), size);
-        let twice = most.wrapping_mul(2);
+        let third = most.wrapping_add(most / 3);
         let far = (
-            is_far_too_deep(twice.wrapping_add(1), size),
-            is_far_too_deep(twice.wrapping_add(2), size),
+            is_far_too_deep(third, size),
+            is_far_too_deep(third.wrapping_add(1), size),
         );
         assert_same(&rt, far, (false, true), size);
+        let attempts = (attempts_behind(most, size), attempts_behind(most + 1, size));
+        assert_same(&rt, attempts, (0, 24), size);
+    }
+    Ok(())
+}
+
+#[test]
+fn the_slots_that_are_not_free_bound_the_keys(rt: HostRuntime) -> Result<(), Fail> {
+    for (slots, free, most) in [
+        (1_068, 1_068, 0),
+        (1_068, 1_067, 1),
+        (1_068, 0, 1_068),
+        (1 << 30, (1 << 30) - 1_000, 1_000),
+        (5, 6, 0),
+    ] {
+        assert_same(&rt, most_keys(slots, free), most, (slots, free));
     }
     Ok(())
 }

@@ -10,7 +10,7 @@ use std::alloc::Global;
 use std::process::Abort;
 use std::sync::Wait;
 use std::test::Fail;
-use tree_lift::{Aim, Stop, is_deep, is_far_too_deep, most_depth};
+use tree_lift::{Aim, Stop, attempts_behind, is_far_too_deep, most_depth};
 
 const KEYS: u64 = 300;
 
@@ -107,8 +107,8 @@ fn level_ways_make_the_same_tree_in_any_order(rt: HostRuntime) -> Result<(), Fai
     Ok(())
 }
 
-// Puts the keys, and lifts after each whose way was deep: with four attempts, standing still where half of it would be deep. The longest
-// way that a key had when it was put.
+// Puts the keys, and lifts after each whose way was deep: by as many attempts as the rule tells, standing still where three quarters of it
+// would be deep. The longest way that a key had when it was put.
 fn lift_deep<R: Abort + Wait>(
     rt: &R,
     table: &CitrusTable<Eer>,
@@ -126,11 +126,12 @@ fn lift_deep<R: Abort + Wait>(
         put_new(rt, table, seat, key);
         let depth = depth_of(rt, table, seat, key);
         longest = longest.max(depth);
-        if is_deep(depth, KEYS) {
+        let attempts = attempts_behind(depth, KEYS);
+        if attempts > 0 {
             let aim = Aim {
                 key,
                 salt: NO_SALT,
-                attempts: 4,
+                attempts,
                 hard: is_far_too_deep(depth, KEYS),
             };
             lift_by(rt, table, seat, aim);
@@ -140,11 +141,11 @@ fn lift_deep<R: Abort + Wait>(
     longest
 }
 
-// A put whose way is twice as long as is deep stands still, and turns four nodes of it. So a way grows by one key at a time until it is
-// that long, and not far beyond. Half of the average is left to chance: 3,167 slots are on all ways where each is level.
+// A put whose way is a third longer than one that isn't deep stands still, and turns up to 24 nodes of it. So a way grows by one key at a
+// time until it is that long, and not far beyond. Half of the average is left to chance: 3,167 slots are on all ways where each is level.
 #[test]
 fn lifts_after_deep_puts_keep_ways_short(rt: HostRuntime) -> Result<(), Fail> {
-    let most = most_depth(KEYS).wrapping_mul(2).wrapping_add(8);
+    let most = most_depth(KEYS).wrapping_mul(4) / 3 + 8;
     for room in [16, 64, 256] {
         for order in Order::ALL {
             let (table, mut seat) = CitrusTable::<Eer>::with_room(

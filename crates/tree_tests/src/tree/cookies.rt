@@ -15,14 +15,14 @@ use seat_table::wait_for_readers;
 use std::test::Fail;
 
 // Gets the pair, which leaves the seat's cookies as they are.
-fn get_beside<R: Wait>(rt: &R, table: &CitrusTable<Eer>, seat: &mut Seat<Eer>) -> Reply
+fn get_beside(table: &CitrusTable<Eer>, seat: &mut Seat<Eer>) -> Reply
     requires table { seat.old.table ≡ table.now }
     requires quiet { IsQuietSeat seat.old }
     ensures table { seat.new.table ≡ seat.old.table }
     ensures quiet { IsQuietSeat seat.new }
     ensures keeps { KeepsCookies seat.old seat.new }
 {
-    let Told { reply, number: _ } = get(rt, table, seat, &OpenGate, 5);
+    let Told { reply, number: _ } = get(table, seat, &OpenGate, 5);
     reply
 }
 
@@ -38,7 +38,7 @@ fn slots_go_back_once_the_cookie_is_over(rt: HostRuntime) -> Result<(), Fail> {
     let Ask::NotYet { why } = ask(&table, &mut writer, &mut cookie) else {
         panic!(rt; "the reader is inside");
     };
-    let reply = get_beside(&rt, &table, &mut writer);
+    let reply = get_beside(&table, &mut writer);
     Eer::leave(&table, &mut reader);
     let Ask::Over = ask(&table, &mut writer, &mut cookie) else {
         panic!(rt; "the reader has left");

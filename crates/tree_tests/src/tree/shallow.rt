@@ -9,8 +9,8 @@ use std::test::Fail;
 
 const KEYS: u64 = 300;
 
-// In a tree of 400 slots a way over 20 is deep. From 42 on a client stands still for room to lift.
-const MOST: u64 = 42;
+// In a tree of 400 slots a way over 20 is deep. From 27 on a client stands still for room to lift.
+const MOST: u64 = 27;
 
 // The seat, after its client put the keys one after another.
 fn put_ascending<R: Abort + Wait>(rt: &R, table: &CitrusTable<Eer>, seat: Seat<Eer>) -> Seat<Eer>

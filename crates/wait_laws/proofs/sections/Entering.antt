@@ -87,6 +87,7 @@ module _ (k : Shape) (m m' : Memory) (vs : List View) (h : List Mark) (id : ℕ)
     lists = λ listing is. absurd (let e : None ≡ Some listing = is in cc);
     walking = λ node parent b value walk found walks. absurd (let e : None ≡ Some walk = walks in cc);
     stood = λ s has. stood_root (h ++ mark ∷ []) section_now refl root.root s has;
+    way = record { before = []; stood = refl; falls = tt };
   })
     where
       stood_root : (h' : List Mark) (section : Section) → section.reading ≡ fresh_reading key → i.chart.linked 0 ≡ true → (s : ℕ)

@@ -13,16 +13,16 @@ pub search_load-value-requires-clause-asks : goal.search_load-value-requires-cla
 search_load-value-requires-clause-asks g c =
     let k = shape_of g.W.WaitWords.WAY c.args.table.now in
     let searching = subst (λ (d : Descent). IsSearching c.args.seat.now.view c.args.key (state_of d) c.descend.new.seat.view)
-    c.in-Found.is c.in_ok-slot.ensures.searching in
-    let slot = subst (λ (d : Descent). IsSlot k (state_slot (state_of d))) c.in-Found.is c.in_ok-slot.ensures.slot in
+    c.in-Found.is c.descend.ensures.searching in
+    let slot = subst (λ (d : Descent). IsSlot k (state_slot (state_of d))) c.in-Found.is c.descend.ensures.slot in
     needs_value k c.args.seat.now.view c.args.key c.in-Found.slot c.in-Found.parent c.in-Found.side c.descend.new.seat.view searching slot
 
 pub search_load-life-requires-clause-asks : goal.search_load-life-requires-clause-asks
 search_load-life-requires-clause-asks g c =
     let k = shape_of g.W.WaitWords.WAY c.args.table.now in
     let searching = subst (λ (d : Descent). IsSearching c.args.seat.now.view c.args.key (state_of d) c.descend.new.seat.view)
-    c.in-Found.is c.in_ok-slot.ensures.searching in
-    let slot = subst (λ (d : Descent). IsSlot k (state_slot (state_of d))) c.in-Found.is c.in_ok-slot.ensures.slot in
+    c.in-Found.is c.descend.ensures.searching in
+    let slot = subst (λ (d : Descent). IsSlot k (state_slot (state_of d))) c.in-Found.is c.descend.ensures.slot in
     needs_valued_life k c.args.seat.now.view c.args.key c.in-Found.slot c.in-Found.parent c.in-Found.side c.search_load-value.result
     c.descend.new.seat.view c.search_load-value.new.seat.view slot searching c.search_load-value.ensures.told
 
@@ -30,8 +30,8 @@ pub returns-in-Found-clause-sought : goal.returns-in-Found-clause-sought
 returns-in-Found-clause-sought g c =
     let k = shape_of g.W.WaitWords.WAY c.args.table.now in
     let searching = subst (λ (d : Descent). IsSearching c.args.seat.now.view c.args.key (state_of d) c.descend.new.seat.view)
-    c.in-Found.is c.in_ok-slot.ensures.searching in
-    let slot = subst (λ (d : Descent). IsSlot k (state_slot (state_of d))) c.in-Found.is c.in_ok-slot.ensures.slot in
+    c.in-Found.is c.descend.ensures.searching in
+    let slot = subst (λ (d : Descent). IsSlot k (state_slot (state_of d))) c.in-Found.is c.descend.ensures.slot in
     sought_value k c.args.seat.now.view c.args.key c.in-Found.slot c.in-Found.parent c.in-Found.side c.search_load-value.result
     c.search_load-life.result c.generation_of-generation.result c.descend.new.seat.view c.search_load-value.new.seat.view
     c.search_load-life.new.seat.view c.leave.new.seat.view slot searching c.search_load-value.ensures.told c.search_load-life.ensures.told
@@ -41,11 +41,11 @@ pub returns-in-Ended-clause-sought : goal.returns-in-Ended-clause-sought
 returns-in-Ended-clause-sought g c = looked_missed
     (shape_of g.W.WaitWords.WAY c.args.table.now) c.args.seat.now.view c.args.key c.in-Ended.slot c.in-Ended.side c.descend.new.seat.view
     c.leave-in-Ended.new.seat.view (subst (λ (d : Descent). IsSearching c.args.seat.now.view c.args.key
-    (state_of d) c.descend.new.seat.view) c.in-Ended.is c.in_ok-slot.ensures.searching) c.leave-in-Ended.ensures.left
+    (state_of d) c.descend.new.seat.view) c.in-Ended.is c.descend.ensures.searching) c.leave-in-Ended.ensures.left
 
 pub returns-in-Found-clause-stepped : goal.returns-in-Found-clause-stepped
 returns-in-Found-clause-stepped g c =
-    let found = search_steps c.in_ok-slot.ensures.searching in
+    let found = search_steps c.descend.ensures.searching in
     let value = told_steps c.search_load-value.ensures.told in
     let life = told_steps c.search_load-life.ensures.told in
     let left = makes_steps c.search_load-life.new.seat.view c.leave.new.seat.view c.leave.ensures.left.made in
@@ -53,6 +53,6 @@ returns-in-Found-clause-stepped g c =
 
 pub returns-in-Ended-clause-stepped : goal.returns-in-Ended-clause-stepped
 returns-in-Ended-clause-stepped g c =
-    let found = search_steps c.in_ok-slot.ensures.searching in
+    let found = search_steps c.descend.ensures.searching in
     let left = makes_steps c.descend.new.seat.view c.leave-in-Ended.new.seat.view c.leave-in-Ended.ensures.left.made in
     omega (arith, found, left)

@@ -1,6 +1,7 @@
 use Rattle.std.proofs.Common.{sym, ◌∙◌, arith}
 use Rattle.seat_table.specs.Seats.{shape_of}
 use Rattle.seat_table.proofs.Rounding.{told_steps}
+use Rattle.citrus_tree.proofs.searches.Bounding.{ended_costs, found_costs, moved_costs}
 use Rattle.citrus_tree.proofs.searches.Descending.{ended_at, slot_on, may_read, found_at, moved_on}
 use Rattle.citrus_tree.proofs.descent.look_on.Goals as goal
 
@@ -42,6 +43,21 @@ returns-in-None-clause-place g c = c.requires.loaded.1.loads.left_told.before.te
 
 pub returns-in-Some-clause-place : goal.returns-in-Some-clause-place
 returns-in-Some-clause-place g c = c.requires.loaded.1.loads.left_told.before.tells.some_place
+
+pub returns-then-ahead-eq0-clause-costs : goal.returns-then-ahead-eq0-clause-costs
+returns-then-ahead-eq0-clause-costs g c v u slot side i l = ended_costs
+    (shape_of g.W.WaitWords.WAY c.args.table.now) c.args.key slot side u c.args.ahead c.args.seat.now.view l v i c.if-ahead-eq0.true
+
+pub returns-in-None-clause-costs : goal.returns-in-None-clause-costs
+returns-in-None-clause-costs g c v u slot side i l = found_costs
+    (shape_of g.W.WaitWords.WAY c.args.table.now) c.args.key slot side u c.args.ahead c.args.seat.now.view l v i c.search_load-found.result
+    c.search_load-found.new.seat.view c.search_load-found.ensures.told c.if-ahead-eq0.false (sym c.step_side.ensures ∙ c.in-None.is)
+
+pub returns-in-Some-clause-costs : goal.returns-in-Some-clause-costs
+returns-in-Some-clause-costs g c v u slot side i l = moved_costs
+    (shape_of g.W.WaitWords.WAY c.args.table.now) c.args.key slot side u c.args.ahead c.args.seat.now.view l v i c.search_load-found.result
+    c.search_load-found.new.seat.view c.search_load-found.ensures.told c.if-ahead-eq0.false c.in-Some.side
+    (sym c.step_side.ensures ∙ c.in-Some.is)
 
 pub returns-in-None-clause-more : goal.returns-in-None-clause-more
 returns-in-None-clause-more g c = let stepped = told_steps c.search_load-found.ensures.told in omega (arith, stepped)

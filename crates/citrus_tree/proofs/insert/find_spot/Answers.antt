@@ -15,29 +15,29 @@ returns-in-Found-clause-searched g c =
     (shape_of g.W.WaitWords.WAY c.args.table.now) c.args.seat.now.view c.args.key c.in-Found.slot c.in-Found.parent c.in-Found.side
     c.descend.new.seat.view c.leave.new.seat.view
     (subst (λ (d : Descent). IsSearching c.args.seat.now.view c.args.key
-    (state_of d) c.descend.new.seat.view) c.in-Found.is c.in_ok-descend.ensures.searching) c.leave.ensures.left in
+    (state_of d) c.descend.new.seat.view) c.in-Found.is c.descend.ensures.searching) c.leave.ensures.left in
     (there.0, there.1.0)
 
 pub returns-in-Ended-clause-searched : goal.returns-in-Ended-clause-searched
 returns-in-Ended-clause-searched g c =
     let left = c.leave_with_spot.ensures.looked c.args.seat.now.view c.args.key
     (subst (λ (d : Descent). IsSearching c.args.seat.now.view c.args.key
-    (state_of d) c.descend.new.seat.view) c.in-Ended.is c.in_ok-descend.ensures.searching) in (
+    (state_of d) c.descend.new.seat.view) c.in-Ended.is c.descend.ensures.searching) in (
       left.0,
       left.1,
       subst (IsSlot (shape_of g.W.WaitWords.WAY c.args.table.now)) (sym c.leave_with_spot.ensures.slot)
           (subst (λ (d : Descent). IsSlot (shape_of g.W.WaitWords.WAY c.args.table.now)
-          (state_slot (state_of d))) c.in-Ended.is c.in_ok-descend.ensures.slot),
+          (state_slot (state_of d))) c.in-Ended.is c.descend.ensures.slot),
     )
 
 pub returns-in-Found-clause-stepped : goal.returns-in-Found-clause-stepped
 returns-in-Found-clause-stepped g c =
-    let found = search_steps c.in_ok-descend.ensures.searching in
+    let found = search_steps c.descend.ensures.searching in
     let left = makes_steps c.descend.new.seat.view c.leave.new.seat.view c.leave.ensures.left.made in
     omega (arith, found, left)
 
 pub returns-in-Ended-clause-stepped : goal.returns-in-Ended-clause-stepped
 returns-in-Ended-clause-stepped g c =
-    let found = search_steps c.in_ok-descend.ensures.searching in
+    let found = search_steps c.descend.ensures.searching in
     let left = c.leave_with_spot.ensures.stepped in
     omega (arith, found, left)

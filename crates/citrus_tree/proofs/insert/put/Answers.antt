@@ -49,97 +49,97 @@ find_spot-requires-clause-unlocked g c = unlocked c.loop-round.invariant.tries c
 
 pub give_up_leaf-requires-clause-at : goal.give_up_leaf-requires-clause-at
 give_up_leaf-requires-clause-at g c =
-    may_give_up c.loop-round.invariant.tries c.requires.tickets c.in_ok-spot.ensures.place _ c.in_default.is
-    c.in_ok-spot.ensures.searched
+    may_give_up c.loop-round.invariant.tries c.requires.tickets c.find_spot.ensures.place _ c.in_default.is
+    c.find_spot.ensures.searched
 
 pub give_up_leaf-requires-clause-informed : goal.give_up_leaf-requires-clause-informed
-give_up_leaf-requires-clause-informed g c = (old_found c.loop-round.invariant.tries c.requires.tickets c.in_ok-spot.ensures.place _
+give_up_leaf-requires-clause-informed g c = (old_found c.loop-round.invariant.tries c.requires.tickets c.find_spot.ensures.place _
     c.in_default.is
-    c.in_ok-spot.ensures.searched).1.informed
+    c.find_spot.ensures.searched).1.informed
 
 pub returns-in_default-clause-puts : goal.returns-in_default-clause-puts
-returns-in_default-clause-puts g c = old_puts c.loop-round.invariant.tries c.requires.tickets c.in_ok-spot.ensures.place _ c.in_default.is
-    c.in_ok-spot.ensures.searched c.give_up_leaf.ensures.goes c.answered.ensures
+returns-in_default-clause-puts g c = old_puts c.loop-round.invariant.tries c.requires.tickets c.find_spot.ensures.place _ c.in_default.is
+    c.find_spot.ensures.searched c.give_up_leaf.ensures.goes c.answered.ensures
 
 pub returns-in_default-clause-quiet : goal.returns-in_default-clause-quiet
 returns-in_default-clause-quiet g c = record {
-  view = old_quiet c.loop-round.invariant.tries c.requires.tickets c.in_ok-spot.ensures.place _ c.in_default.is
-      c.in_ok-spot.ensures.searched
+  view = old_quiet c.loop-round.invariant.tries c.requires.tickets c.find_spot.ensures.place _ c.in_default.is
+      c.find_spot.ensures.searched
       c.give_up_leaf.ensures.goes c.give_up_leaf.ensures.at;
   listed = listed_on c.loop-round.seat c.give_up_leaf.new.seat (c.give_up_leaf.ensures.seat.1 ∙ c.find_spot.ensures.seat.1)
-      (c.give_up_leaf.ensures.goes.retired ∙ (old_looked c.loop-round.invariant.tries c.requires.tickets c.in_ok-spot.ensures.place _
-      c.in_default.is c.in_ok-spot.ensures.searched).retired) c.loop-round.invariant.listed;
+      (c.give_up_leaf.ensures.goes.retired ∙ (old_looked c.loop-round.invariant.tries c.requires.tickets c.find_spot.ensures.place _
+      c.in_default.is c.find_spot.ensures.searched).retired) c.loop-round.invariant.listed;
 }
 
 pub returns-in_default-clause-wait : goal.returns-in_default-clause-wait
-returns-in_default-clause-wait g c = old_wait c.loop-round.invariant.tries c.requires.tickets c.in_ok-spot.ensures.place _ c.in_default.is
-    c.in_ok-spot.ensures.searched c.give_up_leaf.ensures.goes
+returns-in_default-clause-wait g c = old_wait c.loop-round.invariant.tries c.requires.tickets c.find_spot.ensures.place _ c.in_default.is
+    c.find_spot.ensures.searched c.give_up_leaf.ensures.goes
 
 pub returns-in_default-clause-tickets : goal.returns-in_default-clause-tickets
 returns-in_default-clause-tickets g c =
-    old_tickets c.loop-round.invariant.tries c.requires.tickets c.in_ok-spot.ensures.place _ c.in_default.is
-    c.in_ok-spot.ensures.searched c.give_up_leaf.ensures.goes c.give_up_leaf.ensures.at
+    old_tickets c.loop-round.invariant.tries c.requires.tickets c.find_spot.ensures.place _ c.in_default.is
+    c.find_spot.ensures.searched c.give_up_leaf.ensures.goes c.give_up_leaf.ensures.at
 
 pub leaf_in_hand-requires-clause-listed : goal.leaf_in_hand-requires-clause-listed
 leaf_in_hand-requires-clause-listed g c = listed_on c.loop-round.seat c.find_spot.new.seat c.find_spot.ensures.seat.1
-    (spot_looked c.loop-round.invariant.tries c.requires.tickets c.in_ok-spot.ensures.place _ c.in-Some.is
-    c.in_ok-spot.ensures.searched).retired
+    (spot_looked c.loop-round.invariant.tries c.requires.tickets c.find_spot.ensures.place _ c.in-Some.is
+    c.find_spot.ensures.searched).retired
     c.loop-round.invariant.listed
 
 pub leaf_in_hand-requires-clause-at : goal.leaf_in_hand-requires-clause-at
 leaf_in_hand-requires-clause-at g c =
-    may_take_leaf c.loop-round.invariant.tries c.requires.tickets c.in_ok-spot.ensures.place _ c.in-Some.is
-    c.in_ok-spot.ensures.searched
+    may_take_leaf c.loop-round.invariant.tries c.requires.tickets c.find_spot.ensures.place _ c.in-Some.is
+    c.find_spot.ensures.searched
 
 pub returns-in_default-2-clause-puts : goal.returns-in_default-2-clause-puts
-returns-in_default-2-clause-puts g c = full_puts c.loop-round.invariant.tries c.requires.tickets c.in_ok-spot.ensures.place _ c.in-Some.is
-    c.in_ok-spot.ensures.searched c.in_ok-leaf.ensures.room (c.in_ok-leaf.ensures.full c.in_default-2.is) c.answered-in_default-2.ensures
+returns-in_default-2-clause-puts g c = full_puts c.loop-round.invariant.tries c.requires.tickets c.find_spot.ensures.place _ c.in-Some.is
+    c.find_spot.ensures.searched c.in_ok-leaf.ensures.room (c.in_ok-leaf.ensures.full c.in_default-2.is) c.answered-in_default-2.ensures
 
 pub returns-in_default-2-clause-quiet : goal.returns-in_default-2-clause-quiet
 returns-in_default-2-clause-quiet g c = record {
   view =
-      full_quiet c.loop-round.invariant.tries c.requires.tickets c.in_ok-spot.ensures.place _ c.in-Some.is c.in_ok-spot.ensures.searched
+      full_quiet c.loop-round.invariant.tries c.requires.tickets c.find_spot.ensures.place _ c.in-Some.is c.find_spot.ensures.searched
       c.in_ok-leaf.ensures.room c.in_default-2.is c.in_ok-leaf.ensures.at;
   listed = c.in_ok-leaf.ensures.listed;
 }
 
 pub returns-in_default-2-clause-wait : goal.returns-in_default-2-clause-wait
-returns-in_default-2-clause-wait g c = full_wait c.loop-round.invariant.tries c.requires.tickets c.in_ok-spot.ensures.place _ c.in-Some.is
-    c.in_ok-spot.ensures.searched c.in_ok-leaf.ensures.room
+returns-in_default-2-clause-wait g c = full_wait c.loop-round.invariant.tries c.requires.tickets c.find_spot.ensures.place _ c.in-Some.is
+    c.find_spot.ensures.searched c.in_ok-leaf.ensures.room
 
 pub returns-in_default-2-clause-tickets : goal.returns-in_default-2-clause-tickets
 returns-in_default-2-clause-tickets g c =
-    full_tickets c.loop-round.invariant.tries c.requires.tickets c.in_ok-spot.ensures.place _ c.in-Some.is
-    c.in_ok-spot.ensures.searched c.in_ok-leaf.ensures.room c.in_default-2.is c.in_ok-leaf.ensures.at
+    full_tickets c.loop-round.invariant.tries c.requires.tickets c.find_spot.ensures.place _ c.in-Some.is
+    c.find_spot.ensures.searched c.in_ok-leaf.ensures.room c.in_default-2.is c.in_ok-leaf.ensures.at
 
 pub link_leaf-requires-clause-at : goal.link_leaf-requires-clause-at
-link_leaf-requires-clause-at g c = may_link c.loop-round.invariant.tries c.requires.tickets c.in_ok-spot.ensures.place _ c.in-Some.is
-    c.in_ok-spot.ensures.searched c.in_ok-leaf.ensures.room c.in-Some-2.is c.in_ok-leaf.ensures.at
+link_leaf-requires-clause-at g c = may_link c.loop-round.invariant.tries c.requires.tickets c.find_spot.ensures.place _ c.in-Some.is
+    c.find_spot.ensures.searched c.in_ok-leaf.ensures.room c.in-Some-2.is c.in_ok-leaf.ensures.at
 
 pub returns-in-Some-3-clause-puts : goal.returns-in-Some-3-clause-puts
-returns-in-Some-3-clause-puts g c = new_puts c.loop-round.invariant.tries c.requires.tickets c.in_ok-spot.ensures.place _ c.in-Some.is
-    c.in_ok-spot.ensures.searched c.in_ok-leaf.ensures.room
+returns-in-Some-3-clause-puts g c = new_puts c.loop-round.invariant.tries c.requires.tickets c.find_spot.ensures.place _ c.in-Some.is
+    c.find_spot.ensures.searched c.in_ok-leaf.ensures.room
     c.in-Some-2.is c.in_ok-leaf.ensures.at c.in-Some-3.is c.in_ok-number.ensures.linked c.answered-in-Some-3.ensures
 
 pub returns-in-Some-3-clause-quiet : goal.returns-in-Some-3-clause-quiet
 returns-in-Some-3-clause-quiet g c = record {
-  view = new_quiet c.loop-round.invariant.tries c.requires.tickets c.in_ok-spot.ensures.place _ c.in-Some.is c.in_ok-spot.ensures.searched
+  view = new_quiet c.loop-round.invariant.tries c.requires.tickets c.find_spot.ensures.place _ c.in-Some.is c.find_spot.ensures.searched
       c.in_ok-leaf.ensures.room c.in-Some-2.is c.in_ok-leaf.ensures.at c.in-Some-3.is c.in_ok-number.ensures.linked
       c.in_ok-number.ensures.at;
   listed = listed_on c.leaf_in_hand.new.seat c.link_leaf.new.seat c.link_leaf.ensures.seat.1
-      (new_retired c.loop-round.invariant.tries c.requires.tickets c.in_ok-spot.ensures.place _ c.in-Some.is c.in_ok-spot.ensures.searched
+      (new_retired c.loop-round.invariant.tries c.requires.tickets c.find_spot.ensures.place _ c.in-Some.is c.find_spot.ensures.searched
       c.in_ok-leaf.ensures.room
       c.in-Some-2.is c.in_ok-leaf.ensures.at c.in-Some-3.is c.in_ok-number.ensures.linked) c.in_ok-leaf.ensures.listed;
 }
 
 pub returns-in-Some-3-clause-wait : goal.returns-in-Some-3-clause-wait
-returns-in-Some-3-clause-wait g c = new_wait c.loop-round.invariant.tries c.requires.tickets c.in_ok-spot.ensures.place _ c.in-Some.is
-    c.in_ok-spot.ensures.searched c.in_ok-leaf.ensures.room
+returns-in-Some-3-clause-wait g c = new_wait c.loop-round.invariant.tries c.requires.tickets c.find_spot.ensures.place _ c.in-Some.is
+    c.find_spot.ensures.searched c.in_ok-leaf.ensures.room
     c.in-Some-2.is c.in_ok-leaf.ensures.at c.in-Some-3.is c.in_ok-number.ensures.linked
 
 pub returns-in-Some-3-clause-tickets : goal.returns-in-Some-3-clause-tickets
-returns-in-Some-3-clause-tickets g c = new_tickets c.loop-round.invariant.tries c.requires.tickets c.in_ok-spot.ensures.place _ c.in-Some.is
-    c.in_ok-spot.ensures.searched c.in_ok-leaf.ensures.room
+returns-in-Some-3-clause-tickets g c = new_tickets c.loop-round.invariant.tries c.requires.tickets c.find_spot.ensures.place _ c.in-Some.is
+    c.find_spot.ensures.searched c.in_ok-leaf.ensures.room
     c.in-Some-2.is c.in_ok-leaf.ensures.at c.in-Some-3.is c.in_ok-number.ensures.linked c.in_ok-number.ensures.at
 
 pub loop-round-preserved : goal.loop-round-preserved
@@ -147,18 +147,18 @@ loop-round-preserved g c = record {
   table = c.link_leaf.ensures.seat.0 ∙ c.leaf_in_hand.ensures.table ∙ c.find_spot.ensures.seat.0 ∙ c.loop-round.invariant.table;
   listed = listed_on c.leaf_in_hand.new.seat c.link_leaf.new.seat c.link_leaf.ensures.seat.1
       (c.in_ok-number.ensures.again c.in_default-3.is).retired c.in_ok-leaf.ensures.listed;
-  tries = tries_again c.loop-round.invariant.tries c.requires.tickets c.in_ok-spot.ensures.place _ c.in-Some.is
-      c.in_ok-spot.ensures.searched
+  tries = tries_again c.loop-round.invariant.tries c.requires.tickets c.find_spot.ensures.place _ c.in-Some.is
+      c.find_spot.ensures.searched
       c.in_ok-leaf.ensures.room c.in-Some-2.is c.in_ok-leaf.ensures.at (c.in_ok-number.ensures.again c.in_default-3.is)
       c.in_default-3.is c.in_ok-number.ensures.at;
   slots = goes_slots c.args.seat.now c.leaf_in_hand.new.seat c.link_leaf.new.seat []
       (slots_on c.args.seat.now c.find_spot.new.seat c.leaf_in_hand.new.seat
       (goes_slots c.args.seat.now c.loop-round.seat c.find_spot.new.seat _ c.loop-round.invariant.slots
-      (spot_looked c.loop-round.invariant.tries c.requires.tickets c.in_ok-spot.ensures.place _ c.in-Some.is c.in_ok-spot.ensures.searched)
+      (spot_looked c.loop-round.invariant.tries c.requires.tickets c.find_spot.ensures.place _ c.in-Some.is c.find_spot.ensures.searched)
       c.find_spot.ensures.seat.1) c.in_ok-leaf.ensures.slots) (c.in_ok-number.ensures.again c.in_default-3.is) c.link_leaf.ensures.seat.1;
   made =
       let made = c.loop-round.invariant.made in
-      let found = c.in_ok-spot.ensures.stepped in
+      let found = c.find_spot.ensures.stepped in
       let taken = room_steps c.in_ok-leaf.ensures.room in
       let tried = prefix_steps c.leaf_in_hand.new.seat.view c.link_leaf.new.seat.view (c.in_ok-number.ensures.again
       c.in_default-3.is).gone.steps in
@@ -168,7 +168,7 @@ loop-round-preserved g c = record {
 pub returns-in_default-clause-slots : goal.returns-in_default-clause-slots
 returns-in_default-clause-slots g c =
     let found = goes_slots c.args.seat.now c.loop-round.seat c.find_spot.new.seat _ c.loop-round.invariant.slots
-    (old_looked c.loop-round.invariant.tries c.requires.tickets c.in_ok-spot.ensures.place _ c.in_default.is c.in_ok-spot.ensures.searched)
+    (old_looked c.loop-round.invariant.tries c.requires.tickets c.find_spot.ensures.place _ c.in_default.is c.find_spot.ensures.searched)
     c.find_spot.ensures.seat.1 in
     goes_slots c.args.seat.now c.find_spot.new.seat c.give_up_leaf.new.seat [] found c.give_up_leaf.ensures.goes
     c.give_up_leaf.ensures.seat.1
@@ -176,56 +176,56 @@ returns-in_default-clause-slots g c =
 pub returns-in_default-2-clause-slots : goal.returns-in_default-2-clause-slots
 returns-in_default-2-clause-slots g c = slots_on c.args.seat.now c.find_spot.new.seat c.leaf_in_hand.new.seat
     (goes_slots c.args.seat.now c.loop-round.seat c.find_spot.new.seat _ c.loop-round.invariant.slots
-    (spot_looked c.loop-round.invariant.tries c.requires.tickets c.in_ok-spot.ensures.place _ c.in-Some.is c.in_ok-spot.ensures.searched)
+    (spot_looked c.loop-round.invariant.tries c.requires.tickets c.find_spot.ensures.place _ c.in-Some.is c.find_spot.ensures.searched)
     c.find_spot.ensures.seat.1) c.in_ok-leaf.ensures.slots
 
 pub returns-in-Some-3-clause-slots : goal.returns-in-Some-3-clause-slots
 returns-in-Some-3-clause-slots g c =
     let leaf = slots_on c.args.seat.now c.find_spot.new.seat c.leaf_in_hand.new.seat
     (goes_slots c.args.seat.now c.loop-round.seat c.find_spot.new.seat _ c.loop-round.invariant.slots
-    (spot_looked c.loop-round.invariant.tries c.requires.tickets c.in_ok-spot.ensures.place _ c.in-Some.is c.in_ok-spot.ensures.searched)
+    (spot_looked c.loop-round.invariant.tries c.requires.tickets c.find_spot.ensures.place _ c.in-Some.is c.find_spot.ensures.searched)
     c.find_spot.ensures.seat.1) c.in_ok-leaf.ensures.slots in
     goes_slots c.args.seat.now c.leaf_in_hand.new.seat c.link_leaf.new.seat _ leaf
-    (new_goes c.loop-round.invariant.tries c.requires.tickets c.in_ok-spot.ensures.place _ c.in-Some.is c.in_ok-spot.ensures.searched
+    (new_goes c.loop-round.invariant.tries c.requires.tickets c.find_spot.ensures.place _ c.in-Some.is c.find_spot.ensures.searched
     c.in_ok-leaf.ensures.room
     c.in-Some-2.is c.in_ok-leaf.ensures.at c.in-Some-3.is c.in_ok-number.ensures.linked) c.link_leaf.ensures.seat.1
 
 pub returns-in_default-clause-allowance : goal.returns-in_default-clause-allowance
-returns-in_default-clause-allowance g c = old_allowance c.loop-round.invariant.tries c.requires.tickets c.in_ok-spot.ensures.place _
+returns-in_default-clause-allowance g c = old_allowance c.loop-round.invariant.tries c.requires.tickets c.find_spot.ensures.place _
     c.in_default.is
-    c.in_ok-spot.ensures.searched c.give_up_leaf.ensures.goes
+    c.find_spot.ensures.searched c.give_up_leaf.ensures.goes
 
 pub returns-in_default-2-clause-allowance : goal.returns-in_default-2-clause-allowance
 returns-in_default-2-clause-allowance g c =
-    full_allowance c.loop-round.invariant.tries c.requires.tickets c.in_ok-spot.ensures.place _ c.in-Some.is c.in_ok-spot.ensures.searched
+    full_allowance c.loop-round.invariant.tries c.requires.tickets c.find_spot.ensures.place _ c.in-Some.is c.find_spot.ensures.searched
     c.in_ok-leaf.ensures.room
 
 pub returns-in-Some-3-clause-allowance : goal.returns-in-Some-3-clause-allowance
 returns-in-Some-3-clause-allowance g c =
-    new_allowance c.loop-round.invariant.tries c.requires.tickets c.in_ok-spot.ensures.place _ c.in-Some.is
-    c.in_ok-spot.ensures.searched c.in_ok-leaf.ensures.room
+    new_allowance c.loop-round.invariant.tries c.requires.tickets c.find_spot.ensures.place _ c.in-Some.is
+    c.find_spot.ensures.searched c.in_ok-leaf.ensures.room
     c.in-Some-2.is c.in_ok-leaf.ensures.at c.in-Some-3.is c.in_ok-number.ensures.linked
 
 pub returns-in_default-clause-begins : goal.returns-in_default-clause-begins
 returns-in_default-clause-begins g c =
-    old_begins c.loop-round.invariant.tries c.requires.tickets c.in_ok-spot.ensures.place _ c.in_default.is
-    c.in_ok-spot.ensures.searched c.give_up_leaf.ensures.goes
+    old_begins c.loop-round.invariant.tries c.requires.tickets c.find_spot.ensures.place _ c.in_default.is
+    c.find_spot.ensures.searched c.give_up_leaf.ensures.goes
 
 pub returns-in_default-2-clause-begins : goal.returns-in_default-2-clause-begins
 returns-in_default-2-clause-begins g c =
-    full_begins c.loop-round.invariant.tries c.requires.tickets c.in_ok-spot.ensures.place _ c.in-Some.is c.in_ok-spot.ensures.searched
+    full_begins c.loop-round.invariant.tries c.requires.tickets c.find_spot.ensures.place _ c.in-Some.is c.find_spot.ensures.searched
     c.in_ok-leaf.ensures.room
 
 pub returns-in-Some-3-clause-begins : goal.returns-in-Some-3-clause-begins
-returns-in-Some-3-clause-begins g c = new_begins c.loop-round.invariant.tries c.requires.tickets c.in_ok-spot.ensures.place _ c.in-Some.is
-    c.in_ok-spot.ensures.searched c.in_ok-leaf.ensures.room
+returns-in-Some-3-clause-begins g c = new_begins c.loop-round.invariant.tries c.requires.tickets c.find_spot.ensures.place _ c.in-Some.is
+    c.find_spot.ensures.searched c.in_ok-leaf.ensures.room
     c.in-Some-2.is c.in_ok-leaf.ensures.at c.in-Some-3.is c.in_ok-number.ensures.linked
 
 pub returns-in_err-pause-clause-tired : goal.returns-in_err-pause-clause-tired
 returns-in_err-pause-clause-tired g c =
     let p = err_from_is_err_and c.from_residual-in_err-pause.result c.from_residual-in_err-pause.ensures.1 in
     let few = c.in_err-pause.ensures in
-    let found = c.in_ok-spot.ensures.stepped in
+    let found = c.find_spot.ensures.stepped in
     let taken = room_steps c.in_ok-leaf.ensures.room in
     let tried = prefix_steps c.leaf_in_hand.new.seat.view c.link_leaf.new.seat.view (c.in_ok-number.ensures.again
     c.in_default-3.is).gone.steps in

@@ -4,7 +4,6 @@ use Rattle.seat_table.specs.Seats.{shape_of}
 use Rattle.citrus_tree.specs.Beginnings.{Begins}
 use Rattle.citrus_tree.specs.Clients.{IsTold}
 use Rattle.citrus_tree.specs.declared.answer.Called.{Called}
-use Rattle.citrus_tree.proofs.Beginning.{got_first}
 use Rattle.citrus_tree.proofs.patient.call.Goals as goal
 
 pub returns-in-Put-clause-told : goal.returns-in-Put-clause-told
@@ -15,5 +14,7 @@ pub returns-in-Put-clause-begins : goal.returns-in-Put-clause-begins
 returns-in-Put-clause-begins g c = subst (λ (o : Op). IfOk c.put.result
     (λ _. Begins (shape_of g.W.WaitWords.WAY c.args.table.now) c.args.seat.now.view o c.put.new.seat.view)) (sym c.in-Put.is) c.put.ensures.begins
 
-pub returns-in_ok-get-in-Get-clause-begins : goal.returns-in_ok-get-in-Get-clause-begins
-returns-in_ok-get-in-Get-clause-begins g c = got_first (shape_of g.W.WaitWords.WAY c.args.table.now) c.args.op c.in-Get.is c.in_ok-get-in-Get.ensures.gets
+pub returns-in-Get-clause-begins : goal.returns-in-Get-clause-begins
+returns-in-Get-clause-begins g c =
+    subst (λ (o : Op). Begins (shape_of g.W.WaitWords.WAY c.args.table.now) c.args.seat.now.view o c.get.new.seat.view) (sym c.in-Get.is)
+    c.get.ensures.begins

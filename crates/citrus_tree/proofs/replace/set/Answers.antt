@@ -32,70 +32,70 @@ find_holder-requires-clause-unlocked g c = unlocked c.loop-round.invariant.tries
 
 pub returns-in_default-clause-quiet : goal.returns-in_default-clause-quiet
 returns-in_default-clause-quiet g c = record {
-  view = absent_quiet c.loop-round.invariant.tries c.requires.tickets (absent _ _ _ _ c.in_default.is c.in_ok-holder.ensures.sought)
-      c.in_ok-holder.ensures.place;
+  view = absent_quiet c.loop-round.invariant.tries c.requires.tickets (absent _ _ _ _ c.in_default.is c.find_holder.ensures.sought)
+      c.find_holder.ensures.place;
   listed = listed_on c.args.seat.now c.find_holder.new.seat (c.find_holder.ensures.seat.1 ∙ c.loop-round.invariant.listed)
-      (absent_retired c.loop-round.invariant.tries c.requires.tickets (absent _ _ _ _ c.in_default.is c.in_ok-holder.ensures.sought))
+      (absent_retired c.loop-round.invariant.tries c.requires.tickets (absent _ _ _ _ c.in_default.is c.find_holder.ensures.sought))
       c.requires.quiet.listed;
 }
 
 pub returns-in_default-clause-wait : goal.returns-in_default-clause-wait
 returns-in_default-clause-wait g c = absent_wait c.loop-round.invariant.tries c.requires.tickets
-    (absent _ _ _ _ c.in_default.is c.in_ok-holder.ensures.sought)
+    (absent _ _ _ _ c.in_default.is c.find_holder.ensures.sought)
 
 pub returns-in_default-clause-tickets : goal.returns-in_default-clause-tickets
 returns-in_default-clause-tickets g c = absent_tickets c.loop-round.invariant.tries c.requires.tickets
-    (absent _ _ _ _ c.in_default.is c.in_ok-holder.ensures.sought) c.in_ok-holder.ensures.place
+    (absent _ _ _ _ c.in_default.is c.find_holder.ensures.sought) c.find_holder.ensures.place
 
 pub returns-in_default-clause-informed : goal.returns-in_default-clause-informed
-returns-in_default-clause-informed g c = (absent _ _ _ _ c.in_default.is c.in_ok-holder.ensures.sought).informed
+returns-in_default-clause-informed g c = (absent _ _ _ _ c.in_default.is c.find_holder.ensures.sought).informed
 
 pub store_value-requires-clause-table : goal.store_value-requires-clause-table
 store_value-requires-clause-table g c = c.find_holder.ensures.seat.0 ∙ c.loop-round.invariant.table ∙ c.requires.table
 
 pub returns-in_default-clause-sets : goal.returns-in_default-clause-sets
 returns-in_default-clause-sets g c = absent_sets c.loop-round.invariant.tries c.requires.tickets
-    (absent _ _ _ _ c.in_default.is c.in_ok-holder.ensures.sought) refl c.answered.ensures
+    (absent _ _ _ _ c.in_default.is c.find_holder.ensures.sought) refl c.answered.ensures
 
 pub store_value-requires-clause-at : goal.store_value-requires-clause-at
-store_value-requires-clause-at g c = may_store c.loop-round.invariant.tries c.requires.tickets c.in_ok-holder.ensures.place _ c.in-Some.is
-    c.in_ok-holder.ensures.sought
+store_value-requires-clause-at g c = may_store c.loop-round.invariant.tries c.requires.tickets c.find_holder.ensures.place _ c.in-Some.is
+    c.find_holder.ensures.sought
 
 pub returns-in-Some-2-clause-sets : goal.returns-in-Some-2-clause-sets
-returns-in-Some-2-clause-sets g c = stored_sets c.loop-round.invariant.tries c.requires.tickets c.in_ok-holder.ensures.place _ c.in-Some.is
-    c.in_ok-holder.ensures.sought c.in-Some-2.is c.in_ok-done.ensures.stored c.in_ok-done.ensures.at c.answered-in-Some-2.ensures
+returns-in-Some-2-clause-sets g c = stored_sets c.loop-round.invariant.tries c.requires.tickets c.find_holder.ensures.place _ c.in-Some.is
+    c.find_holder.ensures.sought c.in-Some-2.is c.in_ok-done.ensures.stored c.in_ok-done.ensures.at c.answered-in-Some-2.ensures
 
 pub returns-in-Some-2-clause-quiet : goal.returns-in-Some-2-clause-quiet
 returns-in-Some-2-clause-quiet g c = record {
-  view = stored_quiet c.loop-round.invariant.tries c.requires.tickets c.in_ok-holder.ensures.place _ c.in-Some.is
-      c.in_ok-holder.ensures.sought
+  view = stored_quiet c.loop-round.invariant.tries c.requires.tickets c.find_holder.ensures.place _ c.in-Some.is
+      c.find_holder.ensures.sought
       c.in-Some-2.is c.in_ok-done.ensures.stored c.in_ok-done.ensures.at;
   listed = listed_on c.args.seat.now c.store_value.new.seat
       (c.store_value.ensures.seat.1 ∙ c.find_holder.ensures.seat.1 ∙ c.loop-round.invariant.listed)
-      (stored_retired c.loop-round.invariant.tries c.requires.tickets c.in_ok-holder.ensures.place _ c.in-Some.is
-      c.in_ok-holder.ensures.sought
+      (stored_retired c.loop-round.invariant.tries c.requires.tickets c.find_holder.ensures.place _ c.in-Some.is
+      c.find_holder.ensures.sought
       c.in-Some-2.is c.in_ok-done.ensures.stored c.in_ok-done.ensures.at) c.requires.quiet.listed;
 }
 
 pub returns-in-Some-2-clause-wait : goal.returns-in-Some-2-clause-wait
-returns-in-Some-2-clause-wait g c = stored_wait c.loop-round.invariant.tries c.requires.tickets c.in_ok-holder.ensures.place _ c.in-Some.is
-    c.in_ok-holder.ensures.sought c.in-Some-2.is c.in_ok-done.ensures.stored c.in_ok-done.ensures.at
+returns-in-Some-2-clause-wait g c = stored_wait c.loop-round.invariant.tries c.requires.tickets c.find_holder.ensures.place _ c.in-Some.is
+    c.find_holder.ensures.sought c.in-Some-2.is c.in_ok-done.ensures.stored c.in_ok-done.ensures.at
 
 pub returns-in-Some-2-clause-tickets : goal.returns-in-Some-2-clause-tickets
 returns-in-Some-2-clause-tickets g c =
-    stored_tickets c.loop-round.invariant.tries c.requires.tickets c.in_ok-holder.ensures.place _ c.in-Some.is
-    c.in_ok-holder.ensures.sought c.in-Some-2.is c.in_ok-done.ensures.stored c.in_ok-done.ensures.at
+    stored_tickets c.loop-round.invariant.tries c.requires.tickets c.find_holder.ensures.place _ c.in-Some.is
+    c.find_holder.ensures.sought c.in-Some-2.is c.in_ok-done.ensures.stored c.in_ok-done.ensures.at
 
 pub loop-round-preserved : goal.loop-round-preserved
 loop-round-preserved g c = record {
   table = c.store_value.ensures.seat.0 ∙ c.find_holder.ensures.seat.0 ∙ c.loop-round.invariant.table;
   listed = c.store_value.ensures.seat.1 ∙ c.find_holder.ensures.seat.1 ∙ c.loop-round.invariant.listed;
-  tries = tries_again c.loop-round.invariant.tries c.requires.tickets c.in_ok-holder.ensures.place _ c.in-Some.is
-      c.in_ok-holder.ensures.sought
+  tries = tries_again c.loop-round.invariant.tries c.requires.tickets c.find_holder.ensures.place _ c.in-Some.is
+      c.find_holder.ensures.sought
       (c.in_ok-done.ensures.again c.in_default-2.is) c.in_default-2.is c.in_ok-done.ensures.at;
   made =
       let made = c.loop-round.invariant.made in
-      let found = c.in_ok-holder.ensures.stepped in
+      let found = c.find_holder.ensures.stepped in
       let tried = prefix_steps c.find_holder.new.seat.view c.store_value.new.seat.view (c.in_ok-done.ensures.again
       c.in_default-2.is).gone.steps in
       omega (arith, made, found, tried);
@@ -104,29 +104,29 @@ loop-round-preserved g c = record {
 pub returns-in_default-clause-slots : goal.returns-in_default-clause-slots
 returns-in_default-clause-slots g c =
     slots_goes c.args.seat.now c.find_holder.new.seat _ (absent_goes c.loop-round.invariant.tries c.requires.tickets
-    (absent _ _ _ _ c.in_default.is c.in_ok-holder.ensures.sought)) (c.find_holder.ensures.seat.1 ∙ c.loop-round.invariant.listed)
+    (absent _ _ _ _ c.in_default.is c.find_holder.ensures.sought)) (c.find_holder.ensures.seat.1 ∙ c.loop-round.invariant.listed)
 
 pub returns-in-Some-2-clause-slots : goal.returns-in-Some-2-clause-slots
 returns-in-Some-2-clause-slots g c =
     slots_goes c.args.seat.now c.store_value.new.seat _ (goes_all c.loop-round.invariant.tries c.requires.tickets
-    c.in_ok-holder.ensures.place _
-    c.in-Some.is c.in_ok-holder.ensures.sought c.in-Some-2.is c.in_ok-done.ensures.stored c.in_ok-done.ensures.at)
+    c.find_holder.ensures.place _
+    c.in-Some.is c.find_holder.ensures.sought c.in-Some-2.is c.in_ok-done.ensures.stored c.in_ok-done.ensures.at)
     (c.store_value.ensures.seat.1 ∙ c.find_holder.ensures.seat.1 ∙ c.loop-round.invariant.listed)
 
 pub returns-in_default-clause-allowance : goal.returns-in_default-clause-allowance
 returns-in_default-clause-allowance g c = (absent_goes c.loop-round.invariant.tries c.requires.tickets
-    (absent _ _ _ _ c.in_default.is c.in_ok-holder.ensures.sought)).gone.allowance
+    (absent _ _ _ _ c.in_default.is c.find_holder.ensures.sought)).gone.allowance
 
 pub returns-in-Some-2-clause-allowance : goal.returns-in-Some-2-clause-allowance
 returns-in-Some-2-clause-allowance g c =
-    (goes_all c.loop-round.invariant.tries c.requires.tickets c.in_ok-holder.ensures.place _ c.in-Some.is
-    c.in_ok-holder.ensures.sought c.in-Some-2.is c.in_ok-done.ensures.stored c.in_ok-done.ensures.at).gone.allowance
+    (goes_all c.loop-round.invariant.tries c.requires.tickets c.find_holder.ensures.place _ c.in-Some.is
+    c.find_holder.ensures.sought c.in-Some-2.is c.in_ok-done.ensures.stored c.in_ok-done.ensures.at).gone.allowance
 
 pub returns-in_default-clause-begins : goal.returns-in_default-clause-begins
 returns-in_default-clause-begins g c = absent_begins c.loop-round.invariant.tries c.requires.tickets
-    (absent _ _ _ _ c.in_default.is c.in_ok-holder.ensures.sought)
+    (absent _ _ _ _ c.in_default.is c.find_holder.ensures.sought)
 
 pub returns-in-Some-2-clause-begins : goal.returns-in-Some-2-clause-begins
 returns-in-Some-2-clause-begins g c =
-    stored_begins c.loop-round.invariant.tries c.requires.tickets c.in_ok-holder.ensures.place _ c.in-Some.is
-    c.in_ok-holder.ensures.sought c.in-Some-2.is c.in_ok-done.ensures.stored c.in_ok-done.ensures.at
+    stored_begins c.loop-round.invariant.tries c.requires.tickets c.find_holder.ensures.place _ c.in-Some.is
+    c.find_holder.ensures.sought c.in-Some-2.is c.in_ok-done.ensures.stored c.in_ok-done.ensures.at

@@ -3,6 +3,7 @@ use Rattle.seat_table.proofs.Rounding.{told_steps, makes_steps}
 use Rattle.exact_list.proofs.Loading.{loaded_anyway, if_err}
 use Rattle.core_state.specs.declared.view.View.{View}
 use Rattle.seat_table.specs.Seats.{shape_of}
+use Rattle.exact_list.proofs.Counting.{any_walk}
 use Rattle.exact_list.proofs.Trying.{first_try, loaded_try, may_look, begun_listing}
 use Rattle.exact_list.proofs.Holding.{lists_holding, may_give, alone, alone_holds, alone_recent, quiet_alone, alone_tickets, quiet_lost}
 use Rattle.exact_list.proofs.alone.list_alone.Goals as goal
@@ -50,13 +51,13 @@ pub returns-in_err-next-clause-quiet : goal.returns-in_err-next-clause-quiet
 returns-in_err-next-clause-quiet g c =
     let x = lists_holding c.requires.quiet.view.section c.in_ok-front.ensures.taken c.low.ensures.low c.enter.ensures.entered
     c.look_at_front.ensures.told c.in_err-next.ensures.left_off c.look_at_front-2.ensures.told c.leave.ensures.left in
-    quiet_alone (alone x refl c.give_front_back.new.seat.view c.give_front_back.ensures.told) (search rules) c.requires.quiet
+    quiet_alone (alone x refl c.give_front_back.new.seat.view c.give_front_back.ensures.told (any_walk c.in_err-next.ensures.left_off)) (search rules) c.requires.quiet
 
 pub returns-in_err-next-clause-tickets : goal.returns-in_err-next-clause-tickets
 returns-in_err-next-clause-tickets g c =
     let x = lists_holding c.requires.quiet.view.section c.in_ok-front.ensures.taken c.low.ensures.low c.enter.ensures.entered
     c.look_at_front.ensures.told c.in_err-next.ensures.left_off c.look_at_front-2.ensures.told c.leave.ensures.left in
-    alone_tickets (alone x refl c.give_front_back.new.seat.view c.give_front_back.ensures.told)
+    alone_tickets (alone x refl c.give_front_back.new.seat.view c.give_front_back.ensures.told (any_walk c.in_err-next.ensures.left_off))
 
 pub returns-in_err-next-clause-tired : goal.returns-in_err-next-clause-tired
 returns-in_err-next-clause-tired g c =
@@ -70,19 +71,19 @@ pub returns-clause-quiet : goal.returns-clause-quiet
 returns-clause-quiet g c =
     let x = lists_holding c.requires.quiet.view.section c.in_ok-front.ensures.taken c.low.ensures.low c.enter.ensures.entered
     c.look_at_front.ensures.told c.in_ok-next.ensures.gathered.0 c.look_at_front-2.ensures.told c.leave.ensures.left in
-    quiet_alone (alone x c.front_of.ensures c.give_front_back.new.seat.view c.give_front_back.ensures.told) (search rules) c.requires.quiet
+    quiet_alone (alone x c.front_of.ensures c.give_front_back.new.seat.view c.give_front_back.ensures.told c.in_ok-next.ensures.walked) (search rules) c.requires.quiet
 
 pub returns-clause-tickets : goal.returns-clause-tickets
 returns-clause-tickets g c =
     let x = lists_holding c.requires.quiet.view.section c.in_ok-front.ensures.taken c.low.ensures.low c.enter.ensures.entered
     c.look_at_front.ensures.told c.in_ok-next.ensures.gathered.0 c.look_at_front-2.ensures.told c.leave.ensures.left in
-    alone_tickets (alone x c.front_of.ensures c.give_front_back.new.seat.view c.give_front_back.ensures.told)
+    alone_tickets (alone x c.front_of.ensures c.give_front_back.new.seat.view c.give_front_back.ensures.told c.in_ok-next.ensures.walked)
 
 pub returns-clause-alone : goal.returns-clause-alone
 returns-clause-alone g c =
     let x = lists_holding c.requires.quiet.view.section c.in_ok-front.ensures.taken c.low.ensures.low c.enter.ensures.entered
     c.look_at_front.ensures.told c.in_ok-next.ensures.gathered.0 c.look_at_front-2.ensures.told c.leave.ensures.left in
-    alone x c.front_of.ensures c.give_front_back.new.seat.view c.give_front_back.ensures.told
+    alone x c.front_of.ensures c.give_front_back.new.seat.view c.give_front_back.ensures.told c.in_ok-next.ensures.walked
 
 pub returns-clause-holds : goal.returns-clause-holds
 returns-clause-holds g c =

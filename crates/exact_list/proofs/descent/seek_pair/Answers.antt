@@ -1,3 +1,4 @@
+use Rattle.exact_list.proofs.Counting.{walked_found}
 use Rattle.exact_list.proofs.Seeking.{finds_none, may_read_value, finds_pair}
 use Rattle.exact_list.proofs.descent.seek_pair.Goals as goal
 
@@ -9,3 +10,7 @@ list_load-value-requires-clause-asks g c = λ told. may_read_value c.in_ok-best.
 
 pub returns-clause-found : goal.returns-clause-found
 returns-clause-found g c = finds_pair c.in_ok-best.ensures.reached c.in-Some.is c.list_load-value.ensures.told
+
+pub returns-clause-walked : goal.returns-clause-walked
+returns-clause-walked g c = walked_found
+    (record { key = c.in-Some.passed.key; value = c.list_load-value.result }) c.in_ok-best.ensures.down c.list_load-value.ensures.told

@@ -1,4 +1,4 @@
-use Rattle.std.proofs.Common.{rules, ◌≡◌, ℕ, List, ◌++◌, ◌∷◌, [], ap, subst, ◌∙◌}
+use Rattle.std.proofs.Common.{rules, ◌++◌, ◌∷◌, [], ap, subst, ◌∙◌}
 use Rattle.core_state.specs.declared.view.View.{View}
 use Rattle.exact_list.specs.Answers.{EndAs}
 use Rattle.exact_list.proofs.Trying.{tried_both, quiet_tried}

@@ -3,6 +3,7 @@ use Rattle.core_state.specs.declared.view.View.{View}
 use Rattle.seat_table.specs.Seats.{shape_of}
 use Rattle.seat_table.proofs.Rounding.{told_steps, makes_steps}
 use Rattle.exact_list.proofs.Loading.{loaded_anyway, if_err}
+use Rattle.exact_list.proofs.Counting.{any_walk}
 use Rattle.exact_list.proofs.Trying.{first_try, loaded_try, may_look, begun_listing}
 use Rattle.exact_list.proofs.Holding.{lists_holding, may_give, alone, alone_recent, quiet_alone, alone_tickets, quiet_lost}
 use Rattle.exact_list.proofs.Nearing.{alone_nearest}
@@ -51,13 +52,13 @@ pub returns-in_err-pair-clause-quiet : goal.returns-in_err-pair-clause-quiet
 returns-in_err-pair-clause-quiet g c =
     let x = lists_holding c.requires.quiet.view.section c.in_ok-front.ensures.taken refl c.enter.ensures.entered
     c.look_at_front.ensures.told c.in_err-pair.ensures.left_off c.look_at_front-2.ensures.told c.leave.ensures.left in
-    quiet_alone (alone x refl c.give_front_back.new.seat.view c.give_front_back.ensures.told) (search rules) c.requires.quiet
+    quiet_alone (alone x refl c.give_front_back.new.seat.view c.give_front_back.ensures.told (any_walk c.in_err-pair.ensures.left_off)) (search rules) c.requires.quiet
 
 pub returns-in_err-pair-clause-tickets : goal.returns-in_err-pair-clause-tickets
 returns-in_err-pair-clause-tickets g c =
     let x = lists_holding c.requires.quiet.view.section c.in_ok-front.ensures.taken refl c.enter.ensures.entered
     c.look_at_front.ensures.told c.in_err-pair.ensures.left_off c.look_at_front-2.ensures.told c.leave.ensures.left in
-    alone_tickets (alone x refl c.give_front_back.new.seat.view c.give_front_back.ensures.told)
+    alone_tickets (alone x refl c.give_front_back.new.seat.view c.give_front_back.ensures.told (any_walk c.in_err-pair.ensures.left_off))
 
 pub returns-in_err-pair-clause-tired : goal.returns-in_err-pair-clause-tired
 returns-in_err-pair-clause-tired g c =
@@ -71,19 +72,19 @@ pub returns-clause-quiet : goal.returns-clause-quiet
 returns-clause-quiet g c =
     let x = lists_holding c.requires.quiet.view.section c.in_ok-front.ensures.taken refl c.enter.ensures.entered
     c.look_at_front.ensures.told c.in_ok-pair.ensures.found.0 c.look_at_front-2.ensures.told c.leave.ensures.left in
-    quiet_alone (alone x c.front_of.ensures c.give_front_back.new.seat.view c.give_front_back.ensures.told) (search rules) c.requires.quiet
+    quiet_alone (alone x c.front_of.ensures c.give_front_back.new.seat.view c.give_front_back.ensures.told c.in_ok-pair.ensures.walked) (search rules) c.requires.quiet
 
 pub returns-clause-tickets : goal.returns-clause-tickets
 returns-clause-tickets g c =
     let x = lists_holding c.requires.quiet.view.section c.in_ok-front.ensures.taken refl c.enter.ensures.entered
     c.look_at_front.ensures.told c.in_ok-pair.ensures.found.0 c.look_at_front-2.ensures.told c.leave.ensures.left in
-    alone_tickets (alone x c.front_of.ensures c.give_front_back.new.seat.view c.give_front_back.ensures.told)
+    alone_tickets (alone x c.front_of.ensures c.give_front_back.new.seat.view c.give_front_back.ensures.told c.in_ok-pair.ensures.walked)
 
 pub returns-clause-alone : goal.returns-clause-alone
 returns-clause-alone g c =
     let x = lists_holding c.requires.quiet.view.section c.in_ok-front.ensures.taken refl c.enter.ensures.entered
     c.look_at_front.ensures.told c.in_ok-pair.ensures.found.0 c.look_at_front-2.ensures.told c.leave.ensures.left in
-    alone x c.front_of.ensures c.give_front_back.new.seat.view c.give_front_back.ensures.told
+    alone x c.front_of.ensures c.give_front_back.new.seat.view c.give_front_back.ensures.told c.in_ok-pair.ensures.walked
 
 pub returns-clause-holds : goal.returns-clause-holds
 returns-clause-holds g c =

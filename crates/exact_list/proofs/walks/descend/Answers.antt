@@ -1,5 +1,6 @@
 use Rattle.std.proofs.Common.{rules, sym, ◌∙◌, arith}
 use Rattle.prcu_marks.specs.declared.mark.Side.TheVariants.{Left, Right}
+use Rattle.exact_list.proofs.Counting.{walked_none, down_none, walked_hop, passed_one}
 use Rattle.exact_list.proofs.Loading.{loaded_none}
 use Rattle.exact_list.proofs.Walking.{link_fits, comes_to, may_read_next, may_go_next, comes_right, comes_left, comes_none}
 use Rattle.seat_table.proofs.Rounding.{told_steps}
@@ -10,6 +11,7 @@ loop-round-init g c = record {
   table = search rules;
   listed = search rules;
   come = (loaded_none c.args.seat.now.view c.requires.come.0, c.requires.come.1);
+  down = walked_none c.args.seat.now.view (down_none c.args.way.now);
   made = omega arith;
 }
 
@@ -33,6 +35,8 @@ loop-round-preserved-then-key-from g c = record {
   listed = search rules;
   come = comes_right (comes_to c.loop-round.invariant.come
       (sym c.child_of.ensures ∙ c.in-Some.is)) c.list_load-key.ensures.told c.if-key-from.true c.list_load-link.ensures.told;
+  down = walked_hop c.loop-round.invariant.down (comes_to c.loop-round.invariant.come
+      (sym c.child_of.ensures ∙ c.in-Some.is)).some_slot c.list_load-key.ensures.told c.list_load-link.ensures.told (omega arith);
   made =
       let made = c.loop-round.invariant.made in
       let key = told_steps c.list_load-key.ensures.told in
@@ -50,6 +54,9 @@ loop-round-preserved g c = record {
   listed = search rules;
   come = comes_left (comes_to c.loop-round.invariant.come
       (sym c.child_of.ensures ∙ c.in-Some.is)) c.list_load-key.ensures.told c.pass.ensures c.list_load-link-in-loop-round.ensures.told;
+  down = walked_hop c.loop-round.invariant.down (comes_to c.loop-round.invariant.come
+      (sym c.child_of.ensures ∙ c.in-Some.is)).some_slot c.list_load-key.ensures.told c.list_load-link-in-loop-round.ensures.told
+      (passed_one c.loop-round.way (record { slot = c.in-Some.slot; key = c.list_load-key.result }) c.pass.new.self c.pass.ensures);
   made =
       let made = c.loop-round.invariant.made in
       let key = told_steps c.list_load-key.ensures.told in

@@ -1,8 +1,9 @@
 use Rattle.std.proofs.Common.{◌+◌, refl, sym, ap, subst, ◌∙◌, length, arith}
 use Rattle.seat_table.specs.Seats.{shape_of}
 use Rattle.exact_list.proofs.Loading.{still_listing, loaded_both, if_err}
+use Rattle.exact_list.proofs.Counting.{counts_first, counts_down, counts_at, counts_lost, counts_pair, counts_right, counts_all, counts_full}
 use Rattle.exact_list.proofs.Following.{may_begin}
-use Rattle.exact_list.proofs.Gathering.{Gathered, starts, descends, may_restart, restarts, ends, meets, ends_below, may_value_met, has_value, gathers_pair, may_go_right, walks_on}
+use Rattle.exact_list.proofs.Gathering.{Gathered, starts, descends, may_restart, restarts, ends, meets, some_lesser, may_go_past, goes_past, some_met, ends_below, may_value_met, has_value, gathers_pair, may_go_right, walks_on}
 use Rattle.seat_table.proofs.Rounding.{makes_steps, told_steps}
 use Rattle.exact_list.proofs.walks.gather.Goals as goal
 
@@ -21,6 +22,7 @@ loop-round-init g c =
       room = (let empty = ap length c.requires.empty in omega (arith, empty));
       low = omega (arith, low);
       high = omega (arith, low, ordered);
+      counted = counts_first c.requires.empty c.new-way.ensures.none c.new-way.ensures.whole c.list_load-link.ensures.told;
       walks = starts (sym low) c.requires.listing c.requires.empty c.new-way.ensures.none c.list_load-link.ensures.told;
       made = omega arith;
     }
@@ -54,6 +56,8 @@ loop-round-preserved-in-Lost g c =
       room = i.room;
       low = i.low;
       high = i.high;
+      counted = counts_lost (counts_down i.counted c.in_ok-descend.ensures.down) c.next.new.self c.next.ensures c.in-Lost.is
+          c.list_load-link-in-Lost.ensures.told;
       walks = restarts (descends i.walks c.in_ok-descend.ensures.ended) c.next.ensures c.in-Lost.is c.list_load-link-in-Lost.ensures.told;
       made =
           let made = i.made in
@@ -62,24 +66,64 @@ loop-round-preserved-in-Lost g c =
           omega (arith, made, down, link);
     }
 
+pub list_load-link-requires-then-key-from-clause-asks : goal.list_load-link-requires-then-key-from-clause-asks
+list_load-link-requires-then-key-from-clause-asks g c =
+    λ told. may_go_past (descends c.loop-round.invariant.walks c.in_ok-descend.ensures.ended) c.next.new.self c.next.ensures c.in-At.is
+
+pub loop-round-preserved-then-key-from : goal.loop-round-preserved-then-key-from
+loop-round-preserved-then-key-from g c =
+    let i = c.loop-round.invariant in
+    let z = descends i.walks c.in_ok-descend.ensures.ended in
+    record {
+      table = c.list_load-link-then-key-from.ensures.seat.0 ∙ c.descend.ensures.seat.0 ∙ i.table;
+      listed = c.list_load-link-then-key-from.ensures.seat.1 ∙ c.descend.ensures.seat.1 ∙ i.listed;
+      capacity = i.capacity;
+      room = i.room;
+      low = i.low;
+      high = i.high;
+      counted = counts_right (counts_at (counts_down i.counted c.in_ok-descend.ensures.down) c.next.new.self c.next.ensures c.in-At.is)
+          (some_lesser z c.next.new.self c.next.ensures c.in-At.is) c.list_load-link-then-key-from.ensures.told;
+      walks = goes_past z c.next.new.self c.next.ensures c.in-At.is c.if-key-from.true c.list_load-link-then-key-from.ensures.told;
+      made =
+          let made = i.made in
+          let down = makes_steps c.loop-round.seat.view c.descend.new.seat.view c.in_ok-descend.ensures.ended.0.made in
+          let link = told_steps c.list_load-link-then-key-from.ensures.told in
+          omega (arith, made, down, link);
+    }
+
 pub returns-then-key-high-clause-gathered : goal.returns-then-key-high-clause-gathered
 returns-then-key-high-clause-gathered g c =
     let i = c.loop-round.invariant in
     let high = c.high-high.ensures.high in
     let above = c.if-key-high.true in
-    ends_below (meets (descends i.walks c.in_ok-descend.ensures.ended) c.next.ensures c.in-At.is) (c.args.keys.now.high + 1)
+    ends_below (meets (descends i.walks c.in_ok-descend.ensures.ended) c.next.ensures c.in-At.is c.if-key-from.false) (c.args.keys.now.high + 1)
     (let at = i.high in omega (arith, at)) (omega (arith, high, above))
+
+pub returns-in-Done-clause-walked : goal.returns-in-Done-clause-walked
+returns-in-Done-clause-walked g c = counts_all (counts_down c.loop-round.invariant.counted c.in_ok-descend.ensures.down)
+
+pub returns-then-key-high-clause-walked : goal.returns-then-key-high-clause-walked
+returns-then-key-high-clause-walked g c = counts_all (counts_down c.loop-round.invariant.counted c.in_ok-descend.ensures.down)
+
+pub returns-then-is_full-clause-walked : goal.returns-then-is_full-clause-walked
+returns-then-is_full-clause-walked g c = counts_full
+    (counts_down c.loop-round.invariant.counted c.in_ok-descend.ensures.down) _ c.list_load-value.ensures.told
+
+pub returns-then-key-high-2-clause-walked : goal.returns-then-key-high-2-clause-walked
+returns-then-key-high-2-clause-walked g c = counts_all
+    (counts_pair (counts_down c.loop-round.invariant.counted c.in_ok-descend.ensures.down) c.add.new.self.pairs c.in-At.passed.key
+    c.add.ensures.added c.list_load-value.ensures.told)
 
 pub list_load-value-requires-clause-asks : goal.list_load-value-requires-clause-asks
 list_load-value-requires-clause-asks g c = λ told. may_value_met
-    (meets (descends c.loop-round.invariant.walks c.in_ok-descend.ensures.ended) c.next.ensures c.in-At.is)
+    (meets (descends c.loop-round.invariant.walks c.in_ok-descend.ensures.ended) c.next.ensures c.in-At.is c.if-key-from.false)
 
 pub returns-then-is_full-clause-gathered : goal.returns-then-is_full-clause-gathered
 returns-then-is_full-clause-gathered g c =
     let high = c.high-high.ensures.high in
     let within = c.if-key-high.false in
     let n = has_value
-    (meets (descends c.loop-round.invariant.walks c.in_ok-descend.ensures.ended) c.next.ensures c.in-At.is) c.list_load-value.ensures.told
+    (meets (descends c.loop-round.invariant.walks c.in_ok-descend.ensures.ended) c.next.ensures c.in-At.is c.if-key-from.false) c.list_load-value.ensures.told
     in
     (n.0, (n.1, omega (arith, high, within), c.is_full.ensures.full.0 c.if-is_full.true, (c.list_load-value.result, n.3)))
 
@@ -87,14 +131,14 @@ pub returns-then-key-high-2-clause-gathered : goal.returns-then-key-high-2-claus
 returns-then-key-high-2-clause-gathered g c =
     let i = c.loop-round.invariant in
     let at_high = c.if-key-high-2.true ∙ c.high-high.ensures.high in
-    let z = meets (descends i.walks c.in_ok-descend.ensures.ended) c.next.ensures c.in-At.is in
+    let z = meets (descends i.walks c.in_ok-descend.ensures.ended) c.next.ensures c.in-At.is c.if-key-from.false in
     subst (λ x. Gathered c.args.seat.now.view c.list_load-value.new.seat.view c.args.keys.now.low (x + 1) c.add.new.self.pairs) at_high
     (gathers_pair z c.list_load-value.ensures.told c.add.new.self.pairs c.add.ensures.added i.low)
 
 pub list_load-link-requires-in-loop-round-clause-asks : goal.list_load-link-requires-in-loop-round-clause-asks
 list_load-link-requires-in-loop-round-clause-asks g c = λ told.
     may_go_right (meets
-    (descends c.loop-round.invariant.walks c.in_ok-descend.ensures.ended) c.next.ensures c.in-At.is) c.list_load-value.ensures.told
+    (descends c.loop-round.invariant.walks c.in_ok-descend.ensures.ended) c.next.ensures c.in-At.is c.if-key-from.false) c.list_load-value.ensures.told
 
 pub loop-round-preserved : goal.loop-round-preserved
 loop-round-preserved g c =
@@ -102,7 +146,7 @@ loop-round-preserved g c =
     let high = c.high-high.ensures.high in
     let within = c.if-key-high.false in
     let below = c.if-key-high-2.false in
-    let z = meets (descends i.walks c.in_ok-descend.ensures.ended) c.next.ensures c.in-At.is in
+    let z = meets (descends i.walks c.in_ok-descend.ensures.ended) c.next.ensures c.in-At.is c.if-key-from.false in
     let more = z.least in
     let low = i.low in
     record {
@@ -112,6 +156,8 @@ loop-round-preserved g c =
       room = c.add.ensures.fits;
       low = omega (arith, low, more);
       high = omega (arith, high, within, below);
+      counted = counts_right (counts_pair (counts_at (counts_down i.counted c.in_ok-descend.ensures.down) c.next.new.self c.next.ensures c.in-At.is)
+          c.add.new.self.pairs c.in-At.passed.key c.add.ensures.added c.list_load-value.ensures.told) (some_met z) c.list_load-link-in-loop-round.ensures.told;
       walks = walks_on z c.list_load-value.ensures.told c.add.new.self.pairs c.add.ensures.added i.low
           c.list_load-link-in-loop-round.ensures.told;
       made =

@@ -1,5 +1,7 @@
 use Rattle.std.proofs.Common.{◌≡◌, ◌≤◌, length}
 use Rattle.seat_table.specs.Seats.{shape_of}
+use Rattle.exact_list.specs.Loads.{HasWalked}
+use Rattle.exact_list.proofs.Counting.{HasCounted}
 use Rattle.exact_list.proofs.Gathering.{Walks}
 use Rattle.exact_list.proofs.walks.gather.Given as goal
 
@@ -12,5 +14,6 @@ invariant-loop-round g l = record {
   low : l.keys.low ≤ l.from;
   high : l.from ≤ l.keys.high;
   walks : Walks (shape_of g.W.WaitWords.WAY l.table) l.fn.seat.view l.seat.view l.keys.low l.from l.link l.page.pairs l.way;
+  counted : HasWalked l.fn.seat.view (HasCounted l.page.pairs l.way) l.seat.view;
   made : l.round ≤ length l.seat.view.trail.steps;
 }

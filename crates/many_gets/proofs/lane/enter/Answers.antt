@@ -1,5 +1,6 @@
 use Rattle.std.proofs.Common.{arith}
 use Rattle.seat_table.specs.Seats.{shape_of}
+use Rattle.citrus_tree.proofs.searches.Bounding.{entered_pace}
 use Rattle.citrus_tree.proofs.searches.Searching.{root_is, begun}
 use Rattle.many_gets.proofs.Hopping.{stands_outside, entered, enters_and_loads}
 use Rattle.many_gets.proofs.lane.enter.Goals as goal
@@ -25,7 +26,8 @@ returns-clause-at g c = entered
     c.args.keys.now c.args.index c.args.seat.now (shape_of g.W.WaitWords.WAY c.args.table.now) c.enter.new.seat
     c.load_links-links.new.seat c.load_links-links.result.ahead c.enter.ensures.seat.0 c.enter.ensures.seat.1
     c.load_links-links.ensures.seat.0 c.load_links-links.ensures.seat.1
-    (let within = c.if-index-keys.false in omega (arith, within)) c.enter.ensures.entered c.load_links-links.ensures.loads
+    (let within = c.if-index-keys.false in omega (arith, within)) c.enter.ensures.entered
+    (entered_pace c.enter.ensures.steps c.enter.ensures.entered) c.load_links-links.ensures.loads
 
 pub returns-clause-stepped : goal.returns-clause-stepped
 returns-clause-stepped g c _ = enters_and_loads c.enter.ensures.entered c.load_links-links.ensures.loads

@@ -11,7 +11,7 @@ load_links-requires-clause-searching g c =
       p.last.view,
       lane.key,
       (has_come c.args.keys.now lane.index p.last k lane.key lane.ahead c.args.seat.now c.look_on.new.seat c.look_on.ensures.seat.0
-          c.look_on.ensures.seat.1 (Moved c.in-Moved.slot c.in-Moved.side) c.in-Moved.ensures.slot c.in-Moved.ensures.searching
+          c.look_on.ensures.seat.1 (Moved c.in-Moved.slot c.in-Moved.side) c.in-Moved.ensures.slot c.in-Moved.ensures.searching c.in-Moved.ensures.costs
           (sought_is c.args.keys.now lane.index p.last k lane.searches lane.key lane.ahead c.args.seat.now c.if-not-lane.false p.at)).2,
     )
 
@@ -24,7 +24,7 @@ take_next-requires-clause-come g c =
       come_found c.args.keys.now lane.index p.last k lane.key lane.ahead c.args.seat.now c.look_on.new.seat c.look_on.ensures.seat.0
           c.look_on.ensures.seat.1
           (sought_is c.args.keys.now lane.index p.last k lane.searches lane.key lane.ahead c.args.seat.now c.if-not-lane.false p.at)
-          c.in-Found.slot c.in-Found.ensures.slot c.in-Found.ensures.searching,
+          c.in-Found.slot c.in-Found.ensures.slot c.in-Found.ensures.searching c.in-Found.ensures.costs,
     )
 
 pub take_next-requires-in-Ended-clause-come : goal.take_next-requires-in-Ended-clause-come
@@ -36,7 +36,7 @@ take_next-requires-in-Ended-clause-come g c =
       come_missed c.args.keys.now lane.index p.last k lane.key lane.ahead c.args.seat.now c.look_on.new.seat c.look_on.ensures.seat.0
           c.look_on.ensures.seat.1
           (sought_is c.args.keys.now lane.index p.last k lane.searches lane.key lane.ahead c.args.seat.now c.if-not-lane.false p.at)
-          c.in-Ended.ensures.slot c.in-Ended.ensures.searching,
+          c.in-Ended.ensures.slot c.in-Ended.ensures.searching c.in-Ended.ensures.costs,
     )
 
 pub returns-in-Moved-clause-is : goal.returns-in-Moved-clause-is
@@ -50,7 +50,7 @@ returns-in-Moved-clause-is g c number s less room p =
     stands_on c.args.keys.now lane.index l k lane.searches lane.key c.load_links.result.ahead c.load_links.new.seat c.if-not-lane.false (
       q.0,
       goes_on c.args.keys.now lane.index l k lane.key lane.ahead c.args.seat.now c.look_on.new.seat c.look_on.ensures.seat.0
-          c.look_on.ensures.seat.1 q c.in-Moved.slot c.in-Moved.side c.in-Moved.ensures.slot c.in-Moved.ensures.searching
+          c.look_on.ensures.seat.1 q c.in-Moved.slot c.in-Moved.side c.in-Moved.ensures.slot c.in-Moved.ensures.searching c.in-Moved.ensures.costs
           c.load_links.result.ahead c.load_links.new.seat c.load_links.ensures.seat.0 c.load_links.ensures.seat.1 c.load_links.ensures.loads,
     ))
 
@@ -64,7 +64,7 @@ returns-in-Found-clause-is g c number s less room p =
     (come_found c.args.keys.now lane.index l k lane.key lane.ahead c.args.seat.now c.look_on.new.seat c.look_on.ensures.seat.0
     c.look_on.ensures.seat.1
     (sought_is c.args.keys.now lane.index l k lane.searches lane.key lane.ahead c.args.seat.now c.if-not-lane.false at_l)
-    c.in-Found.slot c.in-Found.ensures.slot c.in-Found.ensures.searching))
+    c.in-Found.slot c.in-Found.ensures.slot c.in-Found.ensures.searching c.in-Found.ensures.costs))
 
 pub returns-in-Ended-clause-is : goal.returns-in-Ended-clause-is
 returns-in-Ended-clause-is g c number s less room p =
@@ -77,4 +77,4 @@ returns-in-Ended-clause-is g c number s less room p =
     (come_missed c.args.keys.now lane.index l k lane.key lane.ahead c.args.seat.now c.look_on.new.seat c.look_on.ensures.seat.0
     c.look_on.ensures.seat.1
     (sought_is c.args.keys.now lane.index l k lane.searches lane.key lane.ahead c.args.seat.now c.if-not-lane.false at_l)
-    c.in-Ended.ensures.slot c.in-Ended.ensures.searching))
+    c.in-Ended.ensures.slot c.in-Ended.ensures.searching c.in-Ended.ensures.costs))

@@ -9,78 +9,79 @@ returns-in_default-clause-comes g c = λ v e.
     subst (λ o. Starts (shape_of g.W.WaitWords.WAY c.args.table.now) v c.args.key c.args.salt o c.first_stand.new.seat.view)
     c.in_default.is (c.first_stand.ensures.starts v c.args.salt e)
 
-pub loop-round-init : goal.loop-round-init
-loop-round-init g c = record {
+pub loop-child-init : goal.loop-child-init
+loop-child-init g c = record {
   table = c.first_stand.ensures.seat.0;
   listed = c.first_stand.ensures.seat.1;
   stands = λ v e.
       subst (λ o. Starts (shape_of g.W.WaitWords.WAY c.args.table.now) v c.args.key c.args.salt o c.first_stand.new.seat.view)
       c.in-Some.is (c.first_stand.ensures.starts v c.args.salt e);
-  made = omega arith;
 }
 
 pub go_down-requires-clause-slot : goal.go_down-requires-clause-slot
 go_down-requires-clause-slot g c =
     let q = c.requires.entered in
-    (c.loop-round.invariant.stands q.0 q.1).2.node_slot
+    (c.loop-child.invariant.stands q.0 q.1).2.node_slot
 
 pub go_down-requires-clause-reading : goal.go_down-requires-clause-reading
 go_down-requires-clause-reading g c =
     let q = c.requires.entered in
-    let at = c.loop-round.invariant.stands q.0 q.1 in (
+    let at = c.loop-child.invariant.stands q.0 q.1 in (
       q.0,
       c.args.key,
       at.0,
       at.1,
-      stands_by (shape_of g.W.WaitWords.WAY c.args.table.now) c.args.key c.args.salt c.loop-round.at at.0 at.2,
+      stands_by (shape_of g.W.WaitWords.WAY c.args.table.now) c.args.key c.args.salt c.loop-child.at at.0 at.2,
     )
 
 pub returns-in_default-go_down-clause-comes : goal.returns-in_default-go_down-clause-comes
 returns-in_default-go_down-clause-comes g c = λ v e.
-    let at = c.loop-round.invariant.stands v e in (
+    let at = c.loop-child.invariant.stands v e in (
       _,
-      subst (λ o. IsReading v c.args.key (after_step at.0 c.loop-round.at.node c.loop-round.at.turn o) c.go_down.new.seat.view) c.in_default-go_down.is
+      subst (λ o. IsReading v c.args.key (after_step at.0 c.loop-child.at.node c.loop-child.at.turn o) c.go_down.new.seat.view) c.in_default-go_down.is
           (c.go_down.ensures.reading v c.args.key at.0 at.1),
-      level_end (shape_of g.W.WaitWords.WAY c.args.table.now) c.args.key c.args.salt c.loop-round.at at.0 at.2,
+      level_end (shape_of g.W.WaitWords.WAY c.args.table.now) c.args.key c.args.salt c.loop-child.at at.0 at.2,
     )
 
 pub returns-then-rises_above-clause-comes : goal.returns-then-rises_above-clause-comes
 returns-then-rises_above-clause-comes g c = λ v e.
-    let at = c.loop-round.invariant.stands v e in
+    let at = c.loop-child.invariant.stands v e in
     let child = c.in-Some-go_down.child in
     let slot = c.in-Some-go_down.ensures.slot in (
       _,
-      subst (λ o. IsReading v c.args.key (after_step at.0 c.loop-round.at.node c.loop-round.at.turn o) c.go_down.new.seat.view) c.in-Some-go_down.is
+      subst (λ o. IsReading v c.args.key (after_step at.0 c.loop-child.at.node c.loop-child.at.turn o) c.go_down.new.seat.view) c.in-Some-go_down.is
           (c.go_down.ensures.reading v c.args.key at.0 at.1),
-      crosses (shape_of g.W.WaitWords.WAY c.args.table.now) c.args.key c.args.salt c.loop-round.at at.0 at.2 child slot.0 slot.1
+      crosses (shape_of g.W.WaitWords.WAY c.args.table.now) c.args.key c.args.salt c.loop-child.at at.0 at.2 child slot.0 slot.1
           (sym c.rises_above.ensures ∙ c.if-rises_above.true),
     )
 
 pub returns-in_default-step_side-clause-comes : goal.returns-in_default-step_side-clause-comes
 returns-in_default-step_side-clause-comes g c = λ v e.
-    let at = c.loop-round.invariant.stands v e in
+    let at = c.loop-child.invariant.stands v e in
     let child = c.in-Some-go_down.child in
     let slot = c.in-Some-go_down.ensures.slot in (
       _,
-      subst (λ o. IsReading v c.args.key (after_step at.0 c.loop-round.at.node c.loop-round.at.turn o) c.go_down.new.seat.view) c.in-Some-go_down.is
+      subst (λ o. IsReading v c.args.key (after_step at.0 c.loop-child.at.node c.loop-child.at.turn o) c.go_down.new.seat.view) c.in-Some-go_down.is
           (c.go_down.ensures.reading v c.args.key at.0 at.1),
-      level_found (shape_of g.W.WaitWords.WAY c.args.table.now) c.args.key c.args.salt c.loop-round.at at.0 at.2 child slot.0
+      level_found (shape_of g.W.WaitWords.WAY c.args.table.now) c.args.key c.args.salt c.loop-child.at at.0 at.2 child slot.0
           (sym c.rises_above.ensures ∙ c.if-rises_above.false) (sym c.step_side.ensures ∙ c.in_default-step_side.is),
     )
 
-pub loop-round-preserved : goal.loop-round-preserved
-loop-round-preserved g c = record {
-  table = c.go_down.ensures.seat.0 ∙ c.loop-round.invariant.table;
-  listed = c.go_down.ensures.seat.1 ∙ c.loop-round.invariant.listed;
-  made = let before = c.loop-round.invariant.made in let steps = c.go_down.ensures.steps in omega (arith, before, steps);
+pub loop-child-preserved : goal.loop-child-preserved
+loop-child-preserved g c = record {
+  table = c.go_down.ensures.seat.0 ∙ c.loop-child.invariant.table;
+  listed = c.go_down.ensures.seat.1 ∙ c.loop-child.invariant.listed;
   stands = λ v e.
-      let at = c.loop-round.invariant.stands v e in
+      let at = c.loop-child.invariant.stands v e in
       let child = c.in-Some-go_down.child in
       let slot = c.in-Some-go_down.ensures.slot in (
         _,
-        subst (λ o. IsReading v c.args.key (after_step at.0 c.loop-round.at.node c.loop-round.at.turn o) c.go_down.new.seat.view) c.in-Some-go_down.is
+        subst (λ o. IsReading v c.args.key (after_step at.0 c.loop-child.at.node c.loop-child.at.turn o) c.go_down.new.seat.view) c.in-Some-go_down.is
             (c.go_down.ensures.reading v c.args.key at.0 at.1),
-        goes_below (shape_of g.W.WaitWords.WAY c.args.table.now) c.args.key c.args.salt c.loop-round.at at.0 at.2 child slot.0 slot.1
+        goes_below (shape_of g.W.WaitWords.WAY c.args.table.now) c.args.key c.args.salt c.loop-child.at at.0 at.2 child slot.0 slot.1
             c.in-Some-step_side.turn (sym c.rises_above.ensures ∙ c.if-rises_above.false) (sym c.step_side.ensures ∙ c.in-Some-step_side.is),
       );
 }
+
+pub loop-child-smaller : goal.loop-child-smaller
+loop-child-smaller g c = let further = c.in-Some-go_down.ensures.further in let more = further.0 in let few = further.1 in omega (arith, more, few)

@@ -1,11 +1,11 @@
-use Rattle.std.proofs.Common.{rules, subst, arith}
+use Rattle.std.proofs.Common.{rules, ap, subst, arith}
 use Rattle.core_acts.specs.declared.act.Part.TheVariants as part
 use Rattle.core_state.specs.declared.words.Field.TheVariants.{Link}
 use Rattle.core_state.specs.steps.Loads.{loaded}
 use Rattle.seat_table.specs.Seats.{shape_of}
-use Rattle.seat_table.proofs.Rounding.{told_steps}
+use Rattle.citrus_tree.specs.Bounded.{slots_in}
 use Rattle.tree_lift.specs.Ways.{IsReading}
-use Rattle.tree_lift.proofs.Ways.{asks, loads_on, slot_at, stood_below}
+use Rattle.tree_lift.proofs.Ways.{asks, loads_on, slot_at, stood_below, went_met}
 use Rattle.tree_lift.proofs.finding.go_down.Goals as goal
 
 pub search_load-link-requires-clause-asks : goal.search_load-link-requires-clause-asks
@@ -68,11 +68,17 @@ returns-clause-reading g c = λ v key r i.
     (loads_on k v key r c.args.seat.now.view i c.args.slot (part.Link c.args.side) link after c.search_load-link.ensures.told) link part.Key
     c.search_load-key.result c.search_load-key.new.seat.view c.search_load-key.ensures.told
 
-pub returns-then-link-eq0-clause-steps : goal.returns-then-link-eq0-clause-steps
-returns-then-link-eq0-clause-steps g c = told_steps c.search_load-link.ensures.told
-
-pub returns-clause-steps : goal.returns-clause-steps
-returns-clause-steps g c =
-    let link = told_steps c.search_load-link.ensures.told in
-    let key = told_steps c.search_load-key.ensures.told in
-    omega (arith, link, key)
+pub returns-clause-further : goal.returns-clause-further
+returns-clause-further g c =
+    let q = c.requires.reading in let v = q.0 in let key = q.1 in let r = q.2 in let i = q.3 in let by = q.4 in
+    let k = shape_of g.W.WaitWords.WAY c.args.table.now in
+    let link = c.search_load-link.result in
+    let after = c.search_load-link.new.seat.view in
+    let down = loads_on k v key (loaded r (Link c.args.slot c.args.side) link) after
+    (loads_on k v key r c.args.seat.now.view i c.args.slot (part.Link c.args.side) link after c.search_load-link.ensures.told) link part.Key
+    c.search_load-key.result c.search_load-key.new.seat.view c.search_load-key.ensures.told in
+    let few = (c.search_load-key.ensures.told.stood.few _ down.inside).inside in
+    let here = ap slots_in down.inside in (
+      went_met r c.args.slot c.args.side (record { slot = link; key = c.search_load-key.result }) by.state_is c.if-link-eq0.false i down,
+      omega (arith, few, here),
+    )

@@ -44,7 +44,7 @@ returns-in_default-clause-attempted g c =
     (subst (λ b. MakesRoom k c.args.aim.hard s b t) c.if-not-branch.false c.in_ok-make_room.ensures.room)
     c.in_ok-make_room.ensures.informed c.requires.quiet in
     level_attempt k c.args.aim s t room c.find_turn.new.seat c.find_turn.ensures.seat.1
-    (subst (λ o. Finds k t.view c.args.aim.key c.args.aim.salt o c.find_turn.new.seat.view) c.in_default.is c.in_ok-turn.ensures.finds)
+    (subst (λ o. Finds k t.view c.args.aim.key c.args.aim.salt o c.find_turn.new.seat.view) c.in_default.is c.find_turn.ensures.finds)
 
 pub take_slots-requires-clause-quiet : goal.take_slots-requires-clause-quiet
 take_slots-requires-clause-quiet g c =
@@ -57,7 +57,7 @@ take_slots-requires-clause-quiet g c =
     let u = c.find_turn.new.seat in
     let same = c.find_turn.ensures.seat.1 in
     let turn = c.in-Some.turn in
-    let found = subst (λ o. Finds k t.view c.args.aim.key c.args.aim.salt o u.view) c.in-Some.is c.in_ok-turn.ensures.finds in
+    let found = subst (λ o. Finds k t.view c.args.aim.key c.args.aim.salt o u.view) c.in-Some.is c.find_turn.ensures.finds in
     quiet_found k c.args.aim s t room u same turn found
 
 pub take_slots-requires-clause-tickets : goal.take_slots-requires-clause-tickets
@@ -71,7 +71,7 @@ take_slots-requires-clause-tickets g c =
     let u = c.find_turn.new.seat in
     let same = c.find_turn.ensures.seat.1 in
     let turn = c.in-Some.turn in
-    let found = subst (λ o. Finds k t.view c.args.aim.key c.args.aim.salt o u.view) c.in-Some.is c.in_ok-turn.ensures.finds in
+    let found = subst (λ o. Finds k t.view c.args.aim.key c.args.aim.salt o u.view) c.in-Some.is c.find_turn.ensures.finds in
     two_found k c.args.aim s t room u same turn found c.requires.tickets
 
 pub returns-then-not-branch-2-clause-attempted : goal.returns-then-not-branch-2-clause-attempted
@@ -85,7 +85,7 @@ returns-then-not-branch-2-clause-attempted g c =
     let u = c.find_turn.new.seat in
     let same = c.find_turn.ensures.seat.1 in
     let turn = c.in-Some.turn in
-    let found = subst (λ o. Finds k t.view c.args.aim.key c.args.aim.salt o u.view) c.in-Some.is c.in_ok-turn.ensures.finds in
+    let found = subst (λ o. Finds k t.view c.args.aim.key c.args.aim.salt o u.view) c.in-Some.is c.find_turn.ensures.finds in
     none_attempt k c.args.aim s t room u same turn found c.take_slots.new.seat
     (subst (λ b. TakesSlots k u b c.take_slots.new.seat) c.if-not-branch-2.true c.in_ok-take_slots.ensures.takes)
     c.take_slots.ensures.seat.1
@@ -101,7 +101,7 @@ make_turn-requires-clause-recorded g c =
     let u = c.find_turn.new.seat in
     let same = c.find_turn.ensures.seat.1 in
     let turn = c.in-Some.turn in
-    let found = subst (λ o. Finds k t.view c.args.aim.key c.args.aim.salt o u.view) c.in-Some.is c.in_ok-turn.ensures.finds in
+    let found = subst (λ o. Finds k t.view c.args.aim.key c.args.aim.salt o u.view) c.in-Some.is c.find_turn.ensures.finds in
     let x = c.take_slots.new.seat in
     let takes = subst (λ b. TakesSlots k u b x) c.if-not-branch-2.false c.in_ok-take_slots.ensures.takes in
     let kept = c.take_slots.ensures.seat.1 in
@@ -118,7 +118,7 @@ make_turn-requires-clause-ready g c =
     let u = c.find_turn.new.seat in
     let same = c.find_turn.ensures.seat.1 in
     let turn = c.in-Some.turn in
-    let found = subst (λ o. Finds k t.view c.args.aim.key c.args.aim.salt o u.view) c.in-Some.is c.in_ok-turn.ensures.finds in
+    let found = subst (λ o. Finds k t.view c.args.aim.key c.args.aim.salt o u.view) c.in-Some.is c.find_turn.ensures.finds in
     let x = c.take_slots.new.seat in
     let takes = subst (λ b. TakesSlots k u b x) c.if-not-branch-2.false c.in_ok-take_slots.ensures.takes in
     let kept = c.take_slots.ensures.seat.1 in
@@ -135,7 +135,7 @@ make_turn-requires-clause-listed g c =
     let u = c.find_turn.new.seat in
     let same = c.find_turn.ensures.seat.1 in
     let turn = c.in-Some.turn in
-    let found = subst (λ o. Finds k t.view c.args.aim.key c.args.aim.salt o u.view) c.in-Some.is c.in_ok-turn.ensures.finds in
+    let found = subst (λ o. Finds k t.view c.args.aim.key c.args.aim.salt o u.view) c.in-Some.is c.find_turn.ensures.finds in
     let x = c.take_slots.new.seat in
     let takes = subst (λ b. TakesSlots k u b x) c.if-not-branch-2.false c.in_ok-take_slots.ensures.takes in
     let kept = c.take_slots.ensures.seat.1 in
@@ -152,7 +152,7 @@ returns-then-make_turn-clause-attempted g c =
     let u = c.find_turn.new.seat in
     let same = c.find_turn.ensures.seat.1 in
     let turn = c.in-Some.turn in
-    let found = subst (λ o. Finds k t.view c.args.aim.key c.args.aim.salt o u.view) c.in-Some.is c.in_ok-turn.ensures.finds in
+    let found = subst (λ o. Finds k t.view c.args.aim.key c.args.aim.salt o u.view) c.in-Some.is c.find_turn.ensures.finds in
     let x = c.take_slots.new.seat in
     let takes = subst (λ b. TakesSlots k u b x) c.if-not-branch-2.false c.in_ok-take_slots.ensures.takes in
     let kept = c.take_slots.ensures.seat.1 in
@@ -172,7 +172,7 @@ put_back-requires-clause-paid g c =
     let u = c.find_turn.new.seat in
     let same = c.find_turn.ensures.seat.1 in
     let turn = c.in-Some.turn in
-    let found = subst (λ o. Finds k t.view c.args.aim.key c.args.aim.salt o u.view) c.in-Some.is c.in_ok-turn.ensures.finds in
+    let found = subst (λ o. Finds k t.view c.args.aim.key c.args.aim.salt o u.view) c.in-Some.is c.find_turn.ensures.finds in
     let x = c.take_slots.new.seat in
     let takes = subst (λ b. TakesSlots k u b x) c.if-not-branch-2.false c.in_ok-take_slots.ensures.takes in
     let kept = c.take_slots.ensures.seat.1 in
@@ -191,7 +191,7 @@ put_back-requires-clause-hand g c =
     let u = c.find_turn.new.seat in
     let same = c.find_turn.ensures.seat.1 in
     let turn = c.in-Some.turn in
-    let found = subst (λ o. Finds k t.view c.args.aim.key c.args.aim.salt o u.view) c.in-Some.is c.in_ok-turn.ensures.finds in
+    let found = subst (λ o. Finds k t.view c.args.aim.key c.args.aim.salt o u.view) c.in-Some.is c.find_turn.ensures.finds in
     let x = c.take_slots.new.seat in
     let takes = subst (λ b. TakesSlots k u b x) c.if-not-branch-2.false c.in_ok-take_slots.ensures.takes in
     let kept = c.take_slots.ensures.seat.1 in
@@ -211,7 +211,7 @@ returns-clause-attempted g c =
     let u = c.find_turn.new.seat in
     let same = c.find_turn.ensures.seat.1 in
     let turn = c.in-Some.turn in
-    let found = subst (λ o. Finds k t.view c.args.aim.key c.args.aim.salt o u.view) c.in-Some.is c.in_ok-turn.ensures.finds in
+    let found = subst (λ o. Finds k t.view c.args.aim.key c.args.aim.salt o u.view) c.in-Some.is c.find_turn.ensures.finds in
     let x = c.take_slots.new.seat in
     let takes = subst (λ b. TakesSlots k u b x) c.if-not-branch-2.false c.in_ok-take_slots.ensures.takes in
     let kept = c.take_slots.ensures.seat.1 in

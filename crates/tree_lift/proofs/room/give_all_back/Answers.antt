@@ -1,8 +1,8 @@
 use Rattle.std.proofs.Common.{refl, sym, ◌∙◌}
 use Rattle.seat_table.specs.Seats.{shape_of}
 use Rattle.node_slots.proofs.Listed.{listed_length}
-use Rattle.citrus_tree.proofs.puts.Filling.{empty_is}
-use Rattle.tree_lift.proofs.Attempts.{back_left, back_tickets, back_wait, may_reclaim_room, none_listed, reclaimed_quiet, same_left, same_wait}
+use Rattle.citrus_tree.proofs.puts.Filling.{empty_is, empty_not}
+use Rattle.tree_lift.proofs.Attempts.{back_left, back_tickets, back_wait, may_reclaim_room, none_listed, none_retired, reclaimed_quiet, same_left, same_wait}
 use Rattle.tree_lift.proofs.room.give_all_back.Goals as goal
 
 pub returns-then-is_empty-clause-back : goal.returns-then-is_empty-clause-back
@@ -30,6 +30,14 @@ reclaim-requires-clause-listed g c = c.requires.quiet.listed
 
 pub reclaim-requires-clause-unraised : goal.reclaim-requires-clause-unraised
 reclaim-requires-clause-unraised g c = (may_reclaim_room c.args.seat.now c.requires.quiet c.requires.ticket).unraised
+
+pub returns-clause-back : goal.returns-clause-back
+returns-clause-back g c = (
+  c.in_ok-reclaim.ensures.view,
+  c.in_ok-reclaim.ensures.listed,
+  λ none. empty_not c.retired.result.now (sym c.is_empty.ensures ∙ c.if-is_empty.false) (c.retired.ensures
+      ∙ none_retired c.args.seat.now.listed c.args.seat.now.view.hands.retired none (listed_length c.args.seat.now c.requires.quiet.listed)),
+)
 
 pub returns-clause-updates : goal.returns-clause-updates
 returns-clause-updates g c = back_left (shape_of g.W.WaitWords.WAY c.args.table.now) c.args.seat.now c.reclaim.new.seat c.in_ok-reclaim.ensures.view

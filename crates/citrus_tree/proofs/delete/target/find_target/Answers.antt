@@ -16,54 +16,54 @@ descend-requires-clause-outside g c = c.requires.at.1.outside
 pub descend-requires-clause-unlocked : goal.descend-requires-clause-unlocked
 descend-requires-clause-unlocked g c = c.requires.at.1.unlocked
 
-pub load_target-requires-clause-at : goal.load_target-requires-clause-at
-load_target-requires-clause-at g c =
+pub load_target-target-requires-clause-at : goal.load_target-target-requires-clause-at
+load_target-target-requires-clause-at g c =
     let a = c.requires.at in (
       Del c.args.key,
       a.0,
-      at_parent (a.1.at (seated_by c.in_ok-slot.ensures.place
+      at_parent (a.1.at (seated_by c.descend.ensures.place
           (subst (λ (d : Descent). IsSearching c.args.seat.now.view c.args.key
-          (state_of d) c.descend.new.seat.view) c.in-Found.is c.in_ok-slot.ensures.searching)))
+          (state_of d) c.descend.new.seat.view) c.in-Found.is c.descend.ensures.searching)))
           (subst (λ (d : Descent). IsSearching c.args.seat.now.view c.args.key
-          (state_of d) c.descend.new.seat.view) c.in-Found.is c.in_ok-slot.ensures.searching),
+          (state_of d) c.descend.new.seat.view) c.in-Found.is c.descend.ensures.searching),
     )
 
 pub leave-requires-clause-inside : goal.leave-requires-clause-inside
 leave-requires-clause-inside g c =
     let a = c.requires.at in
-    inside_leave (c.in_ok-target-in-Found.ensures.at (Del c.args.key) a.0
-    (at_parent (a.1.at (seated_by c.in_ok-slot.ensures.place
+    inside_leave (c.load_target-target.ensures.at (Del c.args.key) a.0
+    (at_parent (a.1.at (seated_by c.descend.ensures.place
     (subst (λ (d : Descent). IsSearching c.args.seat.now.view c.args.key
-    (state_of d) c.descend.new.seat.view) c.in-Found.is c.in_ok-slot.ensures.searching)))
+    (state_of d) c.descend.new.seat.view) c.in-Found.is c.descend.ensures.searching)))
     (subst (λ (d : Descent). IsSearching c.args.seat.now.view c.args.key
-    (state_of d) c.descend.new.seat.view) c.in-Found.is c.in_ok-slot.ensures.searching)))
+    (state_of d) c.descend.new.seat.view) c.in-Found.is c.descend.ensures.searching)))
 
-pub returns-in_ok-target-in-Found-clause-found : goal.returns-in_ok-target-in-Found-clause-found
-returns-in_ok-target-in-Found-clause-found g c = λ kept a.
-    at_target (c.in_ok-target-in-Found.ensures.at (Del c.args.key) kept
-    (at_parent (a.at (seated_by c.in_ok-slot.ensures.place
+pub returns-in-Found-clause-found : goal.returns-in-Found-clause-found
+returns-in-Found-clause-found g c = λ kept a.
+    at_target (c.load_target-target.ensures.at (Del c.args.key) kept
+    (at_parent (a.at (seated_by c.descend.ensures.place
     (subst (λ (d : Descent). IsSearching c.args.seat.now.view c.args.key
-    (state_of d) c.descend.new.seat.view) c.in-Found.is c.in_ok-slot.ensures.searching)))
+    (state_of d) c.descend.new.seat.view) c.in-Found.is c.descend.ensures.searching)))
     (subst (λ (d : Descent). IsSearching c.args.seat.now.view c.args.key
-    (state_of d) c.descend.new.seat.view) c.in-Found.is c.in_ok-slot.ensures.searching)))
-    c.in_ok-target-in-Found.ensures.inside c.leave.ensures.left
+    (state_of d) c.descend.new.seat.view) c.in-Found.is c.descend.ensures.searching)))
+    c.load_target-target.ensures.inside c.leave.ensures.left
 
-pub returns-in_ok-target-in-Found-clause-searched : goal.returns-in_ok-target-in-Found-clause-searched
-returns-in_ok-target-in-Found-clause-searched g c =
+pub returns-in-Found-clause-searched : goal.returns-in-Found-clause-searched
+returns-in-Found-clause-searched g c =
     searched_found (subst (λ (d : Descent). IsSearching c.args.seat.now.view c.args.key
-    (state_of d) c.descend.new.seat.view) c.in-Found.is c.in_ok-slot.ensures.searching) c.in_ok-target-in-Found.ensures.same
+    (state_of d) c.descend.new.seat.view) c.in-Found.is c.descend.ensures.searching) c.load_target-target.ensures.same
     c.leave.ensures.left
 
 pub returns-in-Ended-clause-done : goal.returns-in-Ended-clause-done
 returns-in-Ended-clause-done g c = λ kept a.
-    at_end (a.at (seated_by c.in_ok-slot.ensures.place
+    at_end (a.at (seated_by c.descend.ensures.place
     (subst (λ (d : Descent). IsSearching c.args.seat.now.view c.args.key
-    (state_of d) c.descend.new.seat.view) c.in-Ended.is c.in_ok-slot.ensures.searching)))
+    (state_of d) c.descend.new.seat.view) c.in-Ended.is c.descend.ensures.searching)))
     (looked_missed
     (shape_of g.W.WaitWords.WAY c.args.table.now) c.args.seat.now.view c.args.key c.in-Ended.slot c.in-Ended.side
     c.descend.new.seat.view c.leave-in-Ended.new.seat.view
     (subst (λ (d : Descent). IsSearching c.args.seat.now.view c.args.key
-    (state_of d) c.descend.new.seat.view) c.in-Ended.is c.in_ok-slot.ensures.searching) c.leave-in-Ended.ensures.left)
+    (state_of d) c.descend.new.seat.view) c.in-Ended.is c.descend.ensures.searching) c.leave-in-Ended.ensures.left)
 
 pub returns-in-Ended-clause-absent : goal.returns-in-Ended-clause-absent
 returns-in-Ended-clause-absent g c =
@@ -71,7 +71,7 @@ returns-in-Ended-clause-absent g c =
     (shape_of g.W.WaitWords.WAY c.args.table.now) c.args.seat.now.view c.args.key c.in-Ended.slot c.in-Ended.side
     c.descend.new.seat.view c.leave-in-Ended.new.seat.view
     (subst (λ (d : Descent). IsSearching c.args.seat.now.view c.args.key
-    (state_of d) c.descend.new.seat.view) c.in-Ended.is c.in_ok-slot.ensures.searching) c.leave-in-Ended.ensures.left)
+    (state_of d) c.descend.new.seat.view) c.in-Ended.is c.descend.ensures.searching) c.leave-in-Ended.ensures.left)
 
 pub returns-in-Ended-clause-searched : goal.returns-in-Ended-clause-searched
 returns-in-Ended-clause-searched g c =
@@ -80,17 +80,17 @@ returns-in-Ended-clause-searched g c =
     (shape_of g.W.WaitWords.WAY c.args.table.now) c.args.seat.now.view c.args.key c.in-Ended.slot c.in-Ended.side
     c.descend.new.seat.view c.leave-in-Ended.new.seat.view
     (subst (λ (d : Descent). IsSearching c.args.seat.now.view c.args.key
-    (state_of d) c.descend.new.seat.view) c.in-Ended.is c.in_ok-slot.ensures.searching) c.leave-in-Ended.ensures.left)
+    (state_of d) c.descend.new.seat.view) c.in-Ended.is c.descend.ensures.searching) c.leave-in-Ended.ensures.left)
 
-pub returns-in_ok-target-in-Found-clause-stepped : goal.returns-in_ok-target-in-Found-clause-stepped
-returns-in_ok-target-in-Found-clause-stepped g c =
-    let found = search_steps c.in_ok-slot.ensures.searching in
-    let loaded = makes_steps c.descend.new.seat.view c.load_target.new.seat.view c.in_ok-target-in-Found.ensures.same.made in
-    let left = makes_steps c.load_target.new.seat.view c.leave.new.seat.view c.leave.ensures.left.made in
+pub returns-in-Found-clause-stepped : goal.returns-in-Found-clause-stepped
+returns-in-Found-clause-stepped g c =
+    let found = search_steps c.descend.ensures.searching in
+    let loaded = makes_steps c.descend.new.seat.view c.load_target-target.new.seat.view c.load_target-target.ensures.same.made in
+    let left = makes_steps c.load_target-target.new.seat.view c.leave.new.seat.view c.leave.ensures.left.made in
     omega (arith, found, loaded, left)
 
 pub returns-in-Ended-clause-stepped : goal.returns-in-Ended-clause-stepped
 returns-in-Ended-clause-stepped g c =
-    let found = search_steps c.in_ok-slot.ensures.searching in
+    let found = search_steps c.descend.ensures.searching in
     let left = makes_steps c.descend.new.seat.view c.leave-in-Ended.new.seat.view c.leave-in-Ended.ensures.left.made in
     omega (arith, found, left)

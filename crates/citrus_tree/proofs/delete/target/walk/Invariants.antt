@@ -1,12 +1,16 @@
-use Rattle.std.proofs.Common.{◌≡◌, ◌≤◌, length}
+use Rattle.std.proofs.Common.{◌≡◌, ◌-◌}
+use Rattle.core_state.specs.memory.Memory.{slot_count}
 use Rattle.seat_table.specs.Seats.{shape_of}
+use Rattle.citrus_tree.specs.Bounded.{slots_met}
 use Rattle.citrus_tree.proofs.deletes.Finds.{Walks}
 use Rattle.citrus_tree.proofs.delete.target.walk.Given as goal
 
-abbrev pub invariant-loop-round : goal.invariant-loop-round
-invariant-loop-round g l = record {
+abbrev pub invariant-loop-parent : goal.invariant-loop-parent
+invariant-loop-parent g l = record {
   table : l.seat.table ≡ l.fn.seat.table;
   listed : l.seat.listed ≡ l.fn.seat.listed;
   walks : Walks (shape_of g.W.WaitWords.WAY l.table) l.fn.node l.parent l.slot l.fn.seat.view l.seat.view;
-  made : l.round ≤ length l.seat.view.trail.steps;
 }
+
+abbrev pub decreases-loop-parent : goal.decreases-loop-parent
+decreases-loop-parent g l = slot_count (shape_of g.W.WaitWords.WAY l.table) - slots_met l.seat.view

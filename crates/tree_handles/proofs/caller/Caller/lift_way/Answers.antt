@@ -6,8 +6,9 @@ use Rattle.tree_handles.proofs.caller.Caller.lift_way.Goals as goal
 pub returns-in-Ok-clause-lifted : goal.returns-in-Ok-clause-lifted
 returns-in-Ok-clause-lifted g c = record {
   index = search rules;
-  aim = record { key = c.args.key; salt = c.salt.result; attempts = c.attempts_for.result; hard = true };
+  aim = record { key = c.args.key; salt = c.self.inside.salt; attempts = c.attempts_for.result; hard = true };
   key_is = refl;
+  salt_is = search rules;
   hard_is = refl;
   attempts = search rules;
   turns = search rules;

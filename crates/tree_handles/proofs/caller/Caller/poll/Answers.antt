@@ -1,5 +1,6 @@
-use Rattle.std.proofs.Common.{sym, ap, subst, ◌∙◌, Some}
+use Rattle.std.proofs.Common.{sym, ap, subst, ◌∙◌, Some, rules}
 use Rattle.std_alloc.specs.Arc.{arc_value}
+use Rattle.seat_table.specs.Onward.{LooksAt, IsOnward, IsWithin}
 use Rattle.seat_table.specs.Seats.{shape_of}
 use Rattle.grace_cookie.specs.Cookies.{IsOf}
 use Rattle.tree_handles.specs.Begun.{CannotAsk}
@@ -21,6 +22,7 @@ returns-in-GivenUp g c =
     let base : CallerAt = record {
       way = g.W.WaitWords.WAY;
       table = arc_value c.self.inside.shared;
+      salt = c.self.inside.salt;
       seat = c.self.inside.seat;
       lost = c.self.inside.lost;
       cookie = c.self.inside.cookie;
@@ -30,3 +32,42 @@ returns-in-GivenUp g c =
     (given_up base c.args.number c.in-GivenUp.latest c.in-Some-take.cookie c.ask.new.cookie c.ask.new.seat
     (subst MayGoOn (sym c.self.view_is) c.in_default.ensures.none) (sym c.take.ensures.value ∙ c.in-Some-take.is)
     (sym c.number.ensures ∙ c.if-number.false) e.asked e.given_up)
+
+pub returns-in-Over : goal.returns-in-Over
+returns-in-Over g c =
+    let from = c.in-Some-take.cookie in record {
+      index = search rules;
+      before = search rules;
+      cookie = from;
+      was = search rules;
+      number_is = search rules;
+      going = search rules;
+      now = c.ask.new.cookie;
+      same = search rules;
+      asked = search rules;
+      onward = subst (λ (z : CallerAt). IsWithin from.keys from.reached.class → LooksAt (IsOnward from.reached) z.seat.view
+          c.ask.new.seat.view) c.self.view_is c.ask.ensures.onward;
+      kept = search rules;
+      after = search rules;
+    }
+
+pub returns-in-NotYet : goal.returns-in-NotYet
+returns-in-NotYet g c =
+    let from = c.in-Some-take.cookie in (
+      c.in-NotYet.why,
+      record {
+        index = search rules;
+        before = search rules;
+        cookie = from;
+        was = search rules;
+        number_is = search rules;
+        going = search rules;
+        now = c.ask.new.cookie;
+        same = search rules;
+        asked = search rules;
+        onward = subst (λ (z : CallerAt). IsWithin from.keys from.reached.class → LooksAt (IsOnward from.reached) z.seat.view
+            c.ask.new.seat.view) c.self.view_is c.ask.ensures.onward;
+        kept = search rules;
+        after = search rules;
+      },
+    )

@@ -3,7 +3,7 @@ use Rattle.grace_cookie.proofs.Keeping.{keeps_all}
 use Rattle.tree_tests.proofs.tree.cookies.get_beside.Goals as goal
 
 pub returns-clause-keeps : goal.returns-clause-keeps
-returns-clause-keeps g c =
+returns-clause-keeps c =
     let goes = goes_looked c.get-reply.ensures.gets.2 in
     keeps_all c.args.seat.now c.get-reply.new.seat goes.gone.same goes.gone.begins goes.waits goes.wait goes.retired
     c.get-reply.ensures.listed

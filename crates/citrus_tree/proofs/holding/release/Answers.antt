@@ -1,6 +1,6 @@
 use Rattle.seat_table.specs.Seats.{shape_of}
 use Rattle.citrus_tree.proofs.searches.Searching.{looked_found}
-use Rattle.citrus_tree.proofs.hold.release.Goals as goal
+use Rattle.citrus_tree.proofs.holding.release.Goals as goal
 
 pub returns-clause-released : goal.returns-clause-released
 returns-clause-released g c = λ v key value holding. looked_found

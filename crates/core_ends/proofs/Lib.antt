@@ -1,0 +1,5 @@
+pub mod Points
+pub mod Orders
+pub mod Fronts
+pub mod Sections
+pub mod Gets

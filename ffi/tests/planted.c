@@ -1,0 +1,141 @@
+/* Faults in front of the library, to show that a test tells of each. A program is linked with this and with --wrap for each call below, and
+ * PLANTED in the environment names the call that is wrong. What it does instead is right where one thread calls, but for `wait` and `poll`. */
+#include <citrus.h>
+#include <stdlib.h>
+#include <string.h>
+
+int32_t __real_citrus_get(citrus_handle *, uint64_t, uint64_t *);
+int32_t __real_citrus_insert(citrus_handle *, uint64_t, uint64_t);
+int32_t __real_citrus_compare(citrus_handle *, uint64_t, uint64_t, uint64_t, uint64_t *);
+int32_t __real_citrus_upsert(citrus_handle *, uint64_t, uint64_t, uint64_t *);
+int32_t __real_citrus_remove(citrus_handle *, uint64_t, uint64_t *);
+int32_t __real_citrus_list(citrus_handle *, uint64_t, uint64_t, citrus_pair *, size_t, size_t *, uint64_t *);
+int32_t __real_citrus_first(citrus_handle *, uint64_t, uint64_t *, uint64_t *);
+int32_t __real_citrus_last(citrus_handle *, uint64_t, uint64_t, uint64_t *, uint64_t *);
+int32_t __real_citrus_wait(citrus_handle *, uint64_t, uint64_t);
+int32_t __real_citrus_poll(citrus_handle *, uint64_t);
+
+/* So many keys are looked up one by one. */
+enum { NEAR = 64 };
+
+static const char *planted = "";
+
+__attribute__((constructor)) static void begin(void) {
+    const char *given = getenv("PLANTED");
+    if (given) planted = given;
+}
+
+static int is_wrong(const char *call) { return strcmp(planted, call) == 0; }
+
+/* Between two steps that should be one: so others come between more often. */
+static void linger(void) {
+    for (volatile int turn = 0; turn < 300; turn++) continue;
+}
+
+/* Of a key that the thread looked up before it tells the answer then, once in eight. */
+int32_t __wrap_citrus_get(citrus_handle *handle, uint64_t key, uint64_t *value) {
+    static __thread struct {
+        const citrus_handle *by;
+        uint64_t key, value, calls;
+        int32_t status;
+    } before;
+    if (!is_wrong("get")) return __real_citrus_get(handle, key, value);
+    if (before.by == handle && before.key == key && ++before.calls % 8 == 0) {
+        if (before.status == CITRUS_DONE) *value = before.value;
+        return before.status;
+    }
+    before.by = handle;
+    before.key = key;
+    before.status = __real_citrus_get(handle, key, value);
+    before.value = *value;
+    return before.status;
+}
+
+/* Looks, and then gives the key the value whether it is there or not. */
+int32_t __wrap_citrus_insert(citrus_handle *handle, uint64_t key, uint64_t value) {
+    uint64_t old;
+    if (!is_wrong("insert")) return __real_citrus_insert(handle, key, value);
+    const int32_t status = __real_citrus_get(handle, key, &old);
+    if (status != CITRUS_UNCHANGED) return status == CITRUS_DONE ? CITRUS_UNCHANGED : status;
+    linger();
+    const int32_t put = __real_citrus_upsert(handle, key, value, &old);
+    return put == CITRUS_NEW ? CITRUS_DONE : put;
+}
+
+/* Looks, and then replaces whatever value is there. */
+int32_t __wrap_citrus_compare(citrus_handle *handle, uint64_t key, uint64_t expected, uint64_t value, uint64_t *found) {
+    uint64_t now, old;
+    if (!is_wrong("compare")) return __real_citrus_compare(handle, key, expected, value, found);
+    const int32_t status = __real_citrus_get(handle, key, &now);
+    if (status == CITRUS_DONE && now != expected) return *found = now, CITRUS_DIFFERENT;
+    linger();
+    return status == CITRUS_DONE ? citrus_replace(handle, key, value, &old) : status;
+}
+
+/* Takes the pair out and puts another in. */
+int32_t __wrap_citrus_upsert(citrus_handle *handle, uint64_t key, uint64_t value, uint64_t *old) {
+    uint64_t between;
+    if (!is_wrong("upsert")) return __real_citrus_upsert(handle, key, value, old);
+    const int32_t gone = __real_citrus_remove(handle, key, old);
+    if (gone != CITRUS_DONE && gone != CITRUS_UNCHANGED) return gone;
+    linger();
+    const int32_t put = __real_citrus_upsert(handle, key, value, &between);
+    if (put != CITRUS_DONE && put != CITRUS_NEW) return put;
+    return gone == CITRUS_DONE ? CITRUS_DONE : CITRUS_NEW;
+}
+
+/* Tells the value that it finds before. */
+int32_t __wrap_citrus_remove(citrus_handle *handle, uint64_t key, uint64_t *old) {
+    uint64_t value;
+    if (!is_wrong("remove")) return __real_citrus_remove(handle, key, old);
+    const int32_t found = __real_citrus_get(handle, key, &value);
+    linger();
+    const int32_t gone = __real_citrus_remove(handle, key, old);
+    if (found == CITRUS_DONE && gone == CITRUS_DONE) *old = value;
+    return gone;
+}
+
+/* Lists one half of the range after the other. */
+int32_t __wrap_citrus_list(citrus_handle *handle, uint64_t low, uint64_t high, citrus_pair *pairs, size_t room, size_t *count, uint64_t *next) {
+    const uint64_t middle = low / 2 + high / 2;
+    size_t more = 0;
+    if (!is_wrong("list") || low >= high) return __real_citrus_list(handle, low, high, pairs, room, count, next);
+    int32_t status = __real_citrus_list(handle, low, middle, pairs, room, count, next);
+    if (status != CITRUS_DONE) return status;
+    if (*count == room) return __real_citrus_list(handle, low, high, pairs, room, count, next);
+    linger();
+    status = __real_citrus_list(handle, middle + 1, high, pairs + *count, room - *count, &more, next);
+    *count += more;
+    return status;
+}
+
+/* Looks the next keys up one by one. */
+int32_t __wrap_citrus_first(citrus_handle *handle, uint64_t low, uint64_t *key, uint64_t *value) {
+    if (!is_wrong("first") || low > UINT64_MAX - NEAR) return __real_citrus_first(handle, low, key, value);
+    for (*key = low; *key < low + NEAR; ++*key) {
+        const int32_t status = __real_citrus_get(handle, *key, value);
+        if (status != CITRUS_UNCHANGED) return status;
+        linger();
+    }
+    return __real_citrus_first(handle, low + NEAR, key, value);
+}
+
+int32_t __wrap_citrus_last(citrus_handle *handle, uint64_t low, uint64_t high, uint64_t *key, uint64_t *value) {
+    if (!is_wrong("last") || low > high || high - low > NEAR) return __real_citrus_last(handle, low, high, key, value);
+    for (uint64_t at = high;; at--) {
+        const int32_t status = __real_citrus_get(handle, at, value);
+        if (status == CITRUS_DONE) *key = at;
+        if (status != CITRUS_UNCHANGED || at == low) return status;
+        linger();
+    }
+}
+
+/* These two wait for nobody. */
+int32_t __wrap_citrus_wait(citrus_handle *handle, uint64_t low, uint64_t high) {
+    return is_wrong("wait") ? CITRUS_DONE : __real_citrus_wait(handle, low, high);
+}
+
+int32_t __wrap_citrus_poll(citrus_handle *handle, uint64_t cookie) {
+    const int32_t status = __real_citrus_poll(handle, cookie);
+    return is_wrong("poll") && status == CITRUS_UNCHANGED ? CITRUS_DONE : status;
+}
