@@ -6,7 +6,7 @@ ghost use Rattle.tree_points.specs.Progress.{KeepsAllowance};
 ghost use Rattle.citrus_tree.specs.Beginnings.{BeginsByLookup};
 ghost use Rattle.citrus_tree.specs.Bounded.{EndsWithin};
 ghost use Rattle.citrus_tree.specs.Gone.{KeepsSlots, KeepsWait};
-ghost use Rattle.citrus_tree.specs.Lookups.{Looked, Gets, told_of};
+ghost use Rattle.citrus_tree.specs.Lookups.{Looked, Gets};
 
 use crate::answer::answered;
 use crate::holding::{hold, release};
@@ -63,16 +63,9 @@ pub fn get<W: WaitPart, G: Gate>(
     ensures quiet { IsQuietSeat seat.new }
     ensures informed { IsInformed seat.new.view }
 {
-    let found = look_up(table, seat, gate, key);
-    answered(gate, seat, reply_of(found), 0)
-}
-
-// What a get is told, by what was found.
-fn reply_of(found: Option<u64>) -> Reply
-    ensures { record { reply = result; number = 0 } ≡ told_of found }
-{
-    match found {
-        Some(value) => Reply::Val { value },
-        None => Reply::Absent,
+    // Each way out has its answer: else the caller would ask once more which one it is.
+    match look_up(table, seat, gate, key) {
+        Some(value) => answered(gate, seat, Reply::Val { value }, 0),
+        None => answered(gate, seat, Reply::Absent, 0),
     }
 }

@@ -1,5 +1,8 @@
 use Rattle.citrus_tree.proofs.Beginning.{looked_first}
 use Rattle.citrus_tree.proofs.lookup.get.Goals as goal
 
-pub returns-clause-begins : goal.returns-clause-begins
-returns-clause-begins g c = looked_first c.look_up-found.ensures.looked
+pub returns-in-Some-clause-begins : goal.returns-in-Some-clause-begins
+returns-in-Some-clause-begins g c = looked_first c.look_up.ensures.looked
+
+pub returns-in-None-clause-begins : goal.returns-in-None-clause-begins
+returns-in-None-clause-begins g c = looked_first c.look_up.ensures.looked
