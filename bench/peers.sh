@@ -6,7 +6,7 @@ top=$(cd "$(dirname "${BASH_SOURCE[0]}")/.." && pwd)
 out=$top/bench/out
 ours=${TREE_BENCHES:-$top/crates/tree_benches/out/tree_benches}
 # A large row of words gets a mapping of its own, whatever was freed before it: then its lines begin where the layout has them
-# (core_acts/src/layout.rt). Else the C library would take the rows of a program's later tables from its heap.
+# (core_state/src/layout.rt). Else the C library would take the rows of a program's later tables from its heap.
 export MALLOC_MMAP_THRESHOLD_=131072
 mkdir -p "$out"
 

@@ -29,37 +29,25 @@ PICTURES = {
     },
     "tree": {
         "tree_watch": "scripts, and lists beside them",
-        "tree_run": "scripts on one tree",
-        "schedule_run": "scripts by a number",
-        "core_ends": "how its calls end",
+        "tree_run": "scripts on one tree, a client with a cookie",
         "core_machine": "the calls, step by step",
-        "cookie_client": "a client with a cookie",
-        "held_values": "why a value outlives its holders",
-        "tree_client": "a client that lifts",
         "grace_cookie": "waits asked about later",
         "citrus_c": "for C, C++ and Rust",
-        "tree_handles": "indexes by handles",
+        "tree_handles": "indexes by handles, values held",
         "citrus_tree": "get, put, del, remove, set",
         "exact_list": "lists of a key range",
         "many_gets": "many lookups at once",
-        "tree_lift": "turns on a key's way",
+        "tree_lift": "turns on a key's way, a client that lifts",
         "tree_turn": "a node and its child turned",
         "node_slots": "slots and locks",
         "tree_points": "points of calls, on the table",
-        "eer_wait": "waits by each reader",
-        "d_wait": "waits by class",
-        "deer_wait": "waits by reader and class",
+        "waiters": "waits by reader, class, or both",
         "seat_table": "the table, seats, one call a step",
         "patience": "how a loop waits",
     },
     "laws": {
         "core_points": "what a call knows at each point",
-        "core_acts": "each step as a value",
-        "core_laws": "all kinds of step",
-        "wait_laws": "laws: seats, sections, waits, locks",
-        "move_laws": "laws: moves, slots used again",
-        "rotate_laws": "laws: rotations",
-        "tree_laws": "laws: loads, inserts, deletes",
+        "core_laws": "every act keeps the invariant",
         "core_examples": "runs on literal words",
         "core_frames": "what a step leaves, what follows",
         "core_state": "words, views, steps, invariant",
@@ -72,7 +60,7 @@ PICTURES = {
 # what stands in another picture and is drawn here in grey
 BESIDE = {
     "text": ("the tree",),
-    "tree": ("the program", "core_points", "core_acts", "client_run", "account_text"),
+    "tree": ("the program", "core_points", "core_laws", "client_run", "account_text"),
     "laws": ("the tree",),
 }
 # tests, and programs that only measure or write rows
@@ -115,12 +103,12 @@ def edges_of(picture, used):
         drawn["citrus_tool"].append("the tree")
         drawn["the tree"] = ["client_run", "account_text"]
     if picture == "tree":
-        drawn["the program"] = ["tree_watch", "schedule_run", "eer_wait", "d_wait", "deer_wait"]
+        drawn["the program"] = ["tree_watch", "core_machine", "waiters"]
         drawn["tree_run"].append("client_run")
         drawn["tree_watch"].append("account_text")
         drawn["core_machine"].append("core_points")
         drawn["tree_points"].append("core_points")
-        drawn["seat_table"].append("core_acts")
+        drawn["seat_table"].append("core_laws")
     if picture == "laws":
         drawn["the tree"] = ["core_points"]
     return drawn

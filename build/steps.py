@@ -1,6 +1,6 @@
 #!/usr/bin/env python3
-"""Writes the table of steps of docs/TREE_INVARIANT.md: what each act does, by its docstring in core_acts/src/act.rt; what it needs,
-by core_acts/specs/Acts.antt. `--check` only says whether the page is up to date."""
+"""Writes the table of steps of docs/TREE_INVARIANT.md: what each act does, by its docstring in core_state/src/act.rt; what it needs,
+by core_state/specs/Acts.antt. `--check` only says whether the page is up to date."""
 import os
 import re
 import sys
@@ -8,7 +8,10 @@ import sys
 ROOT = os.path.dirname(os.path.dirname(os.path.abspath(__file__)))
 PAGE = f"{ROOT}/docs/TREE_INVARIANT.md"
 BEGIN, END = "<!-- made by build/steps.py -->\n", "<!-- end of what build/steps.py makes -->\n"
-GROUPS = ("Sections", "Waits", "Slots", "Locks", "Loads", "Links", "Moves", "Rotations")
+GROUPS = {
+    "Sections": (3, 4, 5, 6, 28, 29, 30, 33, 34), "Waits": (7, 8, 31, 32, 35), "Slots": (9, 10, 11, 12, 15, 16),
+    "Locks": (13, 14, 18, 19, 23, 24, 39), "Loads": (17, 37), "Links": (20, 21, 22, 36), "Moves": (25, 26, 27), "Rotations": (38,),
+}
 
 
 def text_of(path):
@@ -18,30 +21,28 @@ def text_of(path):
 
 def acts():
     """Of each act its name, its kind and what it does, from the docstrings."""
-    body = text_of("crates/core_acts/src/act.rt").split("pub enum Act {")[1]
+    body = text_of("crates/core_state/src/act.rt").split("pub enum Act {")[1]
     for kind, does, name in re.findall(r"/// (K\d+)\. (.*(?:\n    /// .*)*)\n    (\w+)", body):
         yield name, kind, " ".join(line.strip().removeprefix("/// ") for line in does.split("\n"))
 
 
-def definitions():
-    """Of each act the need and the view after it, and of each definition the file that has it."""
-    text = re.sub(r"\n +", " ", text_of("crates/core_acts/specs/Acts.antt").replace("MarkNode", "Mark"))
-    files = {name: file for file, names in re.findall(r"specs\.steps\.(\w+)\.\{([^}]*)\}", text) for name in names.split(", ")}
-    needs, after = {}, {}
+def needs_of_acts():
+    """Of each act the need."""
+    text = re.sub(r"\n +", " ", text_of("crates/core_state/specs/Acts.antt").replace("MarkNode", "Mark"))
+    needs = {}
     for name, body in re.findall(r"^Needs k v \(?(\w+)[^=]*\)? = (.*)$", text, re.M):
         found = re.search(r"\b(Needs\w+|IsRetiredAt|MayLook)\b", body)
         needs[name] = f"`{found.group(1)}`" if found else "nothing"
-    for name, body in re.findall(r"^after v \(?(\w+)[^=]*\)? h n = (.*)$", text, re.M):
-        after[name] = body.split()[0]
-    return needs, after, files
+    return needs
 
 
 def table():
-    needs, after, files = definitions()
+    needs = needs_of_acts()
+    groups = {number: group for group, numbers in GROUPS.items() for number in numbers}
     rows = {group: [] for group in GROUPS}
     for name, kind, does in acts():
-        row = f"| {kind} | `{name}` | {does} | {needs[name]} |"
-        rows[files[after[name]]].append((int(kind[1:]), row))
+        number = int(kind[1:])
+        rows[groups[number]].append((number, f"| {kind} | `{name}` | {does} | {needs[name]} |"))
     lines = ["| kind | act | what it does | needs |", "|---|---|---|---|"]
     for group, found in rows.items():
         lines.append(f"| | | *{group}* | |")

@@ -1,11 +1,2 @@
-pub mod Printing
 pub mod Account
-pub mod Reading
-pub mod Checking
-pub mod AccountLines
-pub mod Lines
-pub mod Course
-pub mod Turns
-pub mod Buckets
-pub mod Changes
 pub mod Judging

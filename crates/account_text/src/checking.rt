@@ -1,8 +1,7 @@
 //! Whether a text is an account.
 ghost use Rattle.std.specs.Prelude.{◌↔◌, IsTrue, IfOk};
-ghost use Rattle.prcu_model.specs.Lists.{entries_of};
-ghost use Rattle.account_text.specs.Account.{IsAccount};
-ghost use Rattle.account_text.specs.Checking.{IsPrinted};
+ghost use Rattle.prcu_model.specs.Scripts.{entries_of};
+ghost use Rattle.account_text.specs.Account.{IsAccount, IsPrinted};
 
 use crate::judging::explain;
 use crate::printing::print_account;

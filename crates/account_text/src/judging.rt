@@ -1,10 +1,9 @@
 //! Whether a history is one, and whether it explains what scripts were told.
 ghost use Rattle.std.specs.Prelude.{◌≡◌, ◌<◌, ◌^◌, ◌↔◌, [], All, IfOk, IfNone, IfSome, IsTrue, length, map, slice_index_or};
-ghost use Rattle.prcu_model.specs.History.{IsLegal};
-ghost use Rattle.prcu_model.specs.Lists.{entries_of};
+ghost use Rattle.prcu_model.specs.Dictionary.{IsLegal};
+ghost use Rattle.prcu_model.specs.Scripts.{entries_of};
 ghost use Rattle.prcu_model.specs.Fronts.{AreExplainable, CanBeNumbered, AreNumbered, AllAreNumbered, told_lines, all_told_lines};
-ghost use Rattle.account_text.specs.Judging.{IsScriptExplained};
-ghost use Rattle.account_text.specs.Lines.{line_of, IsTold, AreToldFrom};
+ghost use Rattle.account_text.specs.Judging.{IsScriptExplained, line_of, IsTold, AreToldFrom};
 
 use crate::timeline::{Timeline, replay};
 use crate::turns::Turns;

@@ -1,7 +1,7 @@
 //! The changes of a history, found by their keys.
 ghost use Rattle.std.specs.Prelude.{◌≡◌, ℕ, ◌+◌, ◌-◌, ◌<◌, ◌≤◌, IfOk, OnOk, length, slice_index};
 ghost use Rattle.std.specs.List.Sorted.{IsPermutation};
-ghost use Rattle.account_text.specs.Buckets.{bucket_of, IsOrdered, IsOrderedByBucket, AreStarts, IsCutOut};
+ghost use Rattle.account_text.specs.Judging.{bucket_of, IsOrdered, IsOrderedByBucket, AreStarts, IsCutOut};
 
 use prcu_model::NoMemory;
 use std::alloc::Global;
@@ -82,7 +82,7 @@ impl Model for KeyIndex {
 
     ghost view = { λ index. index.changes.items };
 
-    ghost use Rattle.account_text.specs.Buckets.{IsInBuckets};
+    ghost use Rattle.account_text.specs.Judging.{IsInBuckets};
 
     ghost invariant = { λ index. IsInBuckets index.buckets index.changes.items index.starts.items };
 }

@@ -1,12 +1,10 @@
 //! The number that stands beside each line.
 ghost use Rattle.std.specs.Prelude.{◌≡◌, ◌^◌, ◌<◌, length, IfOk};
 ghost use Rattle.std.specs.FinMap as map;
-ghost use Rattle.prcu_model.specs.Dictionary.{map_of};
-ghost use Rattle.prcu_model.specs.History.{IsLegal};
-ghost use Rattle.prcu_model.specs.Lists.{entries_of};
+ghost use Rattle.prcu_model.specs.Dictionary.{map_of, IsLegal};
+ghost use Rattle.prcu_model.specs.Scripts.{entries_of};
 ghost use Rattle.prcu_model.specs.Fronts.{AreExplainable, CanBeNumbered, AreNumbered, AllAreNumbered, told_lines, all_told_lines};
-ghost use Rattle.account_text.specs.Account.{IsAccount, HaveReplies};
-ghost use Rattle.account_text.specs.Printing.{account_of};
+ghost use Rattle.account_text.specs.Account.{IsAccount, HaveReplies, account_of};
 
 use crate::judging::try_number_script;
 use crate::printing::print_account;

@@ -2,9 +2,9 @@
 ghost use Rattle.std.specs.Prelude.{◌≡◌, ◌++◌, length, codes, decimal, flat_map, IfOk, OnOk};
 ghost use Rattle.std.specs.FinMap as map;
 ghost use Rattle.prcu_model.specs.Dictionary.{map_of};
-ghost use Rattle.prcu_model.specs.Lists.{entries_of};
-ghost use Rattle.script_text.specs.Lines.{op_text};
-ghost use Rattle.account_text.specs.Printing.{reply_text, line_text, script_part, scripts_from, history_from, pair_text, account_of};
+ghost use Rattle.prcu_model.specs.Scripts.{entries_of};
+ghost use Rattle.script_text.specs.Grammar.{op_text};
+ghost use Rattle.account_text.specs.Account.{reply_text, line_text, script_part, scripts_from, history_from, pair_text, account_of};
 
 use crate::timeline::replay;
 use prcu_model::{Line, LineList, NoMemory, Reply, Update};

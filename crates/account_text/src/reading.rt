@@ -8,14 +8,10 @@ ghost use Rattle.prcu_model.specs.declared.operation.Op.{Op};
 ghost use Rattle.prcu_model.specs.declared.operation.Reply.{Reply};
 ghost use Rattle.prcu_model.specs.declared.operation.Line.{Line};
 ghost use Rattle.prcu_model.specs.declared.operation.Update.{Update};
-ghost use Rattle.prcu_model.specs.Lists.{entries_of};
-ghost use Rattle.prcu_model.specs.Scripts.{FitsWords};
-ghost use Rattle.script_text.specs.Lines.{lines_of, op_text};
-ghost use Rattle.script_text.specs.Split.{Lacks};
-ghost use Rattle.account_text.specs.Printing.{reply_text, account_of};
-ghost use Rattle.account_text.specs.Reading.{told_of, tolds_of, FitsReply, FitsLine, FitsUpdate, Fit};
+ghost use Rattle.prcu_model.specs.Scripts.{entries_of, FitsWords};
+ghost use Rattle.script_text.specs.Grammar.{lines_of, op_text, Lacks};
+ghost use Rattle.account_text.specs.Account.{reply_text, account_of, told_of, tolds_of, FitsReply, FitsLine, FitsUpdate, Fit, line_body, update_body, history_head, history_lines, TellsScript, TellsScripts, TellsUpdates};
 ghost use Rattle.account_text.specs.declared.reading.Claimed.{Claimed};
-ghost use Rattle.account_text.specs.AccountLines.{line_body, update_body, history_head, history_lines, TellsScript, TellsScripts, TellsUpdates};
 
 use prcu_model::{NoMemory, Op, Reply, Scripts, Told, ToldList, Update};
 use script_text::{next_line, read_number, read_op, split_at_first};

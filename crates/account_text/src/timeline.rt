@@ -1,13 +1,9 @@
 //! A history that is replayed once, and then answers for the dictionary at any front.
 ghost use Rattle.std.specs.Prelude.{◌≡◌, ℕ, ◌+◌, ◌-◌, ◌<◌, ◌≤◌, ◌↔◌, IsTrue, IfOk, IfNone, IfSome, ◌++◌, length, slice_get, slice_index, All};
 ghost use Rattle.std.specs.FinMap as map;
-ghost use Rattle.prcu_model.specs.Dictionary.{Dictionary, updated, key_of, map_at, map_of};
-ghost use Rattle.prcu_model.specs.History.{IsUpdateAt, IsLegal};
-ghost use Rattle.prcu_model.specs.Replies.{Confirms};
+ghost use Rattle.prcu_model.specs.Dictionary.{Dictionary, updated, key_of, map_at, map_of, IsUpdateAt, IsLegal, Confirms};
 ghost use Rattle.prcu_model.specs.Fronts.{MayStand, IsLeastFor};
-ghost use Rattle.account_text.specs.Lines.{line_of};
-ghost use Rattle.account_text.specs.Buckets.{IsUpTo, IsOrdered};
-ghost use Rattle.account_text.specs.Changes.{asks_for_room, IsShown, IsFilled, ExplainsFrom, IsPast, IsFirstShown, IsChangeOf, AreAllChanged, value_for};
+ghost use Rattle.account_text.specs.Judging.{line_of, IsUpTo, IsOrdered, asks_for_room, IsShown, IsFilled, ExplainsFrom, IsPast, IsFirstShown, IsChangeOf, AreAllChanged, value_for};
 
 use crate::key_index::{Change, KeyIndex};
 use prcu_model::{NoMemory, Op, PlainMap, Reply, Told, Update};
@@ -180,7 +176,7 @@ pub struct Timeline<'a> {
 }
 
 impl<'a> Model for Timeline<'a> {
-    ghost use Rattle.account_text.specs.Course.{Course};
+    ghost use Rattle.account_text.specs.Judging.{Course, IsIndexed};
 
     ghost Value = { Course };
 
@@ -190,9 +186,7 @@ impl<'a> Model for Timeline<'a> {
     } };
 
     ghost use Rattle.std.specs.Prelude.{◌≡◌, ◌↔◌, IsTrue, length};
-    ghost use Rattle.prcu_model.specs.History.{IsLegal};
-    ghost use Rattle.prcu_model.specs.Dictionary.{map_at};
-    ghost use Rattle.account_text.specs.Changes.{IsIndexed};
+    ghost use Rattle.prcu_model.specs.Dictionary.{IsLegal, map_at};
 
     ghost invariant = { λ t. IsIndexed t.history.now t.sizes.items t.changes × (t.last ≡ map_at t.history.now (length t.history.now))
         × (IsTrue t.legal ↔ IsLegal t.history.now) };

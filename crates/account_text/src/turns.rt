@@ -18,13 +18,11 @@ pub struct Turns<'a> {
 
 impl<'a> Model for Turns<'a> {
     ghost use Rattle.std.specs.Prelude.{length};
-    ghost use Rattle.account_text.specs.Course.{Calls};
+    ghost use Rattle.account_text.specs.Judging.{Calls, AreCounted};
 
     ghost Value = { Calls };
 
     ghost view = { λ t. record { history = t.history.now; callers = length t.counts.items } };
-
-    ghost use Rattle.account_text.specs.Turns.{AreCounted};
 
     ghost invariant = { λ t. AreCounted t.history.now t.turns.items t.counts.items };
 }

@@ -1,6 +1,6 @@
 //! Runs of real threads, and a merge by hand.
 ghost use Rattle.std.specs.Prelude.{◌≡◌, ◌^◌, ◌<◌, [], ◌∷◌, length, IfOk, vec_len};
-ghost use Rattle.client_run.specs.Workers.{AreReadyFor};
+ghost use Rattle.client_run.specs.Crews.{AreReadyFor};
 
 use crate::same::assert_same;
 use client_run::{Worker, merge, run_all};

@@ -1,24 +1,23 @@
--- What runs leave.
-use Rattle.std.proofs.Common.{◌≡◌, ℕ, zero, suc, ◌≤◌, false, List, [], ◌∷◌, length, Option, refl, sym, subst, ◌∙◌, arith}
-use Rattle.std.specs.FinMap as map
-use Rattle.std.specs.Ordering.{nat_cmp}
+-- What runs write and leave.
+use Rattle.std.proofs.Common.{◌≡◌, ℕ, List, length, Option, Some, None, sym, ap, subst, ◌∙◌, zero, suc, ◌≤◌, false, [], ◌∷◌, refl, arith, ◌+◌, map}
+use Rattle.std.proofs.lemmas.List.{length-map}
 use Rattle.prcu_model.specs.declared.operation.Op.{Op}
+use Rattle.prcu_model.specs.Fronts.{AreExplained, ops_of, LacksFull, StaysWithin, AreExplainable}
+use Rattle.prcu_model.specs.Scripts.{default_slots_of, Roomy, entries_of}
+use Rattle.prcu_model.proofs.Dictionaries.{LacksFull-from_explained, StaysWithin-from_explained}
+use Rattle.account_text.specs.Account.{IsAccount, HaveReplies}
+use Rattle.command_words.specs.Commands.{slots_of}
+use Rattle.std.specs.Ordering.{nat_cmp}
 use Rattle.prcu_model.specs.declared.operation.Line.{Line}
 use Rattle.prcu_model.specs.declared.operation.Told.{Told}
 use Rattle.prcu_model.specs.declared.operation.Update.{Update}
-use Rattle.schedule_run.specs.Schedules.{IsOfSchedule}
+use Rattle.core_machine.specs.Laws.{IsOfSchedule}
 use Rattle.prcu_model.specs.Dictionary.{map_at}
-use Rattle.prcu_model.specs.Fronts.{AreExplainable}
-use Rattle.prcu_model.specs.Lists.{Roomy, entries_of}
-use Rattle.prcu_model.specs.Scripts.{default_slots_of}
-use Rattle.prcu_model.specs.Slots.{StaysWithin}
-use Rattle.account_text.specs.Account.{IsAccount, HaveReplies}
-use Rattle.script_text.specs.Grammar.{IsScriptText}
+use Rattle.script_text.specs.Grammar.{IsScriptText, IsScriptTextUpTo, lines_of}
 use Rattle.class_hash.specs.Seats.{SeatAt, TableAt}
 use Rattle.core_state.specs.declared.shape.Waiter.{Waiter}
 use Rattle.core_state.specs.declared.shape.Waiter.TheVariants.{Eer, Domain, Deer}
 use Rattle.hash_core.specs.Steps.{IsQuiet}
-use Rattle.seat_table.specs.Seats as tree
 use Rattle.command_words.specs.declared.commands.Command.{Command}
 use Rattle.command_words.specs.declared.commands.Command.TheVariants.{Run, Check, Load, Watch, Hash as HashCommand}
 use Rattle.command_words.specs.declared.commands.Mode.{Mode}
@@ -27,10 +26,42 @@ use Rattle.command_words.specs.declared.statuses.Status.TheVariants.{Done}
 use Rattle.tree_run.specs.declared.running.RunWith.{RunWith}
 use Rattle.citrus_tool.specs.declared.outcome.Ran.{Ran}
 use Rattle.citrus_tool.specs.declared.outcome.Ran.TheVariants.{Nothing, Hash}
-use Rattle.citrus_tool.specs.Answers.{AccountsFor, Writes, Leaves, Answered}
-use Rattle.citrus_tool.specs.Leavings.{LeavesSome, RunsBy, RunsInThreads, IsDrawn, IsSummedUp, LeavesMade, IsLeftOf, LeavesHash, IsTreeLeftOf, LeavesTree, tree_with}
-use Rattle.command_words.specs.Limits.{slots_of}
-use Rattle.citrus_tool.proofs.SlotCounts.{never_full}
+use Rattle.citrus_tool.specs.Answers.{AccountsFor, Writes, Leaves, Answered, DrawnTextsAreOne}
+use Rattle.citrus_tool.specs.Leavings.{LeavesSome, RunsBy, RunsInThreads, IsDrawn, IsSummedUp, LeavesMade, IsLeftOf, LeavesHash, IsTreeLeftOf, LeavesTree, tree_with, IsWatchedTree, LeavesWatched}
+use Rattle.tree_watch.specs.Snapshots.{SnapshotAt, AreSnapshots, none_yet, IsWatchText}
+use Rattle.script_text.proofs.ScriptTexts.{one_reading}
+use Rattle.account_text.proofs.Accounts.{accounts_are_one}
+use Rattle.core_machine.proofs.DrawnRuns.{schedules_are_one}
+use Rattle.std.specs.FinMap as finite
+use Rattle.seat_table.specs.Seats as tree
+
+-- What follows from how many slots scripts share.
+
+-- with the default slots no line says `full`
+pub never_full : (limit : Option ℕ) (scripts : List (List Op)) (text : List ℕ) (account : IsAccount scripts (slots_of limit scripts) text)
+    → limit ≡ None → LacksFull account.lines
+never_full None scripts text account is =
+    let count : length scripts ≡ length account.lines = ap length (sym account.ops) ∙ length-map account.lines ops_of in
+    LacksFull-from_explained account.history account.lines
+    (subst (λ s. AreExplained (record { scripts = length account.lines; slots = default_slots_of s }) account.history account.lines)
+    (sym account.ops)
+    (subst (λ n. AreExplained (record {
+      scripts = n;
+      slots = default_slots_of scripts;
+    }) account.history account.lines) count account.explained))
+never_full (Some most) scripts text account is = absurd (cc)
+
+-- with the default slots the pairs are at most the slots, whatever run made the account
+pub within_default : (scripts : List (List Op)) (text : List ℕ) (account : IsAccount scripts (default_slots_of scripts) text)
+    → StaysWithin account.history (default_slots_of scripts)
+within_default scripts text account =
+    subst (λ s. StaysWithin account.history (default_slots_of s)) account.ops
+    (StaysWithin-from_explained (record {
+      scripts = length scripts;
+      slots = default_slots_of scripts;
+    }) account.history account.lines account.explained)
+
+-- What runs leave.
 
 pub some_left : (scripts : List (List Op)) (ran : Ran) (left : Type 0) → 1 ≤ length scripts → left → LeavesSome scripts ran left
 some_left [] ran left some is = absurd (omega arith)
@@ -46,9 +77,9 @@ module _ (how : RunWith) (chosen : Waiter) (scripts : List (List Op)) (slots pla
       subst (λ w. LeavesTree (record { waiter = w; cookies = how.cookies }) scripts slots places told history (tree_with chosen table seat))
       (sym is) (some_left scripts (tree_with chosen table seat) _ some (table, seat, refl, left))
 
-pub none_within : (slots front : ℕ) → map.len (map_at [] front) ≤ slots
-none_within slots zero = let none = map.len-empty nat_cmp ℕ in omega (arith, none)
-none_within slots (suc front) = let none = map.len-empty nat_cmp ℕ in omega (arith, none)
+pub none_within : (slots front : ℕ) → finite.len (map_at [] front) ≤ slots
+none_within slots zero = let none = finite.len-empty nat_cmp ℕ in omega (arith, none)
+none_within slots (suc front) = let none = finite.len-empty nat_cmp ℕ in omega (arith, none)
 
 -- An account was made of a run, by the lists and the history that were read where they had been put.
 module _ {scripts : List (List Op)} {slots : ℕ} {text : List ℕ} {told given : List (Roomy Told)} {history seen : List Update}
@@ -227,3 +258,128 @@ left_ready words a b c d ran table seat answered is =
     by (Load number scripts ops waiter) input text writes left = absurd (no_tree waiter _ _ table seat left.left)
     by (Watch low high slots waiter) input text writes left = absurd (no_tree waiter writes.scripts _ table seat left.1)
     by HashCommand input text writes left = seat_ready writes.scripts writes.account.lines writes.account.history table seat left
+
+-- What a watched run writes and leaves.
+
+-- a dictionary that nobody updated has no pair in any range
+none_before : (low high : ℕ) (later : List SnapshotAt) → AreSnapshots [] low high 0 later → AreSnapshots [] low high 0 (none_yet ∷ later)
+none_before low high later taken = (
+  omega arith,
+  omega arith,
+  (
+    record {
+      ascend = λ i j a b first second before. absurd (cc);
+      inside = λ i a there. absurd (cc);
+      there = λ i a there. absurd (cc);
+      all = λ key value from below has. absurd (let none = finite.get-empty {X = ℕ} nat_cmp key in cc);
+    },
+    omega arith,
+  ),
+  taken,
+)
+
+pub none_listed : (low high : ℕ) → AreSnapshots [] low high 0 (none_yet ∷ none_yet ∷ none_yet ∷ none_yet ∷ [])
+none_listed low high =
+    none_before low high (none_yet ∷ none_yet ∷ none_yet ∷ [])
+    (none_before low high (none_yet ∷ none_yet ∷ []) (none_before low high (none_yet ∷ []) (none_before low high [] tt)))
+
+-- a watched run without scripts
+watches_nothing : (waiter : Waiter) (scripts : List (List Op)) (slots : ℕ) (lines : List (List Line)) (history : List Update)
+    (lists : List SnapshotAt) → length scripts ≡ 0 → HaveReplies [] lines → LeavesWatched waiter scripts slots lines history lists Nothing
+watches_nothing waiter [] slots lines history lists none replies = ([], refl, replies)
+watches_nothing waiter (script ∷ scripts) slots lines history lists none replies = absurd (omega (arith, none))
+
+-- A watch text was made.
+module _ (scripts : List (List Op)) (slots low high : ℕ) (text : List ℕ) where
+  -- without scripts
+  pub nothing_watched : (waiter : Waiter) → length scripts ≡ 0
+      → (watch : IsWatchText scripts slots low high text) × (watch.account.history ≡ []) × HaveReplies [] watch.account.lines
+      → (watch : IsWatchText scripts slots low high text) × StaysWithin watch.account.history (slots + 20)
+      × LeavesWatched waiter scripts slots watch.account.lines watch.account.history watch.snapshots Nothing
+  nothing_watched waiter none written = (
+    written.0,
+    subst (λ h. StaysWithin h (slots + 20)) (sym written.1) (λ front at. none_within (slots + 20) front),
+    watches_nothing waiter scripts slots written.0.account.lines written.0.account.history written.0.snapshots none written.2,
+  )
+
+  -- by the history and the lists of a run, and the run's tree beside it
+  pub watched_beside : (waiter : Waiter) (told given : List (Roomy Told)) (history seen : List Update) (lists : List SnapshotAt)
+      (table : tree.TableAt) (seat : tree.SeatAt) → given ≡ told → seen ≡ history → StaysWithin history (slots + 20)
+      → IsWatchedTree waiter scripts slots told history lists table seat
+      → (watch : IsWatchText scripts slots low high text) × (watch.account.history ≡ seen) × (watch.snapshots ≡ lists)
+      × HaveReplies (entries_of given) watch.account.lines
+      → (watch : IsWatchText scripts slots low high text) × StaysWithin watch.account.history (slots + 20)
+      × ((told : List (Roomy Told)) × IsWatchedTree waiter scripts slots told watch.account.history watch.snapshots table seat
+      × HaveReplies (entries_of told) watch.account.lines)
+  watched_beside waiter told given history seen lists table seat same_told same within left written =
+      let is = sym (written.1 ∙ same) in (
+        written.0,
+        subst (λ h. StaysWithin h (slots + 20)) is within,
+        (
+          told,
+          subst (λ (z : List Update × List SnapshotAt). IsWatchedTree waiter scripts slots told z.0 z.1 table seat)
+              (λ i. (is i, sym written.2 i)) left,
+          subst (λ t. HaveReplies (entries_of t) written.0.account.lines) same_told written.3,
+        ),
+      )
+
+  -- The tree of the waiter that was chosen is what is left.
+  pub watched_in : (waiter chosen : Waiter) (table : tree.TableAt) (seat : tree.SeatAt) → waiter ≡ chosen → 1 ≤ length scripts
+      → (watch : IsWatchText scripts slots low high text) × StaysWithin watch.account.history (slots + 20)
+      × ((told : List (Roomy Told)) × IsWatchedTree chosen scripts slots told watch.account.history watch.snapshots table seat
+      × HaveReplies (entries_of told) watch.account.lines)
+      → (watch : IsWatchText scripts slots low high text) × StaysWithin watch.account.history (slots + 20)
+      × LeavesWatched waiter scripts slots watch.account.lines watch.account.history watch.snapshots (tree_with chosen table seat)
+  watched_in waiter chosen table seat is some made = (
+    made.0,
+    made.1,
+    subst (λ w. LeavesWatched w scripts slots made.0.account.lines made.0.account.history made.0.snapshots (tree_with chosen table seat))
+        (sym is)
+        (made.2.0, some_left scripts (tree_with chosen table seat) _ some (table, seat, refl, made.2.1), made.2.2),
+  )
+
+-- the watch text of a script text, and what is left beside it
+pub watch_written : (low high : ℕ) (limit : Option ℕ) (waiter : Waiter) (scripts : List (List Op)) (slots : ℕ) (input text : List ℕ)
+    (ran : Ran) → IsScriptTextUpTo 63 input scripts → slots ≡ slots_of limit scripts
+    → (watch : IsWatchText scripts slots low high text) × StaysWithin watch.account.history (slots + 20)
+    × LeavesWatched waiter scripts slots watch.account.lines watch.account.history watch.snapshots ran
+    → (writes : Writes (Watch low high limit waiter) Done input text) × Leaves (Watch low high limit waiter) Done input text writes ran
+watch_written low high limit waiter scripts slots input text ran read shared made =
+    let m = subst (λ s. (watch : IsWatchText scripts s low high text) × StaysWithin watch.account.history (s + 20)
+    × LeavesWatched waiter scripts s watch.account.lines watch.account.history watch.snapshots ran) shared made in (
+      record {
+        scripts = scripts;
+        read = read;
+        watch = m.0;
+        never_full = never_full limit scripts m.0.account_text m.0.account;
+        within_slots = m.1;
+      },
+      m.2,
+    )
+
+-- The number of a schedule determines what `run` writes.
+
+-- no scripts have no lines, and no replies
+none_told : (lists : List (List Line)) → map ops_of lists ≡ [] → HaveReplies [] lists
+none_told [] none = refl
+none_told (lines ∷ lists) none = absurd (cc)
+
+one_drawn : (scripts : List (List Op)) (slots number : ℕ) (text other_text : List ℕ) (account : IsAccount scripts slots text)
+    (other : IsAccount scripts slots other_text) → IsDrawn scripts slots number account.lines account.history
+    → IsDrawn scripts slots number other.lines other.history
+    → text ≡ other_text
+one_drawn [] slots number text other_text account other a b =
+    accounts_are_one [] slots [] text other_text account other (a ∙ sym b) (none_told account.lines account.ops)
+    (none_told other.lines other.ops)
+one_drawn (script ∷ scripts) slots number text other_text account other a b =
+    let same = schedules_are_one (script ∷ scripts) slots number a.0 b.0 account.history other.history a.1 b.1 in
+    accounts_are_one (script ∷ scripts) slots a.0 text other_text account other same.1 a.2
+    (subst (λ told. HaveReplies told other.lines) (sym same.0) b.2)
+
+pub drawn_texts_are_one : DrawnTextsAreOne
+drawn_texts_are_one slots number input text other_text one other =
+    let read = one_reading 64 (lines_of input) [] other.accounts.scripts one.accounts.scripts other.accounts.read one.accounts.read in
+    let again = subst (λ scripts. (account : IsAccount scripts (slots_of slots scripts) other_text)
+    × IsDrawn scripts (slots_of slots scripts) number account.lines account.history) read (other.accounts.account, other.drawn) in
+    one_drawn one.accounts.scripts
+    (slots_of slots one.accounts.scripts) number text other_text one.accounts.account again.0 one.drawn again.1

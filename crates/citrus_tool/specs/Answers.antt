@@ -3,12 +3,11 @@
 use Rattle.std.specs.Prelude.{◌≡◌, ℕ, ◌≤◌, List, ◌++◌, length, Option, None, codes, decimal}
 use Rattle.io_edge.specs.Edge.{Takes, IsAtEnd, Appends, AppendsFront}
 use Rattle.prcu_model.specs.declared.operation.Op.{Op}
-use Rattle.prcu_model.specs.Slots.{LacksFull, StaysWithin}
+use Rattle.prcu_model.specs.Fronts.{LacksFull, StaysWithin}
 use Rattle.script_text.specs.Grammar.{IsScriptText, IsScriptTextUpTo, IsFirstBadUpTo}
 use Rattle.account_text.specs.Account.{IsAccount}
 use Rattle.workload.specs.Draws.{made_scripts}
-use Rattle.workload.specs.Summaries.{plain_summary}
-use Rattle.workload.specs.SummaryText.{summary_text}
+use Rattle.workload.specs.Summaries.{plain_summary, summary_text}
 use Rattle.command_words.specs.declared.commands.Command.{Command}
 use Rattle.command_words.specs.declared.commands.Command.TheVariants.{Run, Check, Load, Watch, Hash}
 use Rattle.command_words.specs.declared.commands.Mode.{Mode}
@@ -17,11 +16,8 @@ use Rattle.command_words.specs.declared.statuses.Status.{Status}
 use Rattle.command_words.specs.declared.statuses.Status.TheVariants.{Done, Refused, Usage, BadScript, ReadFault, NoMemory, TooLong}
 use Rattle.citrus_tool.specs.declared.outcome.Ran.{Ran}
 use Rattle.citrus_tool.specs.declared.outcome.Ran.TheVariants.{Nothing}
-use Rattle.command_words.specs.Commands.{Asks, Reads, limit_of}
-use Rattle.citrus_tool.specs.Leavings.{IsDrawn, RunsInThreads, LeavesMade, LeavesHash}
-use Rattle.command_words.specs.Limits.{slots_of}
-use Rattle.command_words.specs.Parts.{HasParts}
-use Rattle.citrus_tool.specs.Watching.{WatchesFor, LeavesWatched}
+use Rattle.command_words.specs.Commands.{Asks, Reads, limit_of, slots_of, HasParts}
+use Rattle.citrus_tool.specs.Leavings.{IsDrawn, RunsInThreads, LeavesMade, LeavesHash, WatchesFor, LeavesWatched}
 
 -- The text is an account of the scripts that the input holds: the headline. Each script's successful updates stand in
 -- one legal history, once and in order; each reply is the plain dictionary's at its front; in a script the fronts never

@@ -1,34 +1,29 @@
--- What a run leaves beside its account.
--- Source: docs/ARCHITECTURE.md, "A run", and docs/HASH_DICTIONARY.md, "Scripts beside each other on the hash dictionary".
-use Rattle.std.specs.Prelude.{◌≡◌, ℕ, ◌<◌, ◌≤◌, false, List, [], ◌∷◌, length}
+-- What runs leave beside what they write, and what `watch` writes.
+use Rattle.std.specs.Prelude.{◌≡◌, ℕ, ◌<◌, ◌≤◌, false, List, [], ◌∷◌, length, ◌+◌, Option, None}
 use Rattle.prcu_model.specs.declared.operation.Op.{Op}
 use Rattle.prcu_model.specs.declared.operation.Line.{Line}
 use Rattle.prcu_model.specs.declared.operation.Told.{Told}
 use Rattle.prcu_model.specs.declared.operation.Update.{Update}
-use Rattle.prcu_model.specs.Dictionary.{map_of}
-use Rattle.prcu_model.specs.Fronts.{AreExplainable}
-use Rattle.prcu_model.specs.History.{IsLegal}
-use Rattle.prcu_model.specs.Lists.{Roomy, entries_of}
+use Rattle.prcu_model.specs.Dictionary.{map_of, IsLegal}
+use Rattle.prcu_model.specs.Fronts.{AreExplainable, LacksFull, StaysWithin}
+use Rattle.prcu_model.specs.Scripts.{Roomy, entries_of, op_count, default_slots_of}
 use Rattle.prcu_marks.specs.declared.mark.Mark.{Mark}
 use Rattle.prcu_marks.specs.Marks.{updates_of}
-use Rattle.prcu_marks.specs.Runs.{FitsScripts}
-use Rattle.prcu_model.specs.Scripts.{op_count, default_slots_of}
+use Rattle.prcu_marks.specs.Callers.{FitsScripts}
 use Rattle.account_text.specs.Account.{HaveReplies}
 use Rattle.workload.specs.Summaries.{plain_summary, summary_with}
 use Rattle.client_run.specs.Crews.{HaveRun}
 use Rattle.list_laws.specs.Counts.{times}
 use Rattle.core_state.specs.declared.shape.Waiter.{Waiter}
 use Rattle.core_state.specs.declared.shape.Waiter.TheVariants.{Eer, Domain, Deer}
-use Rattle.core_state.specs.views.Views.{places_of}
-use Rattle.seat_table.specs.Gains as tree_gains
-use Rattle.seat_table.specs.Seats as tree
+use Rattle.core_state.specs.Views.{places_of}
 use Rattle.tree_run.specs.declared.running.RunWith.{RunWith}
 use Rattle.tree_run.specs.Runs.{tickets_for, HasRun}
-use Rattle.schedule_run.specs.Schedules.{IsOfSchedule}
-use Rattle.hash_core.specs.Seats.{AnswersFor}
+use Rattle.core_machine.specs.Laws.{IsOfSchedule}
+use Rattle.hash_core.specs.Rule.{AnswersFor}
 use Rattle.hash_core.specs.Steps.{IsQuiet}
 use Rattle.class_hash.specs.Answers.{IsInformed}
-use Rattle.class_hash.specs.Clients.{HasCalled}
+use Rattle.class_hash.specs.Replies.{HasCalled}
 use Rattle.class_hash.specs.Seats.{SeatAt, TableAt}
 use Rattle.hash_run.specs.Capacities.{AreCapacities}
 use Rattle.hash_run.specs.Crews.{HaveNoWaits, StandsFor, client_for}
@@ -36,6 +31,14 @@ use Rattle.command_words.specs.declared.commands.Mode.{Mode}
 use Rattle.command_words.specs.declared.commands.Mode.TheVariants.{Threads, Schedule}
 use Rattle.citrus_tool.specs.declared.outcome.Ran.{Ran}
 use Rattle.citrus_tool.specs.declared.outcome.Ran.TheVariants.{Nothing, Eer as OnEer, Domain as OnDomain, Deer as OnDeer, Hash}
+use Rattle.script_text.specs.Grammar.{IsScriptTextUpTo}
+use Rattle.tree_watch.specs.Snapshots.{SnapshotAt, WereLookedAt, IsWatchText}
+use Rattle.command_words.specs.Commands.{slots_of}
+use Rattle.seat_table.specs.Gains as tree_gains
+use Rattle.seat_table.specs.Seats as tree
+
+-- What a run leaves beside its account.
+-- Source: docs/ARCHITECTURE.md, "A run", and docs/HASH_DICTIONARY.md, "Scripts beside each other on the hash dictionary".
 
 -- Whatever the dictionary: the marks are those of the scripts' calls, and their updates are the history.
 pub record AreMarksOf (scripts : List (List Op)) (history : List Update) (seen : List Mark) : Type 0 where
@@ -125,4 +128,32 @@ abbrev pub LeavesHash : List (List Op) → List (List Line) → List Update → 
 LeavesHash scripts lines history ran =
     (told : List (Roomy Told)) × LeavesSome scripts ran
     ((table : TableAt) × (seat : SeatAt) × (ran ≡ Hash table seat) × IsLeftOf scripts told history table seat)
+    × HaveReplies (entries_of told) lines
+
+-- What `watch` writes of good scripts, and what it leaves.
+-- Source: docs/FORMATS.md, "Watch texts", and docs/ARCHITECTURE.md, "A run".
+
+-- The text is a watch text of the scripts that the input holds, at most 63, with this range. Where no number of slots was given, no line
+-- of its account says `full`. At no front are there more pairs than slots and the twenty that the tree has for the lists' place.
+pub record WatchesFor (slots : Option ℕ) (low high : ℕ) (input text : List ℕ) : Type 0 where
+  pub scripts : List (List Op)
+  pub read : IsScriptTextUpTo 63 input scripts
+  pub watch : IsWatchText scripts (slots_of slots scripts) low high text
+  pub never_full : slots ≡ None → LacksFull watch.account.lines
+  pub within_slots : StaysWithin watch.account.history (slots_of slots scripts + 20)
+
+-- The tree of a watched run has twenty slots and one place more than that of a run alone: those of the lists. The seat keeps the looks at
+-- the front by which that place found the lists that were written.
+abbrev pub IsWatchedTree : Waiter → List (List Op) → ℕ → List (Roomy Told) → List Update → List SnapshotAt → tree.TableAt → tree.SeatAt
+    → Type 0
+IsWatchedTree waiter scripts slots told history lists table seat =
+    IsTreeLeftOf (record { waiter = waiter; cookies = false }) scripts (slots + 20) (length scripts + 1) told history table seat
+    × WereLookedAt (length scripts) seat.view.looks lists
+
+-- A watched run leaves it, and the lines have the replies that the scripts' calls on it were told.
+abbrev pub LeavesWatched : Waiter → List (List Op) → ℕ → List (List Line) → List Update → List SnapshotAt → Ran → Type 0
+LeavesWatched waiter scripts slots lines history lists ran =
+    (told : List (Roomy Told)) × LeavesSome scripts ran
+    ((table : tree.TableAt) × (seat : tree.SeatAt) × (ran ≡ tree_with waiter table seat)
+    × IsWatchedTree waiter scripts slots told history lists table seat)
     × HaveReplies (entries_of told) lines

@@ -1,3 +1,2 @@
 pub mod Leavings
-pub mod Watching
 pub mod Answers

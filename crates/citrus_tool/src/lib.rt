@@ -11,7 +11,7 @@ mod watching;
 
 pub use command_words::{Command, Mode, Status, tell};
 /// The client that `run --cookies` runs.
-pub use cookie_client::CookieClient;
 pub use outcome::{Outcome, Ran};
 pub use program::run_words;
 pub use top::tool;
+pub use tree_run::CookieClient;

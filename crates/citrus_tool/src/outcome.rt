@@ -2,10 +2,8 @@
 
 use class_hash::{HashSeat, HashTable};
 use command_words::Status;
-use d_wait::Domain;
-use deer_wait::Deer;
-use eer_wait::Eer;
 use seat_table::{CitrusTable, Seat};
+use waiters::{Deer, Domain, Eer};
 
 /// What a run leaves: a dictionary, and the one seat into which those of all scripts were joined.
 #[derive(Drop)]

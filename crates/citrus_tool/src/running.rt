@@ -1,12 +1,11 @@
 //! What each command makes of its input.
 ghost use Rattle.std.specs.Prelude.{◌≡◌, ◌≤◌, ◌++◌, [], ℕ, List, IfOk, length, codes, decimal};
-ghost use Rattle.prcu_model.specs.Slots.{StaysWithin};
+ghost use Rattle.prcu_model.specs.Fronts.{StaysWithin};
 ghost use Rattle.account_text.specs.Account.{IsAccount, HaveReplies};
 ghost use Rattle.prcu_model.specs.Scripts.{default_slots_of};
 ghost use Rattle.citrus_tool.specs.Answers.{Writes, Leaves, Judges};
 ghost use Rattle.citrus_tool.specs.Leavings.{RunsBy, IsDrawn, LeavesHash};
-ghost use Rattle.command_words.specs.Commands.{AreSlots, IsInRange, limit_of};
-ghost use Rattle.command_words.specs.Limits.{slots_of};
+ghost use Rattle.command_words.specs.Commands.{AreSlots, IsInRange, limit_of, slots_of};
 
 use crate::outcome::Ran;
 use crate::tree_runs::{account_in_threads, summary_in_threads};
@@ -146,7 +145,7 @@ fn account_by_schedule<R: Wait>(
     ensures { IfOk result (λ text. (account : IsAccount scripts.now slots text.items) × StaysWithin account.history slots
         × IsDrawn scripts.now slots number account.lines account.history) }
 {
-    let ran = schedule_run::run_scripts(rt, alloc, scripts, slots, number)?;
+    let ran = core_machine::run_scripts(rt, alloc, scripts, slots, number)?;
     make_account(alloc, scripts, &ran.told, &ran.history, slots)
 }
 

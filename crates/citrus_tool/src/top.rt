@@ -1,7 +1,6 @@
 //! The top call.
 ghost use Rattle.std.specs.Prelude.{◌≡◌, ◌≤◌, ◌⊎◌, ◌↔◌, ℕ, List, Some, Err, IfOk, OnOk, map, length, string_bytes};
-ghost use Rattle.io_edge.specs.Edge.{Rose, Takes, IsAtEnd};
-ghost use Rattle.io_edge.specs.Whole.{TakesToLimit, ReadsToEnd};
+ghost use Rattle.io_edge.specs.Edge.{Rose, Takes, IsAtEnd, TakesToLimit, ReadsToEnd};
 ghost use Rattle.command_words.specs.declared.commands.Command as command;
 ghost use Rattle.citrus_tool.specs.Answers.{Answered, AnsweredInPart, AnsweredBy, AnsweredInPartBy, IsAnswerable, WritesNothing};
 ghost use Rattle.command_words.specs.Commands.{Asks, IsCommand, IsInRange, Reads, limit_of};

@@ -1,14 +1,12 @@
 //! Scripts that run beside each other on one search tree: what is written of them, and the tree.
 ghost use Rattle.std.specs.Prelude.{◌≡◌, ◌≤◌, false, List, IfOk, length};
-ghost use Rattle.prcu_model.specs.Slots.{StaysWithin};
-ghost use Rattle.prcu_model.specs.Scripts.{default_slots_of};
+ghost use Rattle.prcu_model.specs.Fronts.{StaysWithin};
+ghost use Rattle.prcu_model.specs.Scripts.{default_slots_of, Roomy, entries_of};
 ghost use Rattle.prcu_model.specs.declared.operation.Told.{Told};
 ghost use Rattle.prcu_model.specs.declared.operation.Update.{Update};
-ghost use Rattle.prcu_model.specs.Lists.{Roomy, entries_of};
 ghost use Rattle.account_text.specs.Account.{IsAccount, HaveReplies};
 ghost use Rattle.workload.specs.Draws.{IsMade};
-ghost use Rattle.workload.specs.Summaries.{plain_summary};
-ghost use Rattle.workload.specs.SummaryText.{summary_text};
+ghost use Rattle.workload.specs.Summaries.{plain_summary, summary_text};
 ghost use Rattle.tree_run.specs.Runs.{run_with};
 ghost use Rattle.citrus_tool.specs.Leavings.{IsTreeLeftOf, RunsInThreads, IsSummedUp, LeavesMade};
 
@@ -16,9 +14,6 @@ use crate::outcome::Ran;
 use account_text::make_account;
 use command_words::default_slots;
 use core_state::shape::Waiter;
-use d_wait::Domain;
-use deer_wait::Deer;
-use eer_wait::Eer;
 use prcu_marks::Gate;
 use prcu_model::{NoMemory, Scripts};
 use seat_table::{CitrusTable, Seat, WaitPart};
@@ -26,6 +21,7 @@ use std::alloc::Global;
 use std::sync::Wait;
 use std::thread::Threads;
 use tree_run::{RunWith, run_scripts};
+use waiters::{Deer, Domain, Eer};
 use workload::{summary_of, write_summary};
 
 /// What is written of a run, and the tree with all seats as one.

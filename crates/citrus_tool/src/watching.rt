@@ -1,12 +1,12 @@
 //! Scripts that run beside each other on one search tree, and lists of a key range beside them: what is written of both, and the tree.
 ghost use Rattle.std.specs.Prelude.{◌≡◌, ◌+◌, ◌≤◌, List, [], IfOk, length};
 ghost use Rattle.prcu_model.specs.declared.operation.Told.{Told};
-ghost use Rattle.prcu_model.specs.Lists.{Roomy, entries_of};
-ghost use Rattle.prcu_model.specs.Slots.{StaysWithin};
+ghost use Rattle.prcu_model.specs.Scripts.{Roomy, entries_of};
+ghost use Rattle.prcu_model.specs.Fronts.{StaysWithin};
 ghost use Rattle.account_text.specs.Account.{HaveReplies};
-ghost use Rattle.tree_watch.specs.WatchText.{IsWatchText};
+ghost use Rattle.tree_watch.specs.Snapshots.{IsWatchText};
 ghost use Rattle.seat_table.specs.Seats.{way_of};
-ghost use Rattle.citrus_tool.specs.Watching.{IsWatchedTree, LeavesWatched};
+ghost use Rattle.citrus_tool.specs.Leavings.{IsWatchedTree, LeavesWatched};
 
 use crate::outcome::Ran;
 use crate::tree_runs::Written;

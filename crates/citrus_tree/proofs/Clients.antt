@@ -13,27 +13,23 @@ use Rattle.prcu_model.specs.declared.operation.Reply.{Reply}
 use Rattle.prcu_model.specs.declared.operation.Reply.TheVariants.{New, Old, Full, Val, Absent, Gone, Was}
 use Rattle.prcu_model.specs.declared.operation.Told.{Told}
 use Rattle.prcu_model.specs.declared.operation.Update.{Update}
-use Rattle.prcu_model.specs.Dictionary.{Dictionary, key_of, map_of, map_at}
+use Rattle.prcu_model.specs.Dictionary.{Dictionary, key_of, map_of, map_at, Explains, Confirms, tells_update}
 use Rattle.prcu_model.specs.Fronts.{own_updates}
-use Rattle.prcu_model.specs.Replies.{Explains, Confirms, tells_update}
 use Rattle.prcu_model.proofs.ListFacts.{prefix_trans, all_map, all_append}
 use Rattle.prcu_marks.specs.declared.mark.Mark.{Mark}
 use Rattle.prcu_marks.specs.declared.mark.Mark.TheVariants.{Entered, Left, Began, Ended, Done, Given, Unlinked, Freed}
-use Rattle.prcu_marks.specs.Chains.{IsChain}
+use Rattle.prcu_marks.specs.Callers.{IsChain, Caller, HasSeenItsOwn, IsLeftBy, entered_for, IsMoveWait, WaitsFor, HasMadeUpdate, WasExplained, HasAnswered}
 use Rattle.prcu_marks.specs.Callers as callers
-use Rattle.prcu_marks.specs.Callers.{Caller, HasSeenItsOwn, IsLeftBy, entered_for, IsMoveWait, WaitsFor, HasMadeUpdate, WasExplained, HasAnswered}
 use Rattle.prcu_marks.specs.Marks.{updates_of, own_of}
 use Rattle.prcu_marks.proofs.Callers.{HasTold, chain_tells, map_at-longer}
-use Rattle.prcu_marks.proofs.MarkLists.{updates_of-append, updates_below}
-use Rattle.prcu_marks.proofs.OwnMarks.{entered_for-append, own_twice}
+use Rattle.prcu_marks.proofs.Marks.{updates_of-append, updates_below, entered_for-append, own_twice}
 use Rattle.core_state.specs.declared.shape.Shape.{Shape}
 use Rattle.core_state.specs.declared.view.View.{View}
-use Rattle.tree_points.specs.Progress.{HasGone}
-use Rattle.tree_points.proofs.Gone.{gone_same}
-use Rattle.citrus_tree.specs.Gone.{IsOfTry}
+use Rattle.tree_points.specs.Points.{HasGone}
+use Rattle.tree_points.proofs.Locks.{gone_same}
+use Rattle.citrus_tree.specs.Going.{IsOfTry}
 use Rattle.citrus_tree.specs.Lookups.{Looked, told_of, Gets}
-use Rattle.citrus_tree.specs.Replies.{WasAnswered, HasUpdated, HasTried, PutsBy, SetsBy, DelsBy}
-use Rattle.citrus_tree.specs.Clients.{ClientAt, caller_of, IsTold, room_of}
+use Rattle.citrus_tree.specs.Replies.{WasAnswered, HasUpdated, HasTried, PutsBy, SetsBy, DelsBy, ClientAt, caller_of, IsTold, room_of}
 use Rattle.citrus_tree.proofs.Leavings.{goes_looked, was_answered}
 
 -- ---- marks of a call before its update

@@ -1,31 +1,49 @@
--- What steps and searches leave of marks, and what they leave alone.
-use Rattle.std.proofs.Common.{◌≡◌, ℕ, ◌+◌, ◌==◌, cond, Bool, true, false, List, [], ◌∷◌, ◌++◌, length, Option, None, refl, sym, ap, subst, ◌∙◌, append_assoc, append-nil, arith}
+-- What all calls share: what their steps leave of marks, slots and waits, how they begin, and the front made odd and even.
+use Rattle.std.proofs.Common.{◌≡◌, ℕ, ◌+◌, ◌==◌, cond, Bool, true, false, List, [], ◌∷◌, ◌++◌, length, Option, None, refl, sym, ap, subst, ◌∙◌, append_assoc, append-nil, arith, eq-eqb, ◌≢◌, ◌%◌, ◌/◌, Some, ne_eqb, ◌<◌, map, ◌≤◌, inl, inr, ⊎_elim, ◌⊎◌}
 use mathlib.Core.List.{IsPrefix}
 use Rattle.prcu_marks.specs.declared.mark.Mark.{Mark}
 use Rattle.prcu_marks.specs.declared.mark.Mark.TheVariants.{Entered, Left as LeftMark}
 use Rattle.prcu_marks.specs.Callers.{entered_for}
 use Rattle.prcu_marks.specs.Marks.{updates_of, own_of}
-use Rattle.prcu_marks.proofs.MarkLists.{own_of-append, updates_of-append}
-use Rattle.prcu_marks.proofs.OwnMarks.{entered_for-append}
+use Rattle.prcu_marks.proofs.Marks.{own_of-append, updates_of-append, entered_for-append}
 use Rattle.prcu_model.specs.Dictionary.{WasSaid}
 use Rattle.prcu_model.proofs.ListFacts.{prefix_trans}
-use Rattle.std.proofs.Common.{eq-eqb}
 use Rattle.core_state.specs.declared.shape.Shape.{Shape}
 use Rattle.core_state.specs.declared.view.Reading.{Reading}
 use Rattle.core_state.specs.declared.view.View.{View}
 use Rattle.core_state.specs.declared.words.Kind.{Kind}
-use Rattle.core_frames.proofs.views.SeatFacts.{works_there}
-use Rattle.core_acts.specs.declared.act.Act.TheVariants as acts
-use Rattle.core_acts.specs.declared.act.Part.{Part}
-use Rattle.seat_table.specs.Gains.{Sees}
-use Rattle.seat_table.specs.Sections.{Makes}
-use Rattle.seat_table.specs.Told.{Told}
-use Rattle.tree_points.specs.Progress.{HasGone}
-use Rattle.tree_points.proofs.Gone.{allowed, further_by, gone_none, gone_on, gone_stays, gone_same}
-use Rattle.tree_points.proofs.Staying.{stays}
-use Rattle.citrus_tree.specs.Going.{Goes, Opened, Closed}
-use Rattle.citrus_tree.specs.Lookups.{Looked}
+use Rattle.core_frames.proofs.Roles.{works_there}
+use Rattle.core_state.specs.declared.act.Part.{Part}
+use Rattle.seat_table.specs.Gains.{Sees, Told, IsAsked}
+use Rattle.seat_table.specs.Sections.{Makes, HasStepped}
+use Rattle.tree_points.specs.Points.{HasGone, IsAt}
+use Rattle.tree_points.proofs.Locks.{allowed, further_by, gone_none, gone_on, gone_stays, gone_same, stays, further, no_further}
+use Rattle.citrus_tree.specs.Going.{Goes, Opened, Closed, KeepsSlots, retired_marks, HasBegunFirst, HasBegunNone, KeepsWait, MakesRoom, Reused}
+use Rattle.citrus_tree.specs.Lookups.{Looked, Gets, IsSearching}
 use Rattle.citrus_tree.specs.Replies.{WasAnswered}
+use Rattle.prcu_model.specs.declared.operation.Op.{Op}
+use Rattle.core_state.specs.Steps.{with_front, new_wait}
+use Rattle.core_points.specs.declared.stage.Update.{Update}
+use Rattle.core_points.specs.Programs.{past_even}
+use Rattle.core_state.specs.Acts.{noted}
+use Rattle.tree_points.proofs.Passing.{commits_any}
+use Rattle.tree_points.proofs.Updates.{passes_commit_made, passes_commit_again, passes_even}
+use Rattle.core_state.specs.declared.view.Retired.{Retired}
+use Rattle.seat_table.specs.Seats.{SeatAt}
+use Rattle.seat_table.specs.Waits.{HasWaited}
+use Rattle.node_slots.specs.Reclaiming.{HasReclaimed}
+use Rattle.citrus_tree.specs.Deletes.{HasSearched, KeepsRest, BeginsByLookup}
+use Rattle.prcu_model.specs.declared.operation.Told.{Told as Reply}
+use Rattle.core_state.specs.declared.view.Waiting.{Waiting}
+use Rattle.seat_table.proofs.SeveralSteps.{seen_more, enters_steps, makes_steps, prefix_steps, told_steps}
+use Rattle.node_slots.proofs.Takes.{each_begins}
+use Rattle.prcu_marks.specs.declared.mark.Side.{Side}
+use Rattle.core_state.specs.declared.view.SearchState.{SearchState}
+use Rattle.citrus_tree.specs.Hops.{LoadsLinks}
+use Rattle.core_state.specs.declared.act.Act.TheVariants as acts
+use Rattle.core_points.specs.declared.stage.Stage.TheVariants as at
+
+-- What steps and searches leave of marks, and what they leave alone.
 
 -- the retired slots and the waits are the same
 record Rest (v x : View) : Type 0 where
@@ -164,3 +182,329 @@ answered_on {u} {v} {w} {key} {later = later} g a n none = record {
   last = (let split = entered_for-append u.allowance.place key a.more later in let first = a.last in omega arith);
   said = a.said;
 }
+
+-- The front made odd and even.
+
+-- exchanges of the front were lost
+pub record Tried (v w : View) : Type 0 where
+  pub steps : IsPrefix v.trail.steps w.trail.steps
+  pub rest : w ≡ record v { latest = w.latest; trail = w.trail }
+
+pub tried_none : (v : View) → Tried v v
+tried_none v = record { steps = no_further v v refl; rest = refl }
+
+module _ (k : Shape) (v w : View) (t : Tried v w) where
+  pub may_open : (expected : ℕ) → expected % 2 ≡ 0 → v.moving ≡ None → v.commit ≡ None → IsAsked k w (acts.OpenCommit expected)
+  may_open expected even settled paid = λ now. (
+    tt,
+    record { even = even; settled = ap (λ (z : View). z.moving) t.rest ∙ settled; paid = ap (λ (z : View). z.commit) t.rest ∙ paid },
+  )
+
+  module _ (expected found : ℕ) (x : View) (told : Told k w (acts.OpenCommit expected) found x) where
+    pub opens : found ≡ expected → Opened v found x
+    opens same =
+        let u : View = noted w (acts.OpenCommit expected) found in
+        let goes : x ≡ record (with_front u (expected + 1)) { commit = Some (record { found = expected; stored = false }) } =
+        told.goes ∙ ap (λ z. cond z (record (with_front u (expected + 1)) { commit = Some (record { found = expected; stored = false }) })
+        (with_front u found)) (eq-eqb found expected same) in
+        let latest = ap (λ (z : View). z.latest) goes in
+        let trail = ap (λ (z : View). z.trail) goes in
+        record {
+          steps = prefix_trans v.trail.steps w.trail.steps x.trail.steps t.steps (further w _ goes refl);
+          rest = goes ∙ (λ i. record (t.rest i) {
+            commit = Some (record { found = (sym same) i; stored = false });
+            latest = (sym latest) i;
+            trail = (sym trail) i;
+          });
+        }
+
+    pub tries : found ≢ expected → Tried v x
+    tries other =
+        let u : View = noted w (acts.OpenCommit expected) found in
+        let goes : x ≡ with_front u found =
+        told.goes ∙ ap (λ z. cond z (record (with_front u (expected + 1)) { commit = Some (record { found = expected; stored = false }) })
+        (with_front u found)) (ne_eqb found expected other) in
+        let latest = ap (λ (z : View). z.latest) goes in
+        let trail = ap (λ (z : View). z.trail) goes in
+        record {
+          steps = prefix_trans v.trail.steps w.trail.steps x.trail.steps t.steps (further w _ goes refl);
+          rest = goes ∙ (λ i. record (t.rest i) { latest = (sym latest) i; trail = (sym trail) i });
+        }
+
+    pub opens_at : found ≡ expected → ((op : Op) (kept e : ℕ) (u : Update) → IsAt k op kept (at.Commit u e) v
+        → IsAt k op kept (at.Commit u expected) w)
+        → (op : Op) (kept e : ℕ) (u : Update) → IsAt k op kept (at.Commit u e) v → IsAt k op kept (at.Store u found) x
+    opens_at same go op kept e u a = subst (λ n. IsAt k op kept (at.Store u n) x) (sym same)
+        (passes_commit_made same (go op kept e u a) told)
+
+    pub tries_at : found ≢ expected → (next : ℕ) → next % 2 ≡ 0
+        → ((op : Op) (kept e : ℕ) (u : Update) → IsAt k op kept (at.Commit u e) v → IsAt k op kept (at.Commit u expected) w)
+        → (op : Op) (kept e : ℕ) (u : Update) → IsAt k op kept (at.Commit u e) v → IsAt k op kept (at.Commit u next) x
+    tries_at other next even go op kept e u a = passes_commit_again other (go op kept e u a) told next even
+
+pub any_begins : (k : Shape) (v : View) (expected : ℕ) → expected % 2 ≡ 0 → (op : Op) (kept e : ℕ) (u : Update)
+    → IsAt k op kept (at.Commit u e) v → IsAt k op kept (at.Commit u expected) v
+any_begins k v expected even op kept e u a = commits_any a expected even
+
+module _ (k : Shape) (v w : View) (front : ℕ) where
+  pub may_close : v.commit ≡ Some (record { found = front; stored = true }) → IsAsked k v (acts.CloseCommit (front + 2))
+  may_close odd = λ now. (tt, (front, odd, refl))
+
+  pub closes : Told k v (acts.CloseCommit (front + 2)) (front + 2) w → Closed v w
+  closes told = let latest = ap (λ (z : View). z.latest) told.goes in let trail = ap (λ (z : View). z.trail) told.goes in
+      record {
+        steps = further v _ told.goes refl;
+        rest = told.goes ∙ (λ i. record v { commit = None; latest = (sym latest) i; trail = (sym trail) i });
+      }
+
+  pub closes_at : Told k v (acts.CloseCommit (front + 2)) (front + 2) w → (op : Op) (kept : ℕ) (u : Update)
+      → IsAt k op kept (at.Even u front) v → IsAt k op kept (past_even u ((front + 2) / 2)) w
+  closes_at told op kept u a = passes_even a told
+
+-- What calls leave of the slots that a place has retired, one after another.
+
+-- nothing is changed, or slots are retired and listed
+pub slots_more : (s t : SeatAt) (more : List (ℕ × ℕ × Bool)) (later : List ℕ) → t.view.counts.waits ≡ s.view.counts.waits
+    → t.view.wait ≡ s.view.wait → retired_marks t.view ≡ retired_marks s.view ++ more → t.listed ≡ s.listed ++ later → KeepsSlots s t
+slots_more s t more later waits wait stay listed =
+    record { waits = omega arith; wait = λ _. wait; retired = λ _. (more, stay); listed = λ _. (later, listed) }
+
+pub slots_same : (s t : SeatAt) → t.view.counts.waits ≡ s.view.counts.waits → t.view.wait ≡ s.view.wait
+    → retired_marks t.view ≡ retired_marks s.view → t.listed ≡ s.listed → KeepsSlots s t
+slots_same s t waits wait stay listed = slots_more s t [] [] waits wait (stay ∙ sym (append-nil (retired_marks s.view)))
+    (listed ∙ sym (append-nil s.listed))
+
+pub slots_self : (s : SeatAt) → KeepsSlots s s
+slots_self s = slots_same s s refl refl refl refl
+
+pub slots_rest : (s t : SeatAt) → KeepsRest s.view t.view → t.listed ≡ s.listed → KeepsSlots s t
+slots_rest s t rest listed = slots_same s t rest.waits.count rest.waits.wait rest.stay listed
+
+pub slots_searched : (s t : SeatAt) (key : ℕ) → HasSearched s.view key t.view → t.listed ≡ s.listed → KeepsSlots s t
+slots_searched s t key searched listed = slots_same s t searched.waits.count searched.waits.wait searched.stay listed
+
+pub slots_goes : (s t : SeatAt) (marks : List Mark) → Goes s.view t.view marks → t.listed ≡ s.listed → KeepsSlots s t
+slots_goes s t marks goes listed = slots_same s t goes.waits goes.wait
+    (ap (map (λ (r : Retired). (r.slot, r.unlinked, r.waited))) goes.retired) listed
+
+-- a wait was begun
+pub slots_later : (s t : SeatAt) → s.view.counts.waits < t.view.counts.waits → KeepsSlots s t
+slots_later s t later = record {
+  waits = omega arith;
+  wait = λ same. absurd (omega arith);
+  retired = λ same. absurd (omega arith);
+  listed = λ same. absurd (omega arith);
+}
+
+pub waited_later : {k : Shape} {v w : View} {low high : ℕ} → HasWaited k v low high w → v.counts.waits < w.counts.waits
+waited_later waited =
+    let a = ap (λ (x : View). x.counts.waits) ((waited.2).ended).others in
+    let b = ap (λ (x : View). x.counts.waits) (waited.1).others in
+    omega arith
+
+pub slots_reclaimed : {k : Shape} {listed : List ℕ} (s t : SeatAt) → HasReclaimed k s.view listed t.view → KeepsSlots s t
+slots_reclaimed s t back = slots_later s t (let a = ap (λ (x : View). x.counts.waits) back.rest in omega arith)
+
+-- one call after another
+pub slots_on : (r s t : SeatAt) → KeepsSlots r s → KeepsSlots s t → KeepsSlots r t
+slots_on r s t f g = record {
+  waits = let a = f.waits in let b = g.waits in omega arith;
+  wait = λ same. g.wait (late same) ∙ f.wait (early same);
+  retired = λ same. let a = f.retired (early same) in let b = g.retired (late same) in
+      (a.0 ++ b.0, b.1 ∙ ap (λ xs. xs ++ b.0) a.1 ∙ append_assoc (retired_marks r.view) a.0 b.0);
+  listed = λ same. let a = f.listed (early same) in let b = g.listed (late same) in
+      (a.0 ++ b.0, b.1 ∙ ap (λ xs. xs ++ b.0) a.1 ∙ append_assoc r.listed a.0 b.0);
+}
+  where
+    early : t.view.counts.waits ≡ r.view.counts.waits → s.view.counts.waits ≡ r.view.counts.waits
+    early same = let a = f.waits in let b = g.waits in omega arith
+
+    late : t.view.counts.waits ≡ r.view.counts.waits → t.view.counts.waits ≡ s.view.counts.waits
+    late same = let a = f.waits in let b = g.waits in omega arith
+
+pub searched_slots : (r s t : SeatAt) (key : ℕ) → KeepsSlots r s → HasSearched s.view key t.view → t.listed ≡ s.listed → KeepsSlots r t
+searched_slots r s t key f searched listed = slots_on r s t f (slots_searched s t key searched listed)
+
+pub goes_slots : (r s t : SeatAt) (marks : List Mark) → KeepsSlots r s → Goes s.view t.view marks → t.listed ≡ s.listed → KeepsSlots r t
+goes_slots r s t marks f goes listed = slots_on r s t f (slots_goes s t marks goes listed)
+
+pub rest_slots : (r s t : SeatAt) → KeepsSlots r s → KeepsRest s.view t.view → t.listed ≡ s.listed → KeepsSlots r t
+rest_slots r s t f rest listed = slots_on r s t f (slots_rest s t rest listed)
+
+-- What calls leave of the latest wait, one after another.
+
+-- none was begun
+pub none_yet : (v : View) → HasBegunNone v v
+none_yet v = record { place = refl; seen = ([], append-nil v.seen); count = refl; wait = refl }
+
+pub none_begun : {v w : View} {marks : List Mark} → HasGone v w marks → w.counts.waits ≡ v.counts.waits → w.wait ≡ v.wait → HasBegunNone v w
+none_begun gone count wait = record { place = gone.same; seen = gone.begins; count = count; wait = wait }
+
+pub none_on : {u v w : View} → HasBegunNone u v → HasBegunNone v w → HasBegunNone u w
+none_on {u} {v} {w} a b = record {
+  place = b.place ∙ a.place;
+  seen = prefix_trans u.seen v.seen w.seen a.seen b.seen;
+  count = b.count ∙ a.count;
+  wait = b.wait ∙ a.wait;
+}
+
+-- one was
+abbrev count_of : Option Waiting → ℕ
+count_of None = 0
+count_of (Some wait) = wait.count
+
+pub waited_first : {k : Shape} {v w : View} {low high : ℕ} → HasWaited k v low high w → HasBegunFirst v w
+waited_first {k} {v} {w} {low} {high} (mid, began, over) =
+    let one : Some over.wait ≡ Some (new_wait v low high began.clock began.leaves.before) = sym over.was ∙ began.wait_is in
+    let count : over.new.count ≡ v.counts.waits = ap (λ (z : Waiting). z.count) over.ended.same ∙ ap count_of one in record {
+      before = v;
+      low = low;
+      high = high;
+      after = mid;
+      none = none_yet v;
+      begun = began;
+      seen = seen_more mid w _ over.ended.leaves;
+      wait = over.new;
+      latest = over.ended.wait_is;
+      later = omega (arith, count);
+    }
+
+first_seen : {v w : View} → HasBegunFirst v w → IsPrefix v.seen w.seen
+first_seen {v} {w} first = prefix_trans v.seen first.before.seen w.seen first.none.seen
+    (prefix_trans first.before.seen first.after.seen w.seen (seen_more first.before first.after _ first.begun.leaves) first.seen)
+
+-- nothing of waits before, or after
+pub first_later : {u v w : View} → HasBegunNone u v → HasBegunFirst v w → HasBegunFirst u w
+first_later none first = record {
+  before = first.before;
+  low = first.low;
+  high = first.high;
+  after = first.after;
+  none = none_on none first.none;
+  begun = first.begun;
+  seen = first.seen;
+  wait = first.wait;
+  latest = first.latest;
+  later = subst (λ n. n ≤ first.wait.count) none.count first.later;
+}
+
+pub first_stays : {u v w : View} → HasBegunFirst u v → IsPrefix v.seen w.seen → w.wait ≡ v.wait → HasBegunFirst u w
+first_stays {u} {v} {w} first seen same = record {
+  before = first.before;
+  low = first.low;
+  high = first.high;
+  after = first.after;
+  none = first.none;
+  begun = first.begun;
+  seen = prefix_trans first.after.seen v.seen w.seen first.seen seen;
+  wait = first.wait;
+  latest = same ∙ first.latest;
+  later = first.later;
+}
+
+pub reclaimed_first : {k : Shape} {v w : View} {listed : List ℕ} → HasReclaimed k v listed w → HasBegunFirst v w
+reclaimed_first {k} {v} {w} back = first_stays (waited_first back.waits) (each_begins back.waited w _ back.gives.marks)
+    (ap (λ (z : View). z.wait) back.gives.rest)
+
+-- a lookup begins none
+pub gets_wait : {v w : View} {key : ℕ} {told : Reply} → Gets v key told w → KeepsWait v w
+gets_wait gets = let goes = goes_looked gets.2 in inl (none_begun goes.gone goes.waits goes.wait)
+
+-- one wait, and then another
+first_twice : {u v w : View} → HasBegunFirst u v → u.counts.waits ≤ v.counts.waits → HasBegunFirst v w → HasBegunFirst u w
+first_twice {u} {v} {w} first more second = record {
+  before = first.before;
+  low = first.low;
+  high = first.high;
+  after = first.after;
+  none = first.none;
+  begun = first.begun;
+  seen = prefix_trans first.after.seen v.seen w.seen first.seen (first_seen second);
+  wait = second.wait;
+  latest = second.latest;
+  later = let later = second.later in omega arith;
+}
+
+-- one call after another
+pub wait_later : {u v w : View} → HasBegunNone u v → KeepsWait v w → KeepsWait u w
+wait_later {u} {v} {w} none later = ⊎_elim (λ (still : HasBegunNone v w). inl (none_on none still))
+    (λ (first : HasBegunFirst v w). inr (first_later none first)) later
+
+pub wait_on : {u v w : View} → u.counts.waits ≤ v.counts.waits → KeepsWait u v → KeepsWait v w → KeepsWait u w
+wait_on {u} {v} {w} more early late = ⊎_elim
+    (λ (none : HasBegunNone u v). wait_later none late)
+    (λ (first : HasBegunFirst u v). inr (⊎_elim
+    (λ (still : HasBegunNone v w). first_stays first still.seen still.wait)
+    (λ (second : HasBegunFirst v w). first_twice first more second)
+    late))
+    early
+
+-- An update begins by a lookup: the first of its tries does.
+
+-- nothing was done yet, or a lookup was made first
+abbrev pub MayHaveBegun : View → ℕ → View → Type 0
+MayHaveBegun v key w = (w ≡ v) ⊎ BeginsByLookup v key w
+
+pub begins_later : {v w x : View} {key : ℕ} {marks : List Mark} → BeginsByLookup v key w → HasGone w x marks → BeginsByLookup v key x
+begins_later {marks = marks} b gone = record {
+  looked = b.looked;
+  count = b.count;
+  left = b.left;
+  section = b.section;
+  made = b.made;
+  marks = b.marks ++ marks;
+  later = gone_on b.later gone;
+}
+
+pub looked_first : {v w : View} {key : ℕ} {answer : Option ℕ} → Looked v key answer w → BeginsByLookup v key w
+looked_first {v} {w} l = record {
+  looked = w;
+  count = v.counts.sections;
+  left = v.counts.sections;
+  section = (goes_looked l).gone;
+  made = l.made;
+  marks = [];
+  later = gone_same;
+}
+
+searched_first : {v w : View} {key : ℕ} → HasSearched v key w → BeginsByLookup v key w
+searched_first {v} {w} s = record {
+  looked = w;
+  count = s.count;
+  left = s.left;
+  section = s.gone;
+  made = s.made;
+  marks = [];
+  later = gone_same;
+}
+
+-- one more section of a try
+pub begins_looked : {v w x : View} {key : ℕ} {answer : Option ℕ} → MayHaveBegun v key w → Looked w key answer x → BeginsByLookup v key x
+begins_looked {v} {w} {x} {key} begun l = ⊎_elim
+    (λ (e : w ≡ v). subst (λ z. BeginsByLookup z key x) e (looked_first l))
+    (λ (b : BeginsByLookup v key w). begins_later b (goes_looked l).gone)
+    begun
+
+pub begins_searched : {v w x : View} {key : ℕ} → MayHaveBegun v key w → HasSearched w key x → BeginsByLookup v key x
+begins_searched {v} {w} {x} {key} begun s = ⊎_elim
+    (λ (e : w ≡ v). subst (λ z. BeginsByLookup z key x) e (searched_first s))
+    (λ (b : BeginsByLookup v key w). begins_later b s.gone)
+    begun
+
+-- Each round of a call makes a step.
+
+pub search_steps : {v w : View} {key : ℕ} {state : SearchState} → IsSearching v key state w → HasStepped v w
+search_steps {v} {w} x =
+    let entered = enters_steps x.entered in
+    let loaded = makes_steps x.entry w x.made in
+    omega (arith, entered, loaded)
+
+pub links_steps : {k : Shape} {v w : View} {s : ℕ} {b : Side} {n : ℕ} → LoadsLinks k v s b n w → HasStepped v w
+links_steps {k} {v} {w} {s} {b} {n} l =
+    let left = told_steps l.left_told in
+    let right = told_steps l.right_told in
+    omega (arith, left, right)
+
+pub room_steps : {k : Shape} {v w : View} → MakesRoom k v w → length v.trail.steps ≤ length w.trail.steps
+room_steps {k} {v} {w} room =
+    ⊎_elim (λ (x : Goes v w []). prefix_steps v w x.gone.steps) (λ (x : Reused k v w). prefix_steps v w x.gone.steps) room

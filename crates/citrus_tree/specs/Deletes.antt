@@ -1,6 +1,5 @@
--- What the parts of a delete come to, from point to point of the call.
--- Source: docs/TREE_CALLS.md, "The calls".
-use Rattle.std.specs.Prelude.{◌≡◌, ◌⊎◌, ℕ, ◌+◌, ◌*◌, ◌^◌, ◌<◌, ◌≤◌, ◌==◌, if◌then◌else◌, List, [], ◌∷◌, ◌++◌, length, map, Option, Some, None}
+-- What the parts of a delete come to, and with what an update begins.
+use Rattle.std.specs.Prelude.{◌≡◌, ◌⊎◌, ℕ, ◌+◌, ◌*◌, ◌^◌, ◌<◌, ◌≤◌, ◌==◌, if◌then◌else◌, List, [], ◌∷◌, ◌++◌, length, map, Option, Some, None, ◌≢◌}
 use mathlib.Core.List.{IsPrefix}
 use Rattle.prcu_marks.specs.declared.mark.Mark.{Mark}
 use Rattle.prcu_marks.specs.declared.mark.Mark.TheVariants.{Entered, Left, Began, Ended, Done, Unlinked}
@@ -12,27 +11,28 @@ use Rattle.prcu_model.specs.declared.operation.Reply.{Reply}
 use Rattle.prcu_model.specs.declared.operation.Reply.TheVariants.{Gone}
 use Rattle.prcu_model.specs.declared.operation.Told.{Told}
 use Rattle.prcu_model.specs.declared.operation.Op.{Op}
-use Rattle.prcu_model.specs.declared.operation.Op.TheVariants.{Del}
+use Rattle.prcu_model.specs.declared.operation.Op.TheVariants.{Del, Put, Get, Set}
 use Rattle.core_state.specs.declared.shape.Shape.{Shape}
 use Rattle.core_state.specs.declared.view.HeldLock.{HeldLock}
 use Rattle.core_state.specs.declared.view.Retired.{Retired}
 use Rattle.core_state.specs.declared.view.View.{View}
 use Rattle.core_state.specs.declared.words.Field.TheVariants.{Value}
-use Rattle.core_state.specs.views.Known.{known_in, known_under}
+use Rattle.core_state.specs.Views.{known_in, known_under}
 use Rattle.core_points.specs.declared.stage.Node.{Node}
 use Rattle.core_points.specs.declared.stage.Successor.{Successor}
 use Rattle.core_points.specs.declared.stage.Target.{Target}
-use Rattle.core_points.specs.declared.stage.Last.TheVariants as last
 use Rattle.core_points.specs.declared.stage.Stage.{Stage}
-use Rattle.core_points.specs.declared.stage.Stage.TheVariants as at
-use Rattle.tree_points.specs.At.{IsAt}
-use Rattle.citrus_tree.specs.Going.{MayBegin}
-use Rattle.citrus_tree.specs.Gone.{KeepsWait, NeededSlots, retired_marks, waits_in}
+use Rattle.tree_points.specs.Points.{IsAt, HasGone}
+use Rattle.citrus_tree.specs.Going.{MayBegin, KeepsWait, NeededSlots, retired_marks, waits_in}
 use Rattle.seat_table.specs.Seats.{SeatAt}
 use Rattle.seat_table.specs.Sections.{Makes}
 use Rattle.citrus_tree.specs.Lookups.{is_load, is_of_lookup}
 use Rattle.citrus_tree.specs.Replies.{DelsBy, IsMoveWait, RetiresInOrder, TookOut}
-use Rattle.tree_points.specs.Progress.{HasGone}
+use Rattle.core_points.specs.declared.stage.Last.TheVariants as last
+use Rattle.core_points.specs.declared.stage.Stage.TheVariants as at
+
+-- What the parts of a delete come to, from point to point of the call.
+-- Source: docs/TREE_CALLS.md, "The calls".
 
 -- A call stands at this point.
 abbrev pub StandsAt : Shape → Stage → View → Type 0
@@ -170,3 +170,31 @@ pub record TakesValue (v : View) (node key number : ℕ) (w : View) : Type 0 whe
 abbrev pub TellsTaken : View → ℕ → ℕ → Option ℕ → View → Type 0
 TellsTaken v key number (Some value) w = TookOut (updates_of w.seen) v.allowance.place key value number
 TellsTaken v key number None w = ⊥
+
+-- With what an update begins.
+-- Source: docs/TREE_CALLS.md, "The calls".
+
+-- The first steps are those of a lookup: a section with the key was entered, there were loads in it alone, and it was left. No other step
+-- was made before.
+pub record BeginsByLookup (v : View) (key : ℕ) (w : View) : Type 0 where
+  pub looked : View
+  pub count : ℕ
+  pub left : ℕ
+  pub section : HasGone v looked (Entered v.allowance.place count key ∷ (Left v.allowance.place left ∷ []))
+  pub made : Makes is_of_lookup v.trail looked.trail
+  pub marks : List Mark
+  pub later : HasGone looked w marks
+
+-- A del first sees to it that the place has a spare, and room for two more retired slots. Where it has both it begins by its lookup.
+pub record BeginsOnceReady (k : Shape) (v : View) (key : ℕ) (w : View) : Type 0 where
+  pub ready : View
+  pub room : HasMadeRoom k v ready
+  pub at_once : length v.hands.retired + 1 < k.room → v.hands.spare ≢ None → ready ≡ v
+  pub lookup : BeginsByLookup ready key w
+
+-- with what the call of an operation begins; a get is a lookup and nothing else
+abbrev pub Begins : Shape → View → Op → View → Type 0
+Begins k v (Put key value) w = BeginsByLookup v key w
+Begins k v (Set key value) w = BeginsByLookup v key w
+Begins k v (Del key) w = BeginsOnceReady k v key w
+Begins k v (Get key) w = BeginsByLookup v key w

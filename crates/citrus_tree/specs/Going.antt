@@ -1,36 +1,116 @@
--- What the parts of the calls leave.
--- Source: docs/TREE_CALLS.md, "The calls".
-use Rattle.std.specs.Prelude.{◌≡◌, ◌≢◌, ◌⊎◌, ℕ, ◌+◌, ◌≤◌, false, List, [], ◌∷◌, ◌++◌, length, Option, Some, None}
+-- What calls leave, whole and part by part.
+use Rattle.std.specs.Prelude.{◌≡◌, ◌⊎◌, ℕ, ◌+◌, ◌-◌, ◌*◌, ◌≤◌, Bool, List, [], ◌∷◌, ◌++◌, length, map, Some, None, ◌≢◌, false, Option, true}
 use Rattle.std.specs.List.{AllByRecursion}
-use Rattle.std.specs.FinMap as finite
 use mathlib.Core.List.{IsPrefix}
 use Rattle.prcu_marks.specs.declared.mark.Mark.{Mark}
-use Rattle.prcu_marks.specs.declared.mark.Mark.TheVariants.{Done}
-use Rattle.prcu_marks.specs.declared.mark.Side.{Side}
+use Rattle.prcu_marks.specs.declared.mark.Mark.TheVariants.{Entered, Left, Began, Ended, Done}
+use Rattle.prcu_marks.specs.Callers.{entered_for}
 use Rattle.prcu_marks.specs.Marks.{updates_of}
-use Rattle.prcu_model.specs.declared.operation.Op.{Op}
-use Rattle.prcu_model.specs.declared.operation.Op.TheVariants.{Set}
-use Rattle.prcu_model.specs.Dictionary.{map_of}
-use Rattle.prcu_model.specs.History.{IsLegal}
+use Rattle.prcu_model.specs.Dictionary.{map_of, IsLegal}
 use Rattle.core_state.specs.declared.shape.Shape.{Shape}
+use Rattle.core_state.specs.declared.view.Retired.{Retired}
+use Rattle.core_state.specs.declared.view.View.{View}
+use Rattle.core_state.specs.declared.view.Waiting.{Waiting}
+use Rattle.seat_table.specs.Seats.{SeatAt}
+use Rattle.seat_table.specs.Sections.{HasBegun}
+use Rattle.prcu_marks.specs.declared.mark.Side.{Side}
+use Rattle.prcu_model.specs.declared.operation.Op.{Op}
+use Rattle.prcu_model.specs.declared.operation.Op.TheVariants.{Set, Put}
 use Rattle.core_state.specs.declared.view.Held.{Held}
 use Rattle.core_state.specs.declared.view.SearchState.TheVariants.{Found}
-use Rattle.core_state.specs.declared.view.View.{View}
-use Rattle.core_state.specs.views.Known.{LoadedGeneration}
-use Rattle.core_state.specs.views.Views.{Works}
+use Rattle.core_state.specs.Views.{LoadedGeneration, Works}
 use Rattle.core_points.specs.declared.stage.Spot.{Spot}
 use Rattle.core_points.specs.declared.stage.Stage.{Stage}
-use Rattle.core_points.specs.declared.stage.Stage.TheVariants as at
 use Rattle.core_points.specs.declared.stage.Aim.TheVariants.{Leaf}
 use Rattle.seat_table.specs.Gains.{IsSlot}
-use Rattle.tree_points.specs.At.{IsAt}
-use Rattle.tree_points.specs.Progress.{HasGone}
+use Rattle.tree_points.specs.Points.{IsAt, HasGone}
 use Rattle.citrus_tree.specs.declared.insert.Reached.{Reached}
 use Rattle.citrus_tree.specs.declared.replace.Holder.{Holder}
 use Rattle.citrus_tree.specs.declared.replace.Replaced.{Replaced}
-use Rattle.citrus_tree.specs.Gone.{HasBegunFirst, IsOfTry, NeededRoom, waits_in}
 use Rattle.citrus_tree.specs.Hops.{Records}
 use Rattle.citrus_tree.specs.Lookups.{Looked}
+use Rattle.std.specs.FinMap as finite
+use Rattle.core_points.specs.declared.stage.Stage.TheVariants as at
+use Rattle.core_points.specs.declared.stage.Last.TheVariants as last
+use Rattle.core_points.specs.declared.stage.Update.TheVariants as update
+
+-- What a call leaves of marks, and what it leaves alone.
+-- Source: docs/TREE_CALLS.md, "The calls".
+
+-- a mark of a section with the key at the place, or of a wait there for everybody
+abbrev pub IsOfTry : ℕ → ℕ → Mark → Type 0
+IsOfTry place key (Entered p c x) = (p ≡ place) × (x ≡ key)
+IsOfTry place key (Left p c) = p ≡ place
+IsOfTry place key (Began p c low high) = (p ≡ place) × (low ≡ 0) × (high ≡ 18446744073709551615)
+IsOfTry place key (Ended p c) = p ≡ place
+IsOfTry place key _ = ⊥
+
+-- how many waits were begun
+abbrev pub waits_in : List Mark → ℕ
+waits_in [] = 0
+waits_in (Began p c low high ∷ ms) = 1 + waits_in ms
+waits_in (_ ∷ ms) = waits_in ms
+
+-- Sections with the key were entered and left, one at least. At most one wait was begun, which is for everybody.
+pub record AreTries (place key : ℕ) (marks : List Mark) : Type 0 where
+  pub each : AllByRecursion (IsOfTry place key) marks
+  pub entered : 1 ≤ entered_for place key marks
+  pub once : waits_in marks ≤ 1
+
+-- So far the place has begun no wait, and its latest one is as it was: no gate of it was turned.
+pub record HasBegunNone (v w : View) : Type 0 where
+  pub place : w.allowance.place ≡ v.allowance.place
+  pub seen : IsPrefix v.seen w.seen
+  pub count : w.counts.waits ≡ v.counts.waits
+  pub wait : w.wait ≡ v.wait
+
+-- A wait was begun, before which none had been. The latest wait is that one, or one that was begun later.
+pub record HasBegunFirst (v w : View) : Type 0 where
+  pub before : View
+  pub low : ℕ
+  pub high : ℕ
+  pub after : View
+  pub none : HasBegunNone v before
+  pub begun : HasBegun before low high after
+  pub seen : IsPrefix after.seen w.seen
+  pub wait : Waiting
+  pub latest : w.wait ≡ Some wait
+  pub later : v.counts.waits ≤ wait.count
+
+-- The call began no wait, and the latest one is as it was; or it was so until the call began one. So no gate was turned of a wait that was
+-- begun before the call.
+abbrev pub KeepsWait : View → View → Type 0
+KeepsWait v w = HasBegunNone v w ⊎ HasBegunFirst v w
+
+-- No slot was free for the place, and it had some to give back: slots were retired at the call, and with these, and as many as each other
+-- place may keep from it, the dictionary filled the slots at some front in the call: after these marks. A put begins a wait only there.
+pub record NeededRoom (k : Shape) (v w : View) : Type 0 where
+  pub retired : 1 ≤ length v.hands.retired
+  pub until : List Mark
+  pub since : IsPrefix v.seen until
+  pub made : IsPrefix until w.seen
+  pub fills : k.slots ≤ finite.len (map_of (updates_of until)) + length v.hands.retired + (k.room + 4) * (k.places - 1)
+
+-- A del begins a wait for everybody only where the place had room for one more retired slot at most at the call; or where it had no spare
+-- then, and no slot was free for one.
+abbrev pub NeededSlots : Shape → View → View → Type 0
+NeededSlots k v w = (k.room ≤ length v.hands.retired + 1) ⊎ ((v.hands.spare ≡ None) × NeededRoom k v w)
+
+-- a retired slot with what a later wait needs of it: where its unlinking stands among the marks, and whether it was waited for
+abbrev pub retired_marks : View → List (ℕ × ℕ × Bool)
+retired_marks v = map (λ (r : Retired). (r.slot, r.unlinked, r.waited)) v.hands.retired
+
+-- Where the place has begun no further wait, its latest one is as it was. What was retired and listed stays so, in its order, and what
+-- was retired and listed since is behind.
+pub record KeepsSlots (s t : SeatAt) : Type 0 where
+  pub waits : s.view.counts.waits ≤ t.view.counts.waits
+  pub wait : t.view.counts.waits ≡ s.view.counts.waits → t.view.wait ≡ s.view.wait
+  pub retired : t.view.counts.waits ≡ s.view.counts.waits
+      → (later : List (ℕ × ℕ × Bool)) × (retired_marks t.view ≡ retired_marks s.view ++ later)
+  pub listed : t.view.counts.waits ≡ s.view.counts.waits → (later : List ℕ) × (t.listed ≡ s.listed ++ later)
+
+-- What the parts of the calls leave.
+-- Source: docs/TREE_CALLS.md, "The calls".
 
 -- What the first step of a call tells of its seat: it works at a place, and the table has one.
 pub record IsSeated (k : Shape) (v : View) : Type 0 where
@@ -127,3 +207,46 @@ Stores v key value done w = (before : List Mark) × MakesUpdate v (Set key value
 abbrev pub set_stage : Option Replaced → Stage
 set_stage None = at.EnterClock
 set_stage (Some done) = at.Finished
+
+-- Where the parts of a put stand, and what they leave.
+-- Source: docs/TREE_CALLS.md, "The calls".
+
+-- where a put stands that found its key: it has a slot in hand to put back, or is done
+abbrev pub old_stage : Option Held → Stage
+old_stage None = at.Finished
+old_stage (Some held) = at.Raise
+
+-- where it stands after it tried to take a slot
+abbrev pub taken_stage : Option ℕ → Spot → Stage
+taken_stage None spot = at.Finished
+taken_stage (Some slot) spot = at.LeafField spot 0
+
+-- where it stands after it was to have a filled slot in hand
+abbrev pub filled_stage : Option ℕ → Spot → Stage
+filled_stage None spot = at.Finished
+filled_stage (Some slot) spot = at.LeafLock spot
+
+-- where it stands after it compared under the lock what it had recorded
+abbrev pub held_stage : Bool → Spot → Stage
+held_stage true spot = at.Commit (update.Leaf spot) 0
+held_stage false spot = at.Unlock last.Again
+
+-- where it stands after it tried to link its leaf
+abbrev pub linked_stage : Option ℕ → Stage
+linked_stage None = at.EnterClock
+linked_stage (Some number) = at.Finished
+
+-- All retired slots were given back after a wait for everybody, which was needed.
+pub record Reused (k : Shape) (v w : View) : Type 0 where
+  pub gone : HasGone v w (Began v.allowance.place v.counts.waits 0 18446744073709551615 ∷ (Ended v.allowance.place v.counts.waits ∷ []))
+  pub needed : NeededRoom k v w
+  pub none : w.hands.retired ≡ []
+  pub wait : HasBegunFirst v w
+
+-- No wait was begun, and the retired slots are the same; or they were given back.
+abbrev pub MakesRoom : Shape → View → View → Type 0
+MakesRoom k v w = Goes v w [] ⊎ Reused k v w
+
+-- The pair was added by the update of this number, the last of the history so far.
+abbrev pub Links : View → ℕ → ℕ → ℕ → View → Type 0
+Links v key value number w = (before : List Mark) × MakesUpdate v (Put key value) before number w

@@ -1,32 +1,35 @@
--- What a search is told, hop by hop.
--- Source: docs/TREE_CALLS.md, "The calls".
+-- Searches: what one is told, hop by hop, and how many steps it makes at most.
 use base.Fml.{GName}
 use denote.MutBor.{MutBor}
-use Rattle.std.specs.Prelude.{◌≡◌, ◌≢◌, ℕ, Some, None}
+use Rattle.std.specs.Prelude.{◌≡◌, ◌≢◌, ℕ, Some, None, ◌+◌, ◌*◌, ◌≤◌, length, Option}
 use Rattle.prcu_marks.specs.declared.mark.Side.{Side}
 use Rattle.prcu_marks.specs.declared.mark.Side.TheVariants.{Left, Right}
 use Rattle.core_state.specs.declared.shape.Shape.{Shape}
 use Rattle.core_state.specs.declared.words.Field.TheVariants.{Tag}
 use Rattle.core_state.specs.declared.view.Reading.{Reading}
 use Rattle.core_state.specs.declared.view.SearchState.{SearchState}
-use Rattle.core_state.specs.declared.view.SearchState.TheVariants as at
 use Rattle.core_state.specs.declared.view.View.{View}
-use Rattle.core_state.specs.views.Known.{known_in, LoadedGeneration}
-use Rattle.core_state.specs.memory.Words.{step_side}
+use Rattle.core_state.specs.Views.{known_in, LoadedGeneration}
+use Rattle.core_state.specs.Memory.{step_side, slot_count}
 use Rattle.core_points.specs.declared.stage.Spot.{Spot}
-use Rattle.core_acts.specs.declared.act.Act.TheVariants.{SearchLoad}
-use Rattle.core_acts.specs.declared.act.Part.TheVariants as part
-use Rattle.seat_table.specs.Gains.{IsSlot}
+use Rattle.core_state.specs.declared.act.Act.TheVariants.{SearchLoad}
+use Rattle.seat_table.specs.Gains.{IsSlot, Told, AreFew}
 use Rattle.seat_table.specs.Seats.{SeatAt, TableAt, shape_of}
-use Rattle.seat_table.specs.Told.{Told}
 use Rattle.citrus_tree.specs.declared.descent.Step.{Step}
-use Rattle.citrus_tree.specs.declared.descent.Step.TheVariants as step
 use Rattle.citrus_tree.specs.declared.search.Hop.{Hop}
 use Rattle.citrus_tree.specs.declared.search.Hop.TheVariants.{Moved, Found, Ended}
 use Rattle.citrus_tree.specs.declared.search.Search.{Search}
 use Rattle.citrus_tree.specs.declared.search.End.{End}
 use Rattle.citrus_tree.specs.declared.search.End.TheVariants.{Hit, Missing}
 use Rattle.citrus_tree.specs.Lookups.{IsSearching, Looked}
+use Rattle.core_state.specs.declared.view.Section.{Section}
+use Rattle.seat_table.specs.Sections.{HasMadeAtMost}
+use Rattle.core_state.specs.declared.view.SearchState.TheVariants as at
+use Rattle.core_state.specs.declared.act.Part.TheVariants as part
+use Rattle.citrus_tree.specs.declared.descent.Step.TheVariants as step
+
+-- What a search is told, hop by hop.
+-- Source: docs/TREE_CALLS.md, "The calls".
 
 -- What a clause sees of a search: the table, the seat that takes its steps and the reference by which it was lent, the sought key, the slot
 -- and the side at which it stands, and what its last hop came to.
@@ -123,3 +126,34 @@ pub record Records (r : Reading) (spot : Spot) : Type 0 where
 abbrev pub Finishes : View → ℕ → End → View → Type 0
 Finishes v key (Hit value) w = Looked v key (Some value) w
 Finishes v key (Missing spot) w = (looked : Looked v key None w) × Records looked.reading spot
+
+-- How many steps a lookup makes at most, whatever steps others make meanwhile.
+-- Source: docs/TREE.md, "Why a get comes to its end".
+
+-- at how many slots a section has stood
+abbrev pub slots_in : Option Section → ℕ
+slots_in None = 0
+slots_in (Some section) = length section.reading.stood
+
+abbrev pub slots_met : View → ℕ
+slots_met v = slots_in v.section
+
+-- whether a step down came to a slot more
+abbrev pub slots_of : Step → ℕ
+slots_of (step.Moved slot side) = 1
+slots_of (step.Found slot) = 1
+slots_of step.Ended = 0
+
+-- A step down made two loads, and where it came to a slot a third. The search has stood at no more slots than the table has.
+pub record Costs (k : Shape) (v : View) (step : Step) (w : View) : Type 0 where
+  pub loads : length w.trail.steps ≡ length v.trail.steps + 2 + slots_of step
+  pub met : slots_met w ≡ slots_met v + slots_of step
+  pub few : AreFew k (slots_met w)
+
+-- Since v there were at most three steps for each slot at which the open section has stood.
+pub record KeepsPace (v w : View) : Type 0 where
+  pub pace : length w.trail.steps ≤ length v.trail.steps + 3 * slots_met w
+
+-- Between the two views at most three steps were made for each slot of the table, and so many more.
+abbrev pub EndsWithin : Shape → ℕ → View → View → Type 0
+EndsWithin k more = HasMadeAtMost (3 * slot_count k + more)

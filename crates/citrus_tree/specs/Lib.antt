@@ -1,12 +1,5 @@
 pub mod Lookups
-pub mod Holds
 pub mod Hops
-pub mod Bounded
-pub mod Gone
 pub mod Going
-pub mod Putting
 pub mod Replies
-pub mod Compares
-pub mod Clients
 pub mod Deletes
-pub mod Beginnings

@@ -14,12 +14,14 @@ use Rattle.core_state.specs.declared.view.SearchState.TheVariants.{At, Unread, F
 use Rattle.core_state.specs.declared.view.View.{View}
 use Rattle.core_state.specs.declared.words.Kind.{Kind}
 use Rattle.citrus_tree.specs.declared.descent.Descent.{Descent}
-use Rattle.citrus_tree.specs.declared.descent.Descent.TheVariants as descent
 use Rattle.core_state.specs.declared.words.Kind.TheVariants.{K17}
-use Rattle.core_state.specs.parts.ReaderParts.{state_slot}
+use Rattle.core_state.specs.Parts.{state_slot}
 use Rattle.list_laws.specs.Counts.{IsIn}
 use Rattle.seat_table.specs.Gains.{Sees, IsInformed}
-use Rattle.seat_table.specs.Sections.{Makes, is_entry, is_exit, HasEntered}
+use Rattle.seat_table.specs.Sections.{Makes, is_entry, is_exit, HasEntered, IsQuietReader}
+use Rattle.prcu_marks.specs.declared.mark.Side.{Side}
+use Rattle.seat_table.specs.Seats.{SeatAt, IsQuietSeat}
+use Rattle.citrus_tree.specs.declared.descent.Descent.TheVariants as descent
 
 -- the kinds of step of a lookup: those that enter, loads in the section, those that leave
 abbrev pub is_load : Kind → Bool
@@ -86,3 +88,32 @@ told_of (Some value) = record { reply = Val value; number = 0 }
 -- A get is told what the dictionary gave between the marks of its section.
 abbrev pub Gets : View → ℕ → Told → View → Type 0
 Gets v key told w = (answer : Option ℕ) × (told ≡ told_of answer) × Looked v key answer w
+
+-- A lookup whose section stays open, and what is known once it is left.
+-- Source: docs/TREE_CALLS.md, "The calls".
+
+-- From the view v a section with the key was entered, and is open. Its search has found the key, and loaded this value. The dictionary gave
+-- the key that value at a front since the section was entered, by all marks that there were at the load; the seat has seen a beginning of
+-- them, and all of its places.
+pub record IsHolding (v : View) (key value : ℕ) (w : View) : Type 0 where
+  pub slot : ℕ
+  pub parent : ℕ
+  pub side : Side
+  pub found : IsSearching v key (Found slot parent side (Some value)) w
+  pub marks : List Mark
+  pub sees : Sees w marks
+  pub said : WasSaid (updates_of marks) key (length (updates_of found.entered.leaves.before)) (Some value)
+
+-- what a hold comes to: the value, in a section that is open; or the key was absent at a front of a section that was left
+abbrev pub HoldsOrNot : View → ℕ → Option ℕ → View → Type 0
+HoldsOrNot v key (Some value) w = IsHolding v key value w
+HoldsOrNot v key None w = Looked v key None w
+
+-- afterwards the seat is quiet, but for the section that is open
+abbrev pub LeavesQuiet : Option ℕ → SeatAt → Type 0
+LeavesQuiet (Some value) s = IsQuietReader s
+LeavesQuiet None s = IsQuietSeat s
+
+-- Whatever was held in the section, the dictionary gave at a front between the section's marks.
+abbrev pub Releases : View → View → Type 0
+Releases w x = (v : View) (key value : ℕ) → IsHolding v key value w → Looked v key (Some value) x

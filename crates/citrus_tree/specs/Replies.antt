@@ -1,28 +1,32 @@
 -- What the calls of the tree are told.
 -- Source: docs/TREE_CALLS.md, "The calls".
-use Rattle.std.specs.Prelude.{◌≡◌, ◌⊎◌, ℕ, ◌+◌, ◌-◌, ◌*◌, ◌≤◌, List, [], ◌∷◌, ◌++◌, length, Option, Some, None}
-use Rattle.std.specs.FinMap as finite
+use Rattle.std.specs.Prelude.{◌≡◌, ◌⊎◌, ℕ, ◌+◌, ◌-◌, ◌*◌, ◌≤◌, List, [], ◌∷◌, ◌++◌, length, Option, Some, None, ◌≢◌}
 use mathlib.Core.List.{IsPrefix}
 use Rattle.prcu_marks.specs.declared.mark.Mark.{Mark}
 use Rattle.prcu_marks.specs.declared.mark.Mark.TheVariants.{Entered, Left, Began, Ended, Done, Unlinked}
-use Rattle.prcu_marks.specs.Callers.{IsNextKey, entered_for}
+use Rattle.prcu_marks.specs.Callers.{IsNextKey, entered_for, Caller}
 use Rattle.prcu_marks.specs.Marks.{own_of, updates_of}
 use Rattle.prcu_model.specs.declared.operation.Op.{Op}
-use Rattle.prcu_model.specs.declared.operation.Op.TheVariants.{Put, Del, Set}
+use Rattle.prcu_model.specs.declared.operation.Op.TheVariants.{Put, Del, Set, Get}
 use Rattle.prcu_model.specs.declared.operation.Reply.{Reply}
 use Rattle.prcu_model.specs.declared.operation.Reply.TheVariants.{New, Old, Full, Absent, Gone, Was}
 use Rattle.prcu_model.specs.declared.operation.Told.{Told}
 use Rattle.prcu_model.specs.declared.operation.Update.{Update}
-use Rattle.prcu_model.specs.Dictionary.{WasSaid, key_of, map_of}
-use Rattle.prcu_model.specs.History.{IsLegal}
+use Rattle.prcu_model.specs.Dictionary.{WasSaid, key_of, map_of, IsLegal, Room}
 use Rattle.core_state.specs.declared.shape.Shape.{Shape}
 use Rattle.core_state.specs.declared.words.Field.TheVariants.{Free}
 use Rattle.core_state.specs.declared.words.Kind.TheVariants.{K10}
 use Rattle.core_state.specs.declared.view.View.{View}
-use Rattle.seat_table.specs.Seats.{SeatAt}
+use Rattle.seat_table.specs.Seats.{SeatAt, TableAt, IsQuietSeat}
 use Rattle.seat_table.specs.Waits.{EndWith}
-use Rattle.tree_points.specs.Progress.{HasGone}
-use Rattle.citrus_tree.specs.Gone.{AreTries, NeededRoom, NeededSlots, waits_in}
+use Rattle.tree_points.specs.Points.{HasGone, KeepsAllowance}
+use Rattle.citrus_tree.specs.Going.{AreTries, NeededRoom, NeededSlots, waits_in, FoundHolder, KeepsWait}
+use Rattle.citrus_tree.specs.declared.comparing.Compared.{Compared}
+use Rattle.citrus_tree.specs.declared.comparing.Compared.TheVariants.{Replaced, Differs, Absent as Missing}
+use Rattle.citrus_tree.specs.declared.comparing.Seen.{Seen}
+use Rattle.citrus_tree.specs.Lookups.{Looked, Gets}
+use Rattle.seat_table.specs.Gains.{IsInformed}
+use Rattle.std.specs.FinMap as finite
 
 -- A section with the key was entered at the place after all that was seen at the call, and left before what is seen now. It is the last
 -- one:
@@ -139,3 +143,63 @@ pub record TookOut (history : List Update) (caller key value number : ℕ) : Typ
 abbrev pub TellsValue : View → ℕ → Told → Option ℕ → View → Type 0
 TellsValue v key told (Some value) w = (told.reply ≡ Gone) × TookOut (updates_of w.seen) v.allowance.place key value told.number
 TellsValue v key told None w = told.reply ≡ Absent
+
+-- What a compare is told.
+-- Source: docs/TREE_CALLS.md, "The calls".
+
+-- Replaced where the call made its update: just before it the dictionary gave the key the expected value. Differs where the last search
+-- found another value, and Absent where it found none, with no update.
+abbrev pub ComparesBy : View → ℕ → ℕ → ℕ → List Mark → Compared → View → Type 0
+ComparesBy v key expected value tries (Replaced number) w = (before : List Mark) × HasUpdated v (Set key value) tries before [] number w
+    × (finite.get (map_of (updates_of before)) key ≡ Some expected)
+ComparesBy v key expected value tries (Differs found) w = HasTried v key tries w × WasAnswered v key (Some found) w × (found ≢ expected)
+ComparesBy v key expected value tries Missing w = HasTried v key tries w × WasAnswered v key None w
+
+-- A compare begins no wait.
+abbrev pub Compares : View → ℕ → ℕ → ℕ → Compared → View → Type 0
+Compares v key expected value answer w = (tries : List Mark) × ComparesBy v key expected value tries answer w × (waits_in tries ≡ 0)
+
+-- what a compare's search came to: the slot that has the key, with its value, or that the key is absent
+abbrev pub SoughtValue : Shape → View → ℕ → Option Seen → View → Type 0
+SoughtValue k v key None w = Looked v key None w
+SoughtValue k v key (Some seen) w = (found : FoundHolder k v key seen.holder w) × (found.old ≡ seen.value)
+
+-- Calls by clients of the tree.
+-- Source: docs/ACCOUNTS.md, "Clients".
+
+-- what a clause sees of a client: its table with the waiter, and its seat
+pub record ClientAt : Type 0 where
+  pub shape : Shape
+  pub table : TableAt
+  pub seat : SeatAt
+
+-- the caller that a client is
+abbrev pub caller_of : ClientAt → Caller
+caller_of client = record {
+  place = client.seat.view.allowance.place;
+  own = own_of client.seat.view.allowance.place client.seat.view.seen;
+  seen = client.seat.view.seen;
+}
+
+-- what an operation is told, by its call
+abbrev pub IsTold : Shape → View → Op → Told → View → Type 0
+IsTold k v (Put key value) told w = Puts k v key value told w
+IsTold k v (Get key) told w = Gets v key told w
+IsTold k v (Del key) told w = Dels k v key told w
+IsTold k v (Set key value) told w = Sets v key value told w
+
+-- A call: what its operation was told, and what holds after each call.
+pub record HasCalled (before : ClientAt) (op : Op) (told : Told) (after : ClientAt) : Type 0 where
+  pub shape : after.shape ≡ before.shape
+  pub table : after.table ≡ before.table
+  pub answer : IsTold before.shape before.seat.view op told after.seat.view
+  pub wait : KeepsWait before.seat.view after.seat.view
+  pub tickets : before.seat.view.allowance.tickets ≤ after.seat.view.allowance.tickets + 4
+  pub allowance : KeepsAllowance before.seat.view after.seat.view
+  pub quiet : IsQuietSeat after.seat
+  pub informed : IsInformed after.seat.view
+
+-- How many places and slots count where a put is told that nothing is free. An account has 20 slots for each other place, where it may hold
+-- back 16 retired ones; what it may hold back beyond them are slots that the account's table hasn't.
+abbrev pub room_of : Shape → Room
+room_of k = record { scripts = k.places; slots = k.slots - (k.room - 16) * (k.places - 1) }

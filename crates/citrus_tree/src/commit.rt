@@ -1,13 +1,13 @@
 //! The front, made odd for one store.
 ghost use Rattle.std.specs.Prelude.{◌≡◌, ℕ, ◌+◌, ◌/◌, ◌%◌, ◌≤◌, true, Some, None, IfOk, IfErr};
-ghost use Rattle.prcu_marks.specs.Bounds.{most_front};
+ghost use Rattle.prcu_marks.specs.Marks.{most_front};
 ghost use Rattle.core_points.specs.declared.stage.Stage.TheVariants as at;
 ghost use Rattle.core_points.specs.declared.stage.Update.{Update};
 ghost use Rattle.core_points.specs.Programs.{past_even};
 ghost use Rattle.prcu_model.specs.declared.operation.Op.{Op};
-ghost use Rattle.seat_table.specs.Rounds.{HasMade};
+ghost use Rattle.seat_table.specs.Sections.{HasMade};
 ghost use Rattle.seat_table.specs.Seats.{shape_of};
-ghost use Rattle.tree_points.specs.At.{IsAt};
+ghost use Rattle.tree_points.specs.Points.{IsAt};
 ghost use Rattle.citrus_tree.specs.Going.{Opened, Closed};
 
 use core_state::linking;

@@ -1,12 +1,12 @@
 //! A value is replaced where it is an expected one.
 ghost use Rattle.std.specs.Prelude.{◌≡◌, ◌+◌, ◌≤◌, [], None, IfOk, IfErr};
 ghost use Rattle.seat_table.specs.Gains.{IsInformed};
-ghost use Rattle.seat_table.specs.Rounds.{HasMade, HasStepped};
+ghost use Rattle.seat_table.specs.Sections.{HasMade, HasStepped};
 ghost use Rattle.seat_table.specs.Seats.{IsQuietSeat, shape_of};
-ghost use Rattle.tree_points.specs.Progress.{KeepsAllowance};
-ghost use Rattle.citrus_tree.specs.Beginnings.{BeginsByLookup};
-ghost use Rattle.citrus_tree.specs.Compares.{Compares, SoughtValue};
-ghost use Rattle.citrus_tree.specs.Gone.{KeepsSlots, KeepsWait};
+ghost use Rattle.tree_points.specs.Points.{KeepsAllowance};
+ghost use Rattle.citrus_tree.specs.Deletes.{BeginsByLookup};
+ghost use Rattle.citrus_tree.specs.Replies.{Compares, SoughtValue};
+ghost use Rattle.citrus_tree.specs.Going.{KeepsSlots, KeepsWait};
 
 use crate::descent::{Descent, descend};
 use crate::replace::{Holder, store_value};

@@ -2,11 +2,10 @@
 ghost use Rattle.std.specs.Prelude.{◌≡◌, ℕ, ◌%◌, ◌≤◌, [], length, None};
 ghost use Rattle.core_state.specs.declared.view.SearchState.TheVariants.{At};
 ghost use Rattle.core_state.specs.declared.view.View.{View};
-ghost use Rattle.core_state.specs.parts.ReaderParts.{state_slot};
+ghost use Rattle.core_state.specs.Parts.{state_slot};
 ghost use Rattle.seat_table.specs.Gains.{IsSlot};
 ghost use Rattle.seat_table.specs.Seats.{shape_of};
-ghost use Rattle.citrus_tree.specs.Bounded.{Costs, EndsWithin};
-ghost use Rattle.citrus_tree.specs.Hops.{Loads, LoadsLinks, LooksAhead, link_on, state_after};
+ghost use Rattle.citrus_tree.specs.Hops.{Costs, EndsWithin, Loads, LoadsLinks, LooksAhead, link_on, state_after};
 ghost use Rattle.citrus_tree.specs.Lookups.{IsSearching, state_of};
 
 use core_state::step_side;

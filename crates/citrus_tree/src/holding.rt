@@ -3,8 +3,8 @@ ghost use Rattle.std.specs.Prelude.{◌≡◌, Some};
 ghost use Rattle.core_state.specs.declared.view.Section.{Section};
 ghost use Rattle.seat_table.specs.Seats.{IsQuietSeat, shape_of};
 ghost use Rattle.seat_table.specs.Sections.{HasLeft, IsQuietReader};
-ghost use Rattle.citrus_tree.specs.Bounded.{EndsWithin};
-ghost use Rattle.citrus_tree.specs.Holds.{HoldsOrNot, LeavesQuiet, Releases};
+ghost use Rattle.citrus_tree.specs.Hops.{EndsWithin};
+ghost use Rattle.citrus_tree.specs.Lookups.{HoldsOrNot, LeavesQuiet, Releases};
 
 use crate::descent::{Descent, descend};
 use prcu_marks::Gate;

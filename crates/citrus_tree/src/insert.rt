@@ -2,28 +2,24 @@
 //!
 //! The way of a put leads through these files, from its caller down to the steps:
 //!
-//! - `any_caller.rt` and `caller.rt` of `tree_handles`, or `client.rt` and `calling.rt` of `tree_client`: the caller, and the lift behind it;
+//! - `any_caller.rt` and `caller.rt` of `tree_handles`, or `client.rt` and `calling.rt` of `tree_lift`: the caller, and the lift behind it;
 //! - `steadfast.rt` for callers that never give up, and `patient.rt` for all: which call an operation asks for;
 //! - this one: a search, a slot, a lock and a link, and all over again where another caller was first;
 //! - `descent.rt`: the section and the way down; `search.rt`: what is recorded of the empty side, and the section's end;
 //! - `taking.rt` and `slots.rt` of `node_slots`: a free slot, or a slot put back; `reclaiming.rt`: the retired ones, given back;
 //! - `lives.rt`: a life compared under the lock; `commit.rt`: the front, odd for the link's store alone; `answer.rt`: the reply;
-//! - `steps.rt` and `steps/waiters.rt` of `seat_table`, the latter called by the waiter's crate: each atomic step, made in `access.rt`.
+//! - `steps.rt` and `steps/waiters.rt` of `seat_table`, the latter called by `waiters`: each atomic step, made in `access.rt`.
 ghost use Rattle.std.specs.Prelude.{◌≡◌, ℕ, ◌+◌, ◌*◌, ◌≤◌, true, false, ◌∷◌, [], Some, None, IfOk, IfErr};
 ghost use Rattle.core_points.specs.declared.stage.Aim.TheVariants.{Leaf};
 ghost use Rattle.core_points.specs.declared.stage.Spot.{Spot};
 ghost use Rattle.core_points.specs.declared.stage.Stage.TheVariants as at;
 ghost use Rattle.prcu_model.specs.declared.operation.Op.TheVariants.{Put};
 ghost use Rattle.seat_table.specs.Gains.{IsInformed};
-ghost use Rattle.seat_table.specs.Rounds.{HasMade, HasStepped};
+ghost use Rattle.seat_table.specs.Sections.{HasMade, HasStepped};
 ghost use Rattle.seat_table.specs.Seats.{AreListed, IsQuietSeat, IsSlotOf, shape_of};
-ghost use Rattle.tree_points.specs.At.{HasLocks, IsAt};
-ghost use Rattle.tree_points.specs.Progress.{KeepsAllowance};
-ghost use Rattle.citrus_tree.specs.Deletes.{StandsAt, Comes};
-ghost use Rattle.citrus_tree.specs.Beginnings.{BeginsByLookup};
-ghost use Rattle.citrus_tree.specs.Going.{Goes, Searched, leaf_stage};
-ghost use Rattle.citrus_tree.specs.Gone.{KeepsSlots, KeepsWait};
-ghost use Rattle.citrus_tree.specs.Putting.{old_stage, taken_stage, filled_stage, held_stage, linked_stage, MakesRoom, Links};
+ghost use Rattle.tree_points.specs.Points.{HasLocks, IsAt, KeepsAllowance};
+ghost use Rattle.citrus_tree.specs.Deletes.{StandsAt, Comes, BeginsByLookup};
+ghost use Rattle.citrus_tree.specs.Going.{Goes, Searched, leaf_stage, KeepsSlots, KeepsWait, old_stage, taken_stage, filled_stage, held_stage, linked_stage, MakesRoom, Links};
 ghost use Rattle.citrus_tree.specs.Replies.{IsFullNow, Puts};
 
 use crate::answer::{Called, answered};

@@ -2,10 +2,10 @@
 ghost use Rattle.std.specs.Prelude.{◌≡◌};
 ghost use Rattle.seat_table.specs.Seats.{IsQuietSeat, shape_of};
 ghost use Rattle.seat_table.specs.Gains.{IsInformed};
-ghost use Rattle.tree_points.specs.Progress.{KeepsAllowance};
-ghost use Rattle.citrus_tree.specs.Beginnings.{BeginsByLookup};
-ghost use Rattle.citrus_tree.specs.Bounded.{EndsWithin};
-ghost use Rattle.citrus_tree.specs.Gone.{KeepsSlots, KeepsWait};
+ghost use Rattle.tree_points.specs.Points.{KeepsAllowance};
+ghost use Rattle.citrus_tree.specs.Deletes.{BeginsByLookup};
+ghost use Rattle.citrus_tree.specs.Hops.{EndsWithin};
+ghost use Rattle.citrus_tree.specs.Going.{KeepsSlots, KeepsWait};
 ghost use Rattle.citrus_tree.specs.Lookups.{Looked, Gets};
 
 use crate::answer::answered;

@@ -1,12 +1,12 @@
 //! The calls, for callers with a patience of their own: where it ends, so does the call, and the seat may hold locks or stand in a section.
 ghost use Rattle.std.specs.Prelude.{◌≡◌, ◌+◌, ◌≤◌, IfOk, IfErr};
 ghost use Rattle.seat_table.specs.Gains.{IsInformed};
-ghost use Rattle.seat_table.specs.Rounds.{HasMade};
+ghost use Rattle.seat_table.specs.Sections.{HasMade};
 ghost use Rattle.seat_table.specs.Seats.{IsQuietSeat, shape_of};
-ghost use Rattle.tree_points.specs.Progress.{KeepsAllowance};
-ghost use Rattle.citrus_tree.specs.Beginnings.{Begins};
-ghost use Rattle.citrus_tree.specs.Clients.{IsTold};
-ghost use Rattle.citrus_tree.specs.Gone.{KeepsSlots, KeepsWait};
+ghost use Rattle.tree_points.specs.Points.{KeepsAllowance};
+ghost use Rattle.citrus_tree.specs.Deletes.{Begins};
+ghost use Rattle.citrus_tree.specs.Replies.{IsTold};
+ghost use Rattle.citrus_tree.specs.Going.{KeepsSlots, KeepsWait};
 
 use crate::answer::Called;
 pub use crate::comparing::compare;

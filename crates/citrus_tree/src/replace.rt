@@ -3,14 +3,12 @@ ghost use Rattle.std.specs.Prelude.{◌≡◌, ℕ, ◌+◌, ◌≤◌, ◌↔�
 ghost use Rattle.core_points.specs.declared.stage.Stage.TheVariants as at;
 ghost use Rattle.prcu_model.specs.declared.operation.Op.TheVariants.{Set};
 ghost use Rattle.seat_table.specs.Gains.{IsInformed};
-ghost use Rattle.seat_table.specs.Rounds.{HasMade, HasStepped};
+ghost use Rattle.seat_table.specs.Sections.{HasMade, HasStepped};
 ghost use Rattle.seat_table.specs.Seats.{IsQuietSeat, shape_of};
-ghost use Rattle.tree_points.specs.At.{IsAt};
-ghost use Rattle.tree_points.specs.Progress.{KeepsAllowance};
+ghost use Rattle.tree_points.specs.Points.{IsAt, KeepsAllowance};
 ghost use Rattle.citrus_tree.specs.declared.replace.Replaced.{Replaced};
-ghost use Rattle.citrus_tree.specs.Beginnings.{BeginsByLookup};
-ghost use Rattle.citrus_tree.specs.Going.{Goes, IsOther, Sought, Stores, set_stage};
-ghost use Rattle.citrus_tree.specs.Gone.{KeepsSlots, KeepsWait};
+ghost use Rattle.citrus_tree.specs.Deletes.{BeginsByLookup};
+ghost use Rattle.citrus_tree.specs.Going.{Goes, IsOther, Sought, Stores, set_stage, KeepsSlots, KeepsWait};
 ghost use Rattle.citrus_tree.specs.Replies.{Sets};
 
 use crate::answer::answered;

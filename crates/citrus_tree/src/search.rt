@@ -3,7 +3,7 @@ ghost use Rattle.std.specs.Prelude.{◌≡◌, ◌≢◌, ℕ, [], None};
 ghost use Rattle.core_state.specs.declared.view.SearchState.TheVariants.{Missed};
 ghost use Rattle.core_state.specs.declared.view.View.{View};
 ghost use Rattle.seat_table.specs.Gains.{IsSlot};
-ghost use Rattle.seat_table.specs.Rounds.{HasStepped};
+ghost use Rattle.seat_table.specs.Sections.{HasStepped};
 ghost use Rattle.seat_table.specs.Seats.{shape_of};
 ghost use Rattle.citrus_tree.specs.declared.search.Hop.TheVariants.{Moved};
 ghost use Rattle.citrus_tree.specs.Hops.{search_at, seat_left, IsSearch, HasHopped, Records, Finishes};

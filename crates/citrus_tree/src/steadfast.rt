@@ -1,14 +1,12 @@
 //! The calls, for callers that never give up.
 ghost use Rattle.std.specs.Prelude.{◌≡◌, ◌+◌, ◌≤◌};
-ghost use Rattle.citrus_tree.specs.Beginnings.{Begins, BeginsByLookup, BeginsOnceReady};
-ghost use Rattle.citrus_tree.specs.Clients.{IsTold};
-ghost use Rattle.citrus_tree.specs.Compares.{Compares};
-ghost use Rattle.citrus_tree.specs.Gone.{KeepsSlots, KeepsWait};
-ghost use Rattle.citrus_tree.specs.Replies.{Dels, Puts, RetiresInOrder, Sets, TellsValue};
+ghost use Rattle.citrus_tree.specs.Deletes.{Begins, BeginsByLookup, BeginsOnceReady};
+ghost use Rattle.citrus_tree.specs.Replies.{IsTold, Compares, Dels, Puts, RetiresInOrder, Sets, TellsValue};
+ghost use Rattle.citrus_tree.specs.Going.{KeepsSlots, KeepsWait};
 ghost use Rattle.prcu_model.specs.declared.operation.Reply.TheVariants.{Gone};
 ghost use Rattle.seat_table.specs.Gains.{IsInformed};
 ghost use Rattle.seat_table.specs.Seats.{IsQuietSeat, shape_of};
-ghost use Rattle.tree_points.specs.Progress.{KeepsAllowance};
+ghost use Rattle.tree_points.specs.Points.{KeepsAllowance};
 
 use crate::answer::Called;
 use crate::comparing::Compared;

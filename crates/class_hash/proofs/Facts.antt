@@ -1,59 +1,152 @@
--- What the rule tells of a seat and of the words.
-use Rattle.std.proofs.Common.{◌≡◌, ◌≢◌, ℕ, ◌+◌, ◌*◌, ◌%◌, ◌<◌, ◌≤◌, nat_le, ◌&&◌, Bool, true, false, cond, List, [], ◌∷◌, ◌++◌, length, sum, Option, Some, None, refl, sym, ap, subst, ◌∙◌, inl, inr, arith, ◌-◌, ◌==◌, nat_lt}
-use Rattle.std.proofs.lemmas.Bool.{lt-ltb, le-leb}
+-- What the rule tells of a seat and of the words, also after a step; and so, that an act that may be made is a step that the table allows.
+-- A class has no more open sections than there are places.
+use Rattle.std.proofs.Common.{◌≡◌, ◌≢◌, ℕ, zero, suc, ◌+◌, ◌%◌, ◌<◌, ◌≤◌, ◌==◌, true, false, cond, if◌then◌else◌, List, [], ◌∷◌, Option, Some, None, refl, sym, ap, ◌∙◌, inl, arith, eq-eqb, ne_eqb, ◌*◌, nat_le, ◌&&◌, Bool, ◌++◌, length, sum, subst, inr, ◌-◌, nat_lt, append-nil, set, slice_index, length-set}
 use mathlib.Core.Logic.{dite}
-use native.Mathlib.Decide.{ℕ_discrete}
 use mathlib.Core.Option.{some}
+use native.Mathlib.Decide.{dec_le, ℕ_discrete}
 use lib.ListN.{get_elem?}
 use Rattle.prcu_marks.specs.declared.mark.Mark.{Mark}
+use Rattle.hash_core.specs.declared.view.Section.{Section}
+use Rattle.hash_core.specs.declared.view.View.{View}
+use Rattle.list_laws.specs.Counts.{total, times}
+use Rattle.hash_core.specs.Memory.{Memory, IsPath, word_of, is_field, capacity, is_slot_of, IsOfClass, word_count, memory_of, stored}
+use Rattle.hash_core.specs.Rule.{inside_count, MemoryRule, seek, HaveDistinctKeys, IsLocked, HasWay, WillAnswer, AnswersFor, IsTurned, BucketRule, Rule}
+use Rattle.std.proofs.lemmas.Bool.{lt-ltb, le-leb}
 use Rattle.hash_core.specs.declared.words.Field.{Field}
 use Rattle.hash_core.specs.declared.words.Field.TheVariants.{Front, Lock, Head, Free, Retired, Key, Value, Next, Chain, Readers}
 use Rattle.hash_core.specs.declared.view.SearchState.{SearchState}
 use Rattle.hash_core.specs.declared.view.SearchState.TheVariants.{Unread, Passed, Found}
-use Rattle.hash_core.specs.declared.view.Section.{Section}
 use Rattle.hash_core.specs.declared.view.Hold.{Hold}
 use Rattle.prcu_marks.specs.declared.commit.Commit.{Commit}
-use Rattle.hash_core.specs.declared.view.View.{View}
-use Rattle.list_laws.specs.Counts.{times}
-use Rattle.hash_core.specs.Lists.{IsPath}
-use Rattle.hash_core.specs.Memory.{Memory, word_of, is_field}
-use Rattle.hash_core.specs.Slots.{capacity, is_slot_of, IsOfClass, word_count}
-use Rattle.prcu_marks.specs.Marks.{updates_of, own_of}
-use Rattle.prcu_marks.proofs.MarkLists.{updates_of-append, own_of-append}
-use Rattle.prcu_marks.specs.Bounds.{most_tickets, most_front}
-use Rattle.prcu_model.proofs.Fronts.{AreUpdatesFrom-front}
-use Rattle.hash_core.specs.Known.{known_in, ComesTo, IsOnWalk}
-use Rattle.std.specs.FinMap as finite
-use Rattle.prcu_model.specs.Dictionary.{map_of}
-use Rattle.hash_core.proofs.Cuts.{seek_slot}
-use Rattle.hash_core.specs.Buckets.{seek, HaveDistinctKeys, IsLocked}
-use Rattle.hash_core.specs.Readers.{HasWay, WillAnswer}
-use Rattle.prcu_marks.specs.Commits.{updates_by}
-use Rattle.hash_core.specs.Seats.{AnswersFor, IsTurned}
-use Rattle.hash_core.specs.Steps.{fresh_hold, StandsAt}
-use Rattle.hash_core.specs.Rule.{BucketRule, MemoryRule}
-use Rattle.list_laws.proofs.Lists.{at_one, all_times, total_part, times_here, times_append}
-use Rattle.hash_core.proofs.Paths.{path_cons, IsPath-from}
-use Rattle.hash_core.proofs.Classes.{slot_within}
-use Rattle.hash_core.proofs.MarkOrder.{marks_begin, reuse_begins}
-use Rattle.hash_core.proofs.Memories.{word_inside}
-use Rattle.hash_core.proofs.Frames.{way_slot, chain_slot, free_slot, retired_slot}
-use Rattle.hash_core.proofs.Quiet.{same_marks}
+use Rattle.prcu_marks.specs.Marks.{updates_of, own_of, most_tickets, most_front, updates_by, StaysWord, left_by, said_by}
+use Rattle.prcu_marks.proofs.Marks.{updates_of-append, own_of-append}
+use Rattle.prcu_model.proofs.Dictionaries.{AreUpdatesFrom-front}
+use Rattle.hash_core.specs.Steps.{known_in, ComesTo, IsOnWalk, fresh_hold, StandsAt, section_of, hold_of, field_of, access_of, noted, Needs, done, commit_of, marks_of, said}
+use Rattle.prcu_model.specs.Dictionary.{map_of, IsLegal, WasSaid}
+use Rattle.hash_core.proofs.SlotLists.{seek_slot, path_cons, IsPath-from, slot_within}
+use Rattle.list_laws.proofs.Lists.{at_one, all_times, total_part, times_here, times_append, at_below, only_at}
+use Rattle.hash_core.proofs.SeatFrames.{marks_begin, reuse_begins, same_marks}
+use Rattle.hash_core.proofs.Frames.{word_inside, way_slot, chain_slot, free_slot, retired_slot, memory-word, memory-stored}
 use Rattle.hash_core.proofs.Locks.{class_small}
 use Rattle.hash_core.proofs.Links.{on_chain, absent_now}
-use Rattle.hash_core.proofs.Full.{full_class}
-use Rattle.hash_core.specs.Pairs.{HasPairs}
+use Rattle.hash_core.proofs.Keeping.{full_class, section_is, hold_is, acts_keep}
+use Rattle.hash_core.specs.Laws.{HasPairs}
 use Rattle.hash_core.proofs.Stocks.{rule as held_rule, is_known, roles_by}
-use Rattle.prcu_model.specs.History.{IsLegal}
 use Rattle.hash_core.specs.declared.act.Act.{Act}
-use Rattle.hash_core.specs.declared.act.Act.TheVariants as act
-use Rattle.prcu_marks.specs.Accesses.{StaysWord}
-use Rattle.hash_core.specs.Acts.{section_of, hold_of, field_of, access_of, noted, Needs, done}
-use Rattle.hash_core.proofs.Acting.{section_is, hold_is}
 use Rattle.hash_core.proofs.Sections.{some_reader}
-use Rattle.class_hash.specs.Seats.{HasPlace, HasRoom}
-use Rattle.class_hash.proofs.Readers.{few_readers}
-use Rattle.class_hash.specs.Answers.{IsInformed, IsHeldByOther, GivesAnswer, StandsInClass, IsLink, IsLinkOf, IsFull, FindsFull}
+use Rattle.class_hash.specs.Seats.{HasPlace, HasRoom, TableAt}
+use Rattle.class_hash.specs.Answers.{IsInformed, IsHeldByOther, GivesAnswer, StandsInClass, IsLink, IsLinkOf, IsFull, FindsFull, TellsWord, IsCounted, Gains}
+use Rattle.atomic_table.proofs.Lists.{set_here}
+use Rattle.prcu_marks.specs.declared.mark.Mark.TheVariants.{Left}
+use Rattle.hash_core.specs.declared.act.Act.TheVariants.{LoadFront, Enter, Leave, SearchLoad, Lock as LockAct, Unlock, LoadReaders, LockedLoad, TakeSlot, TakeRetired, FreeRetired, StoreChain, Retire, Fill, OpenCommit, LinkSlot, UnlinkSlot, ReplaceValue, CloseCommit}
+use Rattle.hash_core.proofs.Splits.{quiet_turn}
+use Rattle.atomic_table.specs.Seated.{TableId}
+use Rattle.atomic_table.specs.Table.{State, Me, keeps, Allows}
+use Rattle.hash_core.specs.declared.shape.Shape.{Shape}
+use Rattle.prcu_marks.proofs.Accesses.{made_by, makes}
+use Rattle.prcu_marks.specs.declared.access.Access.{Access}
+use Rattle.class_hash.specs.declared.rule.Nothing.{Nothing}
+use Rattle.class_hash.specs.Calls.{Touches, tells}
+use Rattle.std.specs.FinMap as finite
+use Rattle.hash_core.specs.declared.act.Act.TheVariants as act
+
+module _ {V : Type 0} (place : V → ℕ) where
+  -- no two of the elements that count have one place
+  abbrev AreApart : (V → ℕ) → List V → Type 0
+  AreApart f vs = (i j : ℕ) (v w : V) → get_elem? vs i ≡ some v → get_elem? vs j ≡ some w → 1 ≤ f v → 1 ≤ f w → place v ≡ place w → i ≡ j
+
+  abbrev AreFew : (V → ℕ) → ℕ → List V → Type 0
+  AreFew f p vs = (i : ℕ) (v : V) → get_elem? vs i ≡ some v → (f v ≤ 1) × (1 ≤ f v → place v < p)
+
+  -- without those at a place
+  abbrev without : ℕ → (V → ℕ) → V → ℕ
+  without p f v = if place v == p then 0 else f v
+
+  without_here : (p : ℕ) (f : V → ℕ) (v : V) → place v ≡ p → without p f v ≡ 0
+  without_here p f v e = ap (λ b. cond b 0 (f v)) (eq-eqb (place v) p e)
+
+  without_else : (p : ℕ) (f : V → ℕ) (v : V) → place v ≢ p → without p f v ≡ f v
+  without_else p f v ne = ap (λ b. cond b 0 (f v)) (ne_eqb (place v) p ne)
+
+  without_less : (p : ℕ) (f : V → ℕ) (v : V) → without p f v ≤ f v
+  without_less p f v = dite (ℕ_discrete (place v) p) (λ e. let a = without_here p f v e in omega arith)
+      (λ ne. let a = without_else p f v ne in omega arith)
+
+  -- where no element of the place counts, nothing is left out
+  none_there : (p : ℕ) (f : V → ℕ) (vs : List V) → ((i : ℕ) (v : V) → get_elem? vs i ≡ some v → place v ≡ p → f v ≡ 0)
+      → total (without p f) vs ≡ total f vs
+  none_there p f [] none = refl
+  none_there p f (x ∷ xs) none =
+      let rest = none_there p f xs (λ i v e. none (suc i) v e) in
+      dite (ℕ_discrete (place x) p)
+      (λ e. let a = without_here p f x e in let b = none 0 x refl e in omega arith)
+      (λ ne. let a = without_else p f x ne in omega arith)
+
+  -- at most one is left out
+  one_there : (p bound : ℕ) (f : V → ℕ) (vs : List V) → AreApart f vs → AreFew f bound vs → total f vs ≤ total (without p f) vs + 1
+  one_there p bound f [] apart few = omega arith
+  one_there p bound f (x ∷ xs) apart few =
+      dite (ℕ_discrete (place x) p)
+      (λ e. dite (dec_le 1 (f x))
+      (λ counts.
+      let rest = none_there p f xs (λ i v there at. dite (dec_le 1 (f v))
+      (λ some_one. absurd (let z : 0 ≡ suc i = apart 0 (suc i) x v refl there counts some_one (e ∙ sym at) in omega arith))
+      (λ none. omega arith)) in
+      let a = without_here p f x e in let b = (few 0 x refl).0 in omega arith)
+      (λ none.
+      let rest = one_there p bound f xs (λ i j v w a b c d s. let z : suc i ≡ suc j = apart (suc i) (suc j) v w a b c d s in omega arith)
+      (λ i v at. few (suc i) v at) in
+      let a = without_here p f x e in omega arith))
+      (λ ne.
+      let rest = one_there p bound f xs (λ i j v w a b c d s. let z : suc i ≡ suc j = apart (suc i) (suc j) v w a b c d s in omega arith)
+      (λ i v at. few (suc i) v at) in
+      let a = without_else p f x ne in omega arith)
+
+  none_counts : (f : V → ℕ) (vs : List V) → AreFew f 0 vs → total f vs ≡ 0
+  none_counts f [] few = refl
+  none_counts f (x ∷ xs) few =
+      let rest = none_counts f xs (λ i v at. few (suc i) v at) in
+      let here = few 0 x refl in
+      dite (dec_le 1 (f x)) (λ counts. absurd (let z = here.1 counts in omega arith)) (λ none. omega arith)
+
+  pub few_count : (p : ℕ) (f : V → ℕ) (vs : List V) → AreApart f vs → AreFew f p vs → total f vs ≤ p
+  few_count zero f vs apart few = let a = none_counts f vs few in omega arith
+  few_count (suc p) f vs apart few =
+      let one = one_there p (suc p) f vs apart few in
+      let rest = few_count p (without p f) vs
+      (λ i j v w a b c d s. let x = without_less p f v in let y = without_less p f w in apart i j v w a b (omega arith) (omega arith) s)
+      (λ i v at. let t = few i v at in let t0 = t.0 in let less = without_less p f v in (
+        omega arith,
+        λ counts. dite (ℕ_discrete (place v) p)
+            (λ e. absurd (let a = without_here p f v e in omega arith))
+            (λ ne. let z = t.1 (omega arith) in omega arith),
+      )) in
+      omega arith
+
+inside_one : (c : ℕ) (a : Option Section) → inside_count c a ≤ 1
+inside_one c None = omega arith
+inside_one c (Some s) = elim (s.key % 64 == c) as (λ b. cond b 1 0 ≤ 1) [ true ↦ omega arith | false ↦ omega arith ]
+
+inside_some : (c : ℕ) (a : Option Section) → 1 ≤ inside_count c a → (s : Section) × (a ≡ Some s)
+inside_some c None counts = absurd (omega arith)
+inside_some c (Some s) counts = (s, refl)
+
+-- the readers word is at most the number of places
+pub few_readers : (capacities : List ℕ) (places tickets : ℕ) (m : Memory) (vs : List View) (h : List Mark)
+    → MemoryRule capacities places tickets m vs h → (c : ℕ) → total (λ (v : View). inside_count c v.section) vs ≤ places
+few_readers capacities places tickets m vs h r c = few_count (λ (v : View). v.place) places (λ (v : View). inside_count c v.section) vs
+    (λ i j v w a b x y same.
+    let s = inside_some c v.section x in let t = inside_some c w.section y in
+    let live = (r.sections.open_here i v s.0 a s.1).0 in let live' = (r.sections.open_here j w t.0 b t.1).0 in
+    r.apart.apart i j v.place v w a b (inl (omega arith, omega arith)) (inl (omega arith, omega arith)))
+    (λ i v a. (
+      inside_one c v.section,
+      λ x.
+          let s = inside_some c v.section x in let live = (r.sections.open_here i v s.0 a s.1).0 in
+          r.apart.within i v v.place a (inl (omega arith, omega arith)),
+    ))
+
+-- What the rule tells of a seat and of the words.
 
 pub key_small : (key : ℕ) → key % 64 < 64
 key_small key = omega arith
@@ -121,14 +214,14 @@ module _ (capacities : List ℕ) (places tickets : ℕ) (m : Memory) (vs : List 
       by (Some hold) locked = λ some_holder.
           let u : View = locked.view in
           let mine : AnswersFor u u.place =
-          (let works = (r.held.held locked.id u hold locked.there locked.holds).1 in inl (omega arith, omega arith)) in (
+          (let works = (r.held.held locked.id u hold locked.there locked.has.holds).1 in inl (omega arith, omega arith)) in (
             u.place,
-            locked.word,
+            locked.has.word,
             r.apart.within locked.id u u.place locked.there mine,
             λ also.
                 let same : id ≡ locked.id = r.apart.apart id locked.id u.place v u at locked.there also mine in
                 let one : v ≡ u = at_one vs id v u at (subst (λ z. get_elem? vs z ≡ some u) (sym same) locked.there) in
-                let e : Some hold ≡ None = sym locked.holds ∙ ap (λ (z : View). z.hold) (sym one) ∙ quiet in
+                let e : Some hold ≡ None = sym locked.has.holds ∙ ap (λ (z : View). z.hold) (sym one) ∙ quiet in
                 absurd (cc),
           )
 
@@ -267,7 +360,7 @@ module _ (capacities : List ℕ) (places tickets : ℕ) (m : Memory) (vs : List 
     where
       turn_case : IsTurned m vs (length (updates_of h)) → m Front ≤ most_front
       turn_case (inl free) = let a = free.0 in let b = few_updates in omega arith
-      turn_case (inr odd) = by odd.commit.stored odd.commit.found odd.updates odd.word
+      turn_case (inr odd) = let o = odd.has in by o.commit.stored o.commit.found o.updates o.word
         where
           by : (t : Bool) (n : ℕ) → n + cond t 2 0 ≡ 2 * length (updates_of h) → m Front ≡ n + 1 → m Front ≤ most_front
           by true n b a = let c = few_updates in omega arith
@@ -279,13 +372,10 @@ module _ (capacities : List ℕ) (places tickets : ℕ) (m : Memory) (vs : List 
     where
       turn_case : IsTurned m vs (length (updates_of h)) → updates_by commit ≡ 2 * length (updates_of h)
       turn_case (inl free) = absurd (let z : Some commit ≡ None = sym is ∙ free.1 id v at in cc)
-      turn_case (inr odd) =
-          let me : id ≡ odd.id = dite (ℕ_discrete id odd.id) (λ q. q)
-          (λ q. absurd (let z : Some commit ≡ None = sym is ∙ odd.alone id v q at in cc)) in
-          let same : v ≡ odd.view = at_one vs id v odd.view at (subst (λ k. get_elem? vs k ≡ some odd.view) (sym me) odd.there) in
-          let e : Some commit ≡ Some odd.commit = sym is ∙ ap (λ (z : View). z.commit) same ∙ odd.has in
-          let t : commit ≡ odd.commit = cc in
-          ap updates_by t ∙ odd.updates
+      turn_case (inr odd) = elim (only_at vs id v at odd) [
+        | inl o ↦ let e : Some commit ≡ Some o.0.commit = sym is ∙ o.0.has in let t : commit ≡ o.0.commit = cc in ap updates_by t ∙ o.0.updates
+        | inr none ↦ absurd (let z : Some commit ≡ None = sym is ∙ none in cc)
+      ]
 
   -- the seat's place is one of few, and so are its tickets
   pub has_room : 1 ≤ v.places → HasRoom v
@@ -387,3 +477,151 @@ module _ (capacities : List ℕ) (v : View) (place : HasPlace v) where
   pub word_below : (a : Act) (words word : ℕ) → words ≡ word_count capacities → word ≡ word_of (field_of v a) → Needs capacities v a
       → word < words
   word_below a words word all is needs = let below = word_inside capacities (field_of v a) (field_there a needs) in omega arith
+
+-- What the rule tells after a step of an act.
+
+-- leaving adds no update
+left_answer : (section : Section) (h : List Mark) (place count : ℕ) → GivesAnswer h section
+    → GivesAnswer (h ++ Left place count ∷ []) section
+left_answer section h place count gives =
+    let same : updates_of (h ++ Left place count ∷ []) ≡ updates_of h =
+    updates_of-append h (Left place count ∷ []) ∙ append-nil (updates_of h) in
+    record {
+      absent = λ ended. subst (λ us. WasSaid us section.key section.from None) (sym same) (gives.absent ended);
+      present = λ value is. subst (λ us. WasSaid us section.key section.from (Some value)) (sym same) (gives.present value is);
+    }
+
+module _ (capacities : List ℕ) (places tickets : ℕ) (t : TableAt) (of_table : t.capacities ≡ capacities) (at_places : t.places ≡ places)
+    (m : Memory) (vs : List View) (h : List Mark) (r : MemoryRule capacities places tickets m vs h) (id : ℕ) (v : View)
+    (at : get_elem? vs id ≡ some v) where
+  -- after an update
+  counted : (a : Act) → 1 ≤ v.places → Needs capacities v a → let w = done v a h (m (field_of v a)) in
+      w.commit ≡ Some (record { found = (commit_of v).found; stored = true }) → w.seen ≡ h ++ marks_of v a → IsCounted v w
+  counted a works needs made seen =
+      let n : ℕ = m (field_of v a) in
+      let kept = (acts_keep capacities places tickets m vs h id v a r at works needs).rule in
+      record {
+        position = position capacities places tickets _ _ _ kept id (done v a h n)
+            (set_here vs id (done v a h n) (at_below vs id v at)) (record { found = (commit_of v).found; stored = true }) made
+            ∙ ap (λ z. 2 * length (updates_of z)) (sym seen);
+      }
+
+  pub gains : (a : Act) → 1 ≤ v.places → Needs capacities v a
+      → Gains t v a h (said v a (m (field_of v a))) (done v a h (m (field_of v a)))
+  gains LoadFront works d = tt
+  gains (Enter key) works d = tt
+  gains Leave works d =
+      subst (GivesAnswer (h ++ Left v.place (section_of v).count ∷ [])) (sym (section_is v d.0 d.1))
+      (left_answer d.0 h v.place (section_of v).count (gives_answer capacities places tickets m vs h r id v at d.0 d.1))
+  gains (SearchLoad field) works d =
+      let w : View = done v (SearchLoad field) h (m field) in
+      let kept = (acts_keep capacities places tickets m vs h id v (SearchLoad field) r at works d).rule in
+      subst (λ cs. StandsInClass cs (section_of w)) (sym of_table)
+      (stands_in_class capacities places tickets _ _ _ kept id w (set_here vs id w (at_below vs id v at)) (section_of w) refl)
+  gains (LockAct class) works d = record {
+    even = quiet_turn m vs _ r.turned id v at d.1.1;
+    other = subst (λ n. IsHeldByOther n v (m (Lock class))) (sym at_places)
+        (held_by_other capacities places tickets m vs h r id v at class d.0 d.1.1);
+  }
+  gains Unlock works d = tt
+  gains LoadReaders works d = tt
+  gains (LockedLoad field) works d =
+      let w : View = done v (LockedLoad field) h (m field) in
+      let tells : TellsWord capacities d.0 field (m field) w = record {
+        link = link_of capacities places tickets m vs h r id v at d.0 d.1 field d.2;
+        same = λ number is. (is_known capacities places tickets m vs h r id v at d.0 d.1 field number is).1;
+        full = λ f. full_now capacities places tickets m vs h r id v at d.0 d.1 field (m field) w.seen refl
+            (ap (λ b. cond b h v.seen) (eq-eqb (m field) 0 f.none)) f;
+      } in
+      subst (λ (z : List ℕ × Hold). TellsWord z.0 z.1 field (m field) w) (λ i. (sym of_table i, sym (hold_is v d.0 d.1) i)) tells
+  gains (TakeSlot slot next) works d = subst (λ (z : Hold). IsOnWalk z slot → ⊥) (sym (hold_is v d.0 d.1.hold_is))
+      (free_off capacities places tickets m vs h r id v at d.0 d.1.hold_is slot d.1.some d.1.first)
+  gains (TakeRetired slot) works d = tt
+  gains (FreeRetired slot) works d = tt
+  gains (StoreChain slot number) works d = tt
+  gains (Retire slot) works d = tt
+  gains (Fill field number) works d = tt
+  gains (OpenCommit even) works d = front_small capacities places tickets m vs h r id v at
+  gains (LinkSlot slot key value) works d = counted (LinkSlot slot key value) works d refl refl
+  gains (UnlinkSlot link slot key next) works d = counted (UnlinkSlot link slot key next) works d refl refl
+  gains (ReplaceValue slot key value) works d = record {
+    counted = counted (ReplaceValue slot key value) works d refl refl;
+    was = λ old is. old_value capacities places tickets m vs h r id v at d.0 d.2.commit.hold_is slot key old d.2.on_walk d.2.key_is
+        (subst (λ (z : Hold). known_in z.known (Value slot) ≡ Some old) (hold_is v d.0 d.2.commit.hold_is) is);
+  }
+  gains (CloseCommit front) works d = tt
+
+-- The one border: where a law keeps the rule, an act is a step that the table allows.
+
+module _ (k : Shape) (t : TableAt) (slots id : ℕ) (me : Me Nothing View) (a : Act)
+    (is : is_field k.capacities.items (field_of me.0 a) ≡ true) (works : 1 ≤ me.0.places) (needs : Needs k.capacities.items me.0 a) where
+  abbrev Holds : State Nothing View → Type 0
+  Holds s = Rule k s.words s.views
+
+  abbrev here : TableAt
+  here = record t { capacities = k.capacities.items; places = k.places }
+
+  abbrev access : Access
+  access = access_of me.0 a
+
+  allows_field : Allows Holds slots id me (word_of (field_of me.0 a)) (made_by (access_of me.0 a))
+      (λ n. tells (record t { capacities = k.capacities.items; places = k.places }) a me (said_by (access_of me.0 a) n))
+  allows_field s r len at below =
+      let field : Field = field_of me.0 a in
+      let m : Memory = memory_of k.capacities.items s.words in
+      let h : List Mark = r.marks in
+      let found : m field ≡ slice_index s.words (word_of field) = memory-word k.capacities.items s.words field is in
+      let left : ℕ = left_by access (m field) in
+      let w : View = done me.0 a h (m field) in
+      let vs' : List View = set s.views id w in
+      let h' : List Mark = h ++ marks_of me.0 a in
+      let kept : MemoryRule k.capacities.items k.places k.tickets (stored m field left) vs' h' =
+      (acts_keep k.capacities.items k.places k.tickets m s.views h id me.0 a r.holds at works needs).rule in
+      let leaves : made_by access (slice_index s.words (word_of field)) ≡ left =
+      ap (made_by access) (sym found) ∙ makes access (m field) (subst (λ z. z < 18446744073709551616) (sym found) below)
+      (fits k.capacities.items k.places k.tickets m s.views h r.holds id me.0 at a needs) in
+      let rule : Rule k (set s.words (word_of field) left) vs' = record {
+        marks = h';
+        long = length-set s.words (word_of field) left ∙ r.long;
+        holds = subst (λ z. MemoryRule k.capacities.items k.places k.tickets z vs' h')
+            (sym (memory-stored k.capacities.items s.words field left is r.long)) kept;
+      } in
+      let there : get_elem? vs' id ≡ some w = set_here s.views id w (at_below s.views id me.0 at) in
+      let still : 1 ≤ w.places = subst (λ n. 1 ≤ n) (sym (still_places me.0 a h (m field))) works in
+      let telling : tells here a me (said_by access (m field)) (w, me.1) = (
+        refl,
+        has_room k.capacities.items k.places k.tickets (stored m field left) vs' h' kept id w there still,
+        record {
+          marks = h;
+          begins = r.holds.seen.begins id me.0 at;
+          goes = refl;
+          informed = informed k.capacities.items k.places k.tickets (stored m field left) vs' h' kept id w there still;
+          gains = gains k.capacities.items k.places k.tickets here refl refl m s.views h r.holds id me.0 at a works needs;
+        },
+      ) in (
+        w,
+        keeps,
+        tt,
+        subst (λ z. Rule k (set s.words (word_of field) z) (set s.views id w)) (sym leaves) rule,
+        subst (λ z. tells here a me (said_by access z) (w, me.1)) found telling,
+      )
+
+-- What the table asks of an access to the word of an act: that it is the seat's, that there is such a word, and that the rule is kept.
+pub allowed : {k : Shape} {t picked_table : TableAt} {picked act : Act} {table here : TableId} {id : ℕ} {me : Me Nothing View}
+    {word : ℕ} {access : Access} (a : Access) → access ≡ a → here ≡ table → table.words ≡ word_count t.capacities
+    → t.capacities ≡ k.capacities.items → t.places ≡ k.places → (picked_table ≡ t) × (picked ≡ act) → Touches t me.0 act access word
+    → (here ≡ table) × (word < table.words)
+    × Allows (λ (s : State Nothing View). Rule k s.words s.views) table.slots id me word (made_by a)
+    (λ n. tells picked_table picked me (said_by a n))
+allowed {k} {t} {picked_table} {picked} {act} {table} {here} {id} {me} {word} {access} a by mine counts capacities places picks asks =
+    let needs : Needs k.capacities.items me.0 act = subst (λ cs. Needs cs me.0 act) capacities asks.asks in
+    let same_table : record t { capacities = k.capacities.items; places = k.places } ≡ picked_table =
+    (λ i. record t { capacities = sym capacities i; places = sym places i }) ∙ sym picks.0 in
+    let there = field_there k.capacities.items me.0 asks.place act needs in (
+      mine,
+      word_below t.capacities me.0 asks.place act table.words word counts asks.at asks.asks,
+      subst (λ (x : ℕ × TableAt × Act × Access). Allows (λ (s : State Nothing View). Rule k s.words s.views) table.slots id me x.0
+          (made_by x.3) (λ n. tells x.1 x.2 me (said_by x.3 n)))
+          (λ i. (sym asks.at i, same_table i, sym picks.1 i, (asks.does ∙ by) i))
+          (allows_field k t table.slots id me act there asks.place.works needs),
+    )

@@ -1,30 +1,359 @@
--- A slot linked under a bucket's lock.
-use Rattle.std.proofs.Common.{◌≡◌, ℕ, ◌+◌, ◌*◌, ◌/◌, ◌≤◌, true, false, List, [], ◌∷◌, ◌++◌, length, Option, Some, None, refl, sym, ap, subst, ◌∙◌, arith}
+-- A slot taken, filled and linked, under a bucket's lock.
+-- A slot taken and filled under a bucket's lock.
+use Rattle.std.proofs.Common.{◌≡◌, ◌≢◌, ℕ, ◌≤◌, true, cond, List, [], ◌∷◌, ◌++◌, Some, refl, sym, ap, subst, ◌∙◌, arith, ne_eqb, ◌+◌, ◌*◌, ◌/◌, false, length, Option, None}
+use Rattle.std.specs.List.{AllByRecursion}
 use mathlib.Core.List.{IsPrefix}
 use Rattle.prcu_marks.specs.declared.mark.Mark.TheVariants.{Given}
-use Rattle.prcu_model.specs.declared.operation.Op.TheVariants.{Put}
-use Rattle.prcu_model.specs.History.{IsLegal}
-use Rattle.hash_core.specs.declared.words.Field.TheVariants.{Front, Lock, Head}
-use Rattle.hash_core.specs.declared.words.Kind.TheVariants.{H7, H13, H16}
+use Rattle.prcu_marks.specs.declared.mark.Why.{Why}
+use Rattle.prcu_marks.specs.declared.mark.Why.TheVariants.{Counter}
+use Rattle.hash_core.specs.declared.words.Field.TheVariants.{Readers, Head, Free, Retired, Key, Value, Next, Chain, Front, Lock}
+use Rattle.hash_core.specs.declared.words.Kind.TheVariants.{H8, H10, H11, H7, H13, H16}
 use Rattle.hash_core.specs.declared.view.Hold.{Hold}
-use Rattle.prcu_marks.specs.declared.commit.Commit.{Commit}
+use Rattle.hash_core.specs.declared.view.Known.{Known}
 use Rattle.hash_core.specs.declared.view.View.{View}
-use Rattle.prcu_marks.specs.Marks.{updates_of}
-use Rattle.hash_core.specs.Slots.{is_slot_of}
-use Rattle.hash_core.specs.Known.{knowing, ShowsAbsent}
-use Rattle.hash_core.specs.Steps.{stepped, NeedsUnlock, NeedsLink, NeedsEven, after_link}
-use Rattle.hash_core.specs.declared.act.Act.TheVariants as act
-use Rattle.hash_core.specs.Acts.{commit_of}
-use Rattle.hash_core.proofs.Acting.{hold_is}
+use Rattle.hash_core.specs.Memory.{is_slot_of}
+use Rattle.hash_core.specs.Steps.{known_in, knowing, IsWholeWalk, ShowsAbsent, ComesTo, IsOnWalk, stepped, NeedsUnlock, NeedsTake, NeedsWrite, hold_of, NeedsLink, NeedsEven, after_link, commit_of}
+use Rattle.hash_core.proofs.SlotLists.{slot_within}
+use Rattle.class_hash.specs.declared.bucket.Poll.TheVariants.{NotYet}
 use Rattle.class_hash.specs.Seats.{TableAt}
-use Rattle.class_hash.specs.Told.{Told}
-use Rattle.class_hash.specs.Calls.{Unlocks}
-use Rattle.class_hash.proofs.Calls.{goes_by, goes_on}
-use Rattle.class_hash.specs.Trails.{AddsNoLists}
-use Rattle.class_hash.specs.Updates.{HasTurned, with_update}
-use Rattle.class_hash.specs.Puts.{HasFree, MayAdd, MayFill, MayLink, Filled, Linked, Added}
+use Rattle.class_hash.specs.Calls.{Told, HasFinished, Lists, MayPoll, Refilled, Polls, polled, AddsNoLists, HasLoaded, KnowsMore, Unlocks}
+use Rattle.class_hash.proofs.Walking.{goes_by, goes_on, not_loaded, loaded_more, knows_more, known_here, lacks_still, avoids_zero, whole_kept, lacks_kept, adds_none, adds_step, adds_both}
+use Rattle.class_hash.specs.Updates.{HasStepped, HasPolled, HasFree, MayFill, Filled, HasTurned, with_update, MayAdd, MayLink, Linked, Added}
 use Rattle.prcu_model.proofs.ListFacts.{prefix_trans}
-use Rattle.class_hash.proofs.Trails.{adds_step, adds_both}
+use Rattle.prcu_model.specs.declared.operation.Op.TheVariants.{Put}
+use Rattle.prcu_model.specs.Dictionary.{IsLegal}
+use Rattle.prcu_marks.specs.declared.commit.Commit.{Commit}
+use Rattle.prcu_marks.specs.Marks.{updates_of}
+use Rattle.hash_core.proofs.Keeping.{hold_is}
+use Rattle.hash_core.specs.declared.act.Act.TheVariants as act
+
+-- a walk that never comes to a slot
+pub avoids : (known : List Known) (slot first : ℕ) (ss : List ℕ) → IsWholeWalk known first ss
+    → ((before : List ℕ) → ComesTo known first before slot → ⊥) → AllByRecursion (λ s. s ≢ slot) ss
+avoids known slot first [] w never = tt
+avoids known slot first (s ∷ ss) w never = (
+  (λ e. never [] (w.0 ∙ e, λ z. w.1 (e ∙ z))),
+  avoids known slot w.2.0 ss w.2.2 (λ before c. never (s ∷ before) (w.0, w.1, (w.2.0, w.2.1, c))),
+)
+
+pub whole_still : (before after : List Known) → KnowsMore before after → (first : ℕ) (ss : List ℕ) → IsWholeWalk before first ss
+    → IsWholeWalk after first ss
+whole_still before after more first [] w = w
+whole_still before after more first (s ∷ ss) w =
+    (w.0, w.1, (w.2.0, more (Next s) w.2.0 w.2.1, whole_still before after more w.2.0 ss w.2.2))
+
+-- a key that is known to be absent is so after loads
+pub absent_still : (old : Hold) (known : List Known) (key : ℕ) → KnowsMore old.known known → ShowsAbsent old key
+    → ShowsAbsent (record old { known = known }) key
+absent_still old known key more shows = record {
+  first = shows.first;
+  walk = shows.walk;
+  head = more (Head old.class) shows.first shows.head;
+  whole = whole_still old.known known more shows.first shows.walk shows.whole;
+  lacks = lacks_still old.known known more key shows.walk shows.lacks;
+}
+
+-- and after stores in the lists
+listed_absent : (hold : Hold) (free retired key : ℕ) → ShowsAbsent hold key
+    → ShowsAbsent (knowing (knowing hold (Free hold.class) free) (Retired hold.class) retired) key
+listed_absent hold free retired key shows = record {
+  first = shows.first;
+  walk = shows.walk;
+  head = shows.head;
+  whole = whole_kept hold.known (knowing (knowing hold (Free hold.class) free) (Retired hold.class) retired).known 0 (λ s _. refl)
+      (λ s _. refl) shows.first shows.walk (avoids_zero hold.known shows.first shows.walk shows.whole) shows.whole;
+  lacks = lacks_kept hold.known (knowing (knowing hold (Free hold.class) free) (Retired hold.class) retired).known 0 (λ s _. refl)
+      (λ s _. refl) key shows.walk (avoids_zero hold.known shows.first shows.walk shows.whole) shows.lacks;
+}
+
+polled_absent : (hold : Hold) (first key : ℕ) → ShowsAbsent hold key → ShowsAbsent (polled hold first) key
+polled_absent hold first key shows = record {
+  first = shows.first;
+  walk = shows.walk;
+  head = shows.head;
+  whole = whole_kept hold.known (polled hold first).known 0 (λ s _. refl) (λ s _. refl) shows.first shows.walk
+      (avoids_zero hold.known shows.first shows.walk shows.whole) shows.whole;
+  lacks = lacks_kept hold.known (polled hold first).known 0 (λ s _. refl) (λ s _. refl) key shows.walk
+      (avoids_zero hold.known shows.first shows.walk shows.whole) shows.lacks;
+}
+
+-- the slot was taken from the free list, and a pair and a next stored in it
+abbrev pub taken_hold : Hold → ℕ → ℕ → Hold
+taken_hold hold slot next = record (knowing hold (Free hold.class) next) { taken = Some slot }
+
+abbrev pub filled_hold : Hold → ℕ → ℕ → ℕ → ℕ → ℕ → Hold
+filled_hold hold slot next key value first = knowing (knowing (knowing (taken_hold hold slot next) (Key slot) key) (Value slot) value)
+    (Next slot) first
+
+-- and after stores in a slot that isn't on the walk
+filled_absent : (hold : Hold) (slot next key value first other : ℕ) → (IsOnWalk hold slot → ⊥) → ShowsAbsent hold other
+    → ShowsAbsent (filled_hold hold slot next key value first) other
+filled_absent hold slot next key value first other off shows =
+    let away : AllByRecursion (λ s. s ≢ slot) shows.walk =
+    avoids hold.known slot shows.first shows.walk shows.whole
+    (λ before c. off (record { first = shows.first; before = before; head = shows.head; comes = c })) in
+    record {
+      first = shows.first;
+      walk = shows.walk;
+      head = shows.head;
+      whole = whole_kept hold.known
+          (filled_hold hold slot next key value first).known slot nexts keys shows.first shows.walk away shows.whole;
+      lacks = lacks_kept hold.known (filled_hold hold slot next key value first).known slot nexts keys other shows.walk away shows.lacks;
+    }
+  where
+    nexts : (s : ℕ) → s ≢ slot → known_in (filled_hold hold slot next key value first).known (Next s) ≡ known_in hold.known (Next s)
+    nexts s ne = ap (λ t. cond t (Some first) (known_in hold.known (Next s))) (ne_eqb slot s (λ e. ne (sym e)))
+
+    keys : (s : ℕ) → s ≢ slot → known_in (filled_hold hold slot next key value first).known (Key s) ≡ known_in hold.known (Key s)
+    keys s ne = ap (λ t. cond t (Some key) (known_in hold.known (Key s))) (ne_eqb slot s (λ e. ne (sym e)))
+
+-- looks for readers that found some changed nothing
+pub may_poll_still : (v w : View) → MayPoll v → HasStepped v w → MayPoll w
+may_poll_still v w may idle = record {
+  hold = may.hold;
+  finished = record {
+    hold_is = ap (λ (z : View). z.hold) idle.view ∙ may.finished.hold_is;
+    taken = may.finished.taken;
+    unlinked = may.finished.unlinked;
+    moved = may.finished.moved;
+    even = ap (λ (z : View). z.commit) idle.view ∙ may.finished.even;
+  };
+  free = may.free;
+  first = may.first;
+  some = may.some;
+  retired = may.retired;
+}
+
+pub polled_on : (v w x : View) → HasStepped v w → Refilled w x → HasPolled v x
+polled_on v w x idle r =
+    let F : View → View = λ z. record (stepped (stepped (stepped z H8 (Readers r.hold.class) 0) H10 (Retired r.hold.class) 0) H10
+    (Free r.hold.class) r.first) { hold = Some (polled r.hold r.first) } in
+    let whole : x ≡ F (record v { trail = w.trail }) = r.rest ∙ ap F idle.view in
+    record {
+      hold = r.hold;
+      is = sym (ap (λ (z : View). z.hold) idle.view) ∙ r.is;
+      first = r.first;
+      retired = r.retired;
+      trail = subst (λ (z : View). AddsNoLists v.trail z.trail) (sym whole)
+          (adds_step v.trail _ H10 (Free r.hold.class) r.first refl
+          (adds_step v.trail _ H10 (Retired r.hold.class) 0 refl (adds_step v.trail w.trail H8 (Readers r.hold.class) 0 refl idle.trail)));
+      view = whole ∙ sym (ap (λ (z : View). record v { hold = Some (polled r.hold r.first); trail = z.trail }) whole);
+    }
+
+pub waited_on : (v w x : View) (why : Why) → HasStepped v w → Polls w (NotYet why) x → HasStepped v x
+waited_on v w x (Counter class side count) idle p =
+    let F : View → View = λ z. stepped z H8 (Readers p.1.hold.class) count in
+    let whole : x ≡ F (record v { trail = w.trail }) = p.1.rest ∙ ap F idle.view in
+    record {
+      trail = subst (λ (z : View). AddsNoLists v.trail z.trail) (sym whole)
+          (adds_step v.trail w.trail H8 (Readers p.1.hold.class) count refl idle.trail);
+      view = whole ∙ sym (ap (λ (z : View). record v { trail = z.trail }) whole);
+    }
+waited_on v w x _ idle p = absurd p
+
+-- from the lists to a slot that is free
+module _ (capacities : List ℕ) (v : View) (f : HasFinished v) (free retired : ℕ) (x : View) (l : Lists capacities v free retired x) where
+  abbrev listed_hold : Hold
+  listed_hold = knowing (knowing l.hold (Free l.hold.class) free) (Retired l.hold.class) retired
+
+  needs : NeedsUnlock v l.hold
+  needs = let z : Some f.0 ≡ Some l.hold = sym f.1.hold_is ∙ l.is in let e : f.0 ≡ l.hold = cc in subst (NeedsUnlock v) e f.1
+
+  needs_listed : NeedsUnlock x listed_hold
+  needs_listed = record {
+    hold_is = ap (λ (z : View). z.hold) l.rest;
+    taken = needs.taken;
+    unlinked = needs.unlinked;
+    moved = needs.moved;
+    even = ap (λ (z : View). z.commit) l.rest ∙ needs.even;
+  }
+
+  free_is : known_in listed_hold.known (Free l.hold.class) ≡ Some free
+  free_is = known_here l.hold (Free l.hold.class) free
+
+  retired_is : known_in listed_hold.known (Retired l.hold.class) ≡ Some retired
+  retired_is = known_here (knowing l.hold (Free l.hold.class) free) (Retired l.hold.class) retired
+
+  pub finished_listed : HasFinished x
+  finished_listed = (listed_hold, needs_listed)
+
+  pub free_listed : free ≢ 0 → HasFree capacities v free x
+  free_listed ne = record {
+    hold = l.hold;
+    new = listed_hold;
+    was = l.is;
+    finished = needs_listed;
+    class = refl;
+    first = free_is;
+    slot_is = l.free_link ne;
+    absent = λ key shows. listed_absent l.hold free retired key shows;
+    room = record { listed = x; free = free; retired = retired; lists = l; some = λ none. absurd (ne none); trail = adds_none x.trail };
+    seen = l.seen;
+    view = l.rest;
+  }
+
+  pub may_poll : free ≡ 0 → retired ≢ 0 → MayPoll x
+  may_poll none ne = record {
+    hold = listed_hold;
+    finished = needs_listed;
+    free = free_is ∙ ap Some none;
+    first = retired;
+    some = ne;
+    retired = retired_is;
+  }
+
+  pub free_polled : retired ≢ 0 → (y : View) → HasPolled x y → HasFree capacities v retired y
+  free_polled ne y p =
+      let same : p.hold ≡ listed_hold = (let z : Some p.hold ≡ Some listed_hold = sym p.is ∙ ap (λ (u : View). u.hold) l.rest in cc) in
+      let known : known_in listed_hold.known (Retired l.hold.class) ≡ Some p.first =
+      subst (λ (k : Hold). known_in k.known (Retired k.class) ≡ Some p.first) same p.retired in
+      let number : p.first ≡ retired = (let z : Some p.first ≡ Some retired = sym known ∙ retired_is in cc) in
+      let whole : y ≡ record v { hold = Some (polled listed_hold retired); trail = y.trail; seen = x.seen } =
+      p.view ∙ ap (λ (k : Hold). record x { hold = Some (polled k p.first); trail = y.trail }) same
+      ∙ ap (λ n. record x { hold = Some (polled listed_hold n); trail = y.trail }) number
+      ∙ ap (λ (u : View). record u { hold = Some (polled listed_hold retired); trail = y.trail; seen = x.seen }) l.rest in
+      record {
+        hold = l.hold;
+        new = polled listed_hold retired;
+        was = l.is;
+        finished = record {
+          hold_is = ap (λ (u : View). u.hold) whole;
+          taken = needs.taken;
+          unlinked = needs.unlinked;
+          moved = refl;
+          even = ap (λ (u : View). u.commit) whole ∙ needs.even;
+        };
+        class = refl;
+        first = known_here (knowing listed_hold (Retired l.hold.class) 0) (Free l.hold.class) retired;
+        slot_is = l.retired_link ne;
+        absent = λ key shows. polled_absent listed_hold retired key (listed_absent l.hold free retired key shows);
+        room = record { listed = x; free = free; retired = retired; lists = l; some = λ _. ne; trail = p.trail };
+        seen = subst (IsPrefix v.seen) (sym (ap (λ (u : View). u.seen) whole)) l.seen;
+        view = whole ∙ sym (ap (λ (u : View). record v { hold = Some (polled listed_hold retired); trail = y.trail; seen = u.seen }) whole);
+      }
+
+-- the chain of the slot and the head were loaded
+module _ {table : TableAt} {v : View} {slot key : ℕ} (value : ℕ) (may : MayFill table.capacities v slot key) {next : ℕ} {x1 : View}
+    (a : Told table v (act.LockedLoad (Chain slot)) next x1) where
+  none_loaded : HasLoaded v may.hold v may.hold
+  none_loaded = not_loaded v may.hold may.finished.hold_is
+
+  loaded1 : HasLoaded v may.hold x1 (knowing may.hold (Chain slot) next)
+  loaded1 = loaded_more table v may.hold v may.hold none_loaded (Chain slot) next x1 a refl
+
+  more1 : KnowsMore may.hold.known (knowing may.hold (Chain slot) next).known
+  more1 = knows_more table v may.hold v may.hold none_loaded (Chain slot) next x1 a
+
+  pub may_load_head : {class : ℕ} → class ≡ may.hold.class → (hold : Hold) × (x1.hold ≡ Some hold) × (class ≡ hold.class)
+  may_load_head is = (knowing may.hold (Chain slot) next, ap (λ (z : View). z.hold) loaded1.view, is)
+
+  module _ {class first : ℕ} (is : class ≡ may.hold.class) {x2 : View} (b : Told table x1 (act.LockedLoad (Head class)) first x2) where
+    abbrev k2 : Hold
+    k2 = knowing (knowing may.hold (Chain slot) next) (Head class) first
+
+    loaded2 : HasLoaded v may.hold x2 (knowing (knowing may.hold (Chain slot) next) (Head class) first)
+    loaded2 = loaded_more table v may.hold x1 (knowing may.hold (Chain slot) next) loaded1 (Head class) first x2 b refl
+
+    step2 : KnowsMore (knowing may.hold (Chain slot) next).known (knowing (knowing may.hold (Chain slot) next) (Head class) first).known
+    step2 = knows_more table v may.hold x1 (knowing may.hold (Chain slot) next) loaded1 (Head class) first x2 b
+
+    more2 : KnowsMore may.hold.known (knowing (knowing may.hold (Chain slot) next) (Head class) first).known
+    more2 f n e = step2 f n (more1 f n e)
+
+    some_slot : slot ≢ 0
+    some_slot e = let w = slot_within table.capacities may.hold.class slot may.slot_is in let p : 1 ≤ slot = w.0 in absurd (omega arith)
+
+    pub may_take : (hold : Hold) × NeedsTake x2 hold slot next
+    may_take = (
+      k2,
+      record {
+        hold_is = ap (λ (z : View). z.hold) loaded2.view;
+        some = some_slot;
+        first = more2 (Free may.hold.class) slot may.first;
+        next_is = step2 (Chain slot) next (known_here may.hold (Chain slot) next);
+        empty = may.finished.taken;
+      },
+    )
+
+    abbrev loaded_view : View
+    loaded_view = record v { hold = Some k2; trail = x2.trail; seen = x2.seen }
+
+    module _ {x3 : View} (t : Told table x2 (act.TakeSlot slot next) next x3) where
+      abbrev k3 : Hold
+      k3 = taken_hold k2 slot next
+
+      abbrev taken_view : View
+      taken_view = goes_by (act.TakeSlot slot next) t.marks next loaded_view
+
+      taken_is : x3 ≡ taken_view
+      taken_is = goes_on loaded2.view t
+
+      pub may_write_key : (hold : Hold) × (other : ℕ) × NeedsWrite x3 hold other (Key slot)
+          × (is_slot_of table.capacities hold.class slot ≡ true)
+      may_write_key = (k3, slot, record { hold_is = ap (λ (z : View). z.hold) taken_is; taken = refl; field_is = refl }, may.slot_is)
+
+      module _ {x4 : View} (d : Told table x3 (act.Fill (Key slot) key) key x4) where
+        abbrev k4 : Hold
+        k4 = knowing k3 (Key slot) key
+
+        abbrev keyed_view : View
+        keyed_view = goes_by (act.Fill (Key slot) key) d.marks key taken_view
+
+        keyed_is : x4 ≡ keyed_view
+        keyed_is = goes_on taken_is d
+
+        pub may_write_value : (hold : Hold) × (other : ℕ) × NeedsWrite x4 hold other (Value slot)
+            × (is_slot_of table.capacities hold.class slot ≡ true)
+        may_write_value = (k4, slot, record { hold_is = ap (λ (z : View). z.hold) keyed_is; taken = refl; field_is = refl }, may.slot_is)
+
+        module _ {x5 : View} (e : Told table x4 (act.Fill (Value slot) value) value x5) where
+          abbrev k5 : Hold
+          k5 = knowing k4 (Value slot) value
+
+          abbrev valued_view : View
+          valued_view = goes_by (act.Fill (Value slot) value) e.marks value keyed_view
+
+          valued_is : x5 ≡ valued_view
+          valued_is = goes_on keyed_is e
+
+          pub may_write_next : (hold : Hold) × (other : ℕ) × NeedsWrite x5 hold other (Next slot)
+              × (is_slot_of table.capacities hold.class slot ≡ true)
+          may_write_next = (k5, slot, record { hold_is = ap (λ (z : View). z.hold) valued_is; taken = refl; field_is = refl }, may.slot_is)
+
+          pub filled : {x6 : View} → Told table x5 (act.Fill (Next slot) first) first x6 → Filled v slot key value x6
+          filled {x6} g =
+              let view6 : x6 ≡ goes_by (act.Fill (Next slot) first) g.marks first valued_view = goes_on valued_is g in
+              let off : IsOnWalk k2 slot → ⊥ = subst (λ (k : Hold). IsOnWalk k slot → ⊥) (ap hold_of loaded2.view) t.gains in
+              record {
+                before = t.marks;
+                since = prefix_trans v.seen x2.seen t.marks loaded2.seen t.begins;
+                may = record {
+                  hold = knowing k5 (Next slot) first;
+                  first = first;
+                  is = ap (λ (z : View). z.hold) view6;
+                  taken = refl;
+                  unlinked = may.finished.unlinked;
+                  moved = may.finished.moved;
+                  commit = ap (λ (z : View). z.commit) view6 ∙ may.finished.even;
+                  key_is = known_here k3 (Key slot) key;
+                  value_is = known_here k4 (Value slot) value;
+                  next_is = known_here k5 (Next slot) first;
+                  head_is = subst (λ z. known_in k2.known (Head z) ≡ Some first) is
+                      (known_here (knowing may.hold (Chain slot) next) (Head class) first);
+                  class = may.class;
+                  absent = filled_absent k2 slot next key value first key off (absent_still may.hold k2.known key more2 may.absent);
+                  ticket = subst (λ n. 1 ≤ n) (sym (ap (λ (z : View). z.tickets) view6)) may.ticket;
+                };
+                trail = subst (λ (z : View). AddsNoLists v.trail z.trail) (sym view6)
+                    (adds_step v.trail _ H11 (Next slot) first refl
+                    (adds_step v.trail _ H11 (Value slot) value refl
+                    (adds_step v.trail _ H11 (Key slot) key refl
+                    (adds_step v.trail x2.trail H10 (Free may.hold.class) next refl loaded2.trail))));
+                view = view6 ∙ sym (ap (λ (z : View). record v
+                    { hold = z.hold; trail = z.trail; seen = t.marks ++ Given slot ∷ [] }) view6);
+              }
+
+-- A slot linked under a bucket's lock.
 
 -- the front was made odd, the slot linked, the front made even, and the lock given up
 module _ {v : View} {slot key value : ℕ} (may : MayLink v slot key value) {even : ℕ} {x1 : View} (t : HasTurned v even x1) where

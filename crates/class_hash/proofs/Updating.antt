@@ -1,32 +1,26 @@
+-- A value replaced and a slot unlinked, under a bucket's lock.
 -- Updates under a bucket's lock.
-use Rattle.std.proofs.Common.{◌≡◌, ◌≢◌, ℕ, ◌+◌, ◌*◌, ◌/◌, ◌%◌, ◌≤◌, true, false, cond, [], length, Option, Some, refl, sym, ap, subst, ◌∙◌, arith, eq-eqb, ne_eqb}
+use Rattle.std.proofs.Common.{◌≡◌, ◌≢◌, ℕ, ◌+◌, ◌*◌, ◌/◌, ◌%◌, ◌≤◌, true, false, cond, [], length, Option, Some, refl, sym, ap, subst, ◌∙◌, arith, eq-eqb, ne_eqb, ◌∷◌, None}
 use mathlib.Core.List.{IsPrefix}
-use Rattle.prcu_model.specs.declared.operation.Op.TheVariants.{Set}
-use Rattle.prcu_model.specs.History.{IsLegal}
-use Rattle.hash_core.specs.declared.words.Field.TheVariants.{Front, Lock, Head, Key, Value}
-use Rattle.hash_core.specs.declared.words.Kind.TheVariants.{H6, H7, H12, H15, H16}
+use Rattle.prcu_model.specs.declared.operation.Op.TheVariants.{Set, Del}
+use Rattle.prcu_model.specs.Dictionary.{IsLegal}
+use Rattle.hash_core.specs.declared.words.Field.TheVariants.{Front, Lock, Head, Key, Value, Retired, Next, Chain}
+use Rattle.hash_core.specs.declared.words.Kind.TheVariants.{H6, H7, H12, H15, H16, H10, H14}
 use Rattle.hash_core.specs.declared.words.Field.{Field}
 use Rattle.hash_core.specs.declared.words.Kind.{Kind}
 use Rattle.hash_core.specs.declared.view.Hold.{Hold}
 use Rattle.prcu_marks.specs.declared.commit.Commit.{Commit}
 use Rattle.hash_core.specs.declared.view.View.{View}
-use Rattle.prcu_marks.specs.Marks.{updates_of}
-use Rattle.prcu_marks.specs.Bounds.{most_front}
-use Rattle.hash_core.specs.Known.{known_in, knowing}
-use Rattle.hash_core.specs.Slots.{is_slot_of}
-use Rattle.hash_core.specs.Steps.{stepped, NeedsUnlock, NeedsReplace, NeedsEven, after_lock, fresh_hold}
-use Rattle.hash_core.specs.declared.act.Act.TheVariants as act
-use Rattle.hash_core.specs.Acts.{hold_of, commit_of}
+use Rattle.prcu_marks.specs.Marks.{updates_of, most_front}
+use Rattle.hash_core.specs.Steps.{known_in, knowing, stepped, NeedsUnlock, NeedsReplace, NeedsEven, after_lock, fresh_hold, hold_of, commit_of, LinksTo, NeedsUnlink, NeedsPush}
+use Rattle.hash_core.specs.Memory.{is_slot_of, IsOfClass}
 use Rattle.class_hash.specs.Seats.{TableAt}
-use Rattle.class_hash.specs.Told.{Told}
-use Rattle.class_hash.specs.Trails.{loads_free, AddsNoLists}
-use Rattle.class_hash.specs.Calls.{HasFinished, Unlocks}
-use Rattle.class_hash.specs.Walks.{HasLoaded, KnowsMore}
-use Rattle.class_hash.specs.Updates.{HasStepped, HasLocked, HasTurned, MayReplace, Replaced, with_update}
-use Rattle.class_hash.proofs.Walking.{not_loaded, loaded_more, knows_more, known_here, comes_to_still}
+use Rattle.class_hash.specs.Calls.{Told, loads_free, AddsNoLists, HasFinished, Unlocks, HasLoaded, KnowsMore, IsLinkedFrom}
+use Rattle.class_hash.specs.Updates.{HasStepped, HasLocked, HasTurned, MayReplace, Replaced, with_update, link_after, MayUnlink, Removed}
+use Rattle.class_hash.proofs.Walking.{not_loaded, loaded_more, knows_more, known_here, comes_to_still, goes_by, goes_on, adds_none, adds_step, adds_both}
 use Rattle.prcu_model.proofs.ListFacts.{prefix_trans}
-use Rattle.class_hash.proofs.Calls.{goes_by, goes_on}
-use Rattle.class_hash.proofs.Trails.{adds_none, adds_step, adds_both}
+use Rattle.prcu_marks.specs.declared.mark.Mark.TheVariants.{Unlinked}
+use Rattle.hash_core.specs.declared.act.Act.TheVariants as act
 
 -- no step was made yet
 pub not_stepped : (v : View) → HasStepped v v
@@ -112,26 +106,26 @@ holds_loaded {table} {v} {x1} {slot} {key} {old} may a = (
 -- the value was loaded, the front made odd, the value replaced, the front made even, the lock given up
 module _ {table : TableAt} {v x1 x2 : View} {slot key old even : ℕ} (value : ℕ) (may : MayReplace table.capacities v slot key)
     (a : Told table v (act.LockedLoad (Value slot)) old x1) (b : HasTurned x1 even x2) where
-  loaded1 : HasLoaded v may.hold x1 (knowing may.hold (Value slot) old)
-  loaded1 = loaded_more table v may.hold v may.hold (not_loaded v may.hold may.finished.hold_is) (Value slot) old x1 a refl
+  value_loaded : HasLoaded v may.hold x1 (knowing may.hold (Value slot) old)
+  value_loaded = loaded_more table v may.hold v may.hold (not_loaded v may.hold may.finished.hold_is) (Value slot) old x1 a refl
 
-  more1 : KnowsMore may.hold.known (knowing may.hold (Value slot) old).known
-  more1 = knows_more table v may.hold v may.hold (not_loaded v may.hold may.finished.hold_is) (Value slot) old x1 a
+  value_known : KnowsMore may.hold.known (knowing may.hold (Value slot) old).known
+  value_known = knows_more table v may.hold v may.hold (not_loaded v may.hold may.finished.hold_is) (Value slot) old x1 a
 
-  abbrev v2 : View
-  v2 = record v {
+  abbrev odd_view : View
+  odd_view = record v {
     hold = Some (knowing may.hold (Value slot) old);
     commit = Some (record { found = even; stored = false });
     trail = x2.trail;
     seen = x1.seen;
   }
 
-  view2 : x2 ≡ v2
-  view2 = b.view ∙ ap (λ (z : View). record z {
+  odd_is : x2 ≡ odd_view
+  odd_is = b.view ∙ ap (λ (z : View). record z {
     commit = Some (record { found = even; stored = false });
     trail = x2.trail;
     seen = x1.seen;
-  }) loaded1.view
+  }) value_loaded.view
 
   pub may_store : (hold : Hold) × (e : ℕ) × NeedsReplace x2 hold e slot key × (is_slot_of table.capacities hold.class slot ≡ true)
   may_store = (
@@ -139,74 +133,286 @@ module _ {table : TableAt} {v x1 x2 : View} {slot key old even : ℕ} (value : �
     even,
     record {
       commit = record {
-        hold_is = ap (λ (z : View). z.hold) view2;
-        commit_is = ap (λ (z : View). z.commit) view2;
-        ticket = subst (λ n. 1 ≤ n) (sym (ap (λ (z : View). z.tickets) view2)) may.ticket;
+        hold_is = ap (λ (z : View). z.hold) odd_is;
+        commit_is = ap (λ (z : View). z.commit) odd_is;
+        ticket = subst (λ n. 1 ≤ n) (sym (ap (λ (z : View). z.tickets) odd_is)) may.ticket;
       };
       on_walk = record {
         first = may.on.first;
         before = may.on.before;
-        head = more1 (Head may.hold.class) may.on.first may.on.head;
+        head = value_known (Head may.hold.class) may.on.first may.on.head;
         comes = comes_to_still may.hold.known (knowing may.hold
-            (Value slot) old).known more1 may.on.first may.on.before slot may.on.comes;
+            (Value slot) old).known value_known may.on.first may.on.before slot may.on.comes;
       };
-      key_is = more1 (Key slot) key may.key_is;
+      key_is = value_known (Key slot) key may.key_is;
     },
     may.slot_is,
   )
 
   module _ {x3 : View} (c : Told table x2 (act.ReplaceValue slot key value) value x3) where
-    abbrev v3 : View
-    v3 = goes_by (act.ReplaceValue slot key value) c.marks value v2
+    abbrev replaced_view : View
+    replaced_view = goes_by (act.ReplaceValue slot key value) c.marks value odd_view
 
-    view3 : x3 ≡ v3
-    view3 = goes_on view2 c
+    replaced_is : x3 ≡ replaced_view
+    replaced_is = goes_on odd_is c
 
-    pub may_even : (e : ℕ) × NeedsEven x3 e × (even + 2 ≡ e + 2)
-    may_even = (even, ap (λ (z : View). z.commit) view3, refl)
+    pub may_even_replaced : (e : ℕ) × NeedsEven x3 e × (even + 2 ≡ e + 2)
+    may_even_replaced = (even, ap (λ (z : View). z.commit) replaced_is, refl)
 
     module _ {x4 : View} (d : Told table x3 (act.CloseCommit (even + 2)) (even + 2) x4) where
-      abbrev v4 : View
-      v4 = goes_by (act.CloseCommit (even + 2)) d.marks (even + 2) v3
+      abbrev even_view : View
+      even_view = goes_by (act.CloseCommit (even + 2)) d.marks (even + 2) replaced_view
 
-      view4 : x4 ≡ v4
-      view4 = goes_on view3 d
+      even_is : x4 ≡ even_view
+      even_is = goes_on replaced_is d
 
-      pub may_unlock : (hold : Hold) × NeedsUnlock x4 hold
-      may_unlock = (
+      pub may_unlock_replaced : (hold : Hold) × NeedsUnlock x4 hold
+      may_unlock_replaced = (
         knowing (knowing may.hold (Value slot) old) (Value slot) value,
         record {
-          hold_is = ap (λ (z : View). z.hold) view4;
+          hold_is = ap (λ (z : View). z.hold) even_is;
           taken = may.finished.taken;
           unlinked = may.finished.unlinked;
           moved = may.finished.moved;
-          even = ap (λ (z : View). z.commit) view4;
+          even = ap (λ (z : View). z.commit) even_is;
         },
       )
 
       pub replaced : {x5 : View} → Unlocks x4 x5 → Replaced v key value old (even / 2 + 1) x5
       replaced {x5} e =
-          let last : x5 ≡ goes_by act.Unlock [] 0 v4 = e ∙ ap (goes_by act.Unlock [] 0) view4 in
-          let seen5 : x5.seen ≡ x3.seen = ap (λ (z : View). z.seen) last ∙ sym (ap (λ (z : View). z.seen) view3) in
-          let known2 : hold_of x2 ≡ knowing may.hold (Value slot) old = ap hold_of view2 in
-          let front2 : (commit_of x2).found ≡ even = ap (λ (z : View). (commit_of z).found) view2 in
+          let last : x5 ≡ goes_by act.Unlock [] 0 even_view = e ∙ ap (goes_by act.Unlock [] 0) even_is in
+          let seen5 : x5.seen ≡ x3.seen = ap (λ (z : View). z.seen) last ∙ sym (ap (λ (z : View). z.seen) replaced_is) in
+          let known2 : hold_of x2 ≡ knowing may.hold (Value slot) old = ap hold_of odd_is in
+          let front2 : (commit_of x2).found ≡ even = ap (λ (z : View). (commit_of z).found) odd_is in
           let p : (commit_of x2).found + 2 ≡ 2 * length (updates_of x3.seen) = c.gains.counted.position in
-          let from1 : IsPrefix x1.seen c.marks = subst (λ (z : View). IsPrefix z.seen c.marks) view2 c.begins in
+          let from1 : IsPrefix x1.seen c.marks = subst (λ (z : View). IsPrefix z.seen c.marks) odd_is c.begins in
           record {
             before = c.marks;
-            since = prefix_trans v.seen x1.seen c.marks loaded1.seen from1;
+            since = prefix_trans v.seen x1.seen c.marks value_loaded.seen from1;
             was = c.gains.was old (subst (λ (k : Hold). known_in k.known (Value slot) ≡ Some old) (sym known2)
                 (known_here may.hold (Value slot) old));
             legal = subst (λ z. IsLegal (updates_of z)) (sym seen5) c.informed.legal;
             number_is = (let half : even / 2 + 1 ≡ length (updates_of x3.seen) = omega arith in half)
                 ∙ ap (λ z. length (updates_of z)) (sym seen5);
-            view = last ∙ ap (λ (t : Option Commit). record (goes_by act.Unlock [] 0 v4) { commit = t }) (sym may.finished.even)
+            view = last ∙ ap (λ (t : Option Commit). record (goes_by act.Unlock [] 0 even_view) { commit = t }) (sym may.finished.even)
                 ∙ sym (ap (λ (z : View). with_update v (Set key value) c.marks [] z.trail) last);
           }
 
       pub replaced_trail : {x5 : View} → Unlocks x4 x5 → AddsNoLists v.trail x5.trail
       replaced_trail {x5} e =
-          let last : x5 ≡ goes_by act.Unlock [] 0 v4 = e ∙ ap (goes_by act.Unlock [] 0) view4 in
+          let last : x5 ≡ goes_by act.Unlock [] 0 even_view = e ∙ ap (goes_by act.Unlock [] 0) even_is in
           subst (λ (z : View). AddsNoLists v.trail z.trail) (sym last)
           (adds_step v.trail _ H7 (Lock may.hold.class) 0 refl (adds_step v.trail _ H16 Front (even + 2) refl
-          (adds_step v.trail x2.trail H15 (Value slot) value refl (adds_both v.trail x1.trail x2.trail loaded1.trail b.trail))))
+          (adds_step v.trail x2.trail H15 (Value slot) value refl (adds_both v.trail x1.trail x2.trail value_loaded.trail b.trail))))
+
+-- A slot unlinked under a bucket's lock.
+
+-- the next of the slot and the first retired slot were loaded
+module _ {table : TableAt} {v : View} {previous : Option ℕ} {slot key : ℕ} (may : MayUnlink table.capacities v previous slot key) {next : ℕ}
+    {x1 : View} (a : Told table v (act.LockedLoad (Next slot)) next x1) where
+  abbrev k0 : Hold
+  k0 = may.hold
+
+  abbrev k1 : Hold
+  k1 = knowing may.hold (Next slot) next
+
+  none_loaded : HasLoaded v may.hold v may.hold
+  none_loaded = not_loaded v may.hold may.finished.hold_is
+
+  next_loaded : HasLoaded v may.hold x1 (knowing may.hold (Next slot) next)
+  next_loaded = loaded_more table v may.hold v may.hold none_loaded (Next slot) next x1 a refl
+
+  next_known : KnowsMore may.hold.known (knowing may.hold (Next slot) next).known
+  next_known = knows_more table v may.hold v may.hold none_loaded (Next slot) next x1 a
+
+  pub may_load_retired : {class : ℕ} → class ≡ may.hold.class → (hold : Hold) × (x1.hold ≡ Some hold) × (class ≡ hold.class)
+  may_load_retired is = (knowing may.hold (Next slot) next, ap (λ (z : View). z.hold) next_loaded.view, is)
+
+  module _ {class first : ℕ} (is : class ≡ may.hold.class) {x2 : View} (b : Told table x1 (act.LockedLoad (Retired class)) first x2) where
+    abbrev k2 : Hold
+    k2 = knowing (knowing may.hold (Next slot) next) (Retired class) first
+
+    loaded2 : HasLoaded v may.hold x2 (knowing (knowing may.hold (Next slot) next) (Retired class) first)
+    loaded2 = loaded_more table v may.hold x1 (knowing may.hold (Next slot) next) next_loaded (Retired class) first x2 b refl
+
+    step2 : KnowsMore (knowing may.hold (Next slot) next).known (knowing (knowing may.hold (Next slot) next) (Retired class) first).known
+    step2 = knows_more table v may.hold x1 (knowing may.hold (Next slot) next) next_loaded (Retired class) first x2 b
+
+    more2 : KnowsMore may.hold.known (knowing (knowing may.hold (Next slot) next) (Retired class) first).known
+    more2 f n e = step2 f n (next_known f n e)
+
+    pub holds2 : (hold : Hold) × (x2.hold ≡ Some hold)
+    holds2 = (knowing (knowing may.hold (Next slot) next) (Retired class) first, ap (λ (z : View). z.hold) loaded2.view)
+
+    module _ {even : ℕ} {x3 : View} (t : HasTurned x2 even x3) where
+      abbrev turned_view : View
+      turned_view = record v {
+        hold = Some (knowing (knowing may.hold (Next slot) next) (Retired class) first);
+        commit = Some (record { found = even; stored = false });
+        trail = x3.trail;
+        seen = x2.seen;
+      }
+
+      turned_is : x3 ≡ record v {
+        hold = Some (knowing (knowing may.hold (Next slot) next) (Retired class) first);
+        commit = Some (record { found = even; stored = false });
+        trail = x3.trail;
+        seen = x2.seen;
+      }
+      turned_is = t.view ∙ ap (λ (z : View). record z {
+        commit = Some (record { found = even; stored = false });
+        trail = x3.trail;
+        seen = x2.seen;
+      }) loaded2.view
+
+      link_by : (p : Option ℕ) → IsLinkedFrom may.hold p slot
+          → LinksTo (knowing (knowing may.hold (Next slot) next) (Retired class) first) (link_after may.hold.class p)
+          × (known_in (knowing (knowing may.hold (Next slot) next) (Retired class) first).known (link_after may.hold.class p)
+          ≡ Some slot)
+      link_by None f = (refl, more2 (Head may.hold.class) slot f)
+      link_by (Some p) f = (
+        record {
+          first = f.0.first;
+          before = f.0.before;
+          head = more2 (Head may.hold.class) f.0.first f.0.head;
+          comes = comes_to_still may.hold.known (knowing (knowing may.hold (Next slot) next)
+              (Retired class) first).known more2 f.0.first f.0.before p f.0.comes;
+        },
+        more2 (Next p) slot f.1,
+      )
+
+      needs14 : NeedsUnlink x3 (knowing (knowing may.hold (Next slot) next) (Retired class) first) even
+          (link_after may.hold.class previous) slot key next
+      needs14 = record {
+        commit = record {
+          hold_is = ap (λ (z : View). z.hold) turned_is;
+          commit_is = ap (λ (z : View). z.commit) turned_is;
+          ticket = subst (λ n. 1 ≤ n) (sym (ap (λ (z : View). z.tickets) turned_is)) may.ticket;
+        };
+        empty = may.finished.unlinked;
+        link_is = (link_by previous may.found.from).0;
+        linked = (link_by previous may.found.from).1;
+        some = may.found.some;
+        key_is = more2 (Key slot) key may.found.key_is;
+        next_is = step2 (Next slot) next (known_here may.hold (Next slot) next);
+      }
+
+      same_link : link_after may.hold.class previous ≡ link_after class previous
+      same_link = ap (λ c. link_after c previous) (sym is)
+
+      pub may_cut : {link : Field} → link ≡ link_after class previous
+          → (hold : Hold) × (e : ℕ) × NeedsUnlink x3 hold e link slot key next × IsOfClass table.capacities hold.class link
+      may_cut at = (
+        knowing (knowing may.hold (Next slot) next) (Retired class) first,
+        even,
+        subst (λ z. NeedsUnlink x3 (knowing (knowing may.hold (Next slot) next) (Retired class) first) even z slot key next)
+            (same_link ∙ sym at) needs14,
+        subst (λ z. IsOfClass table.capacities may.hold.class z) (same_link ∙ sym at) may.link,
+      )
+
+      module _ {link : Field} (at : link ≡ link_after class previous) {x4 : View}
+          (c : Told table x3 (act.UnlinkSlot link slot key next) next x4) where
+        abbrev k4 : Hold
+        k4 = record (knowing (knowing (knowing may.hold (Next slot) next) (Retired class) first) link next)
+            { clear = false; unlinked = Some slot }
+
+        abbrev unlinked_view : View
+        unlinked_view = goes_by (act.UnlinkSlot link slot key next) c.marks next turned_view
+
+        unlinked_is : x4 ≡ unlinked_view
+        unlinked_is = goes_on turned_is c
+
+        pub may_chain : (hold : Hold) × ((x4.hold ≡ Some hold) × (hold.unlinked ≡ Some slot))
+            × (is_slot_of table.capacities hold.class slot ≡ true)
+        may_chain = (k4, (ap (λ (z : View). z.hold) unlinked_is, refl), may.slot_is)
+
+        module _ {x5 : View} (d : Told table x4 (act.StoreChain slot first) first x5) where
+          abbrev k5 : Hold
+          k5 = knowing k4 (Chain slot) first
+
+          abbrev chained_view : View
+          chained_view = goes_by (act.StoreChain slot first) d.marks first unlinked_view
+
+          chained_is : x5 ≡ chained_view
+          chained_is = goes_on unlinked_is d
+
+          -- the retired word is known past the link and the chain
+          past_link : (p : Option ℕ)
+              → known_in (knowing (knowing (knowing (knowing may.hold (Next slot) next) (Retired class) first) (link_after class p) next)
+              (Chain slot) first).known (Retired may.hold.class) ≡ Some first
+          past_link None = subst (λ z. known_in (knowing (knowing may.hold (Next slot) next) (Retired class) first).known (Retired z)
+              ≡ Some first) is (known_here (knowing may.hold (Next slot) next) (Retired class) first)
+          past_link (Some p) = subst (λ z. known_in (knowing (knowing may.hold (Next slot) next) (Retired class) first).known (Retired z)
+              ≡ Some first) is (known_here (knowing may.hold (Next slot) next) (Retired class) first)
+
+          pub may_push : (hold : Hold) × (other : ℕ) × NeedsPush x5 hold slot other
+          may_push = (
+            k5,
+            first,
+            record {
+              hold_is = ap (λ (z : View). z.hold) chained_is;
+              unlinked = refl;
+              first_is = subst (λ l. known_in (knowing (knowing (knowing (knowing may.hold (Next slot) next) (Retired class) first) l next)
+                  (Chain slot) first).known (Retired may.hold.class) ≡ Some first) (sym at) (past_link previous);
+              chained = known_here k4 (Chain slot) first;
+            },
+          )
+
+          module _ {x6 : View} (e : Told table x5 (act.Retire slot) slot x6) where
+            abbrev k6 : Hold
+            k6 = record (knowing k5 (Retired may.hold.class) slot) { unlinked = None }
+
+            abbrev retired_view : View
+            retired_view = goes_by (act.Retire slot) e.marks slot chained_view
+
+            retired_is : x6 ≡ retired_view
+            retired_is = goes_on chained_is e
+
+            pub may_even_unlinked : (n : ℕ) × NeedsEven x6 n × (even + 2 ≡ n + 2)
+            may_even_unlinked = (even, ap (λ (z : View). z.commit) retired_is, refl)
+
+            module _ {x7 : View} (f : Told table x6 (act.CloseCommit (even + 2)) (even + 2) x7) where
+              abbrev closed_view : View
+              closed_view = goes_by (act.CloseCommit (even + 2)) f.marks (even + 2) retired_view
+
+              closed_is : x7 ≡ closed_view
+              closed_is = goes_on retired_is f
+
+              pub may_unlock_unlinked : (hold : Hold) × NeedsUnlock x7 hold
+              may_unlock_unlinked = (
+                k6,
+                record {
+                  hold_is = ap (λ (z : View). z.hold) closed_is;
+                  taken = may.finished.taken;
+                  unlinked = refl;
+                  moved = may.finished.moved;
+                  even = ap (λ (z : View). z.commit) closed_is;
+                },
+              )
+
+              pub removed : {x8 : View} → Unlocks x7 x8 → Removed v key (even / 2 + 1) x8
+              removed {x8} g =
+                  let last : x8 ≡ goes_by act.Unlock [] 0 closed_view = g ∙ ap (goes_by act.Unlock [] 0) closed_is in
+                  let front3 : (commit_of x3).found ≡ even = ap (λ (z : View). (commit_of z).found) turned_is in
+                  let p : (commit_of x3).found + 2 ≡ 2 * length (updates_of x4.seen) = c.gains.position in
+                  let seen8 : x8.seen ≡ x4.seen = ap (λ (z : View). z.seen) last ∙ sym (ap (λ (z : View). z.seen) unlinked_is) in
+                  let from2 : IsPrefix x2.seen c.marks = subst (λ (z : View). IsPrefix z.seen c.marks) turned_is c.begins in
+                  record {
+                    before = c.marks;
+                    slot = slot;
+                    since = prefix_trans v.seen x2.seen c.marks loaded2.seen from2;
+                    legal = subst (λ z. IsLegal (updates_of z)) (sym seen8) c.informed.legal;
+                    number_is = (let half : even / 2 + 1 ≡ length (updates_of x4.seen) = omega arith in half)
+                        ∙ ap (λ z. length (updates_of z)) (sym seen8);
+                    view = last ∙ ap (λ (q : Option Commit). record (goes_by act.Unlock [] 0 closed_view) { commit = q }) (sym may.finished.even)
+                        ∙ sym (ap (λ (z : View). with_update v (Del key) c.marks (Unlinked slot ∷ []) z.trail) last);
+                  }
+
+              pub removed_trail : {x8 : View} → Unlocks x7 x8 → AddsNoLists v.trail x8.trail
+              removed_trail {x8} g =
+                  let last : x8 ≡ goes_by act.Unlock [] 0 closed_view = g ∙ ap (goes_by act.Unlock [] 0) closed_is in
+                  subst (λ (z : View). AddsNoLists v.trail z.trail) (sym last)
+                  (adds_step v.trail _ H7 (Lock may.hold.class) 0 refl (adds_step v.trail _ H16 Front (even + 2) refl
+                  (adds_step v.trail _ H10 (Retired may.hold.class) slot refl
+                  (adds_step v.trail _ H10 (Chain slot) first refl (adds_step v.trail x3.trail H14 link next refl
+                  (adds_both v.trail x2.trail x3.trail loaded2.trail t.trail))))))

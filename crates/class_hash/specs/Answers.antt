@@ -7,22 +7,16 @@ use Rattle.hash_core.specs.declared.words.Field.TheVariants.{Head, Free, Retired
 use Rattle.hash_core.specs.declared.view.SearchState.TheVariants.{Ended}
 use Rattle.hash_core.specs.declared.view.Section.{Section}
 use Rattle.hash_core.specs.declared.view.Hold.{Hold}
-use Rattle.prcu_marks.specs.Marks.{updates_of, own_of}
-use Rattle.prcu_model.specs.History.{IsLegal}
+use Rattle.prcu_marks.specs.Marks.{updates_of, own_of, most_front}
+use Rattle.prcu_model.specs.Dictionary.{IsLegal, map_of, WasSaid}
 use Rattle.hash_core.specs.declared.view.View.{View}
-use Rattle.hash_core.specs.Marks.{AreMarks, ReuseByClass}
-use Rattle.hash_core.specs.Seats.{HasHeard, HasPlace, AnswersFor}
-use Rattle.hash_core.specs.Slots.{capacity, is_slot_of}
-use Rattle.hash_core.specs.Pairs.{HasPairs}
-use Rattle.prcu_model.specs.Dictionary.{map_of}
+use Rattle.hash_core.specs.Memory.{AreMarks, ReuseByClass, capacity, is_slot_of}
+use Rattle.hash_core.specs.Rule.{HasHeard, HasPlace, AnswersFor}
+use Rattle.hash_core.specs.Laws.{HasPairs}
 use Rattle.std.specs.FinMap as finite
-use Rattle.prcu_marks.specs.Bounds.{most_front}
-use Rattle.hash_core.specs.Known.{known_in, ShowsAbsent, IsOnWalk}
-use Rattle.prcu_model.specs.Dictionary.{WasSaid}
-use Rattle.hash_core.specs.Steps.{StandsAt}
+use Rattle.hash_core.specs.Steps.{known_in, ShowsAbsent, IsOnWalk, StandsAt, section_of, hold_of, commit_of}
 use Rattle.hash_core.specs.declared.act.Act.{Act}
 use Rattle.hash_core.specs.declared.act.Act.TheVariants.{Leave, SearchLoad, Lock, LockedLoad, TakeSlot, OpenCommit, LinkSlot, UnlinkSlot, ReplaceValue}
-use Rattle.hash_core.specs.Acts.{section_of, hold_of, commit_of}
 use Rattle.class_hash.specs.Seats.{TableAt}
 
 -- What the section's search found, the dictionary said at some front since it was entered: nothing where the search came

@@ -1,14 +1,6 @@
-pub mod Fresh
 pub mod Seats
 pub mod Room
-pub mod Added
 pub mod Answers
-pub mod Told
-pub mod Trails
-pub mod Lookups
 pub mod Calls
-pub mod Walks
 pub mod Replies
 pub mod Updates
-pub mod Puts
-pub mod Clients

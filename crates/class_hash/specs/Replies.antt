@@ -1,28 +1,30 @@
+-- What the calls of the dictionary are told, and its clients.
 -- What the calls of the dictionary are told.
 -- Source: docs/HASH_DICTIONARY.md, "The calls of the hash dictionary".
 use Rattle.std.specs.Prelude.{◌≡◌, ℕ, ◌-◌, ◌%◌, ◌≤◌, List, [], ◌∷◌, ◌++◌, length, Option, Some, None}
 use Rattle.prcu_model.specs.declared.operation.Reply.{Reply}
 use Rattle.prcu_model.specs.declared.operation.Reply.TheVariants.{New, Old, Full, Val, Absent, Gone, Was}
 use Rattle.std.specs.List.{AllByRecursion}
-use Rattle.std.specs.FinMap as finite
 use mathlib.Core.List.{IsPrefix}
 use Rattle.prcu_marks.specs.declared.mark.Mark.{Mark}
 use Rattle.prcu_marks.specs.declared.mark.Mark.TheVariants.{Entered, Left, Done, Unlinked}
 use Rattle.prcu_model.specs.declared.operation.Op.{Op}
-use Rattle.prcu_model.specs.declared.operation.Op.TheVariants.{Put, Set, Del}
-use Rattle.prcu_model.specs.Dictionary.{key_of, map_of}
-use Rattle.prcu_marks.specs.Callers.{entered_for}
-use Rattle.prcu_model.specs.History.{IsLegal}
+use Rattle.prcu_model.specs.declared.operation.Op.TheVariants.{Put, Set, Del, Get}
+use Rattle.prcu_model.specs.Dictionary.{key_of, map_of, IsLegal, Dictionary, Explains}
+use Rattle.prcu_marks.specs.Callers.{entered_for, IsChain, Caller, MeetsFronts}
 use Rattle.prcu_marks.specs.Marks.{updates_of}
 use Rattle.prcu_model.specs.declared.operation.Told.{Told}
 use Rattle.hash_core.specs.declared.view.Hold.{Hold}
 use Rattle.hash_core.specs.declared.view.View.{View}
-use Rattle.hash_core.specs.Slots.{capacity}
-use Rattle.hash_core.specs.Pairs.{HasPairs}
-use Rattle.hash_core.specs.Known.{ShowsAbsent}
-use Rattle.class_hash.specs.Trails.{AddsNoLists}
-use Rattle.class_hash.specs.Lookups.{Looked}
-use Rattle.class_hash.specs.Puts.{HasGiven, HasSeenRoom, LeavesFull}
+use Rattle.hash_core.specs.Memory.{capacity}
+use Rattle.hash_core.specs.Laws.{HasPairs}
+use Rattle.hash_core.specs.Steps.{ShowsAbsent}
+use Rattle.class_hash.specs.Calls.{AddsNoLists, Looked}
+use Rattle.class_hash.specs.Updates.{HasGiven, HasSeenRoom, LeavesFull}
+use Rattle.prcu_model.specs.Fronts.{told_lines, own_updates}
+use Rattle.class_hash.specs.Seats.{TableAt}
+use Rattle.class_hash.specs.Answers.{IsInformed}
+use Rattle.std.specs.FinMap as finite
 
 -- what a get is told
 abbrev pub told_of : Option ℕ → Told
@@ -158,3 +160,41 @@ PutsBy capacities v key value _ number w = ⊥
 
 abbrev pub Puts : List ℕ → View → ℕ → ℕ → Told → View → Type 0
 Puts capacities v key value told w = PutsBy capacities v key value told.reply told.number w
+
+-- Clients of the hash dictionary.
+-- Source: docs/ACCOUNTS.md, "Clients".
+
+-- what a clause sees of a client: its table, and what its seat knows
+pub record ClientAt : Type 0 where
+  pub table : TableAt
+  pub view : View
+
+-- the caller that a client is
+abbrev pub caller_of : ClientAt → Caller
+caller_of client = record { place = client.view.place; own = client.view.own; seen = client.view.seen }
+
+-- what an operation is told, by its call
+abbrev pub Makes : List ℕ → View → Op → Told → View → Type 0
+Makes capacities v (Put key value) told w = Puts capacities v key value told w
+Makes capacities v (Get key) told w = Gets v key told w
+Makes capacities v (Del key) told w = Dels v key told w
+Makes capacities v (Set key value) told w = Sets v key value told w
+
+-- A call of a client: what its operation was told, and that the seat is informed of all marks of its place.
+pub record HasCalled (before : ClientAt) (op : Op) (told : Told) (after : ClientAt) : Type 0 where
+  pub table : after.table ≡ before.table
+  pub makes : Makes before.table.capacities before.view op told after.view
+  pub informed : IsInformed before.table.capacities before.table.places after.view
+
+-- The dictionary at which an operation is given this reply, and changes nothing. A put is told that no slot is left where the key
+-- is absent and its class has as many pairs as slots. All other replies are those of a plain dictionary.
+abbrev pub ExplainsInClasses : List ℕ → Dictionary → Op → Reply → Type 0
+ExplainsInClasses capacities m (Put key value) Full = (finite.get m key ≡ None) × HasPairs (key % 64) m (capacity capacities (key % 64))
+ExplainsInClasses capacities m op reply = Explains (record { scripts = 0; slots = 0 }) m op reply
+
+-- Of a client whose place had made no update, the calls so far tell of lines that fit the updates that it has seen.
+abbrev pub ChainsMeetFronts : Type 0
+ChainsMeetFronts = (ops : List Op) (tolds : List Told) (before after : ClientAt)
+    → IsInformed before.table.capacities before.table.places before.view
+    → own_updates before.view.place (updates_of before.view.seen) ≡ [] → IsChain HasCalled before ops tolds after
+    → MeetsFronts (ExplainsInClasses before.table.capacities) (updates_of after.view.seen) before.view.place (told_lines ops tolds)

@@ -1,8 +1,8 @@
 //! The access to a word that a step of any kind makes.
 ghost use Rattle.std.specs.Prelude.{◌≡◌};
-ghost use Rattle.prcu_marks.specs.Accesses.{said_by};
+ghost use Rattle.prcu_marks.specs.Marks.{said_by};
 ghost use Rattle.class_hash.specs.Seats.{HasRoom};
-ghost use Rattle.class_hash.specs.Told.{Touches, Told};
+ghost use Rattle.class_hash.specs.Calls.{Touches, Told};
 
 use crate::rule::Nothing;
 use crate::table::HashTable;

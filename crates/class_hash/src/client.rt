@@ -1,7 +1,7 @@
 //! Clients of the dictionary.
 ghost use Rattle.std.specs.Prelude.{◌≡◌};
 ghost use Rattle.hash_core.specs.Steps.{IsQuiet};
-ghost use Rattle.class_hash.specs.Clients.{ChainsMeetFronts};
+ghost use Rattle.class_hash.specs.Replies.{ChainsMeetFronts};
 
 use crate::dictionary::{del, get, put, set};
 use crate::seat::HashSeat;
@@ -23,7 +23,7 @@ pub struct HashClient<'a, G: Gate> {
 impl<'a, G: Gate> Model for HashClient<'a, G> {
     ghost use Rattle.std.specs.Prelude.{◌≡◌};
     ghost use Rattle.hash_core.specs.Steps.{IsQuiet};
-    ghost use Rattle.class_hash.specs.Clients.{ClientAt};
+    ghost use Rattle.class_hash.specs.Replies.{ClientAt};
 
     ghost Value = { ClientAt };
 
@@ -54,7 +54,7 @@ impl<'a, G: Gate> HashClient<'a, G> {
 }
 
 impl<'a, G: Gate> Client for HashClient<'a, G> {
-    ghost use Rattle.class_hash.specs.Clients.{HasCalled};
+    ghost use Rattle.class_hash.specs.Replies.{HasCalled};
 
     /// A ticket is left for each.
     ghost left = { λ c. c.view.tickets };

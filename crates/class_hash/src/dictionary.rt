@@ -3,7 +3,7 @@ ghost use Rattle.std.specs.Prelude.{◌≡◌, ◌≤◌, ◌%◌, ◌↔◌};
 ghost use Rattle.prcu_model.specs.declared.operation.Reply.TheVariants.{Full};
 ghost use Rattle.hash_core.specs.Steps.{IsQuiet};
 ghost use Rattle.class_hash.specs.Answers.{IsInformed};
-ghost use Rattle.class_hash.specs.Trails.{LoadsBothEmpty, BeginsByLookup};
+ghost use Rattle.class_hash.specs.Calls.{LoadsBothEmpty, BeginsByLookup};
 ghost use Rattle.class_hash.specs.Replies.{Gets, told_added, Puts, Sets, Dels};
 
 use crate::bucket::free_bucket;

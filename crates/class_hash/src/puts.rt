@@ -1,9 +1,8 @@
 //! A pair added under a bucket's lock.
 ghost use Rattle.std.specs.Prelude.{◌≡◌, ◌≢◌, IfNone, IfSome};
 ghost use Rattle.class_hash.specs.Answers.{IsInformed};
-ghost use Rattle.class_hash.specs.Trails.{AddsNoLists};
-ghost use Rattle.class_hash.specs.Calls.{HasFinished, Lists, MayPoll};
-ghost use Rattle.class_hash.specs.Puts.{HasPolled, HasFree, MayAdd, MayFill, MayLink, Filled, Linked, Added, LeavesFull};
+ghost use Rattle.class_hash.specs.Calls.{AddsNoLists, HasFinished, Lists, MayPoll};
+ghost use Rattle.class_hash.specs.Updates.{HasPolled, HasFree, MayAdd, MayFill, MayLink, Filled, Linked, Added, LeavesFull};
 
 use crate::bucket::{Poll, free_bucket, lists, poll_class};
 use crate::search::slot_at;

@@ -11,7 +11,7 @@ pub struct Ruled;
 
 impl TableRule<Nothing, View, Shape> for Ruled {
     ghost use Rattle.hash_core.specs.Rule.{Rule};
-    ghost use Rattle.class_hash.specs.Fresh.{first_seated};
+    ghost use Rattle.class_hash.specs.Seats.{first_seated};
 
     ghost holds = { λ k s. Rule k s.words s.views };
 

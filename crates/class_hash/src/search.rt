@@ -2,10 +2,10 @@
 ghost use Rattle.std.specs.Prelude.{◌≡◌, ◌≢◌, ℕ, ◌%◌, true, Option, Some, None};
 ghost use Rattle.hash_core.specs.declared.view.SearchState.TheVariants.{Start, Unread, Passed, Found, Ended};
 ghost use Rattle.hash_core.specs.declared.view.View.{View};
-ghost use Rattle.hash_core.specs.Slots.{is_slot_of};
+ghost use Rattle.hash_core.specs.Memory.{is_slot_of};
 ghost use Rattle.hash_core.specs.Steps.{IsQuiet};
 ghost use Rattle.class_hash.specs.Answers.{IsInformed};
-ghost use Rattle.class_hash.specs.Lookups.{IsSearching, IsAtLink, Looked};
+ghost use Rattle.class_hash.specs.Calls.{IsSearching, IsAtLink, Looked};
 
 use crate::seat::HashSeat;
 use crate::steps;

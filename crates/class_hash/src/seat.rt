@@ -5,9 +5,7 @@ ghost use Rattle.hash_core.specs.declared.view.Section.{Section};
 ghost use Rattle.hash_core.specs.declared.view.Hold.{Hold};
 ghost use Rattle.hash_core.specs.declared.words.Field.TheVariants.{Front, Retired};
 ghost use Rattle.hash_core.specs.declared.words.Kind.TheVariants.{H2};
-ghost use Rattle.hash_core.specs.Known.{known_in};
-ghost use Rattle.hash_core.specs.Steps.{IsQuiet, first_of, second_of, both_of, stepped};
-ghost use Rattle.hash_core.specs.Acts.{section_of, hold_of};
+ghost use Rattle.hash_core.specs.Steps.{known_in, IsQuiet, first_of, second_of, both_of, stepped, section_of, hold_of};
 ghost use Rattle.class_hash.specs.Answers.{IsInformed};
 
 use crate::access::touch;

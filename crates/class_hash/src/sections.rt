@@ -4,7 +4,7 @@ ghost use Rattle.hash_core.specs.declared.view.Section.{Section};
 ghost use Rattle.hash_core.specs.Steps.{IsQuiet};
 ghost use Rattle.class_hash.specs.Answers.{IsInformed};
 ghost use Rattle.hash_core.specs.declared.act.Act.TheVariants as acts;
-ghost use Rattle.class_hash.specs.Told.{Told};
+ghost use Rattle.class_hash.specs.Calls.{Told};
 
 use crate::seat::HashSeat;
 use crate::steps;

@@ -1,10 +1,10 @@
 //! One call for each step, by its name among the acts of `hash_core`. Each makes one atomic step, and tells the view after it, and what
 //! the seat gained from the rule. The load that a join makes stands with the join.
 ghost use Rattle.std.specs.Prelude.{◌≡◌, ◌+◌, ◌≤◌};
-ghost use Rattle.prcu_marks.specs.Bounds.{most_front};
+ghost use Rattle.prcu_marks.specs.Marks.{most_front};
 ghost use Rattle.hash_core.specs.declared.act.Act.TheVariants as acts;
-ghost use Rattle.hash_core.specs.Acts.{Needs};
-ghost use Rattle.class_hash.specs.Told.{Told};
+ghost use Rattle.hash_core.specs.Steps.{Needs};
+ghost use Rattle.class_hash.specs.Calls.{Told};
 
 use crate::access::touch;
 use crate::seat::{Bucket, HashSeat, Stock};

@@ -1,10 +1,9 @@
 //! The table, and how it is made.
 ghost use Rattle.std.specs.Prelude.{◌≡◌, ◌+◌, ◌*◌, ◌<◌, ◌≤◌, ◌∷◌, ◌++◌, [], IfOk, length, sum};
-ghost use Rattle.prcu_marks.specs.Bounds.{most_tickets};
-ghost use Rattle.hash_core.specs.Slots.{base};
-ghost use Rattle.class_hash.specs.Fresh.{IsFresh, class_words, first_link, next_link, fresh_seat};
+ghost use Rattle.prcu_marks.specs.Marks.{most_tickets};
+ghost use Rattle.hash_core.specs.Memory.{base};
+ghost use Rattle.class_hash.specs.Seats.{IsFresh, class_words, first_link, next_link, fresh_seat, HasClasses, HasSlots, HasClassSlots};
 ghost use Rattle.class_hash.specs.Answers.{IsInformed};
-ghost use Rattle.class_hash.specs.Added.{HasClasses, HasSlots, HasClassSlots};
 
 use crate::rule::{Nothing, Ruled};
 use crate::seat::HashSeat;
@@ -24,7 +23,7 @@ pub struct HashTable {
 impl Model for HashTable {
     ghost use Rattle.std.specs.Prelude.{◌≡◌};
     ghost use Rattle.hash_core.specs.Rule.{IsShape};
-    ghost use Rattle.hash_core.specs.Slots.{word_count};
+    ghost use Rattle.hash_core.specs.Memory.{word_count};
     ghost use Rattle.class_hash.specs.Seats.{TableAt};
 
     ghost Value = { TableAt };

@@ -1,5 +1,5 @@
 //! What each step tells. These types are for the proofs alone.
-ghost use Rattle.class_hash.specs.Told.{told};
+ghost use Rattle.class_hash.specs.Calls.{told};
 ghost use Rattle.hash_core.specs.Steps.{first_of, second_of, both_of, spent};
 
 use crate::rule::Nothing;

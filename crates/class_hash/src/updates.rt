@@ -3,8 +3,7 @@ ghost use Rattle.std.specs.Prelude.{◌≡◌, ◌+◌, ◌<◌, Some, None};
 ghost use Rattle.hash_core.specs.declared.view.Hold.{Hold};
 ghost use Rattle.hash_core.specs.Steps.{IsQuiet};
 ghost use Rattle.class_hash.specs.Answers.{IsInformed};
-ghost use Rattle.class_hash.specs.Calls.{HasFinished};
-ghost use Rattle.class_hash.specs.Trails.{AddsNoLists};
+ghost use Rattle.class_hash.specs.Calls.{HasFinished, AddsNoLists};
 ghost use Rattle.class_hash.specs.Updates.{HasLocked, HasTurned, MayReplace, Replaced, link_after, MayUnlink, Removed};
 
 use crate::bucket::{Lock, try_bucket};

@@ -1,8 +1,8 @@
 //! The walk along a bucket's chain under its lock.
 ghost use Rattle.std.specs.Prelude.{◌≡◌, ◌%◌, true, Option, Some, None, IfNone, IfSome};
 ghost use Rattle.hash_core.specs.declared.view.Hold.{Hold};
-ghost use Rattle.hash_core.specs.Known.{ShowsAbsent};
-ghost use Rattle.class_hash.specs.Walks.{HasLoaded, WalksPast, WalksTo};
+ghost use Rattle.hash_core.specs.Steps.{ShowsAbsent};
+ghost use Rattle.class_hash.specs.Calls.{HasLoaded, WalksPast, WalksTo};
 
 use crate::search::slot_at;
 use crate::seat::HashSeat;

@@ -1,28 +1,90 @@
--- Workers hired one after another, their runs, and their seats joined one after another.
-use Rattle.std.proofs.Common.{◌≡◌, ℕ, zero, suc, ◌+◌, ◌<◌, ◌≤◌, List, [], ◌∷◌, ◌++◌, length, drop, map, get_or, Option, Some, None, inl, inr, refl, sym, ap, subst, ◌∙◌, arith, append_assoc, append-nil, length-append}
-use Rattle.std.specs.List.{slice_get}
-use Rattle.std.proofs.lemmas.Bool.{cases_lt}
-use Rattle.std.proofs.lemmas.List.{get_or_append_left, get_or_push, get_or-map, length-map}
-use Rattle.std.proofs.lemmas.List.Sums.{sum_by-cons}
-use Rattle.std.proofs.lemmas.Option.{slice_get-get_or, slice_get_within, get_or_from_slice_get}
-use mathlib.Core.List.{IsPrefix}
+-- Workers: their calls, how they are made ready and hired, and what they leave together.
+use Rattle.std.proofs.Common.{◌≡◌, ℕ, ◌+◌, ◌<◌, ◌≤◌, List, [], ◌∷◌, ◌++◌, length, get_or, take, refl, sym, ap, subst, ◌∙◌, arith, Some, inl, inr, length-append, zero, suc, drop, map, Option, None, append_assoc, append-nil}
+use Rattle.std.proofs.lemmas.List.{take_more, take_all, get_or_append_left, get_or_push, get_or-map, length-map}
 use Rattle.prcu_model.specs.declared.operation.Op.{Op}
 use Rattle.prcu_model.specs.declared.operation.Told.{Told}
+use Rattle.prcu_model.specs.Scripts.{Roomy, entries_of, op_count}
+use Rattle.prcu_marks.specs.Callers.{IsChain, Caller}
+use Rattle.prcu_marks.proofs.Callers.{chain_push, chain_keeps, HasTold, HaveTold, newcomer}
+use Rattle.client_run.specs.Crews.{IsReadyFor, Work, AreReadyFor, HaveMade, IsHired, AreHired, IsCrew, AreDone, HasDismissed, IsGathered, HaveMet}
+use Rattle.std.proofs.lemmas.Bool.{cases_lt}
+use Rattle.std.proofs.lemmas.Option.{slice_get-get_or, slice_get_within, get_or_from_slice_get}
+use Rattle.std.specs.List.{slice_get}
+use Rattle.std.proofs.lemmas.List.Sums.{sum_by-cons}
+use mathlib.Core.List.{IsPrefix}
 use Rattle.prcu_model.specs.declared.operation.Reply.{Reply}
-use Rattle.prcu_model.specs.Dictionary.{Dictionary}
-use Rattle.prcu_model.specs.History.{IsLegal}
-use Rattle.prcu_model.specs.Lists.{Roomy, entries_of}
-use Rattle.prcu_model.specs.Scripts.{op_count}
-use Rattle.prcu_model.proofs.ToldLists.{drop-there}
+use Rattle.prcu_model.specs.Dictionary.{Dictionary, IsLegal}
+use Rattle.prcu_model.proofs.ListFacts.{drop-there}
 use Rattle.prcu_marks.specs.declared.mark.Mark.{Mark}
 use Rattle.prcu_marks.specs.Marks.{updates_of, own_of}
-use Rattle.prcu_marks.specs.Chains.{IsChain}
-use Rattle.prcu_marks.specs.Callers.{Caller}
-use Rattle.prcu_marks.proofs.Chains.{chain_keeps}
-use Rattle.prcu_marks.proofs.Callers.{HasTold}
-use Rattle.prcu_marks.proofs.Runs.{HaveTold, newcomer}
-use Rattle.client_run.specs.Workers.{Work, AreReadyFor, HaveMade}
-use Rattle.client_run.specs.Crews.{IsHired, AreHired, IsCrew, AreDone, HasDismissed, IsGathered, HaveMet}
+
+-- What a worker's loop has done after some of the script's operations.
+
+-- so many of the script's operations were made, from this client to that of the worker
+pub record HasMade {C : Type 0} (left : C → ℕ) (made : C → Op → Told → C → Type 0) (before : C) (script : List Op) (count : ℕ) (client : C)
+    (told : Roomy Told) : Type 0 where
+  pub chain : IsChain made before (take count script) told.entries client
+  pub room : length script ≤ told.spare + count
+  pub means : length script ≤ left client + count
+  pub fall : left before ≤ left client + count
+
+module _ {C : Type 0} (left : C → ℕ) (made : C → Op → Told → C → Type 0) where
+  pub made_none : (worker : Work C) (script : List Op) → IsReadyFor left worker script
+      → HasMade left made worker.client script 0 worker.client worker.told
+  made_none worker script ready = record {
+    chain = subst (λ (tolds : List Told). IsChain made worker.client [] tolds worker.client) (sym ready.empty) refl;
+    room = let room = ready.room in omega arith;
+    means = let means = ready.means in omega arith;
+    fall = omega arith;
+  }
+
+  pub made_more : (before : C) (script : List Op) (count : ℕ) (client : C) (told : Roomy Told) (op : Op) (answer : Told) (next : C)
+      (more : Roomy Told)
+      → HasMade left made before script count client told → count < length script → op ≡ get_or script count op
+      → made client op answer next → left client ≤ left next + 1
+      → more.entries ≡ told.entries ++ answer ∷ [] → told.spare ≤ more.spare + 1
+      → HasMade left made before script (count + 1) next more
+  made_more before script count client told op answer next more has in_range read call lowers appended spare = record {
+    chain =
+        let longer = chain_push made (take count script) told.entries op answer before client next has.chain call in
+        let ops : take (count + 1) script ≡ take count script ++ op ∷ [] =
+        take_more script count op in_range ∙ ap (λ o. take count script ++ o ∷ []) (sym read) in
+        subst (λ (ops : List Op). IsChain made before ops more.entries next) (sym ops)
+        (subst (λ (tolds : List Told). IsChain made before (take count script ++ op ∷ []) tolds next) (sym appended) longer);
+    room = let room = has.room in omega arith;
+    means = let means = has.means in omega arith;
+    fall = let fall = has.fall in omega arith;
+  }
+
+  pub made_all : (before : C) (script : List Op) (count : ℕ) (client : C) (told : Roomy Told)
+      → HasMade left made before script count client told → length script ≤ count
+      → IsChain made before script told.entries client
+  made_all before script count client told has all =
+      subst (λ (ops : List Op). IsChain made before ops told.entries client) (take_all count script all) has.chain
+
+-- Workers that are made ready one after another.
+
+module _ {C : Type 0} (left : C → ℕ) (scripts : List (List Op)) where
+  pub AreReadyFor-nil : AreReadyFor left [] scripts
+  AreReadyFor-nil i worker there = absurd (cc)
+
+  pub AreReadyFor-push : (workers : List (Work C)) (worker : Work C) → AreReadyFor left workers scripts
+      → IsReadyFor left worker (get_or scripts (length workers) []) → AreReadyFor left (workers ++ worker ∷ []) scripts
+  AreReadyFor-push workers worker ready next i other there =
+      let read = get_or_from_slice_get (workers ++ worker ∷ []) i other other there in
+      let below = slice_get_within (workers ++ worker ∷ []) i other there in
+      let long = length-append workers (worker ∷ []) in
+      elim (cases_lt i (length workers)) [
+        | inl earlier ↦ ready i other (slice_get-get_or workers i other earlier
+            ∙ ap Some (sym (get_or_append_left workers (worker ∷ []) other i earlier) ∙ read))
+        | inr late ↦
+            let last : length workers ≡ i = omega arith in
+            let same : worker ≡ other = sym (get_or_push workers worker other i last) ∙ read in
+            subst (λ (w : Work C). IsReadyFor left w (get_or scripts i [])) same
+            (subst (λ (n : ℕ). IsReadyFor left worker (get_or scripts n [])) last next)
+      ]
+
+-- Workers hired one after another, their runs, and their seats joined one after another.
 
 map-push : {A B : Type 0} (f : A → B) (xs : List A) (x : A) → map f (xs ++ x ∷ []) ≡ map f xs ++ f x ∷ []
 map-push f [] x = refl

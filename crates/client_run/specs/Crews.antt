@@ -1,14 +1,91 @@
--- Workers whose clients share a table, before and after a run: each has a seat of its own, and afterwards the seats are one.
--- Source: docs/ACCOUNTS.md, "Clients".
-use Rattle.std.specs.Prelude.{◌≡◌, ℕ, ◌≤◌, List, [], ◌∷◌, ◌++◌, length, map, slice_get, slice_index_or, Some}
-use mathlib.Core.List.{IsPrefix}
+-- The updates that callers were told of, and the history that they make.
+-- Source: docs/FORMATS.md, "Accounts".
+use Rattle.std.specs.Prelude.{◌≡◌, ◌≢◌, ℕ, ◌+◌, ◌-◌, ◌<◌, ◌≤◌, List, [], ◌∷◌, ◌++◌, length, map, All, AllPairs, Any, slice_get, slice_index_or, Some, slice_set}
+use Rattle.prcu_model.specs.declared.operation.Line.{Line}
+use Rattle.prcu_model.specs.declared.operation.Update.{Update}
+use Rattle.prcu_model.specs.Fronts.{Placed, told_updates, own_updates}
+use Rattle.std.specs.List.{AllByRecursion}
 use Rattle.prcu_model.specs.declared.operation.Op.{Op}
 use Rattle.prcu_model.specs.declared.operation.Told.{Told}
-use Rattle.prcu_model.specs.Lists.{Roomy}
+use Rattle.prcu_model.specs.Scripts.{Roomy}
+use Rattle.prcu_marks.specs.Callers.{IsChain, Caller}
+use mathlib.Core.List.{IsPrefix}
 use Rattle.prcu_marks.specs.declared.mark.Mark.{Mark}
 use Rattle.prcu_marks.specs.Marks.{own_of}
-use Rattle.prcu_marks.specs.Callers.{Caller}
-use Rattle.client_run.specs.Workers.{Work, HaveMade}
+
+-- an update with the number that its caller was told
+pub record Numbered : Type 0 where
+  pub number : ℕ
+  pub update : Update
+
+-- the updates that a caller's lines tell of
+abbrev pub numbered_updates : ℕ → List Line → List Numbered
+numbered_updates caller lines = map (λ (own : Placed). record { number = own.position; update = record { caller = caller; op = own.op } })
+    (told_updates lines)
+
+-- those of all scripts, where the first of these has this caller
+abbrev pub all_numbered_updates : ℕ → List (List Line) → List Numbered
+all_numbered_updates caller [] = []
+all_numbered_updates caller (lines ∷ scripts) = numbered_updates caller lines ++ all_numbered_updates (caller + 1) scripts
+
+-- The numbers are 1 to their count, each once.
+pub record AreOneToCount (updates : List Numbered) : Type 0 where
+  pub positive : All (λ u. 1 ≤ u.number) updates
+  pub limit : All (λ u. u.number ≤ length updates) updates
+  pub once : AllPairs (λ u other. u.number ≢ other.number) updates
+
+-- The history has these updates and no others, each at its number, counted from 1.
+pub record IsHistoryOf (updates : List Numbered) (history : List Update) : Type 0 where
+  pub count : length history ≡ length updates
+  pub placed : All (λ u. slice_get history (u.number - 1) ≡ Some u.update) updates
+  pub whole : (i : ℕ) → i < length history → Any (λ u. u.number ≡ i + 1) updates
+
+-- Each script's lines tell of just its caller's own updates of the history, in order and with their positions.
+abbrev pub TellOwnUpdates : List Update → List (List Line) → Type 0
+TellOwnUpdates history scripts = (c : ℕ) → own_updates c history ≡ told_updates (slice_index_or scripts c [])
+
+-- How updates are stored in a history, one after another.
+
+-- the history with each of these updates at its number, counted from 1
+abbrev pub stored : List Update → List Numbered → List Update
+stored history [] = history
+stored history (u ∷ updates) = stored (slice_set history (u.number - 1) u.update) updates
+
+-- the numbers are those of places in a history of this length
+abbrev pub AreInside : ℕ → List Numbered → Type 0
+AreInside count updates = AllByRecursion (λ u. (1 ≤ u.number) × (u.number ≤ count)) updates
+
+-- Workers, each for itself and on one table, before and after a run.
+
+-- Workers, and what is asked of them before a run.
+-- Source: docs/ACCOUNTS.md, "Clients".
+
+-- what contracts see of a worker: its client, and what the client was told
+pub record Work (C : Type 0) : Type 0 where
+  pub client : C
+  pub told : Roomy Told
+
+-- The worker can make a script's calls: it was told nothing yet, has room for as many answers, and its client has the
+-- means for as many calls.
+pub record IsReadyFor {C : Type 0} (left : C → ℕ) (worker : Work C) (script : List Op) : Type 0 where
+  pub empty : worker.told.entries ≡ []
+  pub room : length script ≤ worker.told.spare
+  pub means : length script ≤ left worker.client
+
+-- Each worker is ready for the script of its number.
+abbrev pub AreReadyFor : {C : Type 0} → (C → ℕ) → List (Work C) → List (List Op) → Type 0
+AreReadyFor {C} left workers scripts = (i : ℕ) (worker : Work C) → slice_get workers i ≡ Some worker
+    → IsReadyFor left worker (slice_index_or scripts i [])
+
+-- Each worker's client made the calls of the script of its number, each once and in order, and the worker holds what
+-- they were told.
+abbrev pub HaveMade : {C : Type 0} → (C → Op → Told → C → Type 0) → List (Work C) → List (List Op) → List (Work C) → Type 0
+HaveMade {C} made befores scripts afters = (i : ℕ) (before after : Work C) → slice_get befores i ≡ Some before
+    → slice_get afters i ≡ Some after
+    → IsChain made before.client (slice_index_or scripts i []) after.told.entries after.client
+
+-- Workers whose clients share a table, before and after a run: each has a seat of its own, and afterwards the seats are one.
+-- Source: docs/ACCOUNTS.md, "Clients".
 
 -- The worker has this client, was told nothing, and has room for the answers to its script.
 pub record IsHired {C : Type 0} (client : C) (script : List Op) (worker : Work C) : Type 0 where

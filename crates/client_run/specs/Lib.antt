@@ -1,4 +1,1 @@
-pub mod Workers
 pub mod Crews
-pub mod Merging
-pub mod Storing

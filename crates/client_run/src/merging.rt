@@ -1,11 +1,10 @@
 //! One history of what all scripts were told.
 ghost use Rattle.std.specs.Prelude.{◌≡◌, ◌-◌, ◌≤◌, List, length, map, count_by, slice_set, IsTrue, if◌then◌else◌, IfOk};
 ghost use Rattle.prcu_model.specs.declared.operation.Update.{Update};
-ghost use Rattle.prcu_model.specs.Lists.{entries_of};
-ghost use Rattle.prcu_model.specs.Replies.{tells_update};
+ghost use Rattle.prcu_model.specs.Scripts.{entries_of};
+ghost use Rattle.prcu_model.specs.Dictionary.{tells_update};
 ghost use Rattle.prcu_model.specs.Fronts.{told_lines, all_told_lines};
-ghost use Rattle.client_run.specs.Merging.{numbered_updates, all_numbered_updates, AreOneToCount, IsHistoryOf, TellOwnUpdates};
-ghost use Rattle.client_run.specs.Storing.{stored, AreInside};
+ghost use Rattle.client_run.specs.Crews.{numbered_updates, all_numbered_updates, AreOneToCount, IsHistoryOf, TellOwnUpdates, stored, AreInside};
 
 use prcu_model::{NoMemory, Op, Scripts, Told, ToldList, Update};
 use std::alloc::Global;

@@ -1,7 +1,7 @@
 //! Scripts run beside each other.
 ghost use Rattle.std.specs.Prelude.{◌≡◌, ℕ, ◌+◌, ◌<◌, ◌≤◌, [], length, slice_index_or, slice_get, Some};
-ghost use Rattle.prcu_marks.specs.Chains.{IsChain};
-ghost use Rattle.client_run.specs.Workers.{IsReadyFor, AreReadyFor, HaveMade};
+ghost use Rattle.prcu_marks.specs.Callers.{IsChain};
+ghost use Rattle.client_run.specs.Crews.{IsReadyFor, AreReadyFor, HaveMade};
 
 use crate::worker::Worker;
 use prcu_marks::Client;

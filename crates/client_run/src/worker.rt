@@ -1,7 +1,7 @@
 //! A client with the list of what it is told.
 ghost use Rattle.std.specs.Prelude.{◌≡◌, ◌+◌, ◌≤◌, [], length, IfOk};
-ghost use Rattle.prcu_marks.specs.Chains.{IsChain};
-ghost use Rattle.client_run.specs.Workers.{IsReadyFor};
+ghost use Rattle.prcu_marks.specs.Callers.{IsChain};
+ghost use Rattle.client_run.specs.Crews.{IsReadyFor};
 
 use prcu_marks::Client;
 use prcu_model::{NoMemory, Op, ToldList};
@@ -17,7 +17,7 @@ pub struct Worker<C> {
 }
 
 impl<C> Model for Worker<C> {
-    ghost use Rattle.client_run.specs.Workers.{Work};
+    ghost use Rattle.client_run.specs.Crews.{Work};
 
     ghost Value = { Work C };
 

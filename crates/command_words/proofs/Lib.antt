@@ -1,3 +1,1 @@
-pub mod Spellings
-pub mod Joining
-pub mod InputParts
+pub mod Inputs

@@ -1,6 +1,5 @@
--- Which words are which command, and how much each reads.
--- Source: docs/FORMATS.md, "Commands".
-use Rattle.std.specs.Prelude.{◌≡◌, ℕ, ◌*◌, ◌≤◌, Bool, false, List, [], ◌∷◌, Option, Some, None, IfSome, codes}
+-- Commands: which words ask for which, how much each reads, its slots, and the parts of what `check` reads.
+use Rattle.std.specs.Prelude.{◌≡◌, ℕ, ◌*◌, ◌≤◌, Bool, false, List, [], ◌∷◌, Option, Some, None, IfSome, codes, ◌+◌, ◌-◌, length, ◌⊎◌, ◌++◌}
 use Rattle.core_state.specs.declared.shape.Waiter.{Waiter}
 use Rattle.core_state.specs.declared.shape.Waiter.TheVariants.{Eer}
 use Rattle.command_words.specs.declared.arguments.Argument.{Argument}
@@ -11,6 +10,13 @@ use Rattle.command_words.specs.declared.commands.Command.TheVariants.{Run, Check
 use Rattle.command_words.specs.declared.commands.Mode.{Mode}
 use Rattle.command_words.specs.declared.commands.Mode.TheVariants.{Threads, Schedule}
 use Rattle.command_words.specs.Arguments.{AreSpelled, Joins, numbers_of}
+use Rattle.prcu_model.specs.declared.operation.Op.{Op}
+use Rattle.prcu_model.specs.Scripts.{default_slots_of}
+use Rattle.std.specs.List.{AllByRecursion}
+use Rattle.script_text.specs.Grammar.{lines_of}
+
+-- Which words are which command, and how much each reads.
+-- Source: docs/FORMATS.md, "Commands".
 
 -- the first word of a command
 abbrev pub command_word : Command → List ℕ
@@ -90,3 +96,30 @@ limit_of (Check slots) = 134217728
 limit_of (Load number scripts ops waiter) = 0
 limit_of (Watch low high slots waiter) = 16777216
 limit_of Hash = 16777216
+
+-- The slots that scripts share, where a number is given, and where none is.
+-- Source: docs/FORMATS.md, "Commands".
+
+-- the slots of a run of these scripts: the number and twenty more for each script but the first, or the default
+abbrev pub slots_of : Option ℕ → List (List Op) → ℕ
+slots_of None scripts = default_slots_of scripts
+slots_of (Some most) scripts = most + 20 * (length scripts - 1)
+
+-- The two parts of what `check` reads.
+-- Source: docs/FORMATS.md, "Commands".
+
+-- no line is exactly `account`
+abbrev pub LacksAccount : List ℕ → Type 0
+LacksAccount text = AllByRecursion (λ line. line ≡ codes "account" → ⊥) (lines_of text)
+
+-- nothing, or lines that are ended
+abbrev pub IsEnded : List ℕ → Type 0
+IsEnded text = (text ≡ []) ⊎ ((front : List ℕ) × (text ≡ front ++ codes "\n"))
+
+-- The scripts stand before the first line that is exactly `account`, and the account's bytes after that line. Where
+-- there is no such line, all bytes are scripts, and the account is empty.
+abbrev pub HasParts : List ℕ → List ℕ → List ℕ → Type 0
+HasParts input scripts account =
+    (LacksAccount scripts × IsEnded scripts × (input ≡ scripts ++ codes "account\n" ++ account))
+    ⊎ (LacksAccount scripts × IsEnded scripts × (input ≡ scripts ++ codes "account") × (account ≡ []))
+    ⊎ (LacksAccount scripts × (input ≡ scripts) × (account ≡ []))

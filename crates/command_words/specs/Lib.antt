@@ -1,5 +1,3 @@
 pub mod Statuses
 pub mod Arguments
 pub mod Commands
-pub mod Limits
-pub mod Parts

@@ -1,5 +1,5 @@
 //! The two parts of what `check` reads.
-ghost use Rattle.command_words.specs.Parts.{HasParts};
+ghost use Rattle.command_words.specs.Commands.{HasParts};
 
 use script_text::split_at_first;
 

@@ -1,8 +1,7 @@
 //! How many slots scripts share.
 ghost use Rattle.std.specs.Prelude.{◌≡◌, ◌≤◌, length};
 ghost use Rattle.prcu_model.specs.Scripts.{default_slots_of};
-ghost use Rattle.command_words.specs.Commands.{AreSlots};
-ghost use Rattle.command_words.specs.Limits.{slots_of};
+ghost use Rattle.command_words.specs.Commands.{AreSlots, slots_of};
 
 use prcu_model::Scripts;
 

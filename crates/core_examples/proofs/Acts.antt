@@ -10,21 +10,18 @@ use Rattle.core_state.specs.declared.shape.Shape.{Shape}
 use Rattle.core_state.specs.declared.shape.Waiter.TheVariants.{Eer, Domain, Deer}
 use Rattle.core_state.specs.declared.words.Field.{Field}
 use Rattle.core_state.specs.declared.words.Field.TheVariants.{Announced, Stamp, Tag}
-use Rattle.core_state.specs.views.Known.{known_in, lock_of, is_emptied}
+use Rattle.core_state.specs.Views.{known_in, lock_of, is_emptied}
 use Rattle.list_laws.specs.Counts.{IsIn}
 use Rattle.core_state.specs.declared.view.Waiting.{Waiting}
-use Rattle.core_state.specs.steps.Waits.{IsSpot, spot_seen}
+use Rattle.core_state.specs.Steps.{IsSpot, spot_seen}
 use Rattle.core_state.specs.declared.view.View.{View}
-use Rattle.core_state.specs.memory.Memory.{is_field}
-use Rattle.core_acts.specs.declared.act.Part.{Part}
-use Rattle.core_acts.specs.declared.act.Part.TheVariants as part
-use Rattle.core_acts.specs.declared.act.Act.{Act}
-use Rattle.core_acts.specs.declared.act.Act.TheVariants.{LoadClock, AnnounceKey, EnterByStamp, LeaveByStamp, BeginWait, LookKey, LookStamp, LoadOwnLife, Reserve, Seize, Fill, Lock, Unlock, SearchLoad, ListLoad, LockedLoad, OpenCommit, RaiseTag, CloseCommit, LookAtFront, GiveFrontBack}
-use Rattle.core_acts.specs.Acts.{field_of, Asks, MayLook, Needs, section_of, listing_of, wait_of}
-use Rattle.core_examples.proofs.Spots.{all_spots}
-use Rattle.core_examples.proofs.Chosen.{clock_now, lock_now}
-use Rattle.core_examples.proofs.Tests.{all_of, passed, test_at, is_some, some_is, none_is, false_is, not_same, is_empty, empty_is, is_number, number_is, has, has_in, has_been, been_at, is_word, loadable, is_holder, holder_is, is_no_end, no_end_is, is_closing, closing_is, is_unmade, unmade_is, is_content, content_is}
-use Rattle.core_examples.proofs.States.{State, AllAsked, after, reached, over, ◌⟫◌}
+use Rattle.core_state.specs.Memory.{is_field}
+use Rattle.core_state.specs.declared.act.Part.{Part}
+use Rattle.core_state.specs.declared.act.Part.TheVariants as part
+use Rattle.core_state.specs.declared.act.Act.{Act}
+use Rattle.core_state.specs.declared.act.Act.TheVariants.{LoadClock, AnnounceKey, EnterByStamp, LeaveByStamp, BeginWait, LookKey, LookStamp, LoadOwnLife, Reserve, Seize, Fill, Lock, Unlock, SearchLoad, ListLoad, LockedLoad, OpenCommit, RaiseTag, CloseCommit, LookAtFront, GiveFrontBack}
+use Rattle.core_state.specs.Acts.{field_of, Asks, MayLook, Needs, section_of, listing_of, wait_of}
+use Rattle.core_examples.proofs.Tests.{all_spots, clock_now, lock_now, all_of, passed, test_at, is_some, some_is, none_is, false_is, not_same, is_empty, empty_is, is_number, number_is, has, has_in, has_been, been_at, is_word, loadable, is_holder, holder_is, is_no_end, no_end_is, is_closing, closing_is, is_unmade, unmade_is, is_content, content_is, State, AllAsked, after, reached, over, ◌⟫◌}
 
 -- a table with five slots, one place and the first waiter
 abbrev pub small : Shape

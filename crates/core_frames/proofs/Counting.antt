@@ -15,17 +15,15 @@ use Rattle.core_state.specs.declared.view.Retired.{Retired}
 use Rattle.core_state.specs.declared.view.Spent.{Spent}
 use Rattle.core_state.specs.declared.view.View.{View}
 use Rattle.list_laws.specs.Counts.{times, numbers_from, total, IsIn, Each}
-use Rattle.core_state.specs.memory.Lists.{sum_below, flag, count_below, has}
-use Rattle.core_state.specs.memory.Memory.{Memory, slot_count}
-use Rattle.core_state.specs.views.Views.{places_of, slot_list, held_list, joined_spares, spares_of, joined_retired, retired_of, slots_of}
-use Rattle.core_state.specs.steps.Seating.{spent_view}
-use Rattle.core_state.specs.parts.SlotParts.{roles_of, HasSpareToCome, HasFewSlots}
-use Rattle.core_state.specs.parts.CountParts.{young_count, old_count}
+use Rattle.core_state.specs.Memory.{sum_below, flag, count_below, has, Memory, slot_count}
+use Rattle.core_state.specs.Views.{places_of, slot_list, held_list, joined_spares, spares_of, joined_retired, retired_of, slots_of}
+use Rattle.core_state.specs.Steps.{spent_view}
+use Rattle.core_state.specs.Parts.{roles_of, HasSpareToCome, HasFewSlots, young_count, old_count}
 use Rattle.core_state.specs.Invariant.{HoldsNow}
 use Rattle.core_frames.specs.Laws.{HoldsNothing, EmptyIsFull, PairsFit}
 use Rattle.list_laws.proofs.Lists.{total_part}
-use Rattle.core_frames.proofs.views.SeatFacts.{place_within}
-use Rattle.core_frames.proofs.views.Sums.{sum_add, sum_times, times_sum, sum_same, sum_here}
+use Rattle.core_frames.proofs.Roles.{place_within}
+use Rattle.core_frames.proofs.Views.{sum_add, sum_times, times_sum, sum_same, sum_here}
 
 -- sums below a number
 sum_one : (f : ℕ → ℕ) (n : ℕ) → ((s : ℕ) → s < n → f s ≡ 1) → sum_below f n ≡ n

@@ -20,24 +20,12 @@ use Rattle.prcu_marks.specs.declared.commit.Commit.{Commit}
 use Rattle.core_state.specs.declared.view.Waiting.{Waiting}
 use Rattle.core_state.specs.declared.view.View.{View}
 use Rattle.list_laws.specs.Counts.{times, numbers_from, IsIn, Each}
-use Rattle.core_state.specs.memory.Lists.{sum_below, flag, count_below, IsEven}
-use Rattle.core_state.specs.memory.Memory.{Memory, slot_count}
-use Rattle.core_state.specs.views.Views.{Works, slots_of, retired_of, readings_of}
-use Rattle.core_state.specs.steps.Seating.{spent_view, unknown_slot}
-use Rattle.core_state.specs.views.Known.{known_in}
+use Rattle.core_state.specs.Memory.{sum_below, flag, count_below, IsEven, Memory, slot_count}
+use Rattle.core_state.specs.Views.{Works, slots_of, retired_of, readings_of, known_in}
+use Rattle.core_state.specs.Steps.{spent_view, unknown_slot}
 use Rattle.core_state.specs.declared.view.Held.{Held}
-use Rattle.core_state.specs.Fresh.{first_view, IsFresh, fresh_chart}
-use Rattle.core_state.specs.parts.MarkParts.{WaitStands}
-use Rattle.core_state.specs.parts.SeatParts.{IsOwned, SectionStands, IsCounted}
-use Rattle.core_state.specs.parts.WaiterParts.{IsClocked, IsTurnedOnce}
-use Rattle.core_state.specs.parts.SlotParts.{HasSpareToCome, HasFewSlots, AreHandsKnown, IsRetired}
-use Rattle.core_state.specs.parts.LockParts.{HasFewLocks, IsReadingKept}
-use Rattle.core_state.specs.parts.CountParts.{linked_count, young_count, old_count}
-use Rattle.core_state.specs.parts.TreeParts.{IsMoving}
-use Rattle.core_state.specs.parts.ReaderParts.{IsReading, IsServed, IsRecord}
-use Rattle.core_state.specs.parts.ListingParts.{IsListing}
-use Rattle.core_state.specs.parts.GraceParts.{IsWaitedRetired, IsWaitedMove}
-use Rattle.core_state.specs.Invariant.{IsShape, HoldsNow}
+use Rattle.core_state.specs.Invariant.{first_view, IsFresh, fresh_chart, IsShape, HoldsNow}
+use Rattle.core_state.specs.Parts.{WaitStands, IsOwned, SectionStands, IsCounted, IsClocked, IsTurnedOnce, HasSpareToCome, HasFewSlots, AreHandsKnown, IsRetired, HasFewLocks, IsReadingKept, linked_count, young_count, old_count, IsMoving, IsReading, IsServed, IsRecord, IsListing, IsWaitedRetired, IsWaitedMove}
 use Rattle.core_frames.specs.Laws.{FreshHolds}
 use Rattle.list_laws.proofs.Lists.{times_append, times_here, times_other, from_times, not_from, in_append}
 
@@ -173,7 +161,7 @@ module _ (k : Shape) (m : Memory) (table : IsShape k) (fresh : IsFresh k m) wher
     marks = record {
       seen = record {
         begins = each_one (λ (u : View). IsPrefix u.seen []) (first_view k) ([], refl);
-        longest = record { id = 0; view = first_view k; there = refl; all = refl };
+        longest = record { id = 0; view = first_view k; there = refl; has = refl };
       };
       marks = record {
         entered = λ j p c x e. absurd (cc);

@@ -3,11 +3,11 @@ use Rattle.std.proofs.Common.{◌≡◌, ◌≢◌, ◌^◌, None, false, refl, 
 use mathlib.Core.Logic.{dite}
 use native.Mathlib.Decide.{ℕ_discrete}
 use Rattle.prcu_marks.specs.declared.mark.Side.{Side}
-use Rattle.core_state.specs.parts.LockParts.{HasGeneration}
+use Rattle.core_state.specs.Parts.{HasGeneration}
 use mathlib.Core.Option.{some, some-ne-none}
 use lib.ListN.{get_elem?}
 use Rattle.prcu_marks.specs.declared.mark.Mark.{Mark}
-use Rattle.prcu_marks.proofs.MarkPlaces.{gone_at-below}
+use Rattle.prcu_marks.proofs.Marks.{gone_at-below}
 use Rattle.core_state.specs.declared.shape.Shape.{Shape}
 use Rattle.core_state.specs.declared.view.Retired.{Retired}
 use Rattle.core_state.specs.declared.view.View.{View}
@@ -16,22 +16,19 @@ use Rattle.core_state.specs.declared.view.Section.{Section}
 use Rattle.core_state.specs.declared.view.HeldLock.{HeldLock}
 use Rattle.core_state.specs.declared.words.Field.{Field}
 use Rattle.core_state.specs.declared.words.Field.TheVariants.{Life, Link, Lock}
-use Rattle.core_state.specs.views.Known.{known_in, known_of, known_under, lock_of, HasLock, LoadedGeneration}
-use Rattle.core_state.specs.memory.Lists.{IsOdd}
-use Rattle.core_state.specs.tree.Readers.{IsHeldBack}
-use Rattle.core_state.specs.memory.Memory.{Memory, slot_count}
-use Rattle.core_state.specs.views.Views.{Works, open_reading, readings_of, retired_of, joined_retired, held_list, spares_of}
+use Rattle.core_state.specs.Views.{known_in, known_of, known_under, lock_of, HasLock, LoadedGeneration, Works, open_reading, readings_of, retired_of, joined_retired, held_list, spares_of}
+use Rattle.core_state.specs.Memory.{IsOdd, Memory, slot_count}
+use Rattle.core_state.specs.Tree.{IsHeldBack}
 use Rattle.core_state.specs.Invariant.{HoldsNow}
 use Rattle.list_laws.specs.Counts.{IsIn, Each, times}
 use Rattle.list_laws.proofs.Lists.{at_below, in_second, times_append, times_in, times_here}
 use Rattle.prcu_marks.specs.declared.mark.Mark.TheVariants.{Done}
 use Rattle.prcu_model.specs.declared.operation.Op.TheVariants.{Del}
-use Rattle.core_frames.proofs.chart.Unique.{key_bound}
-use Rattle.core_frames.proofs.views.SeatFacts.{place_within, works_there}
+use Rattle.core_frames.proofs.Charts.{key_bound}
+use Rattle.core_frames.proofs.Roles.{place_within, works_there, own_once, own_below, own_off, hand_own, retired_own, spare_own}
 use Rattle.core_state.specs.declared.view.Held.{Held}
 use Rattle.core_state.specs.declared.view.Move.{Move}
 use Rattle.core_frames.specs.Telling.{IsChild, TellsLinks, TellsOldLinks, Tells, TellsAlone, TellsAside, TellsMove, TellsOnce, ViewsAreTold}
-use Rattle.core_frames.proofs.views.Roles.{own_once, own_below, own_off, hand_own, retired_own, spare_own}
 
 in_front : {A : Type 0} (xs ys : List A) (i : ℕ) (a : A) → get_elem? xs i ≡ some a → get_elem? (xs ++ ys) i ≡ some a
 in_front [] ys i a e = cc
@@ -72,8 +69,9 @@ module _ (k : Shape) (m : Memory) (vs : List View) (h : List Mark) (inv : HoldsN
       (λ (back : IsHeldBack inv.chart h section.entered s × IsOdd (m (Life s))).
       (let held = back.0 in
       let of = inv.slots.unlinked s held.at held.gone in
-      subst (λ x. x < slot_count k) of.slot
-      (own_below m (slot_count k) inv.chart vs h inv.slots of.id of.view of.there of.retired.slot (retired_own of.view of.retired of.has))))
+      let r = of.has.0 in
+      subst (λ x. x < slot_count k) of.has.2
+      (own_below m (slot_count k) inv.chart vs h inv.slots of.id of.view of.there r.slot (retired_own of.view r of.has.1))))
       ((inv.readers.served id v there section e).stood s has).here
 
   -- a place without a spare has a retired slot

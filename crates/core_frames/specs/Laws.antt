@@ -1,20 +1,18 @@
--- What the invariant gives, in plain words; and what it is for a kind of step to keep it.
+-- What the invariant gives, in plain words; and what it is for a step to keep it.
 -- Source: docs/TREE_INVARIANT.md, "What the invariant gives".
-use Rattle.std.specs.Prelude.{◌≡◌, ◌≢◌, ℕ, ◌+◌, ◌-◌, ◌*◌, ◌^◌, ◌<◌, ◌≤◌, ◌⊎◌, true, false, List, [], ◌∷◌, ◌++◌, length, set, Option, Some, None}
-use Rattle.std.specs.FinMap as finite
+use Rattle.std.specs.Prelude.{◌≡◌, ◌≢◌, ℕ, ◌+◌, ◌-◌, ◌*◌, ◌^◌, ◌<◌, ◌≤◌, ◌⊎◌, true, false, List, [], ◌∷◌, length, Option, Some, None}
 use mathlib.Core.Option.{some}
 use lib.ListN.{get_elem?}
 use Rattle.prcu_marks.specs.declared.mark.Mark.{Mark}
 use Rattle.prcu_marks.specs.declared.mark.Side.{Side}
-use Rattle.prcu_model.specs.Dictionary.{map_of}
+use Rattle.prcu_model.specs.Dictionary.{map_of, WasSaid}
 use Rattle.prcu_marks.specs.Marks.{updates_of, gone_at, IsGone}
 use Rattle.core_state.specs.declared.shape.Shape.{Shape}
 use Rattle.core_state.specs.declared.shape.Waiter.TheVariants.{Domain}
 use Rattle.core_state.specs.declared.words.Field.{Field}
-use Rattle.core_state.specs.declared.words.Field.TheVariants.{Clock, Free, Life, Link, Tag}
-use Rattle.core_state.specs.declared.words.Kind.{Kind}
+use Rattle.core_state.specs.declared.words.Field.TheVariants.{Clock, Free, Life, Link, Tag, Lock, State}
 use Rattle.core_state.specs.declared.view.Listing.{Listing}
-use Rattle.core_state.specs.parts.ListingParts.{IsBetween}
+use Rattle.core_state.specs.Parts.{IsBetween, state_slot, IsAsRecorded, map_now}
 use Rattle.core_state.specs.declared.view.Move.{Move}
 use Rattle.core_state.specs.declared.view.Reading.{Reading}
 use Rattle.core_state.specs.declared.view.Section.{Section}
@@ -22,22 +20,14 @@ use Rattle.core_state.specs.declared.view.Visit.{Visit}
 use Rattle.core_state.specs.declared.view.SearchState.{SearchState}
 use Rattle.core_state.specs.declared.view.SearchState.TheVariants.{At, Unread, Found, Missed}
 use Rattle.core_state.specs.declared.view.Waiting.{Waiting}
-use Rattle.core_state.specs.views.Known.{known_in}
+use Rattle.core_state.specs.Views.{known_in, Works, readings_of, HasLock, slots_of}
 use Rattle.core_state.specs.declared.view.View.{View}
-use Rattle.list_laws.specs.Counts.{IsIn}
-use Rattle.core_state.specs.memory.Lists.{IsOdd}
-use Rattle.core_state.specs.memory.Memory.{Memory, is_field, stored, slot_count}
-use Rattle.core_state.specs.tree.Nodes.{last_of, follow, Hops}
-use Rattle.core_state.specs.tree.Tree.{IsTree}
-use Rattle.prcu_model.specs.Dictionary.{WasSaid}
-use Rattle.core_state.specs.tree.Readers.{IsPending, MayPass, IsOldFor, IsEmptied, Stands}
-use Rattle.core_state.specs.parts.ReaderParts.{state_slot, IsAsRecorded}
-use Rattle.core_state.specs.parts.TreeParts.{map_now}
-use Rattle.core_state.specs.steps.Slots.{IsContent}
-use Rattle.core_state.specs.views.Views.{Works, readings_of}
-use Rattle.core_state.specs.steps.Steps.{IsStep, Steps}
-use Rattle.core_state.specs.Fresh.{first_view, IsFresh}
-use Rattle.core_state.specs.Invariant.{IsShape, HoldsNow}
+use Rattle.list_laws.specs.Counts.{IsIn, Somewhere, times}
+use Rattle.core_state.specs.Memory.{IsOdd, Memory, slot_count}
+use Rattle.core_state.specs.Tree.{last_of, follow, Hops, IsTree, IsPending, MayPass, IsOldFor, IsEmptied, Stands, Chart}
+use Rattle.core_state.specs.Links.{IsContent}
+use Rattle.core_state.specs.Invariant.{first_view, IsFresh, IsShape, HoldsNow}
+use Rattle.std.specs.FinMap as finite
 
 -- The links from the root are a tree of distinct slots in search order, the linked slots.
 abbrev pub LinksAreTree : Type 0
@@ -49,12 +39,8 @@ FollowIsMap = (k : Shape) (m : Memory) (vs : List View) (h : List Mark) → Hold
     → follow m (slot_count k) 0 x ≡ map_now h x
 
 -- A section that is open and is no listing.
-pub record Searches (vs : List View) (section : Section) : Type 0 where
-  pub id : ℕ
-  pub view : View
-  pub there : get_elem? vs id ≡ some view
-  pub inside : view.section ≡ Some section
-  pub no_list : section.listing ≡ None
+abbrev pub Searches : List View → Section → Type 0
+Searches vs section = Somewhere vs (λ v. (v.section ≡ Some section) × (section.listing ≡ None))
 
 -- What an open search will answer: nothing where it loaded an empty link, the value that it loaded at the slot found, and else what
 -- its follow answers as the links stand now.
@@ -147,22 +133,33 @@ pub record IsKept (k : Shape) (m : Memory) (h : List Mark) (to : Memory) (vs : L
   pub invariant : HoldsNow k to vs h'
   pub past : KeepsPast m h to
 
--- Each step of the kind keeps the invariant: by any view that works at a place, from any state that has the invariant.
-abbrev pub Keeps : Kind → Type 0
-Keeps kind = (k : Shape) (m : Memory) (vs : List View) (h : List Mark) (id : ℕ) (v w : View) (field : Field) (left : ℕ) (marks : List Mark)
-    → HoldsNow k m vs h → get_elem? vs id ≡ some v → Works v → is_field k field ≡ true → IsStep k h v kind field (m field) left w marks
-    → IsKept k m h (stored m field left) (set vs id w) (h ++ marks)
-
--- The same of steps as seats make them, which are noted in their trails.
-abbrev pub KeepsNoted : Kind → Type 0
-KeepsNoted kind = (k : Shape) (m : Memory) (vs : List View) (h : List Mark) (id : ℕ) (v w : View) (field : Field) (left : ℕ)
-    (marks : List Mark)
-    → HoldsNow k m vs h → get_elem? vs id ≡ some v → Works v → is_field k field ≡ true → Steps k h v kind field (m field) left w marks
-    → IsKept k m h (stored m field left) (set vs id w) (h ++ marks)
-
-abbrev pub NotesKeep : Type 0
-NotesKeep = (kind : Kind) → Keeps kind → KeepsNoted kind
-
 -- A table as it is made has the invariant, whatever its waiter.
 abbrev pub FreshHolds : Type 0
 FreshHolds = (k : Shape) (m : Memory) → IsShape k → IsFresh k m → HoldsNow k m (first_view k ∷ []) []
+
+-- Who has a lock and who has a slot, by the invariant, in plain words.
+-- Source: docs/TREE_INVARIANT.md, "What the invariant gives".
+
+-- The lock of the slot is this view's alone, and its word names the place of it.
+pub record IsHeldByOne (m : Memory) (vs : List View) (id slot : ℕ) (v : View) : Type 0 where
+  pub named : m (Lock slot) ≡ v.allowance.place + 1
+  pub alone : (j : ℕ) (other : View) → get_elem? vs j ≡ some other → HasLock other slot → j ≡ id
+
+-- A lock is held by at most one view, so at at most one place.
+abbrev pub LocksAreOnes : Type 0
+LocksAreOnes = (k : Shape) (m : Memory) (vs : List View) (h : List Mark) → HoldsNow k m vs h → (id slot : ℕ) (v : View)
+    → get_elem? vs id ≡ some v → HasLock v slot → IsHeldByOne m vs id slot v
+
+-- The slot is one of the table's, neither free nor linked; this view has it once, and no other view has it.
+pub record IsOfOne (m : Memory) (slots : ℕ) (g : Chart) (vs : List View) (id slot : ℕ) (v : View) : Type 0 where
+  pub inside : slot < slots
+  pub taken : m (State slot) ≢ 0
+  pub unlinked : g.linked slot ≡ false
+  pub once : times slot (slots_of v) ≡ 1
+  pub alone : (j : ℕ) (other : View) → get_elem? vs j ≡ some other → 1 ≤ times slot (slots_of other) → j ≡ id
+
+-- A slot that a view has in hand, as a spare, or retired is that alone and nobody else's, and it is neither free nor linked.
+abbrev pub SlotsAreOnes : Type 0
+SlotsAreOnes = (k : Shape) (m : Memory) (vs : List View) (h : List Mark) (i : HoldsNow k m vs h) (id slot : ℕ) (v : View)
+    → get_elem? vs id ≡ some v → 1 ≤ times slot (slots_of v)
+    → IsOfOne m (slot_count k) i.chart vs id slot v

@@ -17,9 +17,8 @@ use Rattle.core_state.specs.declared.view.Retired.{Retired}
 use Rattle.core_state.specs.declared.view.Section.{Section}
 use Rattle.core_state.specs.declared.view.View.{View}
 use Rattle.list_laws.specs.Counts.{IsIn, Each, times}
-use Rattle.core_state.specs.memory.Memory.{Memory}
-use Rattle.core_state.specs.views.Known.{known_in, known_under, HasLock, LoadedGeneration}
-use Rattle.core_state.specs.views.Views.{Works}
+use Rattle.core_state.specs.Memory.{Memory}
+use Rattle.core_state.specs.Views.{known_in, known_under, HasLock, LoadedGeneration, Works}
 use Rattle.core_state.specs.Invariant.{HoldsNow}
 
 -- a load of a field of the slot in hand finds what the view knows there

@@ -1,7 +1,6 @@
-//! What the invariant gives, and that a step noted in a trail keeps it too. Each is a function without a body whose promise is the law.
-ghost use Rattle.core_frames.specs.Laws.{LinksAreTree, FollowIsMap, SearchesAreAnswered, SearchesStand, FewPass, RecordsSay, StampsAreOld, StoodIsYoung, EmptyIsFull, PairsFit, ListingsGoOn, FreshHolds, NotesKeep};
+//! What the invariant gives. Each is a function without a body whose promise is the law.
+ghost use Rattle.core_frames.specs.Laws.{LinksAreTree, FollowIsMap, SearchesAreAnswered, SearchesStand, FewPass, RecordsSay, StampsAreOld, StoodIsYoung, EmptyIsFull, PairsFit, ListingsGoOn, FreshHolds, LocksAreOnes, SlotsAreOnes};
 ghost use Rattle.core_frames.specs.Telling.{ViewsAreTold};
-ghost use Rattle.core_frames.specs.Owners.{LocksAreOnes, SlotsAreOnes};
 
 /// The links from the root are a tree of distinct slots in search order.
 pub fn links_are_tree()
@@ -72,11 +71,6 @@ pub fn pairs_fit()
 /// A table as it is made has the invariant, whatever its waiter.
 pub fn fresh_holds()
     ensures { FreshHolds }
-{}
-
-/// Where each step of a kind keeps the invariant, so does each that is noted in its seat's trail.
-pub fn notes_keep()
-    ensures { NotesKeep }
 {}
 
 /// What the invariant tells of each view that works at a place.

@@ -13,14 +13,12 @@ use Rattle.prcu_model.specs.declared.operation.Told.{Told}
 use Rattle.prcu_model.specs.declared.operation.Line.{Line}
 use Rattle.prcu_model.specs.declared.operation.Update.{Update}
 use Rattle.prcu_model.specs.Fronts.{told_lines, own_updates, own_updates_from, told_updates, IsConfirmed, CanBeNumbered}
-use Rattle.prcu_model.specs.Replies.{Room, Explains}
+use Rattle.prcu_model.specs.Dictionary.{Room, Explains}
 use Rattle.prcu_model.proofs.ListFacts.{all_map}
 use Rattle.prcu_marks.specs.Marks.{updates_of, own_of}
 use Rattle.prcu_marks.specs.Callers.{HasMadeUpdate}
-use Rattle.prcu_marks.proofs.MarkLists.{updates_of-append, own_of-append}
-use Rattle.prcu_marks.proofs.OwnMarks.{no_own_update, one_own_update, own_of-all, own_updates_from-append}
-use Rattle.prcu_marks.proofs.Callers.{HasTold, IsSettled, MayStandBesideBy-longer, settled_longer, told_nothing, slice_get-past}
-use Rattle.prcu_marks.proofs.Runs.{HaveTold, newcomer, run_confirmed, run_fits, run_fronts, run_lengths, run_updates}
+use Rattle.prcu_marks.proofs.Marks.{updates_of-append, own_of-append, no_own_update, one_own_update, own_of-all, own_updates_from-append}
+use Rattle.prcu_marks.proofs.Callers.{HasTold, IsSettled, MayStandBesideBy-longer, settled_longer, told_nothing, slice_get-past, HaveTold, newcomer, run_confirmed, run_fits, run_fronts, run_lengths, run_updates}
 use Rattle.core_state.specs.declared.shape.Shape.{Shape}
 use Rattle.core_state.specs.declared.view.Section.{Section}
 use Rattle.core_state.specs.declared.view.View.{View}
@@ -30,21 +28,15 @@ use Rattle.core_points.specs.declared.stage.Update.TheVariants as update
 use Rattle.core_points.specs.declared.stage.Waits.TheVariants.{Reuse, Move}
 use Rattle.core_points.specs.declared.stage.Stage.{Stage}
 use Rattle.core_points.specs.declared.stage.Stage.TheVariants as at
-use Rattle.core_acts.specs.Acts.{noted}
-use Rattle.core_points.specs.Acts.{Act, marks_of, view_after}
-use Rattle.core_points.specs.Callers.{Own}
-use Rattle.core_points.specs.Programs.{act_at, after, begun_with}
+use Rattle.core_state.specs.Acts.{noted}
+use Rattle.core_points.specs.Programs.{Act, marks_of, view_after, Own, act_at, after, begun_with}
 use Rattle.core_points.specs.Laws.{is_finished}
 use Rattle.core_laws.specs.Whole.{place_views}
-use Rattle.core_acts.proofs.Acting.{others_none}
-use Rattle.core_machine.specs.Runs.{Core, core, made_owns, new_own, tickets_of, told_in, moved, shape_of, step, steps, tolds_of}
-use Rattle.core_machine.specs.Draws.{unfinished, unfinished_from}
-use Rattle.core_machine.specs.Accounts.{IsToldSoFar, at_position, untold}
-use Rattle.core_machine.specs.Laws.{EndsAreExplained, IsMachine, ToldsAreExplained}
-use Rattle.core_machine.proofs.Running.{IsRun, set_cases, step_by, step_runs}
+use Rattle.core_laws.proofs.Acting.{others_none}
+use Rattle.core_machine.specs.Runs.{Core, core, made_owns, new_own, tickets_of, told_in, moved, shape_of, step, steps, tolds_of, unfinished, unfinished_from}
+use Rattle.core_machine.specs.Laws.{IsToldSoFar, at_position, untold, EndsAreExplained, IsMachine, ToldsAreExplained}
+use Rattle.core_machine.proofs.Running.{IsRun, set_cases, step_by, step_runs, core_runs, is_told, made_runs}
 use Rattle.core_machine.proofs.Phases.{IsToDo, Known, Phase, Tells, at_answer, first_phase, inside, made, moving, others_tell, outside, phase, present, searching}
-use Rattle.core_machine.proofs.Sound.{core_runs, is_told}
-use Rattle.core_machine.proofs.Starting.{made_runs}
 use Rattle.core_machine.proofs.Turns.{turn}
 
 -- ---- places

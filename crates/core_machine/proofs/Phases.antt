@@ -1,39 +1,47 @@
+-- How far a call is, at each point and by its marks, and what its replies are explained by.
 -- How far a call is, by what its marks say: it searches, it is in a section, it has left one, it found its key present, or it has made
 -- its update.
-use Rattle.std.proofs.Common.{◌≡◌, ◌⊎◌, ℕ, ◌+◌, ◌-◌, ◌/◌, ◌≤◌, nat_le, ◌^◌, cond, Bool, true, false, MatchBool, List, [], ◌∷◌, ◌++◌, length, Option, Some, None, refl, sym, ap, subst, ◌∙◌, ⊎_elim, inr, arith, append_assoc, append-nil, length-append}
+use Rattle.std.proofs.Common.{◌≡◌, ◌⊎◌, ℕ, ◌+◌, ◌-◌, ◌/◌, ◌≤◌, nat_le, ◌^◌, cond, Bool, true, false, MatchBool, List, [], ◌∷◌, ◌++◌, length, Option, Some, None, refl, sym, ap, subst, ◌∙◌, ⊎_elim, inr, arith, append_assoc, append-nil, length-append, is_some, ◌&&◌, eq-eqb, ◌==◌, ◌||◌, inl, ◌*◌}
 use Rattle.std.specs.List.{AllByRecursion, slice_get}
 use mathlib.Core.List.{IsPrefix}
 use Rattle.std.proofs.lemmas.Option.{slice_get_within}
 use Rattle.prcu_marks.specs.declared.mark.Mark.{Mark}
-use Rattle.prcu_marks.specs.declared.mark.Mark.TheVariants.{Began}
+use Rattle.prcu_marks.specs.declared.mark.Mark.TheVariants.{Began, Left as LeftMark, Ended, Given}
 use Rattle.prcu_model.specs.declared.operation.Op.{Op}
 use Rattle.prcu_model.specs.declared.operation.Op.TheVariants.{Put, Get, Del, Set}
 use Rattle.prcu_model.specs.declared.operation.Reply.{Reply}
-use Rattle.prcu_model.specs.declared.operation.Reply.TheVariants.{New, Old, Gone, Was}
+use Rattle.prcu_model.specs.declared.operation.Reply.TheVariants.{New, Old, Gone, Was, Full, Absent}
 use Rattle.prcu_model.specs.declared.operation.Told.{Told}
 use Rattle.prcu_model.specs.declared.operation.Update.{Update}
-use Rattle.prcu_model.specs.Dictionary.{key_of, map_at}
-use Rattle.prcu_model.specs.Replies.{Room, Explains, Confirms, tells_update}
-use Rattle.prcu_marks.specs.Marks.{updates_of, own_of}
+use Rattle.prcu_model.specs.Dictionary.{key_of, map_at, Room, Explains, Confirms, tells_update, Dictionary, WasSaid}
+use Rattle.prcu_marks.specs.Marks.{updates_of, own_of, is_of}
 use Rattle.prcu_marks.specs.Callers.{Caller, IsLeftBy, entered_for, WaitsFor, IsMoveWait, HasMadeUpdate, WasExplained, HasAnswered}
 use Rattle.prcu_model.proofs.ListFacts.{prefix_self, prefix_more, all_map, all_append}
-use Rattle.prcu_marks.proofs.MarkLists.{updates_of-append, own_of-append, updates_below}
-use Rattle.prcu_marks.proofs.OwnMarks.{entered_for-append, own_twice}
-use Rattle.prcu_marks.proofs.Callers.{HasTold, map_at-longer, told_more, waits_longer, slice_get-longer}
-use Rattle.prcu_marks.proofs.Runs.{newcomer}
+use Rattle.prcu_marks.proofs.Marks.{updates_of-append, own_of-append, updates_below, entered_for-append, own_twice}
+use Rattle.prcu_marks.proofs.Callers.{HasTold, map_at-longer, told_more, waits_longer, slice_get-longer, newcomer}
 use Rattle.core_state.specs.declared.view.Section.{Section}
 use Rattle.core_points.specs.declared.stage.Aim.{Aim}
 use Rattle.core_points.specs.declared.stage.Aim.TheVariants.{Leaf, Spare, Room as ForRoom}
-use Rattle.core_points.specs.declared.stage.Last.TheVariants as last
 use Rattle.core_points.specs.declared.stage.Update.{Update as Making}
-use Rattle.core_points.specs.declared.stage.Update.TheVariants as update
 use Rattle.core_points.specs.declared.stage.Waits.{Waits}
 use Rattle.core_points.specs.declared.stage.Waits.TheVariants.{Reuse, Move}
 use Rattle.core_points.specs.declared.stage.Stage.{Stage}
-use Rattle.core_points.specs.declared.stage.Stage.TheVariants as at
-use Rattle.core_points.specs.Callers.{Own, is_some, key_now}
-use Rattle.core_points.specs.Programs.{answer, begun_with, first_point}
+use Rattle.core_points.specs.Programs.{Own, key_now, answer, begun_with, first_point, Act, marks_of, go, is_none_left, is_some as has_slot, deleting, ended, past_left, past_right, past_target_load, verdict, excused, found, giving, past_lock, wait_over, last_right, target_holds, value_in}
 use Rattle.core_points.specs.Laws.{is_finished}
+use Rattle.core_state.specs.declared.words.Field.{Field}
+use Rattle.core_state.specs.declared.view.View.{View}
+use Rattle.core_state.specs.declared.view.Waiting.{Waiting}
+use Rattle.core_state.specs.Steps.{excuses, look_marks}
+use Rattle.core_points.specs.declared.stage.Found.{Found}
+use Rattle.core_points.specs.declared.stage.Node.{Node}
+use Rattle.core_points.specs.declared.stage.Successor.{Successor}
+use Rattle.core_points.specs.declared.stage.Target.{Target}
+use Rattle.prcu_marks.specs.declared.mark.Side.{Side}
+use Rattle.core_points.specs.Facts.{is_delete, is_put, is_set}
+use Rattle.core_points.specs.declared.stage.Last.TheVariants as last
+use Rattle.core_points.specs.declared.stage.Update.TheVariants as update
+use Rattle.core_points.specs.declared.stage.Stage.TheVariants as at
+use Rattle.std.specs.FinMap as finite
 
 pub data Phase : Type 0 where
   searching : Phase
@@ -104,7 +112,7 @@ phase (at.SetLock s generation) = outside
 phase (at.SetCheck s generation) = outside
 phase (at.SetValue s) = outside
 phase (at.TargetLock t i) = outside
-phase (at.TargetLoad t i found) = outside
+phase (at.TargetLoad t i number) = outside
 phase (at.Mark d child) = outside
 phase (at.EmptyTag number s b) = made number Gone
 phase (at.EmptyRaise number s b tag) = made number Gone
@@ -410,3 +418,208 @@ module _ (room : Room) (i : ℕ) (script : List Op) (o : Own) (section : Option 
             left = subst (λ b. IsToDo b (begun_with x (op ∷ ops)) (op ∷ ops) []) (sym first.0) refl;
             known = subst (λ p. Known room p (at_answer i own (h ++ more)) op (h ++ more) [] after) (sym first.1) refl;
           }
+
+-- The marks of the acts that make no update and enter no section.
+
+pub own_one : (i : ℕ) (m : Mark) → is_of i m ≡ true → own_of i (m ∷ []) ≡ m ∷ []
+own_one i m is = ap (λ b. cond b (m ∷ []) []) is
+
+module _ (i key : ℕ) (us : List Update) (v : View) (place : v.allowance.place ≡ i) where
+  -- a section is left
+  pub left_adds : (count : ℕ) → Adds i key us (LeftMark v.allowance.place count ∷ [])
+  left_adds count =
+      let m : Mark = LeftMark v.allowance.place count in
+      record { mine = m ∷ []; own = own_one i m (eq-eqb v.allowance.place i place); keyed = (place, tt); waits = (tt, tt); updates = refl }
+
+  -- a wait begins
+  pub began_adds : (count low high : ℕ) → WaitsFor us (Began v.allowance.place count low high)
+      → Adds i key us (Began v.allowance.place count low high ∷ [])
+  began_adds count low high waits =
+      let m : Mark = Began v.allowance.place count low high in
+      record {
+        mine = m ∷ [];
+        own = own_one i m (eq-eqb v.allowance.place i place);
+        keyed = (place, tt);
+        waits = (waits, tt);
+        updates = refl;
+      }
+
+  -- a look, which may end its wait
+  pub look_adds : (wait : Waiting) (field : Field) (last : Bool) (n : ℕ) → Adds i key us (look_marks v wait field last n)
+  look_adds wait field last n = by_end (excuses wait field n && last)
+    where
+      by_end : (b : Bool) → Adds i key us (cond b (Ended v.allowance.place wait.count ∷ []) [])
+      by_end true = let m : Mark = Ended v.allowance.place wait.count in
+          record {
+            mine = m ∷ [];
+            own = own_one i m (eq-eqb v.allowance.place i place);
+            keyed = (place, tt);
+            waits = (tt, tt);
+            updates = refl;
+          }
+      by_end false = no_marks i key us [] refl
+
+  -- a state is exchanged
+  pub seize_adds : (slot : ℕ) (b : Bool) → Adds i key us (cond b (Given slot ∷ []) [])
+  seize_adds slot true = no_marks i key us (Given slot ∷ []) refl
+  seize_adds slot false = no_marks i key us [] refl
+
+  -- one of two acts
+  pub either_adds : (n : ℕ) (b : Bool) (x y : Act) → Adds i key us (marks_of v n x) → Adds i key us (marks_of v n y)
+      → Adds i key us (marks_of v n (cond b x y))
+  either_adds n true x y p q = p
+  either_adds n false x y p q = q
+
+-- How far a call is at the point to which a step leads.
+
+pub aim_outside : (aim : Aim) → aiming aim ≡ inside → ⊥
+aim_outside (Leaf spot) e = absurd (cc)
+aim_outside Spare e = absurd (cc)
+aim_outside ForRoom e = absurd (cc)
+
+pub wait_outside : (waits : Waits) → waiting waits ≡ inside → ⊥
+wait_outside (Reuse aim) e = aim_outside aim e
+wait_outside (Move m) e = absurd (cc)
+
+pub stage_next : (o : Own) (p : Phase) (o' : Own) (b : Bool) (x y : Stage) → Next o p (go o' x) → Next o p (go o' y)
+    → Next o p (go o' (cond b x y))
+stage_next o p o' true x y nx ny = nx
+stage_next o p o' false x y nx ny = ny
+
+pub either_tells : (room : Room) (i : ℕ) (script : List Op) (section : Option Section) (h : List Mark) (b : Bool) (x y : Own)
+    → (b ≡ true → Tells room i script x section h) → (b ≡ false → Tells room i script y section h)
+    → Tells room i script (cond b x y) section h
+either_tells room i script section h true x y tx ty = tx refl
+either_tells room i script section h false x y tx ty = ty refl
+
+pub ended_next : (o o' : Own) (op : Op) (s : ℕ) (b : Side) → said o' ≡ said o → Next o inside (go o' (ended op s b))
+ended_next o o' (Put key value) s b same = (same, refl, inl refl)
+ended_next o o' (Get key) s b same = (same, refl, inl refl)
+ended_next o o' (Del key) s b same = (same, refl, inl refl)
+ended_next o o' (Set key value) s b same = (same, refl, inl refl)
+
+pub found_next : (o o' : Own) (op : Op) (s p : ℕ) (b : Side) → said o' ≡ said o → Next o inside (go o' (found op s p b))
+found_next o o' (Put key value) s p b same = (same, refl, inl refl)
+found_next o o' (Get key) s p b same = (same, refl, inl refl)
+found_next o o' (Del key) s p b same = (same, refl, inl refl)
+found_next o o' (Set key value) s p b same = (same, refl, inl refl)
+
+pub lock_next : (o o' : Own) (s n : ℕ) (next : Stage) → said o' ≡ said o → is_finished next ≡ false → phase next ≡ outside
+    → Next o outside (past_lock o' s n next)
+lock_next o o' s n next same going is = either_next o outside (n == 0) _ _ (same, going, inl (sym is))
+    (stage_next o outside o' (is_none_left o'.locks) _ _ (same, refl, inr (refl, refl)) (same, refl, inr (refl, refl)))
+
+pub giving_next : (o o' : Own) (aim : Aim) → said o' ≡ said o → Next o (aiming aim) (giving o' aim)
+giving_next o o' (Leaf spot) same = stage_next o outside o' (is_none_left o'.retired) _ _ (same, refl, inl refl) (same, refl, inl refl)
+giving_next o o' Spare same = stage_next o searching o' (is_none_left o'.retired) _ _ (same, refl, inl refl) (same, refl, inl refl)
+giving_next o o' ForRoom same = stage_next o searching o'
+    (is_none_left o'.retired) _ _ (stage_next o searching o' (has_slot o'.spare) _ _ (same, refl, inl refl) (same, refl, inl refl))
+    (same, refl, inl refl)
+
+wait_next : (o o' : Own) (waits : Waits) → said o' ≡ said o → Next o (waiting waits) (wait_over o' waits)
+wait_next o o' (Reuse aim) same = giving_next o o' aim same
+wait_next o o' (Move m) same = (same, refl, inl refl)
+
+pub place_next : (o o' : Own) (waits : Waits) (clock p : ℕ) → said o' ≡ said o → Next o (waiting waits) (excused o' waits clock p)
+place_next o o' waits clock p same = either_next o (waiting waits) (p + 1 == o'.places) _ _ (wait_next o o' waits same)
+    (same, refl, inl refl)
+
+pub right_next : (o o' : Own) (d : Node) → said o' ≡ said o → Next o inside (go o' (past_right d))
+right_next o o' d same = stage_next o inside o' ((d.left == 0) || (d.right == 0)) _ _ (same, refl, inl refl) (same, refl, inl refl)
+
+pub left_next : (o o' : Own) (d : Node) (u : Successor) (n : ℕ) → said o' ≡ said o → Next o inside (go o' (past_left d u n))
+left_next o o' d u n same = stage_next o inside o'
+    (n == 0) _ _ (stage_next o inside o' (u.parent == d.node) _ _ (same, refl, inl refl) (same, refl, inl refl)) (same, refl, inl refl)
+
+deleting_next : (o o' : Own) (d : Node) (x : Option Successor) → said o' ≡ said o → Next o outside (go o' (deleting d x))
+deleting_next o o' d None same = (same, refl, inl refl)
+deleting_next o o' d (Some u) same = (same, refl, inl refl)
+
+verdict_next : (o o' : Own) (t : Target) (f : Found) → said o' ≡ said o → Next o outside (go o' (verdict t f))
+verdict_next o o' t f same = stage_next o outside o'
+    (target_holds t f) _ _ (deleting_next o o' (record t.node { left = f.left; right = last_right t.node t.successor f }) t.successor same)
+    (same, refl, inr (refl, refl))
+
+pub target_next : (o o' : Own) (t : Target) (j : ℕ) (f : Found) → said o' ≡ said o → Next o outside (go o' (past_target_load t j f))
+target_next o o' t j f same = by t.successor
+  where
+    by : (x : Option Successor) → Next o outside (go o' (elim x as (λ _. Stage) [
+      | None ↦ cond (j == 4) (verdict t f) (at.TargetLoad t (j + 1) f)
+      | Some u ↦ cond (j == 8) (verdict t f) (cond ((j == 4) && (u.parent == t.node.node)) (at.TargetLoad t 6 f)
+          (at.TargetLoad t (j + 1) f))
+    ]))
+    by None = stage_next o outside o' (j == 4) _ _ (verdict_next o o' t f same) (same, refl, inl refl)
+    by (Some u) = stage_next o outside o' (j == 8) _ _ (verdict_next o o' t f same)
+        (stage_next o outside o' ((j == 4) && (u.parent == t.node.node)) _ _ (same, refl, inl refl) (same, refl, inl refl))
+
+-- What the replies of a caller are explained by.
+
+pub absent_explained : (room : Room) (op : Op) (m : Dictionary) → is_put op ≡ false → finite.get m (key_of op) ≡ None
+    → Explains room m op Absent
+absent_explained room (Put key value) m other none = absurd (cc)
+absent_explained room (Get key) m other none = ap is_some none
+absent_explained room (Del key) m other none = ap is_some none
+absent_explained room (Set key value) m other none = ap is_some none
+
+pub old_explained : (room : Room) (op : Op) (m : Dictionary) (value : ℕ) → is_put op ≡ true → finite.get m (key_of op) ≡ Some value
+    → Explains room m op Old
+old_explained room (Put key v) m value put is = ap is_some is
+old_explained room (Get key) m value put is = absurd (cc)
+old_explained room (Del key) m value put is = absurd (cc)
+old_explained room (Set key v) m value put is = absurd (cc)
+
+pub full_explained : (room : Room) (op : Op) (m : Dictionary) → is_put op ≡ true → room.slots ≤ finite.len m + 20 * (room.scripts - 1)
+    → Explains room m op Full
+full_explained room (Put key v) m put large = large
+full_explained room (Get key) m put large = absurd (cc)
+full_explained room (Del key) m put large = absurd (cc)
+full_explained room (Set key v) m put large = absurd (cc)
+
+pub put_is : (op : Op) → is_put op ≡ true → Put (key_of op) (value_in op) ≡ op
+put_is (Put key value) e = refl
+put_is (Get key) e = absurd (cc)
+put_is (Del key) e = absurd (cc)
+put_is (Set key value) e = absurd (cc)
+
+pub del_is : (op : Op) → is_delete op ≡ true → Del (key_of op) ≡ op
+del_is (Put key value) e = absurd (cc)
+del_is (Get key) e = absurd (cc)
+del_is (Del key) e = refl
+del_is (Set key value) e = absurd (cc)
+
+pub set_is : (op : Op) → is_set op ≡ true → Set (key_of op) (value_in op) ≡ op
+set_is (Put key value) e = absurd (cc)
+set_is (Get key) e = absurd (cc)
+set_is (Del key) e = absurd (cc)
+set_is (Set key value) e = refl
+
+pub new_confirms : (op : Op) (d : Dictionary) → is_put op ≡ true → Confirms d op New
+new_confirms (Put key value) d e = tt
+new_confirms (Get key) d e = absurd (cc)
+new_confirms (Del key) d e = absurd (cc)
+new_confirms (Set key value) d e = absurd (cc)
+
+pub gone_confirms : (op : Op) (d : Dictionary) → is_delete op ≡ true → Confirms d op Gone
+gone_confirms (Put key value) d e = absurd (cc)
+gone_confirms (Get key) d e = absurd (cc)
+gone_confirms (Del key) d e = tt
+gone_confirms (Set key value) d e = absurd (cc)
+
+pub was_confirms : (op : Op) (d : Dictionary) (old : ℕ) → is_set op ≡ true → finite.get d (key_of op) ≡ Some old → Confirms d op (Was old)
+was_confirms (Put key value) d old e is = absurd (cc)
+was_confirms (Get key) d old e is = absurd (cc)
+was_confirms (Del key) d old e is = absurd (cc)
+was_confirms (Set key value) d old e is = is
+
+-- a search's answer, at a front since its section was entered
+pub said_explains : (room : Room) (c : Caller) (op : Op) (h marks : List Mark) (reply : Reply) (from : ℕ) (answers : Option ℕ)
+    → updates_of marks ≡ [] → length (updates_of c.seen) ≤ from → WasSaid (updates_of h) (key_of op) from answers
+    → ((m : Dictionary) → finite.get m (key_of op) ≡ answers → Explains room m op reply)
+    → WasExplained (Explains room) c op (record { reply = reply; number = 0 }) marks h
+said_explains room c op h marks reply from answers none late w explains = record {
+  left = none;
+  front = w.front;
+  since = (let s = w.since in omega arith);
+  until = w.made;
+  explained = explains (map_at (updates_of h) w.front) w.answers;
+}

@@ -14,24 +14,21 @@ use Rattle.prcu_model.specs.declared.operation.Reply.{Reply}
 use Rattle.prcu_model.specs.declared.operation.Reply.TheVariants.{New, Old, Full, Val, Absent, Gone, Was}
 use Rattle.prcu_model.specs.declared.operation.Told.{Told}
 use Rattle.prcu_model.specs.declared.operation.Update.{Update}
-use Rattle.prcu_model.specs.Dictionary.{Dictionary, WasSaid, map_at, map_of}
-use Rattle.prcu_model.specs.Replies.{Room, Explains, Confirms, tells_update}
-use Rattle.prcu_marks.specs.Marks.{updates_of, own_of, is_of}
+use Rattle.prcu_model.specs.Dictionary.{Dictionary, WasSaid, map_at, map_of, Room, Explains, Confirms, tells_update}
+use Rattle.prcu_marks.specs.Marks.{updates_of, own_of, is_of, said_by}
 use Rattle.prcu_marks.specs.Callers.{Caller, IsLeftBy, entered_for, WaitsFor, IsMoveWait, IsNextKey, HasMadeUpdate, WasExplained}
 use Rattle.prcu_model.proofs.ListFacts.{all_append, all_map, prefix_more}
-use Rattle.prcu_marks.proofs.MarkLists.{own_of-append, updates_of-append}
-use Rattle.prcu_marks.proofs.OwnMarks.{entered_for-append}
+use Rattle.prcu_marks.proofs.Marks.{own_of-append, updates_of-append, entered_for-append}
 use Rattle.prcu_marks.proofs.Callers.{waits_longer}
 use Rattle.core_state.specs.declared.shape.Shape.{Shape}
 use Rattle.core_state.specs.declared.shape.Waiter.TheVariants.{Eer}
-use Rattle.core_state.specs.views.Views.{Works}
+use Rattle.core_state.specs.Views.{Works}
 use Rattle.core_state.specs.declared.words.Field.{Field}
 use Rattle.core_state.specs.declared.words.Field.TheVariants.{Announced, Clock, Free, Front, Key, Life, Link, Lock, Stamp, State, Tag, Value}
 use Rattle.core_state.specs.declared.view.Section.{Section}
 use Rattle.core_state.specs.declared.view.View.{View}
-use Rattle.core_state.specs.memory.Memory.{Memory, idle}
-use Rattle.core_state.specs.memory.Words.{step_side}
-use Rattle.core_state.specs.steps.Loads.{after_search_load}
+use Rattle.core_state.specs.Memory.{Memory, idle, step_side}
+use Rattle.core_state.specs.Steps.{after_search_load}
 use Rattle.core_state.specs.Invariant.{HoldsNow}
 use Rattle.core_points.specs.declared.stage.Aim.{Aim}
 use Rattle.core_points.specs.declared.stage.Aim.TheVariants.{Leaf, Spare, Room as ForRoom}
@@ -48,25 +45,16 @@ use Rattle.core_points.specs.declared.stage.Stage.{Stage}
 use Rattle.core_points.specs.declared.stage.Stage.TheVariants as at
 use Rattle.prcu_marks.specs.declared.mark.Side.{Side}
 use Rattle.prcu_marks.specs.declared.mark.Side.TheVariants.{Left, Right}
-use Rattle.prcu_marks.specs.Accesses.{said_by}
-use Rattle.core_acts.specs.Acts.{in_slot, access_of, noted, section_of, wait_of}
-use Rattle.core_acts.specs.declared.act.Act.TheVariants.{LeaveByStamp}
-use Rattle.core_acts.proofs.Acting.{section_is}
-use Rattle.core_points.specs.Acts.{Act, field_of, marks_of, view_after}
-use Rattle.core_points.specs.Callers.{Own, but_first, first_or_root, go, high_key, low_key, or_root, is_none_left, is_some as has_slot, key_now}
-use Rattle.core_points.specs.Programs.{act_at, after, answer, committing, ended, past_left, past_right, found, is_reader, key_read, none_free, past_reserve, past_unlock, taking, unlocked}
-use Rattle.core_points.specs.DeletePlan.{move_locks, nothing_found, target_lock, target_locks, target_part, target_slot, with_found}
+use Rattle.core_state.specs.Acts.{in_slot, access_of, noted, section_of, wait_of}
+use Rattle.core_state.specs.declared.act.Act.TheVariants.{LeaveByStamp}
+use Rattle.core_laws.proofs.Acting.{section_is}
+use Rattle.core_points.specs.Programs.{Act, field_of, marks_of, view_after, Own, but_first, first_or_root, go, high_key, low_key, or_root, is_none_left, is_some as has_slot, key_now, act_at, after, answer, committing, ended, past_left, past_right, found, is_reader, key_read, none_free, past_reserve, past_unlock, taking, unlocked, move_locks, nothing_found, target_lock, target_locks, target_part, target_slot, with_found}
 use Rattle.core_points.specs.Facts.{is_put}
-use Rattle.core_points.specs.Told.{IsTold}
+use Rattle.core_points.specs.Laws.{IsTold, is_finished}
 use Rattle.core_points.specs.Fits.{Fits}
-use Rattle.core_points.specs.Laws.{is_finished}
-use Rattle.core_machine.proofs.Phases.{Adds, IsLate, Known, Next, Since, Tells, aiming, answers_so, at_answer, either_next, entered_more, explained_later, goes_on, inside, made, made_later, move_later, moving, no_marks, outside, phase, said, seen_before, since_later, tells_by, waiting}
-use Rattle.core_points.proofs.All.{needs_are_given}
-use Rattle.core_points.proofs.Answering.{answers_are_said}
-use Rattle.move_laws.proofs.copy.NextKey.{copy_next}
-use Rattle.core_machine.proofs.ActMarks.{began_adds, either_adds, left_adds, look_adds, own_one, seize_adds}
-use Rattle.core_machine.proofs.Replies.{absent_explained, old_explained, full_explained, put_is, del_is, set_is, new_confirms, gone_confirms, was_confirms, said_explains}
-use Rattle.core_machine.proofs.NextPoints.{aim_outside, wait_outside, stage_next, either_tells, ended_next, found_next, lock_next, giving_next, place_next, right_next, left_next, target_next}
+use Rattle.core_machine.proofs.Phases.{Adds, IsLate, Known, Next, Since, Tells, aiming, answers_so, at_answer, either_next, entered_more, explained_later, goes_on, inside, made, made_later, move_later, moving, no_marks, outside, phase, said, seen_before, since_later, tells_by, waiting, began_adds, either_adds, left_adds, look_adds, own_one, seize_adds, absent_explained, old_explained, full_explained, put_is, del_is, set_is, new_confirms, gone_confirms, was_confirms, said_explains, aim_outside, wait_outside, stage_next, either_tells, ended_next, found_next, lock_next, giving_next, place_next, right_next, left_next, target_next}
+use Rattle.core_points.proofs.AllPoints.{needs_are_given, answers_are_said}
+use Rattle.core_laws.proofs.CopyNeeds.{copy_next}
 
 late_in : (n : ℕ) (section : Option Section) (s : Section) → section ≡ Some s → IsLate n section → n ≤ s.from
 late_in n section s e late = subst (IsLate n) e late

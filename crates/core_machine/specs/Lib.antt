@@ -1,10 +1,4 @@
 pub mod Runs
-pub mod Stepped
-pub mod Draws
-pub mod Accounts
 pub mod Laws
 pub mod Stored
-pub mod Stepping
-pub mod StepLaws
 pub mod Machines
-pub mod Standing

@@ -1,29 +1,84 @@
--- What a machine stores, and that it is the core's.
+-- What a machine stores and answers.
+-- Where the search of a caller's section stands.
 -- Source: docs/TREE_CALLS.md, "The machine".
-use Rattle.std.specs.Prelude.{map, ◌≡◌, ℕ, ◌*◌, ◌<◌, Bool, true, false, List, ◌++◌, set, slice_get, slice_set, Option, Some, None}
+use Rattle.std.specs.Prelude.{ℕ, ◌==◌, if◌then◌else◌, Option, Some, None, ◌%◌, nat_lt, ◌||◌, ◌&&◌, not, map, ◌≡◌, ◌*◌, ◌<◌, Bool, true, false, List, ◌++◌, set, slice_get, slice_set}
+use Rattle.core_state.specs.declared.view.Section.{Section}
+use Rattle.core_state.specs.declared.view.View.{View}
+use Rattle.core_state.specs.Parts.{state_slot}
+use Rattle.core_points.specs.declared.stage.Stage.{Stage}
+use mathlib.Core.Option.{none, some}
+use lib.ListN.{get_elem?}
 use Rattle.prcu_marks.specs.declared.mark.Why.{Why}
+use Rattle.prcu_marks.specs.declared.mark.Why.TheVariants.{Reader, Lock, Front}
+use Rattle.core_state.specs.Memory.{idle}
+use Rattle.core_points.specs.Programs.{Own, or_root, target_lock, act_at, after}
+use Rattle.core_points.specs.Laws.{is_finished}
+use Rattle.core_machine.specs.Runs.{Core, told_in, core, history_of, shape_of, AreDrawn}
 use Rattle.prcu_model.specs.declared.operation.Op.{Op}
 use Rattle.prcu_model.specs.declared.operation.Update.{Update}
 use Rattle.prcu_model.specs.Scripts.{op_count}
-use Rattle.prcu_model.specs.Fronts.{AreExplainable}
-use Rattle.prcu_model.specs.History.{IsLegal}
-use Rattle.prcu_model.specs.Slots.{StaysWithin}
-use Rattle.core_points.specs.Callers.{Own}
-use Rattle.core_points.specs.Programs.{act_at, after}
-use Rattle.core_points.specs.Laws.{is_finished}
+use Rattle.prcu_model.specs.Fronts.{AreExplainable, StaysWithin}
+use Rattle.prcu_model.specs.Dictionary.{IsLegal}
 use Rattle.core_machine.specs.declared.caller.Caller.{Caller}
 use Rattle.core_machine.specs.declared.machine.Stepped.{Stepped}
 use Rattle.core_machine.specs.declared.machine.Stepped.TheVariants.{Moved, Blocked, Finished}
-use Rattle.prcu_marks.specs.Accesses.{left_by}
-use Rattle.core_acts.specs.Acts.{access_of}
-use Rattle.core_machine.specs.Runs.{Core, core, history_of, shape_of}
-use Rattle.core_machine.specs.Draws.{AreDrawn}
-use Rattle.core_machine.specs.Laws.{IsMachine}
-use Rattle.core_machine.specs.Stepped.{Answer, goes_on, is_blocked, has_ended, blocked}
+use Rattle.prcu_marks.specs.Marks.{left_by}
+use Rattle.core_state.specs.Acts.{access_of}
+use Rattle.core_machine.specs.Laws.{IsMachine, CanStep, found_now, told_now, index_now, update_now, AreWordsOf}
 use Rattle.core_machine.specs.Stored.{HasRoom, own_of}
-use Rattle.core_machine.specs.Standing.{standing_of, stands_after}
-use Rattle.core_machine.specs.Stepping.{CanStep, found_now, told_now, index_now, update_now}
-use Rattle.core_machine.specs.StepLaws.{AreWordsOf}
+use Rattle.core_points.specs.declared.stage.Stage.TheVariants as at
+
+-- the slot at which the search of an open section stands or ended
+abbrev pub slot_of : Option Section → Option ℕ
+slot_of None = None
+slot_of (Some section) = Some (state_slot section.reading.state)
+
+abbrev pub standing_of : View → Option ℕ
+standing_of v = slot_of v.section
+
+-- where it stands after the step of this point, which found this number
+abbrev pub stands_after : Option ℕ → ℕ → Stage → Option ℕ
+stands_after old n (at.EnterStamp clock) = Some 0
+stands_after old n (at.AtLink s b) = if n == 0 then old else Some n
+stands_after old n (at.Leave next) = None
+stands_after old n _ = old
+
+-- What a step of the machine answers: that the caller went on, where it found its way blocked, or that its script had ended.
+-- Source: docs/TREE_CALLS.md, "The machine".
+
+-- a lock that was found taken
+abbrev pub at_lock : ℕ → ℕ → Option Why
+at_lock slot n = if n == 0 then None else Some (Lock slot)
+
+-- Where the step of a point is blocked that found this number: an exchange found the lock taken or the front odd, or a load found a
+-- stamp that stands in the wait's way.
+abbrev pub blocked : Own → ℕ → Stage → Option Why
+blocked o n (at.LeafLock spot) = at_lock spot.slot n
+blocked o n (at.SetLock s generation) = at_lock s n
+blocked o n (at.TargetLock t i) = at_lock (target_lock t i) n
+blocked o n (at.CopyLock d u next_key) = at_lock (or_root o.spare) n
+blocked o n (at.Commit update expected) = if not (n == expected) && (n % 2 == 1) then Some (Front n) else None
+blocked o n (at.LookStamp waits clock p key) = if (n == idle) || nat_lt clock n then None else Some (Reader p key n)
+blocked o n _ = None
+
+-- what the step of this caller answers
+pub data Answer : Type 0 where
+  goes_on : Answer
+  is_blocked : Why → Answer
+  has_ended : Answer
+
+abbrev pub answer_of : Option Why → Answer
+answer_of None = goes_on
+answer_of (Some why) = is_blocked why
+
+abbrev pub own_answers : Core → Own → Answer
+own_answers c o = if is_finished o.stage then has_ended else answer_of (blocked o (told_in c o) o.stage)
+
+abbrev pub answers : Core → ℕ → Answer
+answers c i = elim (get_elem? c.owns i) as (λ _. Answer) [ none ↦ has_ended | some o ↦ own_answers c o ]
+
+-- What a machine stores, and that it is the core's.
+-- Source: docs/TREE_CALLS.md, "The machine".
 
 -- the words, what each caller keeps, the updates, and where the search of each caller's section stands
 pub record MachineAt : Type 0 where

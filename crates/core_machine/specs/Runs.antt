@@ -1,11 +1,12 @@
+-- The core's run, and which callers step in one that is drawn from a number.
 -- The core's run: the words, what each caller keeps, its view, and the marks, after these callers have stepped in this order.
 -- Source: docs/TREE_CALLS.md, "The machine".
-use Rattle.std.specs.Prelude.{ℕ, ◌+◌, ◌*◌, ◌/◌, if◌then◌else◌, List, [], ◌∷◌, ◌++◌, length, map, set, None, Some}
+use Rattle.std.specs.Prelude.{ℕ, ◌+◌, ◌*◌, ◌/◌, if◌then◌else◌, List, [], ◌∷◌, ◌++◌, length, map, set, None, Some, ◌≡◌, ◌%◌, ◌≤◌, slice_index_or}
 use mathlib.Core.Option.{Option, some}
 use lib.ListN.{get_elem?}
 use Rattle.list_laws.specs.Counts.{total}
 use Rattle.prcu_marks.specs.declared.mark.Mark.{Mark}
-use Rattle.prcu_marks.specs.Marks.{updates_of}
+use Rattle.prcu_marks.specs.Marks.{updates_of, said_by}
 use Rattle.prcu_model.specs.declared.operation.Op.{Op}
 use Rattle.prcu_model.specs.declared.operation.Op.TheVariants.{Get}
 use Rattle.prcu_model.specs.declared.operation.Told.{Told}
@@ -14,16 +15,14 @@ use Rattle.core_state.specs.declared.shape.Shape.{Shape}
 use Rattle.core_state.specs.declared.shape.Waiter.TheVariants.{Eer}
 use Rattle.core_state.specs.declared.words.Field.{Field}
 use Rattle.core_state.specs.declared.view.View.{View}
-use Rattle.core_state.specs.memory.Memory.{Memory, memory_of, stored}
-use Rattle.seat_table.specs.Fresh.{first_words}
+use Rattle.core_state.specs.Memory.{Memory, memory_of, stored}
+use Rattle.seat_table.specs.Seats.{first_words}
 use Rattle.core_laws.specs.Whole.{place_views}
-use Rattle.core_points.specs.declared.stage.Stage.TheVariants as at
-use Rattle.prcu_marks.specs.Accesses.{said_by}
-use Rattle.core_acts.specs.Acts.{access_of, noted}
-use Rattle.core_points.specs.Acts.{Act, field_of, left_of, view_after, marks_of}
-use Rattle.core_points.specs.Callers.{Own}
-use Rattle.core_points.specs.Programs.{act_at, after, begun_with}
+use Rattle.core_state.specs.Acts.{access_of, noted}
+use Rattle.core_points.specs.Programs.{Act, field_of, left_of, view_after, marks_of, Own, act_at, after, begun_with}
 use Rattle.core_points.specs.Laws.{is_finished}
+use Rattle.workload.specs.Draws.{next_state, drawn}
+use Rattle.core_points.specs.declared.stage.Stage.TheVariants as at
 
 -- the words, what each caller keeps, each caller's view, and the marks
 pub record Core : Type 0 where
@@ -113,3 +112,23 @@ new_core scripts slots =
 -- the core of these scripts and so many slots, after these callers have stepped in this order
 abbrev pub core : List (List Op) → ℕ → List ℕ → Core
 core scripts slots callers = steps (new_core scripts slots) callers
+
+-- Which callers step in a run that is drawn from a number.
+-- Source: docs/TREE_CALLS.md, "The machine"; the generator is that of docs/FORMATS.md, "The made workload".
+
+-- the callers whose scripts haven't ended, ascending
+abbrev pub unfinished_from : ℕ → List Own → List ℕ
+unfinished_from i [] = []
+unfinished_from i (o ∷ os) = if is_finished o.stage then unfinished_from (i + 1) os else i ∷ unfinished_from (i + 1) os
+
+abbrev pub unfinished : Core → List ℕ
+unfinished c = unfinished_from 0 c.owns
+
+-- the caller that is drawn at a state
+abbrev pub caller_at : Core → ℕ → ℕ
+caller_at c state = slice_index_or (unfinished c) (drawn state % length (unfinished c)) 0
+
+-- These callers are drawn from the state on, each after the state has moved, until every script has ended.
+abbrev pub AreDrawn : Core → ℕ → List ℕ → Type 0
+AreDrawn c state [] = unfinished c ≡ []
+AreDrawn c state (i ∷ is) = (1 ≤ length (unfinished c)) × (i ≡ caller_at c (next_state state)) × AreDrawn (step c i) (next_state state) is

@@ -9,10 +9,8 @@ use Rattle.core_points.specs.declared.stage.Waits.TheVariants.{Reuse, Move}
 use Rattle.core_points.specs.declared.stage.Stage.{Stage}
 use Rattle.core_points.specs.declared.stage.Stage.TheVariants as at
 use Rattle.prcu_marks.specs.declared.access.Access.{Access}
-use Rattle.core_acts.specs.Acts.{access_of}
-use Rattle.core_points.specs.Acts.{field_of}
-use Rattle.core_points.specs.Callers.{Own, key_now}
-use Rattle.core_points.specs.Programs.{act_at}
+use Rattle.core_state.specs.Acts.{access_of}
+use Rattle.core_points.specs.Programs.{field_of, Own, key_now, act_at}
 use Rattle.core_points.specs.Laws.{is_finished}
 use Rattle.core_machine.specs.declared.caller.Caller.{Caller}
 

@@ -1,19 +1,16 @@
 //! The step that a caller makes at its point: its word, and what it does to it.
 ghost use Rattle.std.specs.Prelude.{◌≡◌, ℕ, ◌+◌, ◌*◌, ◌/◌, ◌<◌, ◌^◌, ◌==◌, true, if◌then◌else◌};
 ghost use Rattle.core_state.specs.declared.words.Field.TheVariants as fields;
-ghost use Rattle.core_acts.specs.declared.act.Act.TheVariants as acts;
+ghost use Rattle.core_state.specs.declared.act.Act.TheVariants as acts;
 ghost use Rattle.prcu_marks.specs.declared.access.Access.TheVariants as does;
-ghost use Rattle.core_acts.specs.Acts.{access_of};
-ghost use Rattle.core_points.specs.Acts.{field_of};
-ghost use Rattle.core_points.specs.Callers.{content, contents, is_some as has_slot};
-ghost use Rattle.core_points.specs.Programs.{act_at, store_act};
+ghost use Rattle.core_state.specs.Acts.{access_of};
+ghost use Rattle.core_points.specs.Programs.{field_of, content, contents, is_some as has_slot, act_at, store_act};
 ghost use Rattle.core_machine.specs.Stored.{own_of, touched, MayStore, is_outside, at_locks, at_move};
 
 use crate::caller::{Caller, first_or_root, or_root, value_in};
 use crate::plan::{target_lock, target_part, target_slot};
-use core_acts::in_slot;
 use core_points::stage::{Moving, Stage, Update};
-use core_state::Field;
+use core_state::{Field, in_slot};
 use prcu_marks::{Access, Side};
 
 fn load(field: Field) -> (Field, Access)

@@ -1,6 +1,6 @@
 //! Where a step is blocked.
 ghost use Rattle.std.specs.Prelude.{◌≡◌};
-ghost use Rattle.core_machine.specs.Stepped.{at_lock, blocked as blocked_at};
+ghost use Rattle.core_machine.specs.Machines.{at_lock, blocked as blocked_at};
 ghost use Rattle.core_machine.specs.Stored.{own_of};
 
 use crate::caller::{Caller, or_root};

@@ -1,13 +1,11 @@
 //! What a caller keeps between two steps.
 ghost use Rattle.std.specs.Prelude.{◌≡◌, ◌*◌, ◌/◌, IfOk, None, ◌+◌, ◌<◌, ◌≤◌, ◌^◌, false, length, drop};
-ghost use Rattle.core_points.specs.DeletePlan.{move_locks};
-ghost use Rattle.core_points.specs.Programs.{answer as answer_with, begun_with, committing, first_point, spare_first, taking};
+ghost use Rattle.core_points.specs.Programs.{move_locks, answer as answer_with, begun_with, committing, first_point, spare_first, taking, key_now, low_key as low_of, high_key as high_of, value_in as value_of, or_root as slot_or_root, first_or_root as first_slot};
 ghost use Rattle.core_points.specs.Laws.{is_finished};
 ghost use Rattle.prcu_model.specs.Dictionary.{key_of as key_in};
 ghost use Rattle.core_machine.specs.Runs.{new_own};
-ghost use Rattle.core_machine.specs.Stepping.{shape_for};
+ghost use Rattle.core_machine.specs.Laws.{shape_for};
 ghost use Rattle.core_machine.specs.Stored.{own_of, HasRoom, MayAdd};
-ghost use Rattle.core_points.specs.Callers.{key_now, low_key as low_of, high_key as high_of, value_in as value_of, or_root as slot_or_root, first_or_root as first_slot};
 
 use arrayvec::ArrayVec;
 use core_points::stage::{Aim, Moving, Stage, Update, Waits};

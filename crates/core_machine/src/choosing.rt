@@ -1,6 +1,6 @@
 //! The callers whose scripts haven't ended.
 ghost use Rattle.std.specs.Prelude.{◌≡◌, ◌≤◌, length, map};
-ghost use Rattle.core_machine.specs.Draws.{unfinished_from};
+ghost use Rattle.core_machine.specs.Runs.{unfinished_from};
 ghost use Rattle.core_machine.specs.Stored.{own_of};
 
 use crate::caller::Caller;

@@ -3,9 +3,8 @@ ghost use Rattle.std.specs.Prelude.{◌≡◌, ◌≢◌, ◌+◌, ◌%◌, ◌^
 ghost use Rattle.prcu_marks.specs.declared.mark.Side.TheVariants as sides;
 ghost use Rattle.core_points.specs.declared.stage.Last.TheVariants as lasts;
 ghost use Rattle.core_points.specs.declared.stage.Stage.TheVariants as stages;
-ghost use Rattle.core_points.specs.Callers.{go};
+ghost use Rattle.core_points.specs.Programs.{go, after, ended, excused, found as found_at, giving, is_reader, key_read, left_section, none_free, past_even, past_left, past_lock, past_raise, past_reserve, past_right, past_seize, past_store, past_unlock};
 ghost use Rattle.core_points.specs.Laws.{is_finished};
-ghost use Rattle.core_points.specs.Programs.{after, ended, excused, found as found_at, giving, is_reader, key_read, left_section, none_free, past_even, past_left, past_lock, past_raise, past_reserve, past_right, past_seize, past_store, past_unlock};
 ghost use Rattle.core_machine.specs.Stored.{own_of, HasRoom, HasSize, IsAble, MayAdd, MayRetire, at_locks, at_wait, in_delete, is_outside};
 
 use crate::caller::{Caller, first_or_root, high_key, hold_for, or_root};

@@ -3,16 +3,13 @@ ghost use Rattle.std.specs.Prelude.{◌≡◌, ℕ, ◌<◌, ◌≤◌, false, L
 ghost use Rattle.prcu_marks.specs.declared.mark.Why.{Why};
 ghost use Rattle.prcu_model.specs.declared.operation.Op.{Op};
 ghost use Rattle.core_points.specs.Laws.{is_finished};
-ghost use Rattle.core_points.specs.Callers.{Own};
+ghost use Rattle.core_points.specs.Programs.{Own};
 ghost use Rattle.core_machine.specs.declared.caller.Caller.{Caller};
 ghost use Rattle.core_machine.specs.declared.machine.Stepped.TheVariants as did;
-ghost use Rattle.core_machine.specs.Runs.{core, made_owns};
-ghost use Rattle.core_machine.specs.Draws.{unfinished_from};
-ghost use Rattle.core_machine.specs.Laws.{IsMachine};
-ghost use Rattle.core_machine.specs.Stepped.{answers};
+ghost use Rattle.core_machine.specs.Runs.{core, made_owns, unfinished_from};
+ghost use Rattle.core_machine.specs.Laws.{IsMachine, shape_for, update_now};
+ghost use Rattle.core_machine.specs.Machines.{answers, HasEnded, HasRun, HasStored, IsSteppable, StepsBy, stepped_as, stepped_of};
 ghost use Rattle.core_machine.specs.Stored.{HasRoom, own_of};
-ghost use Rattle.core_machine.specs.Stepping.{shape_for, update_now};
-ghost use Rattle.core_machine.specs.Machines.{HasEnded, HasRun, HasStored, IsSteppable, StepsBy, stepped_as, stepped_of};
 
 use crate::caller::Caller;
 use crate::choosing::list_unfinished;

@@ -1,10 +1,9 @@
 //! The locks of a delete, the words that it loads under them, and its verdict.
 ghost use Rattle.std.specs.Prelude.{◌≡◌, ◌+◌, ◌*◌, ◌<◌, ◌≤◌, ◌==◌, if◌then◌else◌};
-ghost use Rattle.core_points.specs.DeletePlan.{last_right, nothing_found, successor_holds as holds_successor, successor_lock as lock_of_successor, successor_part as part_of_successor, successor_slot as slot_of_successor, target_holds, target_lock, target_locks, target_part, target_slot, with_found};
-ghost use Rattle.core_points.specs.Programs.{deleting, past_target_load, verdict};
+ghost use Rattle.core_points.specs.Programs.{last_right, nothing_found, successor_holds as holds_successor, successor_lock as lock_of_successor, successor_part as part_of_successor, successor_slot as slot_of_successor, target_holds, target_lock, target_locks, target_part, target_slot, with_found, deleting, past_target_load, verdict};
 
-use core_acts::Part;
 use core_points::stage::{Found, Last, Node, Stage, Successor, Target};
+use core_state::Part;
 use prcu_marks::Side;
 
 /// How many slots a delete locks.

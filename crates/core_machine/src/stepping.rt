@@ -2,21 +2,19 @@
 ghost use Rattle.std.specs.Prelude.{◌≡◌, ◌<◌, false, set, length, slice_index};
 ghost use Rattle.core_points.specs.Programs.{act_at, after};
 ghost use Rattle.core_points.specs.Laws.{is_finished};
-ghost use Rattle.prcu_marks.specs.Accesses.{left_by, said_by, StaysWord};
-ghost use Rattle.core_acts.specs.Acts.{access_of};
+ghost use Rattle.prcu_marks.specs.Marks.{left_by, said_by, StaysWord};
+ghost use Rattle.core_state.specs.Acts.{access_of};
 ghost use Rattle.core_state.specs.declared.shape.Shape.{Shape};
-ghost use Rattle.core_state.specs.memory.Memory.{word_of};
-ghost use Rattle.core_state.specs.steps.Waits.{turned_gate};
-ghost use Rattle.core_machine.specs.Stepped.{blocked as blocked_at};
+ghost use Rattle.core_state.specs.Memory.{word_of};
+ghost use Rattle.core_state.specs.Steps.{turned_gate};
+ghost use Rattle.core_machine.specs.Machines.{blocked as blocked_at, stands_after};
 ghost use Rattle.core_machine.specs.Stored.{own_of, HasRoom, IsAble};
-ghost use Rattle.core_machine.specs.Standing.{stands_after};
-ghost use Rattle.core_machine.specs.Stepping.{CanStep, found_now, told_now, index_now};
+ghost use Rattle.core_machine.specs.Laws.{CanStep, found_now, told_now, index_now};
 
 use crate::acting::access_at;
 use crate::caller::Caller;
-use core_acts::{index_of, rows_of};
 use core_points::stage::Stage;
-use core_state::Field;
+use core_state::{Field, index_of, rows_of};
 use prcu_marks::{Access, Why};
 
 /// Makes the access, and answers the number that it tells: the one found, or stored where it is a store.

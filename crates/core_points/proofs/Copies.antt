@@ -15,38 +15,30 @@ use Rattle.core_state.specs.declared.view.HeldLock.{HeldLock}
 use Rattle.core_state.specs.declared.view.Known.{Known}
 use Rattle.core_state.specs.declared.view.Reading.{Reading}
 use Rattle.core_state.specs.declared.view.View.{View}
-use Rattle.core_state.specs.memory.Memory.{same_field}
-use Rattle.core_state.specs.views.Known.{known_in, known_of, loaded_in, lock_of, change_lock, note_lock, note_option, noting}
-use Rattle.core_state.specs.steps.Seating.{spare_slot}
-use Rattle.core_state.specs.steps.Links.{BothChildren, newly_retired, with_mark}
-use Rattle.core_state.specs.steps.Locks.{new_lock}
-use Rattle.core_state.specs.steps.Moves.{after_copy_link, new_move}
-use Rattle.core_state.specs.steps.Slots.{IsContent}
-use Rattle.core_acts.specs.Acts.{spare_of}
-use Rattle.core_acts.proofs.Acting.{commit_is, spare_is}
+use Rattle.core_state.specs.Memory.{same_field}
+use Rattle.core_state.specs.Views.{known_in, known_of, loaded_in, lock_of, change_lock, note_lock, note_option, noting}
+use Rattle.core_state.specs.Steps.{spare_slot, new_lock}
+use Rattle.core_state.specs.Links.{BothChildren, newly_retired, with_mark, after_copy_link, new_move, IsContent}
+use Rattle.core_state.specs.Acts.{spare_of}
+use Rattle.core_laws.proofs.Acting.{commit_is, spare_is}
 use Rattle.core_points.specs.declared.stage.Last.TheVariants as last
 use Rattle.core_points.specs.declared.stage.Node.{Node}
 use Rattle.core_points.specs.declared.stage.Successor.{Successor}
 use Rattle.core_points.specs.declared.stage.Stage.{Stage}
 use Rattle.core_points.specs.declared.stage.Stage.TheVariants as at
 use Rattle.core_points.specs.declared.stage.Update.TheVariants as update
-use Rattle.core_points.specs.Acts.{Needs, view_after}
-use Rattle.core_points.specs.Callers.{Own, content, contents, go, is_none_left, is_some, key_now, or_root}
-use Rattle.core_points.specs.Programs.{act_at, after}
+use Rattle.core_points.specs.Programs.{Own, content, contents, go, is_none_left, is_some, key_now, or_root, after}
 use Rattle.core_points.specs.Facts.{AreClear, read_at, stored_at}
 use Rattle.core_points.specs.DeleteFacts.{BeforeCopy, BothHold, HasCopy, Holds, HoldsLink, HoldsNode, HoldsSuccessor, IsAside, KnowsSuccessor, all_locks, first_locks, two_children, under}
-use Rattle.core_points.specs.Fits.{Fits, plain}
-use Rattle.core_points.proofs.Bypasses.{KeepsLife, KeepsLinks, held_by_load, is_marked, life_same, links_same, marked_node, node_marked, node_records, node_to, same_length, slots_push, under_marked, unraised_push}
-use Rattle.core_points.proofs.ClearLocks.{clear_marked, clear_stored}
-use Rattle.core_frames.proofs.views.Fields.{same_self}
-use Rattle.core_points.proofs.Locking.{clear_changed, clear_lock, each_more, IsClear}
-use Rattle.core_points.proofs.Notes.{owns_relocked, owns_more, owns_noted, owns_retired, owns_spared, quiet_unlocking, held_here}
-use Rattle.core_points.proofs.PutLocks.{made_even}
-use Rattle.core_points.proofs.Sets.{quiet_noted, quiet_hand}
-use Rattle.core_points.proofs.Spares.{delete_owed}
+use Rattle.core_points.specs.Fits.{IsGiven, GoesOn, Fits, plain}
+use Rattle.core_points.proofs.Unlinks.{KeepsLife, KeepsLinks, held_by_load, is_marked, life_same, links_same, marked_node, node_marked, node_records, node_to, same_length, slots_push, under_marked, unraised_push}
+use Rattle.core_points.proofs.Locks.{clear_marked, clear_stored, clear_changed, clear_lock, each_more, IsClear, held_still, known_more_under, known_now, loaded_more, under_other}
+use Rattle.core_frames.proofs.Views.{same_self}
+use Rattle.core_points.proofs.Notes.{fits, quiet_noted, quiet_hand, owns_relocked, owns_more, owns_noted, owns_retired, owns_spared, quiet_unlocking, held_here}
+use Rattle.core_points.proofs.Links.{made_even}
+use Rattle.core_points.proofs.DeleteSearches.{delete_owed}
 use Rattle.core_points.proofs.Targets.{holds_new}
-use Rattle.core_points.proofs.UnderLocks.{held_still, known_more_under, known_now, loaded_more, under_other}
-use Rattle.tree_laws.proofs.locks.Relocking.{change_other, length_change, slots_change}
+use Rattle.core_laws.proofs.Locks.{change_other, length_change, slots_change}
 
 -- The facts of this crate in the words of the steps.
 both_children : (v : View) (r : Reading) (d : Node) (u : Successor) → HoldsNode v.records v.locks r d → HoldsSuccessor v.locks r d u
@@ -214,50 +206,37 @@ module _ (k : Shape) (h : List Mark) (o : Own) (v : View) (n : ℕ) where
         held = held_still v.locks u.slot (note_lock kn) (λ l. refl) u.slot p.held;
       }
 
-  pub needs_successor_key : (d : Node) (u : Successor) → Fits o (at.SuccessorKey d u) v → Needs k v n (act_at o (at.SuccessorKey d u))
+  pub needs_successor_key : (d : Node) (u : Successor) → IsGiven k o v n (at.SuccessorKey d u)
   needs_successor_key d u f = record { held = (f.point).held; loadable = refl }
 
-  pub next_successor_key : (d : Node) (u : Successor) → IsAside (or_root o.spare) d u → Fits o (at.SuccessorKey d u) v
-      → Fits (after o n (at.SuccessorKey d u)) (at.SuccessorValue d u n) (view_after v h n (act_at o (at.SuccessorKey d u)))
-  next_successor_key d u aside f = record {
-    owns = owns_noted o v u.slot (Key u.slot) n false f.owns;
-    unraised = λ z. f.unraised refl;
-    tickets = f.tickets;
-    point = (
-      before_loaded d u (Key u.slot) _ (λ t. refl) (λ t b. refl) f.point,
-      aside,
-      known_now v.locks u.slot (Key u.slot) n (f.point).held,
-    );
-  }
+  pub next_successor_key : (d : Node) (u : Successor) → IsAside (or_root o.spare) d u → GoesOn h o v n (at.SuccessorKey d u)
+  next_successor_key d u aside f = fits (owns_noted o v u.slot (Key u.slot) n false f.owns) (f.unraised refl) f.tickets (
+    before_loaded d u (Key u.slot) _ (λ t. refl) (λ t b. refl) f.point,
+    aside,
+    known_now v.locks u.slot (Key u.slot) n (f.point).held,
+  )
 
-  pub needs_successor_value : (d : Node) (u : Successor) (next_key : ℕ) → Fits o (at.SuccessorValue d u next_key) v
-      → Needs k v n (act_at o (at.SuccessorValue d u next_key))
+  pub needs_successor_value : (d : Node) (u : Successor) (next_key : ℕ) → IsGiven k o v n (at.SuccessorValue d u next_key)
   needs_successor_value d u next_key f = record { held = ((f.point).0).held; loadable = refl }
 
-  pub next_successor_value : (d : Node) (u : Successor) (next_key : ℕ) → Fits o (at.SuccessorValue d u next_key) v
-      → Fits (after o n (at.SuccessorValue d u next_key)) (at.CopyField d u next_key n 0)
-      (view_after v h n (act_at o (at.SuccessorValue d u next_key)))
+  pub next_successor_value : (d : Node) (u : Successor) (next_key : ℕ) → GoesOn h o v n (at.SuccessorValue d u next_key)
   next_successor_value d u next_key f =
       let p = f.point in
       let b = p.0 in
       let deleting = (b.copying).deleting in
       let owns = owns_noted o v u.slot (Value u.slot) n false f.owns in
       let w : View = noting v u.slot (Value u.slot) n false in
-      let s = some_spare w.hands.spare o.spare owns.spare_is ((deleting.1).has_spare deleting.0) in record {
-        owns = owns;
-        unraised = λ z. f.unraised refl;
-        tickets = f.tickets;
-        point = record {
-          before = before_loaded d u (Value u.slot) _ (λ t. refl) (λ t b. refl) b;
-          aside = p.1;
-          knows = record {
-            key = known_more_under v.locks u.slot (read_at (Value u.slot) n) u.slot (Key u.slot) next_key refl p.2;
-            value_is = known_now v.locks u.slot (Value u.slot) n b.held;
-          };
-          has_copy = record { held = s.0; spare_is = s.1; slot_is = s.2; known = λ j lt. absurd (omega arith) };
-          small = omega arith;
+      let s = some_spare w.hands.spare o.spare owns.spare_is ((deleting.1).has_spare deleting.0) in
+      fits owns (f.unraised refl) f.tickets (record {
+        before = before_loaded d u (Value u.slot) _ (λ t. refl) (λ t b. refl) b;
+        aside = p.1;
+        knows = record {
+          key = known_more_under v.locks u.slot (read_at (Value u.slot) n) u.slot (Key u.slot) next_key refl p.2;
+          value_is = known_now v.locks u.slot (Value u.slot) n b.held;
         };
-      }
+        has_copy = record { held = s.0; spare_is = s.1; slot_is = s.2; known = λ j lt. absurd (omega arith) };
+        small = omega arith;
+      })
 
   -- a note of the copy, which is none of the slots
   before_noted : (d : Node) (u : Successor) (copy : ℕ) (field : Field) (number : ℕ) (by_store : Bool) (stage : Stage) → IsAside copy d u
@@ -286,14 +265,11 @@ module _ (k : Shape) (h : List Mark) (o : Own) (v : View) (n : ℕ) where
       knows_to v.locks (change_lock copy (note_lock kn) v.locks) u next_key value
       (under_other v.locks copy (note_lock kn) (λ l. refl) u.slot (λ e. aside.successor (sym e))) knows
 
-  pub needs_copy_field : (d : Node) (u : Successor) (next_key value i : ℕ) → Fits o (at.CopyField d u next_key value i) v
-      → Needs k v n (act_at o (at.CopyField d u next_key value i))
+  pub needs_copy_field : (d : Node) (u : Successor) (next_key value i : ℕ) → IsGiven k o v n (at.CopyField d u next_key value i)
   needs_copy_field d u next_key value i f = let c = (f.point).has_copy in
       (c.held, record { holder = inr (c.spare_is, c.slot_is); content = content_is i (f.point).small (or_root o.spare) })
 
-  pub next_copy_field : (d : Node) (u : Successor) (next_key value i : ℕ) → Fits o (at.CopyField d u next_key value i) v
-      → Fits (after o n (at.CopyField d u next_key value i)) (after o n (at.CopyField d u next_key value i)).stage
-      (view_after v h n (act_at o (at.CopyField d u next_key value i)))
+  pub next_copy_field : (d : Node) (u : Successor) (next_key value i : ℕ) → GoesOn h o v n (at.CopyField d u next_key value i)
   next_copy_field d u next_key value i f = by (i == 3) refl
     where
       copy : ℕ
@@ -310,74 +286,54 @@ module _ (k : Shape) (h : List Mark) (o : Own) (v : View) (n : ℕ) where
       by true e =
           let p = f.point in
           let three : i ≡ 3 = eqb-true i 3 e in
-          let four : suc i ≡ 4 = omega arith in record {
-            owns = owns_noted o v copy field number true f.owns;
-            unraised = λ z. f.unraised refl;
-            tickets = f.tickets;
-            point = (
-              before_noted d u copy field number true _ p.aside p.before,
-              record {
-                aside = p.aside;
-                value = value;
-                knows = knows_noted d u copy (stored_at field number) next_key value p.aside p.knows;
-                has_copy = subst (HasCopy (note_option copy (stored_at field number) v.hands.spare) copy d next_key value) four
-                    (filled_more v.hands.spare copy d next_key value i p.small p.has_copy);
-              },
-            );
-          }
+          let four : suc i ≡ 4 = omega arith in fits (owns_noted o v copy field number true f.owns) (f.unraised refl) f.tickets (
+            before_noted d u copy field number true _ p.aside p.before,
+            record {
+              aside = p.aside;
+              value = value;
+              knows = knows_noted d u copy (stored_at field number) next_key value p.aside p.knows;
+              has_copy = subst (HasCopy (note_option copy (stored_at field number) v.hands.spare) copy d next_key value) four
+                  (filled_more v.hands.spare copy d next_key value i p.small p.has_copy);
+            },
+          )
       by false e =
           let p = f.point in
           let ne : i ≢ 3 = (λ same. absurd (let q : true ≡ false = sym (eq-eqb i 3 same) ∙ e in cc)) in
-          let one : suc i ≡ i + 1 = omega arith in record {
-            owns = owns_noted o v copy field number true f.owns;
-            unraised = λ z. f.unraised refl;
-            tickets = f.tickets;
-            point = record {
-              before = before_noted d u copy field number true _ p.aside p.before;
-              aside = p.aside;
-              knows = knows_noted d u copy (stored_at field number) next_key value p.aside p.knows;
-              has_copy = subst (HasCopy (note_option copy (stored_at field number) v.hands.spare) copy d next_key value) one
-                  (filled_more v.hands.spare copy d next_key value i p.small p.has_copy);
-              small = (let le = p.small in omega arith);
-            };
-          }
+          let one : suc i ≡ i + 1 = omega arith in fits (owns_noted o v copy field number true f.owns) (f.unraised refl) f.tickets (record {
+            before = before_noted d u copy field number true _ p.aside p.before;
+            aside = p.aside;
+            knows = knows_noted d u copy (stored_at field number) next_key value p.aside p.knows;
+            has_copy = subst (HasCopy (note_option copy (stored_at field number) v.hands.spare) copy d next_key value) one
+                (filled_more v.hands.spare copy d next_key value i p.small p.has_copy);
+            small = (let le = p.small in omega arith);
+          })
 
-  pub needs_copy_age : (d : Node) (u : Successor) (next_key : ℕ) → Fits o (at.CopyAge d u next_key) v
-      → Needs k v n (act_at o (at.CopyAge d u next_key))
+  pub needs_copy_age : (d : Node) (u : Successor) (next_key : ℕ) → IsGiven k o v n (at.CopyAge d u next_key)
   needs_copy_age d u next_key f = let c = ((f.point).1).has_copy in (c.held, inr (c.spare_is, c.slot_is))
 
-  pub next_copy_age : (d : Node) (u : Successor) (next_key : ℕ) → Fits o (at.CopyAge d u next_key) v
-      → Fits (after o n (at.CopyAge d u next_key)) (at.CopyLock d u next_key) (view_after v h n (act_at o (at.CopyAge d u next_key)))
+  pub next_copy_age : (d : Node) (u : Successor) (next_key : ℕ) → GoesOn h o v n (at.CopyAge d u next_key)
   next_copy_age d u next_key f =
       let p = f.point in
       let copy : ℕ = or_root o.spare in
-      let q = p.1 in record {
-        owns = owns_noted o v copy (Life copy) n false f.owns;
-        unraised = λ z. f.unraised refl;
-        tickets = f.tickets;
-        point = (
-          before_noted d u copy (Life copy) n false _ q.aside p.0,
-          record {
-            aside = q.aside;
-            value = q.value;
-            knows = knows_noted d u copy (read_at (Life copy) n) next_key q.value q.aside q.knows;
-            has_copy = aged v.hands.spare copy d next_key q.value n q.has_copy;
-          },
-        );
-      }
+      let q = p.1 in fits (owns_noted o v copy (Life copy) n false f.owns) (f.unraised refl) f.tickets (
+        before_noted d u copy (Life copy) n false _ q.aside p.0,
+        record {
+          aside = q.aside;
+          value = q.value;
+          knows = knows_noted d u copy (read_at (Life copy) n) next_key q.value q.aside q.knows;
+          has_copy = aged v.hands.spare copy d next_key q.value n q.has_copy;
+        },
+      )
 
   -- the lock of the copy
-  pub needs_copy_lock : (d : Node) (u : Successor) (next_key : ℕ) → Fits o (at.CopyLock d u next_key) v
-      → Needs k v n (act_at o (at.CopyLock d u next_key))
+  pub needs_copy_lock : (d : Node) (u : Successor) (next_key : ℕ) → IsGiven k o v n (at.CopyLock d u next_key)
   needs_copy_lock d u next_key f = let p = (f.point).0 in
       let few = p.few in record { outside = ((p.copying).quiet).outside; few = omega arith }
 
   under_new : (copy t : ℕ) (ls : List HeldLock) → copy ≢ t → under (new_lock copy ∷ ls) t ≡ under ls t
   under_new copy t ls ne = ap (λ b. known_of (cond b (Some (new_lock copy)) (lock_of ls t))) (ne_eqb copy t ne)
 
-  pub next_copy_lock : (d : Node) (u : Successor) (next_key : ℕ) → Fits o (at.CopyLock d u next_key) v
-      → Fits (after o n (at.CopyLock d u next_key)) (after o n (at.CopyLock d u next_key)).stage
-      (view_after v h n (act_at o (at.CopyLock d u next_key)))
+  pub next_copy_lock : (d : Node) (u : Successor) (next_key : ℕ) → GoesOn h o v n (at.CopyLock d u next_key)
   next_copy_lock d u next_key f = got (n == 0)
     where
       copy : ℕ
@@ -391,44 +347,34 @@ module _ (k : Shape) (h : List Mark) (o : Own) (v : View) (n : ℕ) where
           let q = (f.point).1 in
           let c = p.copying in
           let now : List HeldLock = new_lock copy ∷ v.locks in
-          let same : (t : ℕ) → copy ≢ t → under now t ≡ under v.locks t = λ t ne. under_new copy t v.locks ne in record {
-            owns = owns_more o v copy f.owns;
-            unraised = λ z. f.unraised refl;
-            tickets = f.tickets;
-            point = record {
-              copying = record {
-                quiet = c.quiet;
-                deleting = c.deleting;
-                both = aside_to v.records v.locks now (key_now o) copy d u q.aside same c.both;
-              };
-              filled = record {
-                aside = q.aside;
-                value = q.value;
-                knows = knows_to v.locks now u next_key q.value (same u.slot (q.aside).successor) q.knows;
-                has_copy = q.has_copy;
-              };
-              unmarked = ap (λ ks. loaded_in ks (Life d.node)) (same d.node (q.aside).node) ∙ p.unmarked;
-              clear = each_more IsClear (new_lock copy) v.locks (refl, refl, refl) p.clear;
-              locks_are = ap (λ xs. copy ∷ xs) p.locks_are;
-              copy_held = holds_new copy v.locks;
+          let same : (t : ℕ) → copy ≢ t → under now t ≡ under v.locks t = λ t ne. under_new copy t v.locks ne in
+          fits (owns_more o v copy f.owns) (f.unraised refl) f.tickets (record {
+            copying = record {
+              quiet = c.quiet;
+              deleting = c.deleting;
+              both = aside_to v.records v.locks now (key_now o) copy d u q.aside same c.both;
             };
-          }
+            filled = record {
+              aside = q.aside;
+              value = q.value;
+              knows = knows_to v.locks now u next_key q.value (same u.slot (q.aside).successor) q.knows;
+              has_copy = q.has_copy;
+            };
+            unmarked = ap (λ ks. loaded_in ks (Life d.node)) (same d.node (q.aside).node) ∙ p.unmarked;
+            clear = each_more IsClear (new_lock copy) v.locks (refl, refl, refl) p.clear;
+            locks_are = ap (λ xs. copy ∷ xs) p.locks_are;
+            copy_held = holds_new copy v.locks;
+          })
       got false =
           let p = (f.point).0 in
           let c = p.copying in
           let q = c.quiet in
           let some : is_none_left o.locks ≡ false = ap is_none_left p.locks_are ∙ some_locks d u in
           subst (λ z. let st : Stage = cond z at.EnterClock (at.Unlock last.Again) in Fits (go o st) st v) (sym some)
-          (record {
-            owns = f.owns;
-            unraised = λ z. f.unraised refl;
-            tickets = f.tickets;
-            point = (quiet_unlocking q q.turn_is p.clear some, quiet_hand o v q, (c.deleting).1);
-          })
+          (fits f.owns (f.unraised refl) f.tickets (quiet_unlocking q q.turn_is p.clear some, quiet_hand o v q, (c.deleting).1))
 
   -- the mark of the node
-  pub needs_copy_mark : (d : Node) (u : Successor) (next_key : ℕ) → Fits o (at.CopyMark d u next_key) v
-      → Needs k v n (act_at o (at.CopyMark d u next_key))
+  pub needs_copy_mark : (d : Node) (u : Successor) (next_key : ℕ) → IsGiven k o v n (at.CopyMark d u next_key)
   needs_copy_mark d u next_key f =
       let p = f.point in
       let both = (p.copying).both in
@@ -451,9 +397,7 @@ module _ (k : Shape) (h : List Mark) (o : Own) (v : View) (n : ℕ) where
         },
       )
 
-  pub next_copy_mark : (d : Node) (u : Successor) (next_key : ℕ) → Fits o (at.CopyMark d u next_key) v
-      → Fits (after o n (at.CopyMark d u next_key)) (after o n (at.CopyMark d u next_key)).stage
-      (view_after v h n (act_at o (at.CopyMark d u next_key)))
+  pub next_copy_mark : (d : Node) (u : Successor) (next_key : ℕ) → GoesOn h o v n (at.CopyMark d u next_key)
   next_copy_mark d u next_key f =
       let p = f.point in
       let copy : ℕ = or_root o.spare in
@@ -466,44 +410,41 @@ module _ (k : Shape) (h : List Mark) (o : Own) (v : View) (n : ℕ) where
       let now : List HeldLock = change_lock d.node (with_mark true) noted in
       let apart = (both.3).apart in
       let s = under_marked v.locks d u.slot apart.from_node in
-      let owns = owns_noted o v d.node (Life d.node) (2 * d.generation + 1) true f.owns in record {
-        owns = owns_relocked o (noting v d.node (Life d.node) (2 * d.generation + 1) true) _ (slots_change d.node (with_mark true)
-            (λ l. refl) noted) owns;
-        unraised = λ z. f.unraised refl;
-        tickets = (let t = f.tickets in let two = delete_owed o.op o.hand o.retired (c.deleting).0 in omega arith);
-        point = (
-          record {
-            copying = record {
-              quiet = quiet_noted o v d.node (Life d.node) (2 * d.generation + 1) true None c.quiet;
-              deleting = c.deleting;
-              both = (
-                r,
-                both.1,
-                node_marked v.records v.locks r d both.2,
-                successor_to v.locks now r d u (λ ne. (let e = under_marked v.locks d u.parent ne in
-                    (life_same v.locks now u.parent e, links_same v.locks now u.parent e))) (life_same v.locks now u.slot s)
-                    (links_same v.locks now u.slot s) both.3,
-              );
-            };
-            filled = record {
-              aside = q.aside;
-              value = q.value;
-              knows = knows_to v.locks now u next_key q.value s q.knows;
-              has_copy = copy_elsewhere v.hands.spare copy d.node kn d next_key q.value 4 (q.aside).node q.has_copy;
-            };
-            marked = is_marked v d p.unmarked;
-            clear = clear_marked kn d.node v.locks p.clear;
-            locks_are = p.locks_are;
-            copy_held = held_still noted d.node (with_mark true) (λ l. refl) copy
-                (held_still v.locks d.node (note_lock kn) (λ l. refl) copy p.copy_held);
-          },
-          made_even o.front,
-        );
-      }
+      let owns = owns_noted o v d.node (Life d.node) (2 * d.generation + 1) true f.owns in
+      fits (owns_relocked o (noting v d.node (Life d.node) (2 * d.generation + 1) true) _ (slots_change d.node (with_mark true)
+      (λ l. refl) noted) owns) (f.unraised refl)
+      (let t = f.tickets in let two = delete_owed o.op o.hand o.retired (c.deleting).0 in omega arith) (
+        record {
+          copying = record {
+            quiet = quiet_noted o v d.node (Life d.node) (2 * d.generation + 1) true None c.quiet;
+            deleting = c.deleting;
+            both = (
+              r,
+              both.1,
+              node_marked v.records v.locks r d both.2,
+              successor_to v.locks now r d u (λ ne. (let e = under_marked v.locks d u.parent ne in
+                  (life_same v.locks now u.parent e, links_same v.locks now u.parent e))) (life_same v.locks now u.slot s)
+                  (links_same v.locks now u.slot s) both.3,
+            );
+          };
+          filled = record {
+            aside = q.aside;
+            value = q.value;
+            knows = knows_to v.locks now u next_key q.value s q.knows;
+            has_copy = copy_elsewhere v.hands.spare copy d.node kn d next_key q.value 4 (q.aside).node q.has_copy;
+          };
+          marked = is_marked v d p.unmarked;
+          clear = clear_marked kn d.node v.locks p.clear;
+          locks_are = p.locks_are;
+          copy_held = held_still noted d.node (with_mark true) (λ l. refl) copy
+              (held_still v.locks d.node (note_lock kn) (λ l. refl) copy p.copy_held);
+        },
+        made_even o.front,
+      )
 
   -- the link of the copy
-  pub needs_copy_store : (d : Node) (u : Successor) (next_key copy front : ℕ) → k.room ≡ o.room → 16 ≤ o.room → Fits o (at.Store (update.Copy d u next_key copy) front) v
-      → Needs k v n (act_at o (at.Store (update.Copy d u next_key copy) front))
+  pub needs_copy_store : (d : Node) (u : Successor) (next_key copy front : ℕ) → k.room ≡ o.room → 16 ≤ o.room
+      → IsGiven k o v n (at.Store (update.Copy d u next_key copy) front)
   needs_copy_store d u next_key copy front room some_room f =
       let p = f.point in
       let c = p.copying in
@@ -535,9 +476,8 @@ module _ (k : Shape) (h : List Mark) (o : Own) (v : View) (n : ℕ) where
         both.1,
       )
 
-  pub next_copy_store : (d : Node) (u : Successor) (next_key copy front : ℕ) → Fits o (at.Store (update.Copy d u next_key copy) front) v
-      → Fits (after o n (at.Store (update.Copy d u next_key copy) front)) (after o n (at.Store (update.Copy d u next_key copy) front)).stage
-      (view_after v h n (act_at o (at.Store (update.Copy d u next_key copy) front)))
+  pub next_copy_store : (d : Node) (u : Successor) (next_key copy front : ℕ)
+      → GoesOn h o v n (at.Store (update.Copy d u next_key copy) front)
   next_copy_store d u next_key copy front f =
       let p = f.point in
       let c = p.copying in
@@ -564,40 +504,36 @@ module _ (k : Shape) (h : List Mark) (o : Own) (v : View) (n : ℕ) where
       (sym (commit_is v _ (c.quiet).turn_is))
       (subst (λ y. Fits o' o'.stage (after_copy_link v (record { found = front; stored = false }) y d.parent d.side d.node u.slot u.parent
       (key_now o) next_key h)) (sym (spare_is v _ has.spare_is))
-      (record {
-        owns = owns_retired (record o { spare = None }) (record stored { hands = record stored.hands { spare = None } })
-            (owns_spared o stored
-            (owns_relocked o linked now (slots_change d.node (with_mark false) (λ l. refl) noted) owns) None None refl) _ _
-            (slots_push v.hands.retired (newly_retired v d.node (length h + 1)) ∙ ap (λ xs. xs ++ d.node ∷ []) f.owns.retired_are);
-        unraised = λ z. unraised_push v.hands.retired (newly_retired v d.node (length h + 1)) refl (f.unraised refl);
-        tickets = (let t = f.tickets in omega arith);
-        point = (
-          record {
-            outside = q.outside;
-            turn_is = refl;
-            unreserved = q.unreserved;
-            paid = q.paid;
-            empty = q.empty;
-            no_hand = q.no_hand;
-            move = record {
-              move = new_move held (key_now o) next_key d.node u.slot u.parent (length h);
-              is = refl;
-              key_is = refl;
-              next_is = refl;
-              copy_is = has.slot_is;
-              old_is = refl;
-              parent_is = ap (λ y. cond (u.parent == d.node) y u.parent) has.slot_is;
-              waited_is = refl;
-            };
-            locks_are = p.locks_are;
-            parent_held = still_held now still (u.parent == d.node) refl p.copy_held (both.3).link;
-            apart = ((p.filled).aside).walk_parent;
-            deletes = (c.deleting).0;
-          },
-          record { lock = old.0; locked = locked; marked_is = (clear_lock now u.slot old.0 clear locked).2; life = old.2 },
-          clear,
-        );
-      }))
+      (fits (owns_retired (record o { spare = None }) (record stored { hands = record stored.hands { spare = None } })
+      (owns_spared o stored
+      (owns_relocked o linked now (slots_change d.node (with_mark false) (λ l. refl) noted) owns) None None refl) _ _
+      (slots_push v.hands.retired (newly_retired v d.node (length h + 1)) ∙ ap (λ xs. xs ++ d.node ∷ []) f.owns.retired_are))
+      (unraised_push v.hands.retired (newly_retired v d.node (length h + 1)) refl (f.unraised refl)) (let t = f.tickets in omega arith) (
+        record {
+          outside = q.outside;
+          turn_is = refl;
+          unreserved = q.unreserved;
+          paid = q.paid;
+          empty = q.empty;
+          no_hand = q.no_hand;
+          move = record {
+            move = new_move held (key_now o) next_key d.node u.slot u.parent (length h);
+            is = refl;
+            key_is = refl;
+            next_is = refl;
+            copy_is = has.slot_is;
+            old_is = refl;
+            parent_is = ap (λ y. cond (u.parent == d.node) y u.parent) has.slot_is;
+            waited_is = refl;
+          };
+          locks_are = p.locks_are;
+          parent_held = still_held now still (u.parent == d.node) refl p.copy_held (both.3).link;
+          apart = ((p.filled).aside).walk_parent;
+          deletes = (c.deleting).0;
+        },
+        record { lock = old.0; locked = locked; marked_is = (clear_lock now u.slot old.0 clear locked).2; life = old.2 },
+        clear,
+      )))
     where
       still_held : (now : List HeldLock) → ((t : ℕ) → Holds v.locks t → Holds now t) → (z : Bool) → (u.parent == d.node) ≡ z
           → Holds v.locks copy → HoldsLink v.locks (((f.point).copying).both).0 d u → Holds now (cond z copy u.parent)

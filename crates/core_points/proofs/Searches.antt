@@ -1,34 +1,45 @@
--- The points of a search and of a get: what the step needs is known, and what the next point needs is known after it.
-use Rattle.std.proofs.Common.{◌≡◌, ℕ, suc, ◌+◌, ◌*◌, ◌==◌, ◌≤◌, cond, Bool, true, false, List, [], ◌∷◌, length, Option, Some, None, refl, sym, ap, subst, ◌∙◌, arith}
+-- The points of a search and of a get, those that leave a section, and the points of a put up to its slot.
+use Rattle.std.proofs.Common.{◌≡◌, ℕ, suc, ◌+◌, ◌*◌, ◌==◌, ◌≤◌, cond, Bool, true, false, List, [], ◌∷◌, length, Option, Some, None, refl, sym, ap, subst, ◌∙◌, arith, ◌<◌, ◌-◌, ◌++◌, eq-eqb, ne_eqb, inl}
 use Rattle.prcu_marks.specs.declared.mark.Mark.{Mark}
 use Rattle.prcu_marks.specs.declared.mark.Side.{Side}
-use Rattle.prcu_marks.specs.declared.mark.Side.TheVariants.{Right}
 use Rattle.prcu_model.specs.declared.operation.Op.{Op}
 use Rattle.prcu_model.specs.declared.operation.Op.TheVariants.{Put, Get, Del, Set}
 use Rattle.prcu_model.specs.Dictionary.{key_of}
 use Rattle.core_state.specs.declared.shape.Shape.{Shape}
-use Rattle.core_state.specs.declared.words.Field.TheVariants.{Key, Value, Link}
+use Rattle.core_state.specs.declared.words.Field.TheVariants.{Key, Value, Link, Life, Tag}
 use Rattle.core_state.specs.declared.view.Reading.{Reading}
 use Rattle.core_state.specs.declared.view.Section.{Section}
 use Rattle.core_state.specs.declared.view.SearchState.{SearchState}
 use Rattle.core_state.specs.declared.view.SearchState.TheVariants.{At, Unread, Found, Missed}
 use Rattle.core_state.specs.declared.view.View.{View}
-use Rattle.list_laws.specs.Counts.{IsIn}
-use Rattle.core_state.specs.memory.Words.{step_side}
-use Rattle.core_state.specs.steps.Sections.{new_section}
-use Rattle.core_state.specs.steps.Loads.{key_stand, after_search_load}
-use Rattle.core_frames.proofs.views.Readings.{link_moves, key_moves, value_moves}
-use Rattle.core_acts.specs.Acts.{clocked_at}
-use Rattle.core_acts.proofs.Acting.{section_is}
+use Rattle.list_laws.specs.Counts.{IsIn, Each}
+use Rattle.core_state.specs.Memory.{step_side}
+use Rattle.core_state.specs.Steps.{new_section, key_stand, after_search_load, leaving}
+use Rattle.core_frames.proofs.Views.{link_moves, key_moves, value_moves, missed_stays}
+use Rattle.core_state.specs.Acts.{clocked_at, section_of}
+use Rattle.core_laws.proofs.Acting.{section_is}
+use Rattle.core_points.specs.Programs.{Own, go, key_now, after, ended, found, key_read, is_some, value_in, answer, left_section, taking, is_none_left, none_free}
+use Rattle.core_points.specs.Facts.{Calm, Inside, InsideParts, Nothing, Stands, is_delete, is_put, is_set, HandFits, HasSpot, Owns, table_of, read_at}
+use Rattle.core_points.specs.Fits.{owed, owed_op, Fits, Point, owed_reserve, owed_taken, IsGiven, GoesOn}
+use Rattle.core_points.proofs.Notes.{stands_on, answers, positive, owns_scanned, owns_noted, bare_noted, bare_reserved, held_here, fits}
+use Rattle.prcu_model.specs.declared.operation.Reply.TheVariants.{Old, Val, Absent, Full}
+use Rattle.core_state.specs.declared.view.Retired.{Retired}
+use Rattle.core_points.specs.declared.stage.Spot.{Spot}
+use Rattle.core_points.specs.declared.stage.Aim.TheVariants.{Leaf, Spare, Room}
+use Rattle.core_points.specs.declared.stage.Stage.{Stage}
+use Rattle.core_points.specs.Laws.{IsFree}
+use mathlib.Core.Logic.{dite}
+use native.Mathlib.Decide.{ℕ_discrete}
+use Rattle.prcu_marks.specs.declared.mark.Mark.TheVariants.{Given}
+use Rattle.core_state.specs.Views.{note_option}
+use Rattle.core_state.specs.Links.{seized}
+use Rattle.core_points.specs.declared.stage.Aim.{Aim}
+use Rattle.core_points.specs.declared.stage.Waits.TheVariants.{Reuse}
+use Rattle.core_laws.proofs.LockSteps.{known_here}
 use Rattle.core_points.specs.declared.stage.Then.TheVariants as then
 use Rattle.core_points.specs.declared.stage.Stage.TheVariants as at
-use Rattle.core_points.specs.Acts.{Needs, view_after}
-use Rattle.core_points.specs.Callers.{Own, go, key_now}
-use Rattle.core_points.specs.Programs.{act_at, after, ended, found, key_read}
-use Rattle.core_points.specs.Facts.{Calm, Inside, InsideParts, Nothing, Stands, is_delete, is_put, is_set}
-use Rattle.core_points.specs.Tickets.{owed, owed_op}
-use Rattle.core_points.specs.Fits.{Fits, Point}
-use Rattle.core_points.proofs.Notes.{stands_on}
+
+-- The points of a search and of a get: what the step needs is known, and what the next point needs is known after it.
 
 deeper : {A : Type 0} (xs : List A) (x a : A) → IsIn xs a → IsIn (x ∷ xs) a
 deeper xs x a (i, e) = (suc i, e)
@@ -38,27 +49,16 @@ first_in xs a = (0, refl)
 
 -- The points of a caller.
 module _ (k : Shape) (h : List Mark) (o : Own) (v : View) (n : ℕ) where
-  pub next_clock : Fits o at.EnterClock v → Fits (after o n at.EnterClock) (at.EnterKey n) (view_after v h n (act_at o at.EnterClock))
-  next_clock f = let p = f.point in record {
-    owns = f.owns;
-    unraised = λ z. f.unraised refl;
-    tickets = f.tickets;
-    point = (p.0, p.1, (record { number = n; at = length h }, refl, refl));
-  }
+  pub next_clock : GoesOn h o v n at.EnterClock
+  next_clock f = let p = f.point in fits f.owns (f.unraised refl) f.tickets (p.0, p.1, (record { number = n; at = length h }, refl, refl))
 
-  pub needs_key : (clock : ℕ) → Fits o (at.EnterKey clock) v → Needs k v n (act_at o (at.EnterKey clock))
+  pub needs_key : (clock : ℕ) → IsGiven k o v n (at.EnterKey clock)
   needs_key clock f = (f.point).0
 
-  pub next_key : (clock : ℕ) → Fits o (at.EnterKey clock) v
-      → Fits (after o n (at.EnterKey clock)) (at.EnterStamp clock) (view_after v h n (act_at o (at.EnterKey clock)))
-  next_key clock f = let p = f.point in record {
-    owns = f.owns;
-    unraised = λ z. f.unraised refl;
-    tickets = f.tickets;
-    point = (p.0, p.1, p.2, refl);
-  }
+  pub next_key : (clock : ℕ) → GoesOn h o v n (at.EnterKey clock)
+  next_key clock f = let p = f.point in fits f.owns (f.unraised refl) f.tickets (p.0, p.1, p.2, refl)
 
-  pub needs_stamp : (clock : ℕ) → Fits o (at.EnterStamp clock) v → Needs k v n (act_at o (at.EnterStamp clock))
+  pub needs_stamp : (clock : ℕ) → IsGiven k o v n (at.EnterStamp clock)
   needs_stamp clock f =
       let p = f.point in
       let c = p.2 in (
@@ -71,26 +71,20 @@ module _ (k : Shape) (h : List Mark) (o : Own) (v : View) (n : ℕ) where
         },
       )
 
-  pub next_stamp : (clock : ℕ) → Fits o (at.EnterStamp clock) v
-      → Fits (after o n (at.EnterStamp clock)) (at.AtLink 0 Right) (view_after v h n (act_at o (at.EnterStamp clock)))
+  pub next_stamp : (clock : ℕ) → GoesOn h o v n (at.EnterStamp clock)
   next_stamp clock f =
       let p = f.point in
-      record {
-        owns = f.owns;
-        unraised = λ z. f.unraised refl;
-        tickets = f.tickets;
-        point = (
-          p.1,
-          record {
-            section = new_section v (key_now o) clock (clocked_at v) h;
-            is = refl;
-            stands = record { searches = refl; key_is = refl; sought = refl; state_is = refl; here = first_in [] 0 };
-            known = refl;
-          },
-        );
-      }
+      fits f.owns (f.unraised refl) f.tickets (
+        p.1,
+        record {
+          section = new_section v (key_now o) clock (clocked_at v) h;
+          is = refl;
+          stands = record { searches = refl; key_is = refl; sought = refl; state_is = refl; here = first_in [] 0 };
+          known = refl;
+        },
+      )
 
-  pub needs_link : (s : ℕ) (b : Side) → Fits o (at.AtLink s b) v → Needs k v n (act_at o (at.AtLink s b))
+  pub needs_link : (s : ℕ) (b : Side) → IsGiven k o v n (at.AtLink s b)
   needs_link s b f = let i = (f.point).1 in (
     i.section,
     record { section_is = i.is; searches = (i.stands).searches; stood = (i.stands).here; loadable = refl },
@@ -110,8 +104,7 @@ module _ (k : Shape) (h : List Mark) (o : Own) (v : View) (n : ℕ) where
   ended_owed w (Del key) s b more kept m le = omega arith
   ended_owed w (Set key value) s b more kept m le = omega arith
 
-  pub next_link : (s : ℕ) (b : Side) → Fits o (at.AtLink s b) v
-      → Fits (after o n (at.AtLink s b)) (after o n (at.AtLink s b)).stage (view_after v h n (act_at o (at.AtLink s b)))
+  pub next_link : (s : ℕ) (b : Side) → GoesOn h o v n (at.AtLink s b)
   next_link s b f =
       let p = f.point in
       let i = p.1 in
@@ -135,33 +128,26 @@ module _ (k : Shape) (h : List Mark) (o : Own) (v : View) (n : ℕ) where
                   cond z (record r' { state = Missed s b }) (record r' { state = Unread n s b; stood = n ∷ r'.stood });
             });
           })
-      go_on true section calm stands none = record {
-        owns = f.owns;
-        unraised = λ z. f.unraised refl;
-        tickets = ended_owed (go o (ended o.op s b)) o.op s b (4 * length o.rest) o.kept v.allowance.tickets f.tickets;
-        point = ended_point o.op refl s b _ calm (record {
-          section = _;
-          is = refl;
-          stands = stands_on _ refl refl stands.here stands;
-          known = tt;
-        });
-      }
-      go_on false section calm stands none = record {
-        owns = f.owns;
-        unraised = λ z. f.unraised refl;
-        tickets = f.tickets;
-        point = (
-          calm,
-          record {
+      go_on true section calm stands none =
+          fits f.owns (f.unraised refl)
+          (ended_owed (go o (ended o.op s b)) o.op s b (4 * length o.rest) o.kept v.allowance.tickets f.tickets)
+          (ended_point o.op refl s b _ calm (record {
             section = _;
             is = refl;
-            stands = stands_on _ refl refl (first_in section.reading.stood n) stands;
-            known = (deeper section.reading.stood n s stands.here, none);
-          },
-        );
-      }
+            stands = stands_on _ refl refl stands.here stands;
+            known = tt;
+          }))
+      go_on false section calm stands none = fits f.owns (f.unraised refl) f.tickets (
+        calm,
+        record {
+          section = _;
+          is = refl;
+          stands = stands_on _ refl refl (first_in section.reading.stood n) stands;
+          known = (deeper section.reading.stood n s stands.here, none);
+        },
+      )
 
-  pub needs_read : (s p : ℕ) (b : Side) → Fits o (at.AtKey s p b) v → Needs k v n (act_at o (at.AtKey s p b))
+  pub needs_read : (s p : ℕ) (b : Side) → IsGiven k o v n (at.AtKey s p b)
   needs_read s p b f = let i = (f.point).1 in (
     i.section,
     record { section_is = i.is; searches = (i.stands).searches; stood = (i.stands).here; loadable = refl },
@@ -190,8 +176,7 @@ module _ (k : Shape) (h : List Mark) (o : Own) (v : View) (n : ℕ) where
   found_owed w (Del key) s p b more kept m le = le
   found_owed w (Set key value) s p b more kept m le = le
 
-  pub next_read : (s p : ℕ) (b : Side) → Fits o (at.AtKey s p b) v
-      → Fits (after o n (at.AtKey s p b)) (after o n (at.AtKey s p b)).stage (view_after v h n (act_at o (at.AtKey s p b)))
+  pub next_read : (s p : ℕ) (b : Side) → GoesOn h o v n (at.AtKey s p b)
   next_read s p b f =
       let i = (f.point).1 in
       let section : Section = i.section in
@@ -218,40 +203,32 @@ module _ (k : Shape) (h : List Mark) (o : Own) (v : View) (n : ℕ) where
                   };
             });
           })
-      go_on None section calm stands stood = record {
-        owns = f.owns;
-        unraised = λ z. f.unraised refl;
-        tickets = found_owed (go o (found o.op s p b)) o.op s p b (4 * length o.rest) o.kept v.allowance.tickets f.tickets;
-        point = found_point o.op refl s p b _ calm (record {
-          section = _;
-          is = refl;
-          stands = stands_on _ refl refl stands.here stands;
-          known = stood;
-        });
-      }
-      go_on (Some c) section calm stands stood = record {
-        owns = f.owns;
-        unraised = λ z. f.unraised refl;
-        tickets = f.tickets;
-        point = (
-          calm,
-          record {
+      go_on None section calm stands stood =
+          fits f.owns (f.unraised refl)
+          (found_owed (go o (found o.op s p b)) o.op s p b (4 * length o.rest) o.kept v.allowance.tickets f.tickets)
+          (found_point o.op refl s p b _ calm (record {
             section = _;
             is = refl;
             stands = stands_on _ refl refl stands.here stands;
-            known = stood.1;
-          },
-        );
-      }
+            known = stood;
+          }))
+      go_on (Some c) section calm stands stood = fits f.owns (f.unraised refl) f.tickets (
+        calm,
+        record {
+          section = _;
+          is = refl;
+          stands = stands_on _ refl refl stands.here stands;
+          known = stood.1;
+        },
+      )
 
-  pub needs_value : (s : ℕ) → Fits o (at.Value s) v → Needs k v n (act_at o (at.Value s))
+  pub needs_value : (s : ℕ) → IsGiven k o v n (at.Value s)
   needs_value s f = let i = ((f.point).2).2 in (
     i.section,
     record { section_is = i.is; searches = (i.stands).searches; stood = (i.stands).here; loadable = refl },
   )
 
-  pub next_value : (s : ℕ) → Fits o (at.Value s) v
-      → Fits (after o n (at.Value s)) (at.Leave (then.Value n)) (view_after v h n (act_at o (at.Value s)))
+  pub next_value : (s : ℕ) → GoesOn h o v n (at.Value s)
   next_value s f =
       let p = (f.point).2 in
       let i = p.2 in
@@ -260,25 +237,282 @@ module _ (k : Shape) (h : List Mark) (o : Own) (v : View) (n : ℕ) where
       (sym (section_is v _ i.is))
       (subst (λ (r : Reading). Fits (go o (at.Leave (then.Value n))) (at.Leave (then.Value n))
       (record v { section = Some (record section { reading = r }) })) (sym (value_moves section.reading s p.0 p.1 n (i.stands).state_is))
-      (record {
-        owns = f.owns;
-        unraised = λ z. f.unraised refl;
-        tickets = (let t = f.tickets in omega arith);
-        point = (
-          (f.point).0,
+      (fits f.owns (f.unraised refl) (let t = f.tickets in omega arith) (
+        (f.point).0,
+        (
+          (f.point).1,
           (
-            (f.point).1,
-            (
-              s,
-              p.0,
-              p.1,
-              record {
-                section = _;
-                is = refl;
-                stands = stands_on _ refl refl (i.stands).here i.stands;
-                known = tt;
-              },
-            ),
+            s,
+            p.0,
+            p.1,
+            record {
+              section = _;
+              is = refl;
+              stands = stands_on _ refl refl (i.stands).here i.stands;
+              known = tt;
+            },
           ),
-        );
+        ),
+      )))
+
+-- The steps that leave a section at the end of a search, a get or a put: what the next point needs is known after them.
+
+owed_put : (op : Op) (retired : List ℕ) (spot : Spot) → is_put op ≡ true → owed_op op None retired ≡ owed_reserve (Leaf spot) retired
+owed_put (Put key value) retired spot e = refl
+owed_put (Get key) retired spot e = cc
+owed_put (Del key) retired spot e = cc
+owed_put (Set key value) retired spot e = cc
+
+module _ (k : Shape) (h : List Mark) (o : Own) (v : View) (n : ℕ) where
+  free_after : (section : Section) (hand : Option ℕ) → Each v.hands.retired (λ (r : Retired). r.raised ≡ false) → Owns o v → Calm o v
+      → o.hand ≡ None → IsFree o (leaving v section h)
+  free_after section hand unraised owns calm empty = record {
+    unraised = unraised;
+    owns = owns;
+    outside = refl;
+    empty = empty;
+    bare = calm.bare;
+    no_hand = subst (λ x. HandFits x o.hand_life (key_now o) (value_in o.op) v.hands.hand) empty calm.hand;
+  }
+
+  left_as : (stage : Own) → (section : Section) → v.section ≡ Some section → Fits stage stage.stage (leaving v section h)
+      → Fits stage stage.stage (leaving v (section_of v) h)
+  left_as stage section e f = subst (λ x. Fits stage stage.stage (leaving v x h)) (sym (section_is v _ e)) f
+
+  pub next_absent : GoesOn h o v n (at.Leave then.Absent)
+  next_absent f =
+      let p = (f.point).1 in
+      let i = (p.1).2 in
+      left_as (answer o Absent 0) i.section i.is (answers o (leaving v i.section h) Absent 0
+      (free_after i.section o.hand (f.unraised refl) f.owns (f.point).0 (((f.point).0).ready.empty p.0)) (let t = f.tickets in omega arith))
+
+  pub next_val : (value : ℕ) → GoesOn h o v n (at.Leave (then.Value value))
+  next_val value f =
+      let p = (f.point).1 in
+      let i = (p.1).3 in
+      left_as (answer o (Val value) 0) i.section i.is (answers o (leaving v i.section h) (Val value) 0
+      (free_after i.section o.hand (f.unraised refl) f.owns (f.point).0 (((f.point).0).ready.empty (ap is_put p.0)))
+      (let t = f.tickets in omega arith))
+
+  -- a put that found its key answers, or gives its slot back
+  pub next_old : GoesOn h o v n (at.Leave then.Old)
+  next_old f =
+      let p = (f.point).1 in
+      let i = (p.1).3 in
+      let section : Section = i.section in
+      left_as (left_section o then.Old) section i.is (by_hand o.hand refl section)
+    where
+      by_hand : (hand : Option ℕ) → o.hand ≡ hand → (section : Section) → let o' : Own =
+          cond (is_some o.hand) (go o at.Raise) (answer o Old 0) in Fits o' o'.stage (leaving v section h)
+      by_hand None e section = subst (λ b. let o' : Own = cond b (go o at.Raise) (answer o Old 0) in Fits o' o'.stage (leaving v section h))
+          (sym (ap is_some e))
+          (answers o (leaving v section h) Old 0 (free_after section o.hand (f.unraised refl) f.owns (f.point).0 e)
+          (let t = f.tickets in omega arith))
+      by_hand (Some s) e section = subst (λ b. let o' : Own = cond b (go o at.Raise) (answer o Old 0) in
+          Fits o' o'.stage (leaving v section h)) (sym (ap is_some e))
+          (fits f.owns (f.unraised refl) f.tickets (refl, (s, e), (f.point).0, ((f.point).1).0))
+
+  -- a put that didn't has a record, and locks its slot or takes one for its leaf
+  pub next_link_leaf : (spot : Spot)
+      → ((section : Section) → v.section ≡ Some section → (s : ℕ) → IsIn section.reading.stood s → s < table_of o) → GoesOn h o v n (at.Leave (then.Link spot))
+  next_link_leaf spot stood f =
+      let p = (f.point).1 in
+      let i = p.1 in
+      let section : Section = i.section in
+      let m = i.known in
+      left_as (left_section o (then.Link spot)) section i.is
+      (by_hand o.hand refl section (record {
+        reading = section.reading;
+        kept = (0, refl);
+        key_is = (i.stands).sought;
+        missed = (i.stands).state_is;
+        recorded = m.0;
+        tag_is = m.1;
+        inside = stood section i.is spot.slot (i.stands).here;
       }))
+    where
+      by_hand : (hand : Option ℕ) → o.hand ≡ hand → (section : Section)
+          → HasSpot (table_of o) (leaving v section h).records (key_now o) spot
+          → let st : Stage = cond (is_some o.hand) (at.LeafLock spot) (taking o (Leaf spot)) in Fits (go o st) st (leaving v section h)
+      by_hand None e section has = subst (λ b. let st : Stage = cond b (at.LeafLock spot) (taking o (Leaf spot)) in
+          Fits (go o st) st (leaving v section h)) (sym (ap is_some e))
+          (fits f.owns (f.unraised refl) (subst (λ x. x + 4 * length o.rest + o.kept ≤ v.allowance.tickets)
+          (ap (λ x. owed_op o.op x o.retired) e ∙ owed_put o.op o.retired spot ((f.point).1).0) f.tickets) (record {
+            idle = record {
+              outside = refl;
+              bare = ((f.point).0).bare;
+              empty = subst (λ x. HandFits x o.hand_life (key_now o) (value_in o.op) v.hands.hand) e ((f.point).0).hand;
+              no_hand = e;
+            };
+            some = positive o.free;
+            takes = (has, ((f.point).1).0);
+          }))
+      by_hand (Some s) e section has = subst (λ b. let st : Stage = cond b (at.LeafLock spot) (taking o (Leaf spot)) in
+          Fits (go o st) st (leaving v section h)) (sym (ap is_some e))
+          (fits f.owns (f.unraised refl) f.tickets (let p = f.point in
+          record { outside = refl; taken = (s, e); bare = (p.0).bare; hand = (p.0).hand; has_spot = has; puts = (p.1).0 }))
+
+-- The points of a put: what each step needs is known, and what the next point needs is known after it.
+
+more_owed : (aim : Aim) (retired : List ℕ) → suc (owed_taken aim) ≤ owed_reserve aim retired
+more_owed (Leaf spot) [] = omega arith
+more_owed (Leaf spot) (s ∷ ss) = omega arith
+more_owed Spare retired = omega arith
+more_owed Room retired = omega arith
+
+module _ (k : Shape) (h : List Mark) (o : Own) (v : View) (n : ℕ) where
+  -- the record: the tag and the life, in the section
+  pub needs_spot_tag : (s : ℕ) (b : Side) → IsGiven k o v n (at.SpotTag s b)
+  needs_spot_tag s b f = let i = (f.point).2 in (
+    i.section,
+    record { section_is = i.is; searches = (i.stands).searches; stood = (i.stands).here; loadable = refl },
+  )
+
+  pub next_spot_tag : (s : ℕ) (b : Side) → GoesOn h o v n (at.SpotTag s b)
+  next_spot_tag s b f =
+      let i = (f.point).2 in
+      let section : Section = i.section in
+      let o' : Own = go o (at.SpotLife s b n) in
+      subst (λ x. Fits o' (at.SpotLife s b n) (after_search_load v x (Tag s b) n)) (sym (section_is v _ i.is))
+      (subst (λ (r : Reading). Fits o' (at.SpotLife s b n) (record v { section = Some (record section { reading = r }) }))
+      (sym (missed_stays section.reading s b (Tag s b) n (i.stands).state_is))
+      (fits f.owns (f.unraised refl) f.tickets (
+        (f.point).0,
+        (f.point).1,
+        record {
+          section = _;
+          is = refl;
+          stands = stands_on _ refl (i.stands).state_is (i.stands).here i.stands;
+          known = known_here section.reading.loads (Tag s b) n false;
+        },
+      )))
+
+  pub needs_spot_life : (s : ℕ) (b : Side) (tag : ℕ) → IsGiven k o v n (at.SpotLife s b tag)
+  needs_spot_life s b tag f = let i = (f.point).2 in
+      (i.section, record { section_is = i.is; searches = (i.stands).searches; stood = (i.stands).here; loadable = refl })
+
+  pub next_spot_life : (s : ℕ) (b : Side) (tag : ℕ) → GoesOn h o v n (at.SpotLife s b tag)
+  next_spot_life s b tag f =
+      let i = (f.point).2 in
+      let section : Section = i.section in
+      let o' : Own = after o n (at.SpotLife s b tag) in
+      subst (λ x. Fits o' o'.stage (after_search_load v x (Life s) n)) (sym (section_is v _ i.is))
+      (subst (λ (r : Reading). Fits o' o'.stage (record v { section = Some (record section { reading = r }) }))
+      (sym (missed_stays section.reading s b (Life s) n (i.stands).state_is))
+      (fits f.owns (f.unraised refl) f.tickets (
+        (f.point).0,
+        (
+          (f.point).1,
+          record {
+            section = _;
+            is = refl;
+            stands = stands_on _ refl (i.stands).state_is (i.stands).here i.stands;
+            known = ((n, known_here section.reading.loads (Life s) n false, refl), i.known);
+          },
+        ),
+      )))
+
+  -- taking a slot, for a leaf or as a spare
+  pub needs_reserve : (aim : Aim) (expected : ℕ) → IsGiven k o v n (at.Reserve aim expected)
+  needs_reserve aim expected f =
+      let p = f.point in
+      let i = p.idle in
+      record {
+        some = p.some;
+        unreserved = (i.bare).reserved_is;
+        empty = i.empty;
+        ticket = (let t = f.tickets in let more = more_owed aim o.retired in omega arith);
+      }
+
+  pub next_reserve : (aim : Aim) (expected : ℕ) → GoesOn h o v n (at.Reserve aim expected)
+  next_reserve aim expected f = held (n == expected)
+    where
+      -- where none is free
+      empties : (spot : Spot) → Fits o (at.Reserve (Leaf spot) expected) v → (rs : List ℕ) → o.retired ≡ rs → let o' : Own =
+          cond (is_none_left rs) (answer (record o { free = 0 }) Full 0) (go (record o { free = 0 }) (at.Begin (Reuse (Leaf spot)))) in
+          Fits o' o'.stage (record v { latest = record v.latest { free = Some 0 }; seen = h })
+      empties spot f [] e = answers (record o { free = 0 }) _ Full 0
+          (let i = (f.point).idle in record {
+            owns = f.owns;
+            outside = i.outside;
+            empty = i.no_hand;
+            bare = i.bare;
+            no_hand = i.empty;
+            unraised = f.unraised refl;
+          })
+          (let t = f.tickets in omega arith)
+      empties spot f (s ∷ ss) e =
+          fits f.owns (f.unraised refl)
+          (subst (λ rs. owed_reserve (Leaf spot) rs + 4 * length o.rest + o.kept ≤ v.allowance.tickets) e f.tickets)
+          ((f.point).idle, (f.point).takes)
+
+      none : (aim : Aim) → Fits o (at.Reserve aim expected) v → let o' : Own = none_free (record o { free = 0 }) aim in
+          Fits o' o'.stage (record v { latest = record v.latest { free = Some 0 }; seen = h })
+      none (Leaf spot) f = empties spot f o.retired refl
+      none Spare f = fits f.owns (f.unraised refl) f.tickets ((f.point).idle, ((f.point).takes).deletes)
+      none Room f = absurd (f.point).takes
+
+      held : (z : Bool) → let o' : Own = cond z (go (record o { free = n - 1 }) (at.Seize aim))
+          (cond (n == 0) (none_free (record o { free = 0 }) aim) (go (record o { free = n }) (at.Reserve aim n))) in
+          Fits o' o'.stage (cond z (record v {
+            allowance = record v.allowance { tickets = v.allowance.tickets - 1 };
+            hands = record v.hands { reserved = true };
+            latest = record v.latest { free = Some (expected - 1) };
+          })
+          (cond (n == 0) (record v { latest = record v.latest { free = Some 0 }; seen = h })
+          (record v { latest = record v.latest { free = Some n } })))
+      held true =
+          let i = (f.point).idle in
+          fits f.owns (f.unraised refl) (let t = f.tickets in let more = more_owed aim o.retired in omega arith) (record {
+            outside = i.outside;
+            bare = bare_reserved true i.bare;
+            empty = i.empty;
+            no_hand = i.no_hand;
+            takes = (f.point).takes;
+          })
+      held false = dite (ℕ_discrete n 0)
+          (λ e. subst (λ z. let o' : Own = cond z (none_free (record o { free = 0 }) aim)
+          (go (record o { free = n }) (at.Reserve aim n)) in
+          Fits o' o'.stage (cond z (record v { latest = record v.latest { free = Some 0 }; seen = h })
+          (record v { latest = record v.latest { free = Some n } }))) (sym (eq-eqb n 0 e)) (none aim f))
+          (λ ne. subst (λ z. let o' : Own = cond z (none_free (record o { free = 0 }) aim)
+          (go (record o { free = n }) (at.Reserve aim n)) in
+          Fits o' o'.stage (cond z (record v { latest = record v.latest { free = Some 0 }; seen = h })
+          (record v { latest = record v.latest { free = Some n } }))) (sym (ne_eqb n 0 ne))
+          (fits f.owns (f.unraised refl) f.tickets (record { idle = (f.point).idle; some = omega arith; takes = (f.point).takes })))
+
+  pub needs_seize : (aim : Aim) → IsGiven k o v n (at.Seize aim)
+  needs_seize aim f = record { reserved = ((f.point).bare).reserved_is; some = (λ e. let one = f.owns.scans in absurd (omega arith)) }
+
+  pub next_seize : (aim : Aim) → GoesOn h o v n (at.Seize aim)
+  next_seize aim f = got (n == 0)
+    where
+      got : (z : Bool) → let m : Own = record o { scan = cond (o.scan == o.slots + o.places) 1 (o.scan + 1) } in
+          let o' : Own = cond z (go (record m { hand = Some o.scan }) (at.Age aim o.scan)) (go m (at.Seize aim)) in
+          Fits o' o'.stage (cond z (record v {
+            hands = record v.hands { reserved = false; hand = Some (seized o.scan) };
+            seen = h ++ Given o.scan ∷ [];
+          }) v)
+      got true =
+          let p = f.point in
+          fits (owns_scanned o v f.owns) (f.unraised refl) f.tickets
+          (record { outside = p.outside; bare = bare_reserved false p.bare; in_hand = refl; taken = refl; takes = p.takes })
+      got false =
+          let p = f.point in
+          fits (owns_scanned o v f.owns) (f.unraised refl) f.tickets
+          (record { outside = p.outside; bare = p.bare; empty = p.empty; no_hand = p.no_hand; takes = p.takes })
+
+  pub needs_age : (aim : Aim) (s : ℕ) → IsGiven k o v n (at.Age aim s)
+  needs_age aim s f = (seized s, inl ((f.point).in_hand, refl))
+
+  pub next_age : (spot : Spot) (s : ℕ) → GoesOn h o v n (at.Age (Leaf spot) s)
+  next_age spot s f = let p = f.point in fits (owns_noted o v s (Life s) n false f.owns) (f.unraised refl) f.tickets (record {
+    outside = p.outside;
+    bare = bare_noted v s (Life s) n false [] [] None false p.bare refl;
+    slot = s;
+    taken = p.taken;
+    in_hand = ap (note_option s (read_at (Life s) n)) p.in_hand ∙ ap Some (held_here s (read_at (Life s) n) (seized s) refl);
+    has_spot = (p.takes).0;
+    puts = (p.takes).1;
+    small = omega arith;
+  })

@@ -14,33 +14,26 @@ use Rattle.core_state.specs.declared.view.Known.{Known}
 use Rattle.core_state.specs.declared.view.Reading.{Reading}
 use Rattle.core_state.specs.declared.view.View.{View}
 use Rattle.list_laws.specs.Counts.{times}
-use Rattle.core_state.specs.views.Known.{loaded_in, lock_of, change_lock, note_lock, noting, LoadedGeneration}
-use Rattle.core_state.specs.steps.Locks.{new_lock}
+use Rattle.core_state.specs.Views.{loaded_in, lock_of, change_lock, note_lock, noting, LoadedGeneration}
+use Rattle.core_state.specs.Steps.{new_lock}
 use Rattle.core_points.specs.declared.stage.Found.{Found}
 use Rattle.core_points.specs.declared.stage.Node.{Node}
 use Rattle.core_points.specs.declared.stage.Successor.{Successor}
 use Rattle.core_points.specs.declared.stage.Target.{Target}
-use Rattle.core_points.specs.declared.stage.Last.TheVariants as last
 use Rattle.core_points.specs.declared.stage.Stage.{Stage}
-use Rattle.core_points.specs.declared.stage.Stage.TheVariants as at
-use Rattle.core_points.specs.Acts.{Needs, view_after}
-use Rattle.core_points.specs.Callers.{Own, go, is_none_left, key_now}
-use Rattle.core_acts.specs.declared.act.Part.TheVariants as part
-use Rattle.core_acts.specs.Acts.{in_slot}
-use Rattle.core_points.specs.DeletePlan.{last_right, nothing_found, target_word, target_holds, target_lock, target_locks, target_part, target_slot, with_found}
-use Rattle.core_points.specs.Programs.{act_at, after, deleting, past_target_load}
+use Rattle.core_points.specs.Programs.{Own, go, is_none_left, key_now, last_right, nothing_found, target_word, target_holds, target_lock, target_locks, target_part, target_slot, with_found, after, deleting, past_target_load}
+use Rattle.core_state.specs.Acts.{in_slot}
 use Rattle.core_points.specs.Facts.{AreClear, Owns, Quiet, read_at, table_of}
 use Rattle.core_points.specs.DeleteFacts.{ReadsParent, AreGot, BothHold, FewHold, HasLoaded, HasTarget, Holds, HoldsAll, HoldsSuccessorLocks, IsLoadedNow, IsSkipped, IsUnmarked, first_locks, found_number, target_words, two_children, under}
-use Rattle.core_points.specs.Fits.{Fits}
-use Rattle.core_points.proofs.DeleteSearch.{lacks_child, has_children}
-use Rattle.core_points.proofs.Locking.{no_slots, clear_changed, each_more, IsClear}
-use Rattle.core_points.proofs.Notes.{owns_more, owns_noted, quiet_unlocking}
-use Rattle.core_points.proofs.PutLocks.{both_true}
-use Rattle.core_points.proofs.Sets.{quiet_noted, quiet_calm, quiet_hand}
-use Rattle.core_points.proofs.TargetWords.{word_held, part_loadable, one_more}
-use Rattle.core_points.proofs.UnderLocks.{held_still}
-use Rattle.core_points.proofs.Unlocks.{none_in}
-use Rattle.tree_laws.proofs.locks.Relocking.{length_change}
+use Rattle.core_points.specs.Fits.{Fits, IsGiven, GoesOn}
+use Rattle.core_points.proofs.DeleteSearches.{lacks_child, has_children}
+use Rattle.core_points.proofs.Locks.{no_slots, clear_changed, each_more, IsClear, word_held, part_loadable, one_more, held_still, none_in}
+use Rattle.core_points.proofs.Notes.{owns_more, owns_noted, quiet_unlocking, fits, quiet_noted, quiet_calm, quiet_hand}
+use Rattle.core_points.proofs.Links.{both_true}
+use Rattle.core_laws.proofs.Locks.{length_change}
+use Rattle.core_points.specs.declared.stage.Last.TheVariants as last
+use Rattle.core_points.specs.declared.stage.Stage.TheVariants as at
+use Rattle.core_state.specs.declared.act.Part.TheVariants as part
 
 few_locks : (d : Node) (h : Option Successor) → target_locks (record { node = d; successor = h }) ≤ 4
 few_locks d None = omega arith
@@ -290,12 +283,11 @@ module _ (n : ℕ) (records : List Reading) (locks : List HeldLock) (key : ℕ) 
       not_true false e = refl
 
 module _ (k : Shape) (h : List Mark) (o : Own) (v : View) (n : ℕ) where
-  pub needs_target_lock : (t : Target) (i : ℕ) → Fits o (at.TargetLock t i) v → Needs k v n (act_at o (at.TargetLock t i))
+  pub needs_target_lock : (t : Target) (i : ℕ) → IsGiven k o v n (at.TargetLock t i)
   needs_target_lock t i f = let p = f.point in let few = few_locks t.node t.successor in let long = p.long in let lt = p.more in
       record { outside = (p.quiet).outside; few = omega arith }
 
-  pub next_target_lock : (t : Target) (i : ℕ) → (n ≡ 0 → Holds v.locks (target_lock t i) → ⊥) → Fits o (at.TargetLock t i) v
-      → Fits (after o n (at.TargetLock t i)) (after o n (at.TargetLock t i)).stage (view_after v h n (act_at o (at.TargetLock t i)))
+  pub next_target_lock : (t : Target) (i : ℕ) → (n ≡ 0 → Holds v.locks (target_lock t i) → ⊥) → GoesOn h o v n (at.TargetLock t i)
   next_target_lock t i busy f = got (n == 0) refl
     where
       s : ℕ
@@ -321,62 +313,43 @@ module _ (k : Shape) (h : List Mark) (o : Own) (v : View) (n : ℕ) where
           Fits (go (record o { locks = s ∷ o.locks }) st) st (record v { locks = new_lock s ∷ v.locks })
       rest true e zero_is =
           let p = f.point in
-          let all : i + 1 ≡ target_locks t = eqb-true (i + 1) (target_locks t) e in record {
-            owns = owns_more o v s f.owns;
-            unraised = λ z. f.unraised refl;
-            tickets = f.tickets;
-            point = record {
-              quiet = p.quiet;
-              deleting = p.deleting;
-              target = p.target;
-              clear = clear_more;
-              locks_are = kept ∙ ap (first_locks t) all;
-              held = got_all t.node t.successor (new_lock s ∷ v.locks) (long ∙ all)
-                  (subst (λ x. AreGot t x (new_lock s ∷ v.locks)) all (locked p.got zero_is));
-              loaded = (λ j lt. absurd (omega arith));
-              more = some_words t.successor;
-              now = (λ u has below z. absurd (omega arith));
-            };
-          }
+          let all : i + 1 ≡ target_locks t = eqb-true (i + 1) (target_locks t) e in
+          fits (owns_more o v s f.owns) (f.unraised refl) f.tickets (record {
+            quiet = p.quiet;
+            deleting = p.deleting;
+            target = p.target;
+            clear = clear_more;
+            locks_are = kept ∙ ap (first_locks t) all;
+            held = got_all t.node t.successor (new_lock s ∷ v.locks) (long ∙ all)
+                (subst (λ x. AreGot t x (new_lock s ∷ v.locks)) all (locked p.got zero_is));
+            loaded = (λ j lt. absurd (omega arith));
+            more = some_words t.successor;
+            now = (λ u has below z. absurd (omega arith));
+          })
       rest false e zero_is =
           let p = f.point in
           let ne : i + 1 ≢ target_locks t = (λ all. absurd (let q : true ≡ false = sym (eq-eqb (i + 1) (target_locks t) all) ∙ e in cc)) in
-          record {
-            owns = owns_more o v s f.owns;
-            unraised = λ z. f.unraised refl;
-            tickets = f.tickets;
-            point = record {
-              quiet = p.quiet;
-              deleting = p.deleting;
-              target = p.target;
-              clear = clear_more;
-              long = long;
-              locks_are = kept;
-              got = locked p.got zero_is;
-              more = (let lt = p.more in omega arith);
-            };
-          }
+          fits (owns_more o v s f.owns) (f.unraised refl) f.tickets (record {
+            quiet = p.quiet;
+            deleting = p.deleting;
+            target = p.target;
+            clear = clear_more;
+            long = long;
+            locks_are = kept;
+            got = locked p.got zero_is;
+            more = (let lt = p.more in omega arith);
+          })
 
       taken : (z : Bool) → is_none_left o.locks ≡ z → let st : Stage = cond z at.EnterClock (at.Unlock last.Again) in Fits (go o st) st v
       taken true e =
           let p = f.point in
           let q = p.quiet in
           let bare = no_slots v.locks (λ x. f.owns.locks_are x ∙ ap (times x) (none_in o.locks e)) in
-          record {
-            owns = f.owns;
-            unraised = λ z. f.unraised refl;
-            tickets = f.tickets;
-            point = (q.outside, quiet_calm o v q bare (p.deleting).1);
-          }
+          fits f.owns (f.unraised refl) f.tickets (q.outside, quiet_calm o v q bare (p.deleting).1)
       taken false e =
           let p = f.point in
           let q = p.quiet in
-          record {
-            owns = f.owns;
-            unraised = λ z. f.unraised refl;
-            tickets = f.tickets;
-            point = (quiet_unlocking q q.turn_is p.clear e, quiet_hand o v q, (p.deleting).1);
-          }
+          fits f.owns (f.unraised refl) f.tickets (quiet_unlocking q q.turn_is p.clear e, quiet_hand o v q, (p.deleting).1)
 
       got : (z : Bool) → (n == 0) ≡ z → let o' : Own =
           cond z (go (record o { locks = s ∷ o.locks })
@@ -387,14 +360,11 @@ module _ (k : Shape) (h : List Mark) (o : Own) (v : View) (n : ℕ) where
       got false e = taken (is_none_left o.locks) refl
 
   -- the loads
-  pub needs_target_load : (t : Target) (i : ℕ) (found : Found) → Fits o (at.TargetLoad t i found) v
-      → Needs k v n (act_at o (at.TargetLoad t i found))
+  pub needs_target_load : (t : Target) (i : ℕ) (found : Found) → IsGiven k o v n (at.TargetLoad t i found)
   needs_target_load t i found f = let p = f.point in
       record { held = word_held v.locks t i p.held; loadable = part_loadable (target_slot t i) (target_part t i) }
 
-  pub next_target_load : (t : Target) (i : ℕ) (found : Found) → Fits o (at.TargetLoad t i found) v
-      → Fits (after o n (at.TargetLoad t i found)) (after o n (at.TargetLoad t i found)).stage
-      (view_after v h n (act_at o (at.TargetLoad t i found)))
+  pub next_target_load : (t : Target) (i : ℕ) (found : Found) → GoesOn h o v n (at.TargetLoad t i found)
   next_target_load t i found f = by t.successor refl
     where
       o' : Own
@@ -447,32 +417,23 @@ module _ (k : Shape) (h : List Mark) (o : Own) (v : View) (n : ℕ) where
           → Fits (go o (at.TargetLoad t j f')) (at.TargetLoad t j f') w
       goes_on j small now has =
           let p = f.point in
-          record {
-            owns = owns;
-            unraised = λ z. f.unraised refl;
-            tickets = f.tickets;
-            point = record {
-              quiet = quiet;
-              deleting = p.deleting;
-              target = p.target;
-              clear = clear;
-              locks_are = p.locks_are;
-              held = all;
-              loaded = has;
-              more = small;
-              now = now;
-            };
-          }
+          fits owns (f.unraised refl) f.tickets (record {
+            quiet = quiet;
+            deleting = p.deleting;
+            target = p.target;
+            clear = clear;
+            locks_are = p.locks_are;
+            held = all;
+            loaded = has;
+            more = small;
+            now = now;
+          })
 
       again : Fits (go o (at.Unlock last.Again)) (at.Unlock last.Again) w
       again =
           let p = f.point in
-          record {
-            owns = owns;
-            unraised = λ z. f.unraised refl;
-            tickets = f.tickets;
-            point = (quiet_unlocking quiet quiet.turn_is clear (some_left o.locks p.locks_are), quiet_hand o w quiet, (p.deleting).1);
-          }
+          fits owns (f.unraised refl) f.tickets
+          (quiet_unlocking quiet quiet.turn_is clear (some_left o.locks p.locks_are), quiet_hand o w quiet, (p.deleting).1)
 
       few : t.successor ≡ None → i ≡ 4 → (z : Bool) → target_holds t f' ≡ z → let st : Stage =
           cond z (deleting (record t.node { left = f'.left; right = f'.right }) None) (at.Unlock last.Again) in Fits (go o st) st w
@@ -487,20 +448,15 @@ module _ (k : Shape) (h : List Mark) (o : Own) (v : View) (n : ℕ) where
           (subst (HasTarget (table_of o) v.records (key_now o)) same p.target) (subst (HoldsAll w.locks) same all)
           (subst (λ x. HasLoaded w.locks x 5 f') same (subst (λ j. HasLoaded w.locks t j f') five loads))
           (subst (λ x. target_holds x f' ≡ true) same e) in
-          record {
-            owns = owns;
-            unraised = λ z. f.unraised refl;
-            tickets = f.tickets;
-            point = record {
-              quiet = quiet;
-              deleting = p.deleting;
-              has_locks = some_left o.locks p.locks_are;
-              clear = clear;
-              few = q.0;
-              unmarked = q.1;
-              child_is = refl;
-            };
-          }
+          fits owns (f.unraised refl) f.tickets (record {
+            quiet = quiet;
+            deleting = p.deleting;
+            has_locks = some_left o.locks p.locks_are;
+            clear = clear;
+            few = q.0;
+            unmarked = q.1;
+            child_is = refl;
+          })
 
       both : (u : Successor) → t.successor ≡ Some u → i ≡ 8 → (z : Bool) → target_holds t f' ≡ z → let d' : Node =
           record t.node { left = f'.left; right = last_right t.node (Some u) f' } in
@@ -517,19 +473,14 @@ module _ (k : Shape) (h : List Mark) (o : Own) (v : View) (n : ℕ) where
           (subst (HasTarget (table_of o) v.records (key_now o)) same p.target) held
           (subst (λ x. HasLoaded w.locks x 9 f') same (subst (λ j. HasLoaded w.locks t j f') nine loads))
           (subst (λ x. target_holds x f' ≡ true) same e) in
-          record {
-            owns = owns;
-            unraised = λ z. f.unraised refl;
-            tickets = f.tickets;
-            point = record {
-              copying = record { quiet = quiet; deleting = p.deleting; both = q.0 };
-              unmarked = q.1;
-              clear = clear;
-              few = held.few;
-              locks_are = p.locks_are ∙ ap (λ x. first_locks x (target_locks x)) same;
-              held = (held.successor).1;
-            };
-          }
+          fits owns (f.unraised refl) f.tickets (record {
+            copying = record { quiet = quiet; deleting = p.deleting; both = q.0 };
+            unmarked = q.1;
+            clear = clear;
+            few = held.few;
+            locks_are = p.locks_are ∙ ap (λ x. first_locks x (target_locks x)) same;
+            held = (held.successor).1;
+          })
 
       by : (h : Option Successor) → t.successor ≡ h → let st : Stage = past_target_load t i f' in Fits (go o st) st w
       by None e = subst (λ h. let st : Stage = elim h as (λ _. Stage) [

@@ -17,15 +17,14 @@ use Rattle.core_state.specs.declared.view.SearchState.TheVariants.{Found as Foun
 use Rattle.core_state.specs.declared.view.View.{View}
 use Rattle.core_state.specs.declared.view.Waiting.{Waiting}
 use Rattle.list_laws.specs.Counts.{IsIn}
-use Rattle.core_state.specs.views.Known.{known_in, loaded_in, lock_of, known_of, is_emptied, with_emptied, change_lock, LoadedGeneration}
-use Rattle.core_state.specs.steps.Links.{LacksChild, HadLinks, HadChild, with_mark}
+use Rattle.core_state.specs.Views.{known_in, loaded_in, lock_of, known_of, is_emptied, with_emptied, change_lock, LoadedGeneration}
+use Rattle.core_state.specs.Links.{LacksChild, HadLinks, HadChild, with_mark}
 use Rattle.core_points.specs.declared.stage.Node.{Node}
 use Rattle.core_points.specs.declared.stage.Successor.{Successor}
 use Rattle.core_points.specs.declared.stage.Target.{Target}
 use Rattle.core_points.specs.declared.stage.Found.{Found}
 use Rattle.core_points.specs.declared.stage.Moving.{Moving}
-use Rattle.core_points.specs.Callers.{Own, key_now, or_root, content, contents}
-use Rattle.core_points.specs.DeletePlan.{target_slot, target_word, target_lock, target_locks}
+use Rattle.core_points.specs.Programs.{Own, key_now, or_root, content, contents, target_slot, target_word, target_lock, target_locks}
 use Rattle.core_points.specs.Facts.{is_delete, table_of, read_at, AreClear, Calm, Inside, Quiet, Ready, HasLocks}
 
 -- In the section.

@@ -20,15 +20,15 @@ use Rattle.prcu_marks.specs.declared.commit.Commit.{Commit}
 use Rattle.core_state.specs.declared.view.View.{View}
 use Rattle.core_state.specs.declared.view.Waiting.{Waiting}
 use Rattle.list_laws.specs.Counts.{IsIn, Each, times}
-use Rattle.core_state.specs.views.Known.{known_in, LoadedGeneration}
-use Rattle.core_state.specs.parts.ReaderParts.{state_slot}
-use Rattle.core_state.specs.steps.Seating.{spare_slot}
-use Rattle.core_state.specs.steps.Slots.{seized}
+use Rattle.core_state.specs.Views.{known_in, LoadedGeneration}
+use Rattle.core_state.specs.Parts.{state_slot}
+use Rattle.core_state.specs.Steps.{spare_slot}
+use Rattle.core_state.specs.Links.{seized}
 use Rattle.prcu_model.specs.Dictionary.{key_of}
 use Rattle.core_points.specs.declared.stage.Spot.{Spot}
 use Rattle.core_points.specs.declared.stage.Aim.{Aim}
 use Rattle.core_points.specs.declared.stage.Aim.TheVariants.{Leaf, Spare, Room}
-use Rattle.core_points.specs.Callers.{Own, key_now, value_in, is_some, is_none_left}
+use Rattle.core_points.specs.Programs.{Own, key_now, value_in, is_some, is_none_left}
 
 abbrev pub is_put : Op → Bool
 is_put (Put key value) = true

@@ -1,11 +1,5 @@
-pub mod Acts
-pub mod Callers
-pub mod DeletePlan
 pub mod Programs
 pub mod Facts
-pub mod Tickets
 pub mod DeleteFacts
-pub mod Told
 pub mod Fits
 pub mod Laws
-pub mod Said

@@ -1,36 +1,231 @@
--- The calls, step by step: at each point of a caller's program the step that it makes, and where it goes on.
--- Source: docs/TREE_CALLS.md, "The calls".
-use Rattle.std.specs.Prelude.{ℕ, ◌+◌, ◌-◌, ◌*◌, ◌/◌, ◌%◌, ◌==◌, nat_lt, nat_le, ◌&&◌, ◌||◌, if◌then◌else◌, Bool, List, [], ◌∷◌, ◌++◌, length, Option, Some, None}
-use Rattle.prcu_marks.specs.declared.mark.Side.{Side}
+-- What the calls do: their acts, what a caller keeps, the locks and loads of a delete, and the step of each point.
+use Rattle.std.specs.Prelude.{ℕ, Bool, true, false, List, ◌+◌, ◌==◌, if◌then◌else◌, [], ◌∷◌, Option, Some, None, ◌*◌, nat_lt, ◌&&◌, ◌||◌, not, ◌-◌, ◌/◌, ◌%◌, nat_le, ◌++◌, length}
+use Rattle.prcu_marks.specs.Marks.{left_by}
+use Rattle.prcu_marks.specs.declared.mark.Mark.{Mark}
+use Rattle.core_state.specs.declared.shape.Shape.{Shape}
+use Rattle.core_state.specs.declared.view.View.{View}
+use Rattle.core_state.specs.declared.act.Act.TheVariants.{LoadClock, AnnounceKey, EnterByStamp, LeaveByStamp, BeginWait, LookKey, LookStamp, LoadOwnLife, KeepAsSpare, LoadRetiredLife, Reserve, Seize, Fill, RaiseInHand, RaiseToSpare, RaiseRetired, FreeInHand, FreeRetired, CountFree, Lock, Unlock, SearchLoad, LockedLoad, OpenCommit, CloseCommit, LinkLeaf, Bypass, Mark as MarkNode, RaiseTag, LinkCopy, UnlinkLeft, UnlinkRight, ReplaceValue}
+pub use Rattle.core_state.specs.declared.act.Act.{Act}
+pub use Rattle.core_state.specs.Acts.{kind_of, field_of}
 use Rattle.prcu_marks.specs.declared.mark.Side.TheVariants.{Left, Right}
 use Rattle.prcu_model.specs.declared.operation.Op.{Op}
 use Rattle.prcu_model.specs.declared.operation.Op.TheVariants.{Put, Get, Del, Set}
-use Rattle.prcu_model.specs.declared.operation.Reply.{Reply}
-use Rattle.prcu_model.specs.declared.operation.Reply.TheVariants.{New, Old, Full, Val, Absent, Gone, Was}
-use Rattle.core_state.specs.memory.Memory.{idle}
-use Rattle.core_state.specs.memory.Words.{step_side}
+use Rattle.prcu_model.specs.declared.operation.Told.{Told}
+use Rattle.prcu_model.specs.Dictionary.{key_of}
+use Rattle.core_state.specs.declared.words.Field.{Field}
+use Rattle.core_state.specs.declared.act.Part.{Part}
+use Rattle.core_state.specs.Acts.{in_slot}
+use Rattle.core_points.specs.declared.stage.Waits.{Waits}
+use Rattle.core_points.specs.declared.stage.Waits.TheVariants.{Reuse, Move}
+use Rattle.core_points.specs.declared.stage.Stage.{Stage}
 use Rattle.core_points.specs.declared.stage.Node.{Node}
 use Rattle.core_points.specs.declared.stage.Successor.{Successor}
 use Rattle.core_points.specs.declared.stage.Target.{Target}
 use Rattle.core_points.specs.declared.stage.Found.{Found}
 use Rattle.core_points.specs.declared.stage.Moving.{Moving}
+use Rattle.prcu_marks.specs.declared.mark.Side.{Side}
+use Rattle.prcu_model.specs.declared.operation.Reply.{Reply}
+use Rattle.prcu_model.specs.declared.operation.Reply.TheVariants.{New, Old, Full, Val, Absent, Gone, Was}
+use Rattle.core_state.specs.Memory.{idle, step_side}
 use Rattle.core_points.specs.declared.stage.Aim.{Aim}
 use Rattle.core_points.specs.declared.stage.Aim.TheVariants.{Leaf, Spare, Room}
 use Rattle.core_points.specs.declared.stage.Then.{Then}
-use Rattle.core_points.specs.declared.stage.Then.TheVariants as then
 use Rattle.core_points.specs.declared.stage.Last.{Last}
-use Rattle.core_points.specs.declared.stage.Last.TheVariants as last
 use Rattle.core_points.specs.declared.stage.Update.{Update}
+use Rattle.core_state.specs.Acts as acts
+use Rattle.core_state.specs.declared.act.Part.TheVariants as part
+use Rattle.core_points.specs.declared.stage.Then.TheVariants as then
+use Rattle.core_points.specs.declared.stage.Last.TheVariants as last
 use Rattle.core_points.specs.declared.stage.Update.TheVariants as update
-use Rattle.core_points.specs.declared.stage.Waits.{Waits}
-use Rattle.core_points.specs.declared.stage.Waits.TheVariants.{Reuse, Move}
-use Rattle.core_points.specs.declared.stage.Stage.{Stage}
 use Rattle.core_points.specs.declared.stage.Stage.TheVariants as at
-use Rattle.core_acts.specs.declared.act.Act.TheVariants.{LoadClock, AnnounceKey, EnterByStamp, LeaveByStamp, BeginWait, LookKey, LookStamp, LoadOwnLife, KeepAsSpare, LoadRetiredLife, Reserve, Seize, Fill, RaiseInHand, RaiseToSpare, RaiseRetired, FreeInHand, FreeRetired, CountFree, Lock, Unlock, SearchLoad, LockedLoad, OpenCommit, CloseCommit, LinkLeaf, Bypass, Mark, RaiseTag, LinkCopy, UnlinkLeft, UnlinkRight, ReplaceValue}
-use Rattle.core_acts.specs.declared.act.Part.TheVariants as part
-use Rattle.core_points.specs.Acts.{Act}
-use Rattle.core_points.specs.Callers.{Own, but_first, content_part, contents, first_or_root, go, high_key, is_none_left, is_some, key_now, low_key, or_root, value_in}
-use Rattle.core_points.specs.DeletePlan.{last_right, move_locks, nothing_found, target_part, target_holds, target_lock, target_locks, target_slot, with_found}
+
+-- The acts as callers of the first waiter make them.
+-- Source: docs/TREE_CALLS.md, "The calls".
+
+abbrev pub left_of : ℕ → Act → ℕ → ℕ
+left_of place a n = left_by (acts.access_of place a) n
+
+abbrev pub view_after : View → List Mark → ℕ → Act → View
+view_after v h n a = acts.after v a h n
+
+abbrev pub marks_of : View → ℕ → Act → List Mark
+marks_of v n a = acts.marks_of v a n
+
+abbrev pub Needs : Shape → View → ℕ → Act → Type 0
+Needs k v n a = acts.Needs k v a
+
+-- the act is none of the waiter's
+abbrev pub is_step : Act → Bool
+is_step LoadClock = false
+is_step (AnnounceKey key) = false
+is_step (EnterByStamp key stamp) = false
+is_step LeaveByStamp = false
+is_step (BeginWait low high) = false
+is_step (LookKey p last) = false
+is_step (LookStamp p last) = false
+is_step _ = true
+
+-- What a caller keeps from call to call.
+-- Source: docs/TREE_CALLS.md, "The calls".
+
+-- What a caller keeps: its place in a table of so many places and slots, and of so much room at a place, its operation and those after it, where it is in it, what it
+-- told, the slots of its place, its locks (the latest first), what its place last found or left in the free count and in the front, and how
+-- many of its tickets are none of its operations'.
+pub record Own : Type 0 where
+  pub place : ℕ
+  pub places : ℕ
+  pub slots : ℕ
+  pub room : ℕ
+  pub op : Op
+  pub rest : List Op
+  pub stage : Stage
+  pub told : List Told
+  pub hand : Option ℕ
+  pub hand_life : ℕ
+  pub spare : Option ℕ
+  pub retired : List ℕ
+  pub locks : List ℕ
+  pub scan : ℕ
+  pub free : ℕ
+  pub front : ℕ
+  pub kept : ℕ
+
+abbrev pub key_now : Own → ℕ
+key_now o = key_of o.op
+
+abbrev pub value_in : Op → ℕ
+value_in (Put key value) = value
+value_in (Get key) = 0
+value_in (Del key) = 0
+value_in (Set key value) = value
+
+abbrev pub or_root : Option ℕ → ℕ
+or_root None = 0
+or_root (Some s) = s
+
+abbrev pub first_or_root : List ℕ → ℕ
+first_or_root [] = 0
+first_or_root (s ∷ ss) = s
+
+abbrev pub but_first : List ℕ → List ℕ
+but_first [] = []
+but_first (s ∷ ss) = ss
+
+abbrev pub is_some : Option ℕ → Bool
+is_some None = false
+is_some (Some s) = true
+
+abbrev pub is_none_left : List ℕ → Bool
+is_none_left [] = true
+is_none_left (s ∷ ss) = false
+
+-- the node with the four fields of a new node, in the order in which they are stored
+abbrev pub content_part : ℕ → Part
+content_part i = if i == 0 then part.Key else if i == 1 then part.Value else if i == 2 then part.Link Left else part.Link Right
+
+abbrev pub content : ℕ → ℕ → Field
+content slot i = in_slot slot (content_part i)
+
+abbrev pub contents : ℕ → ℕ → ℕ → ℕ → ℕ → ℕ
+contents key value left right i = if i == 0 then key else if i == 1 then value else if i == 2 then left else right
+
+-- the keys for whose readers it waits
+abbrev pub low_key : Own → Waits → ℕ
+low_key o (Reuse aim) = 0
+low_key o (Move m) = key_now o + 1
+
+abbrev pub high_key : Waits → ℕ
+high_key (Reuse aim) = 18446744073709551615
+high_key (Move m) = m.next_key
+
+-- where a caller goes on
+abbrev pub go : Own → Stage → Own
+go o stage = record o { stage = stage }
+
+-- The locks of a delete and the words that it loads under them, by number; and what it judges by them.
+-- Source: docs/TREE_CALLS.md, "The calls".
+
+-- the slots that a delete locks, in their order, and how many they are
+abbrev pub successor_lock : Node → Option Successor → ℕ → ℕ
+successor_lock d None i = d.parent
+successor_lock d (Some u) i = if u.parent == d.node then u.slot else if i == 2 then u.parent else u.slot
+
+abbrev pub target_lock : Target → ℕ → ℕ
+target_lock t i = if i == 0 then t.node.parent else if i == 1 then t.node.node else successor_lock t.node t.successor i
+
+abbrev pub target_locks : Target → ℕ
+target_locks t = elim t.successor as (λ _. ℕ) [ None ↦ 2 | Some u ↦ if u.parent == t.node.node then 3 else 4 ]
+
+-- the words that it loads under them, by number: the word between the node's right and the link to the successor is left out where
+-- the node is the successor's parent
+abbrev pub successor_slot : Node → Option Successor → ℕ → ℕ
+successor_slot d None i = d.node
+successor_slot d (Some u) i = if i == 5 then u.parent else if i == 6 then u.parent else u.slot
+
+abbrev pub successor_part : Node → Option Successor → ℕ → Part
+successor_part d None i = part.Life
+successor_part d (Some u) i = if i == 5 then part.Life else if i == 6 then
+    (if u.parent == d.node then part.Link Right else part.Link Left) else if i == 7 then part.Life else part.Link Left
+
+abbrev pub target_slot : Target → ℕ → ℕ
+target_slot t i = if nat_lt i 2 then t.node.parent else if nat_lt i 5 then t.node.node else successor_slot t.node t.successor i
+
+abbrev pub target_part : Target → ℕ → Part
+target_part t i = if i == 0 then part.Life else if i == 1 then part.Link t.node.side
+    else if i == 2 then part.Life else if i == 3 then part.Link Left else if i == 4 then part.Link Right
+    else successor_part t.node t.successor i
+
+abbrev pub target_word : Target → ℕ → Field
+target_word t i = in_slot (target_slot t i) (target_part t i)
+
+abbrev pub with_found : Found → ℕ → ℕ → Found
+with_found f i n = record {
+  parent_life = if i == 0 then n else f.parent_life;
+  link = if i == 1 then n else f.link;
+  life = if i == 2 then n else f.life;
+  left = if i == 3 then n else f.left;
+  right = if i == 4 then n else f.right;
+  successor_parent_life = if i == 5 then n else f.successor_parent_life;
+  successor_link = if i == 6 then n else f.successor_link;
+  successor_life = if i == 7 then n else f.successor_life;
+  successor_left = if i == 8 then n else f.successor_left;
+}
+
+abbrev pub nothing_found : Found
+nothing_found = record {
+  parent_life = 0;
+  link = 0;
+  life = 0;
+  left = 0;
+  right = 0;
+  successor_parent_life = 0;
+  successor_link = 0;
+  successor_life = 0;
+  successor_left = 0;
+}
+
+abbrev pub successor_holds : Node → Option Successor → Found → Bool
+successor_holds d None f = (f.left == 0) || (f.right == 0)
+successor_holds d (Some u) f = not ((f.left == 0) || (f.right == 0))
+    && (((u.parent == d.node) || (f.successor_parent_life == 2 * u.parent_generation))
+    && ((f.successor_link == u.slot) && ((f.successor_life == 2 * u.generation) && (f.successor_left == 0))))
+
+abbrev pub target_holds : Target → Found → Bool
+target_holds t f = (f.parent_life == 2 * t.node.parent_generation)
+    && ((f.link == t.node.node) && ((f.life == 2 * t.node.generation) && successor_holds t.node t.successor f))
+
+-- the node's right as it was loaded last: where the node is the successor's parent, that was the link to the successor
+abbrev pub last_right : Node → Option Successor → Found → ℕ
+last_right d None f = f.right
+last_right d (Some u) f = if u.parent == d.node then f.successor_link else f.right
+
+-- the locks of a move in the order in which they are given up
+abbrev pub move_locks : Moving → List ℕ
+move_locks m = m.successor.slot ∷ (if m.successor.parent == m.node.node then m.copy
+    ∷ (m.node.node ∷ (m.node.parent ∷ [])) else m.successor.parent ∷ (m.copy ∷ (m.node.node ∷ (m.node.parent ∷ []))))
+
+-- The calls, step by step: at each point of a caller's program the step that it makes, and where it goes on.
+-- Source: docs/TREE_CALLS.md, "The calls".
 
 -- the step of a store while the front is odd
 abbrev pub store_act : Own → Update → Act
@@ -88,7 +283,7 @@ act_at o (at.SuccessorParentLife d u) = SearchLoad u.parent part.Life
 act_at o (at.SuccessorLife d u) = SearchLoad u.slot part.Life
 act_at o (at.TargetLock t i) = Lock (target_lock t i)
 act_at o (at.TargetLoad t i found) = LockedLoad (target_slot t i) (target_part t i)
-act_at o (at.Mark d child) = Mark d.node (2 * d.generation)
+act_at o (at.Mark d child) = MarkNode d.node (2 * d.generation)
 act_at o (at.EmptyTag number s b) = LockedLoad s (part.Tag b)
 act_at o (at.EmptyRaise number s b tag) = RaiseTag s b tag
 act_at o (at.SuccessorKey d u) = LockedLoad u.slot part.Key
@@ -96,8 +291,8 @@ act_at o (at.SuccessorValue d u next_key) = LockedLoad u.slot part.Value
 act_at o (at.CopyField d u next_key value i) = Fill (or_root o.spare) (content_part i) (contents next_key value d.left d.right i)
 act_at o (at.CopyAge d u next_key) = LoadOwnLife (or_root o.spare)
 act_at o (at.CopyLock d u next_key) = Lock (or_root o.spare)
-act_at o (at.CopyMark d u next_key) = Mark d.node (2 * d.generation)
-act_at o (at.OldMark m) = Mark m.successor.slot (2 * m.successor.generation)
+act_at o (at.CopyMark d u next_key) = MarkNode d.node (2 * d.generation)
+act_at o (at.OldMark m) = MarkNode m.successor.slot (2 * m.successor.generation)
 act_at o (at.OldRight m) = LockedLoad m.successor.slot (part.Link Right)
 act_at o (at.Unlink m child) =
     if m.successor.parent == m.node.node then UnlinkRight m.copy m.successor.slot child else UnlinkLeft m.successor.parent m.successor.slot

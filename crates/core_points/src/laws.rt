@@ -1,7 +1,6 @@
 //! What is promised of the points of the calls. Each function here has no body; its promise is the law. Read `needs_are_given` and
 //! `next_fits` first.
-ghost use Rattle.core_points.specs.Said.{AnswersAreSaid};
-ghost use Rattle.core_points.specs.Laws.{RuleTells, NeedsAreGiven, NextFits, ActsAreWithin, TrailsAreFree, CallsBegin, NewViewsAreFree, PointsKeep};
+ghost use Rattle.core_points.specs.Laws.{AnswersAreSaid, RuleTells, NeedsAreGiven, NextFits, ActsAreWithin, TrailsAreFree, CallsBegin, NewViewsAreFree, PointsKeep};
 
 /// At each point of each call, a view that fits the point has what its act needs.
 pub fn needs_are_given()

@@ -13,26 +13,24 @@ use Rattle.core_state.specs.declared.words.Kind.TheVariants.{K17, K37}
 use Rattle.core_state.specs.declared.view.StepMade.{StepMade}
 use Rattle.core_state.specs.declared.view.Trail.{Trail}
 use Rattle.core_state.specs.declared.view.View.{View}
-use Rattle.core_state.specs.memory.Words.{child_of}
-use Rattle.core_acts.specs.declared.act.Part.{Part}
-use Rattle.core_acts.specs.declared.act.Part.TheVariants as part
-use Rattle.core_acts.specs.declared.act.Act.{Act}
-use Rattle.core_acts.specs.declared.act.Act.TheVariants.{ListLoad, LookAtFront}
-use Rattle.core_acts.specs.Acts.{in_slot, kind_of, field_of, noted}
-use Rattle.core_acts.proofs.Acting.{stays_at_work}
-use Rattle.seat_table.specs.Told.{Told}
+use Rattle.core_state.specs.Memory.{child_of}
+use Rattle.core_state.specs.declared.act.Part.{Part}
+use Rattle.core_state.specs.declared.act.Part.TheVariants as part
+use Rattle.core_state.specs.declared.act.Act.{Act}
+use Rattle.core_state.specs.declared.act.Act.TheVariants.{ListLoad, LookAtFront}
+use Rattle.core_state.specs.Acts.{in_slot, kind_of, field_of, noted}
+use Rattle.core_laws.proofs.Acting.{stays_at_work}
+use Rattle.seat_table.specs.Gains.{Told}
 use Rattle.seat_table.specs.Sections.{Makes, is_entry, is_exit, HasEntered, HasLeft}
 use Rattle.exact_list.specs.declared.nearest.Found.{Found}
 use Rattle.exact_list.specs.declared.way.Next.{Next}
 use Rattle.exact_list.specs.declared.way.Next.TheVariants.{At, Lost}
 use Rattle.exact_list.specs.declared.way.Passed.{Passed}
 use Rattle.exact_list.specs.declared.way.Way.{Way}
-use Rattle.exact_list.specs.Loads.{load, loads_of, HasWalked, values_of, how_many, is_key, is_root, IsOneWalk, GoesDown, LeadDown, IsWayDown, IsOneWayDown}
+use Rattle.exact_list.specs.Loads.{load, loads_of, HasWalked, values_of, how_many, is_key, is_root, IsOneWalk, GoesDown, LeadDown, IsWayDown, IsOneWayDown, HasPassed, NextIs, least_passed}
 use Rattle.exact_list.specs.Pairs.{Pair}
-use Rattle.exact_list.specs.Tries.{is_load}
-use Rattle.exact_list.specs.Walked.{HasLoaded}
-use Rattle.exact_list.specs.Ways.{HasPassed, NextIs, least_passed}
-use Rattle.exact_list.proofs.Following.{child_is, no_child}
+use Rattle.exact_list.specs.Tries.{is_load, HasLoaded}
+use Rattle.exact_list.proofs.Loading.{child_is, no_child}
 
 -- ---- steps one after another
 

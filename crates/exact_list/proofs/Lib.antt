@@ -1,12 +1,4 @@
-pub mod Covering
 pub mod Loading
-pub mod Following
 pub mod Counting
 pub mod Walking
-pub mod Gathering
-pub mod Seeking
 pub mod Trying
-pub mod Standing
-pub mod Taking
-pub mod Holding
-pub mod Nearing

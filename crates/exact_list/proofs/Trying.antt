@@ -1,29 +1,56 @@
+-- Tries, the front taken and held, and what a list or a search tells by them.
 -- A try: a section is entered, the front is looked at, pairs are loaded, and it is left.
-use Rattle.std.proofs.Common.{◌≡◌, ℕ, suc, ◌+◌, cond, Bool, true, false, List, [], ◌∷◌, ◌++◌, length, Option, Some, None, refl, sym, ap, subst, ◌∙◌, arith, eq-eqb, append_assoc, append-nil, length-append}
+use Rattle.std.proofs.Common.{◌≡◌, ℕ, suc, ◌+◌, cond, Bool, true, false, List, [], ◌∷◌, ◌++◌, length, Option, Some, None, refl, sym, ap, subst, ◌∙◌, arith, eq-eqb, append_assoc, append-nil, length-append, ◌≢◌, ◌%◌, ne_eqb, ◌*◌, ◌/◌, ◌==◌, ◌≤◌, take, inl, inr, ◌<◌}
 use mathlib.Core.List.{IsPrefix}
 use Rattle.prcu_model.proofs.ListFacts.{prefix_trans}
 use Rattle.prcu_marks.specs.declared.mark.Mark.TheVariants.{Entered, Left}
-use Rattle.prcu_marks.specs.Marks.{own_of}
+use Rattle.prcu_marks.specs.Marks.{own_of, updates_of}
 use Rattle.core_state.specs.declared.shape.Shape.{Shape}
 use Rattle.core_state.specs.declared.words.Field.TheVariants.{Front}
 use Rattle.core_state.specs.declared.words.Kind.{Kind}
-use Rattle.core_state.specs.declared.words.Kind.TheVariants as kinds
 use Rattle.core_state.specs.declared.view.Listing.{Listing}
 use Rattle.core_state.specs.declared.view.Look.{Look}
 use Rattle.core_state.specs.declared.view.Section.{Section}
 use Rattle.core_state.specs.declared.view.View.{View}
-use Rattle.core_state.specs.steps.Loads.{new_listing, looked}
-use Rattle.core_frames.proofs.views.SeatFacts.{works_there}
-use Rattle.core_acts.specs.declared.act.Act.TheVariants.{LookAtFront}
-use Rattle.core_acts.specs.Acts.{noted, Asks, section_of}
-use Rattle.core_acts.proofs.Acting.{section_is}
+use Rattle.core_state.specs.Steps.{new_listing, looked, with_front}
+use Rattle.core_frames.proofs.Roles.{works_there}
+use Rattle.core_state.specs.declared.act.Act.TheVariants.{LookAtFront, GiveFrontBack}
+use Rattle.core_state.specs.Acts.{noted, Asks, section_of}
+use Rattle.core_laws.proofs.Acting.{section_is}
 use Rattle.seat_table.specs.Seats.{SeatAt, IsQuietSeat}
-use Rattle.seat_table.specs.Told.{Told}
+use Rattle.seat_table.specs.Gains.{Told, IsAsked, IsListedNow}
 use Rattle.seat_table.specs.Sections.{Makes, is_entry, is_exit, HasEntered, HasLeft}
-use Rattle.seat_table.proofs.Seating.{still_quiet}
-use Rattle.seat_table.proofs.Sections.{made_none, made_more, made_both, seen_more, own_more}
-use Rattle.exact_list.specs.Tries.{Try, numbers_of, looks_of, looks_from, marks_from, is_load, is_look, is_of_list, HasTried}
-use Rattle.exact_list.specs.Walked.{IsListing, HasLoaded}
+use Rattle.seat_table.proofs.Seats.{still_quiet}
+use Rattle.seat_table.proofs.SeveralSteps.{made_none, made_more, made_both, seen_more, own_more}
+use Rattle.exact_list.specs.Tries.{Try, numbers_of, looks_of, looks_from, marks_from, is_load, is_look, is_of_list, HasTried, IsListing, HasLoaded, is_exchange, LosesFront, TakesFront, GivesFrontBack, HasMoved, Paged, IsWhole, IsPart, IsBetweenFronts, IsRecent, HasStood, EndAs, Gathers}
+use Rattle.core_state.specs.declared.words.Kind.TheVariants.{K19}
+use Rattle.core_state.specs.Memory.{IsEven, IsOdd}
+use Rattle.std.proofs.Math.Seq.{take-append_seam}
+use mathlib.Core.Logic.{dite}
+use native.Mathlib.Decide.{ℕ_discrete}
+use Rattle.prcu_model.specs.Dictionary.{map_of}
+use Rattle.prcu_marks.specs.declared.mark.Mark.{Mark}
+use Rattle.prcu_marks.proofs.Marks.{updates_of-append, updates_below}
+use Rattle.core_state.specs.declared.view.Fact.{Fact}
+use Rattle.core_state.specs.declared.view.Gap.{Gap}
+use Rattle.core_state.specs.declared.view.StepMade.{StepMade}
+use Rattle.prcu_marks.specs.declared.commit.Commit.{Commit}
+use Rattle.core_state.specs.Parts.{map_now}
+use Rattle.key_interval.specs.Keys.{Interval}
+use Rattle.list_laws.specs.Counts.{Each}
+use Rattle.core_frames.proofs.First.{each_one, each_none, each_append}
+use Rattle.exact_list.specs.declared.listing.Listed.{Listed}
+use Rattle.exact_list.specs.declared.listing.Listed.TheVariants.{Whole, Part, Moved}
+use Rattle.exact_list.specs.Pairs.{Pair, had_at, ArePairs, fact_of, Cover}
+use Rattle.exact_list.specs.Loads.{HoldsUpTo, loads_of, HasWalked, HasListedAlone, HasListed, IsNearest, IsInGap, FindsNearest, ComesBy, IsTold}
+use Rattle.exact_list.proofs.Counting.{quiet_look, quiet_entry, quiet_exit, walked_within}
+use Rattle.exact_list.proofs.Walking.{covers_exact}
+use Rattle.prcu_marks.specs.declared.mark.Side.{Side}
+use Rattle.exact_list.specs.declared.nearest.Found.{Found}
+use Rattle.exact_list.specs.declared.nearest.Nearest.{Nearest}
+use Rattle.core_state.specs.declared.words.Kind.TheVariants as kinds
+use Rattle.core_state.specs.declared.act.Act.TheVariants as acts
+use Rattle.std.specs.FinMap as finite
 
 -- the section is a listing since its first look
 abbrev pub Lists : Option Listing → List ℕ → Type 0
@@ -283,3 +310,422 @@ quiet_tried s t key tries tried listed quiet =
     let is = tried.others in
     still_quiet s t (ap (λ (v : View). v.section) is) (ap (λ (v : View). v.locks) is) (ap (λ (v : View). v.hands) is)
     (ap (λ (v : View). v.moving) is) (ap (λ (v : View). v.commit) is) listed quiet
+
+-- The front, made odd by exchanges of which the last one isn't lost, and given back.
+
+pub loses_none : (v : View) → LosesFront v v
+loses_none v = record { made = made_none is_exchange v.trail; others = refl }
+
+module _ (k : Shape) (v w : View) (l : LosesFront v w) where
+  pub may_take : (expected : ℕ) → expected % 2 ≡ 0 → v.moving ≡ None → v.commit ≡ None → IsAsked k w (acts.OpenCommit expected)
+  may_take expected even settled paid = λ now. (
+    tt,
+    record { even = even; settled = ap (λ (z : View). z.moving) l.others ∙ settled; paid = ap (λ (z : View). z.commit) l.others ∙ paid },
+  )
+
+  module _ (expected found : ℕ) (x : View) (told : Told k w (acts.OpenCommit expected) found x) where
+    abbrev one_more : View
+    one_more = noted w (acts.OpenCommit expected) found
+
+    abbrev opened : View
+    opened = record (with_front one_more (expected + 1)) { commit = Some (record { found = expected; stored = false }) }
+
+    pub takes : found ≡ expected → expected % 2 ≡ 0 → TakesFront v found x
+    takes same even =
+        let goes : x ≡ opened = told.goes ∙ ap (λ z. cond z opened (with_front one_more found)) (eq-eqb found expected same) in
+        subst (TakesFront v found) (sym goes) (record {
+          even = subst IsEven (sym same) even;
+          made = made_more is_exchange v.trail w K19 Front found refl l.made;
+          last = (l.made.steps, refl);
+          others = λ i. record (l.others i) {
+            commit = Some (record { found = (sym same) i; stored = false });
+            latest = record ((l.others i).latest) { front = Some ((sym same) i + 1) };
+            trail = one_more.trail;
+          };
+        })
+
+    pub loses : found ≢ expected → LosesFront v x
+    loses other =
+        let goes : x ≡ with_front one_more found =
+        told.goes ∙ ap (λ z. cond z opened (with_front one_more found)) (ne_eqb found expected other) in
+        subst (LosesFront v) (sym goes) (record {
+          made = made_more is_exchange v.trail w K19 Front found refl l.made;
+          others = λ i. record (l.others i) { latest = record ((l.others i).latest) { front = Some found }; trail = one_more.trail };
+        })
+
+module _ (k : Shape) (v w : View) (front : ℕ) where
+  pub may_give_back : v.commit ≡ Some (record { found = front; stored = false }) → IsAsked k v (acts.GiveFrontBack front)
+  may_give_back has_it = λ now. (tt, has_it)
+
+  pub gives_back : Told k v (acts.GiveFrontBack front) front w → GivesFrontBack v front w
+  gives_back told = record {
+    trail = ap (λ (z : View). z.trail) told.goes;
+    others = told.goes ∙ (λ i. record v {
+      commit = None;
+      latest = record v.latest { front = Some front };
+      trail = (sym (ap (λ (z : View). z.trail) told.goes)) i;
+    });
+  }
+
+-- What a try tells whose second look found the number of the first, and how tries end.
+
+updates_on : (h seen : List Mark) (p : IsPrefix h seen) → updates_of seen ≡ updates_of h ++ updates_of p.0
+updates_on h seen p = ap updates_of (sym p.1) ∙ updates_of-append h p.0
+
+-- What the dictionary had after the updates of a beginning of the marks, it has by all marks at that front.
+had_now : (h seen : List Mark) (front : ℕ) → IsPrefix h seen → front ≡ length (updates_of h) → (key : ℕ)
+    → had_at (updates_of seen) front key ≡ map_now h key
+had_now h seen front p is key = ap (λ us. finite.get (map_of us) key)
+    ((λ i. take (is i) (updates_on h seen p i)) ∙ take-append_seam (updates_of h) (updates_of p.0))
+
+pub is_even : (n : ℕ) → (n % 2 == 1) ≡ false → IsEven n
+is_even n is = dite (ℕ_discrete (n % 2) 1) (λ odd. absurd (let e : true ≡ false = sym (eq-eqb (n % 2) 1 odd) ∙ is in cc))
+    (λ ne. omega (arith, ne))
+
+-- A try with two looks: from the view v a section with the key was entered, the front was looked at, pairs were loaded, the front was
+-- looked at
+-- again, and the section was left.
+pub record LooksTwice (k : Shape) (v : View) (key first n : ℕ) (d : View) : Type 0 where
+  pub first_seen : View
+  pub loaded : View
+  pub looked : View
+  pub begins : InTry v key (first ∷ []) first_seen
+  pub loads : HasLoaded first_seen loaded
+  pub told : Told k loaded LookAtFront n looked
+  pub left : HasLeft looked d
+  pub outside : v.section ≡ None
+  pub unloaded : loads_of first_seen.trail.steps ≡ loads_of v.trail.steps
+
+abbrev pub looks_twice : {k : Shape} {v e a b u d : View} {key entered first n : ℕ} → entered ≡ key → HasEntered v entered e
+    → Told k e LookAtFront first a → HasLoaded a b → Told k b LookAtFront n u → HasLeft u d → v.section ≡ None
+    → LooksTwice k v key first n d
+looks_twice {k} {v} {e} {a} {b} {u} {d} {key} {entered} {first} {n} same enters look loads told left outside = record {
+  first_seen = a;
+  loaded = b;
+  looked = u;
+  begins = first_try k v key entered e first a same enters look;
+  loads = loads;
+  told = told;
+  left = left;
+  outside = outside;
+  unloaded = quiet_look look ∙ quiet_entry enters;
+}
+
+module _ {k : Shape} {v : View} {key first n : ℕ} {d : View} (z : LooksTwice k v key first n d) where
+  before : InTry v key (first ∷ []) z.loaded
+  before = loaded_try v key (first ∷ []) z.first_seen z.begins z.loaded z.loads
+
+  pub tried_twice : HasTried v key (record { first = first; second = Some n } ∷ []) d
+  tried_twice = left_try v key (first ∷ n ∷ []) z.looked
+      (looked_try v key (first ∷ []) z.loaded before k n z.looked z.told) d z.outside z.left
+      (record { first = first; second = Some n }) refl
+
+  -- its loads are those between the looks
+  pub walked_twice : {which : Kind → Bool} {walk : List StepMade → Type 0} (m : Makes which v.trail d.trail)
+      → HasWalked z.first_seen walk z.loaded → walk (loads_of m.steps)
+  walked_twice {which} {walk} m x = walked_within v d z.unloaded z.loads (quiet_exit z.left ∙ quiet_look z.told) m x
+
+  pub moved_between : (first % 2 == 1) ≡ false → n ≢ first → EndAs (Moved first n) 1 (record { first = first; second = Some n } ∷ [])
+  moved_between even ne = (
+    refl,
+    each_one HasMoved (record { first = first; second = Some n }) (inr (is_even first even, (n, refl, ne))),
+    ([], record { first = first; second = Some n }, refl, refl, refl),
+  )
+
+  -- what was found is so by all marks at the second look
+  module _ {front : ℕ} (now : IsListedNow z.told.marks (record z.loads.section { listing = Some z.loads.after }) z.loads.after)
+      (half : front ≡ first / 2) where
+    count : front ≡ length (updates_of z.told.marks)
+    count = half ∙ ap (λ x. x / 2) (sym (front_is v key first z.first_seen z.loaded z.begins z.loads)) ∙ now.front
+
+    in_all : IsPrefix z.told.marks d.seen
+    in_all = subst (λ x. IsPrefix x d.seen) (ap (λ (x : View). x.seen) z.told.goes)
+        (seen_more z.looked d (Left z.looked.allowance.place z.left.section.count) z.left.leaves)
+
+    pub recent : IsBetweenFronts front v.seen d.seen
+    recent =
+        let old = updates_below v.seen z.told.marks (prefix_trans v.seen z.loaded.seen z.told.marks before.seen z.told.sees.begins) in
+        let new = updates_below z.told.marks d.seen in_all in
+        (omega (arith, old, count), omega (arith, new, count))
+
+    pub had : (y : ℕ) → had_at (updates_of d.seen) front y ≡ map_now z.told.marks y
+    had = had_now z.told.marks d.seen front in_all count
+
+    exact : (low below : ℕ) (pairs : List Pair) → Cover z.loads.after.facts z.loads.after.gaps low below pairs
+        → ArePairs (had_at (updates_of d.seen) front) low below pairs
+    exact low below pairs cover = covers_exact (had_at (updates_of d.seen) front) z.loads.after.facts z.loads.after.gaps low below pairs
+        (λ j (f : Fact) at. had f.key ∙ now.facts j f at) (λ j (gap : Gap) at y between. had y ∙ now.gaps j gap at y between) cover
+
+    pub holds_whole : (keys : Interval) (page : Paged) → length page.pairs ≤ page.capacity
+        → Cover z.loads.after.facts z.loads.after.gaps keys.low (keys.high + 1) page.pairs → IsWhole keys d.seen front page
+    holds_whole keys page fit cover = record { pairs = exact keys.low (keys.high + 1) page.pairs cover; fit = fit }
+
+    pub holds_part : (keys : Interval) (next : ℕ) (page : Paged) → Gathers z.loads.after keys page (Some next)
+        → IsPart keys d.seen front next page
+    holds_part keys next page g = record {
+      pairs = exact keys.low next page.pairs g.0;
+      full = g.2;
+      inside = g.1;
+      there = (g.3.0, had next ∙ now.facts g.3.1.0 (fact_of (next, g.3.0)) g.3.1.1);
+    }
+
+    pub holds_up_to : (keys : Interval) (next : Option ℕ) (page : Paged) → length page.pairs ≤ page.capacity
+        → Gathers z.loads.after keys page next → HoldsUpTo front next keys d.seen page
+    holds_up_to keys None page fit cover = holds_whole keys page fit cover
+    holds_up_to keys (Some next) page fit g = holds_part keys next page g
+
+  listing_is : ◌≡◌ {A = ℕ} z.loads.after.front first
+  listing_is = front_is v key first z.first_seen z.loaded z.begins z.loads
+
+  -- the second found the number of the first, which is even
+  module _ (same : n ≡ first) (even : (first % 2 == 1) ≡ false) where
+    pub beside_none : IsListedNow z.told.marks (record z.loads.section { listing = Some z.loads.after }) z.loads.after
+    beside_none = z.told.gains.same (record z.loads.section { listing = Some z.loads.after }) z.loads.after
+        (ap (λ (x : View). x.section) z.loads.others) refl (subst IsEven (sym same) (is_even first even)) (same ∙ sym listing_is)
+
+    pub stood : {front : ℕ} → front ≡ first / 2 → HasStood front 1 (record { first = first; second = Some n } ∷ [])
+    stood {front} half =
+        let twice : first ≡ 2 * front = omega (arith, half, is_even first even) in
+        (omega arith, ([], each_none HasMoved, λ j. record { first = twice j; second = Some ((same ∙ twice) j) } ∷ []))
+
+  -- the front is odd by the view, and its update unmade
+  module _ (commit : Commit) (is_open : z.loaded.commit ≡ Some commit) (unmade : commit.stored ≡ false) where
+    pub second_own : n ≡ commit.found + 1
+    second_own = z.told.gains.own commit is_open
+
+    pub held : first ≡ commit.found + 1 → IsListedNow z.told.marks (record z.loads.section { listing = Some z.loads.after }) z.loads.after
+    held first_own = z.told.gains.held (record z.loads.section { listing = Some z.loads.after }) z.loads.after commit
+        (ap (λ (x : View). x.section) z.loads.others) refl is_open unmade (second_own ∙ sym first_own ∙ sym listing_is)
+
+-- a try whose first look found an odd number
+module _ (k : Shape) (v : View) (key first : ℕ) (a : View) (i : InTry v key (first ∷ []) a) (d : View) (left : HasLeft a d)
+    (outside : v.section ≡ None) where
+  pub tried_once : HasTried v key (record { first = first; second = None } ∷ []) d
+  tried_once = left_try v key (first ∷ []) a i d outside left (record { first = first; second = None }) refl
+
+  pub moved_at_first : IsOdd first → EndAs (Moved first first) 1 (record { first = first; second = None } ∷ [])
+  moved_at_first odd = (
+    refl,
+    each_one HasMoved (record { first = first; second = None }) (inl (odd, refl)),
+    ([], record { first = first; second = None }, refl, refl, refl),
+  )
+
+-- one try after others
+stood_later : (front most : ℕ) (ts us : List Try) → length ts ≡ most → Each ts HasMoved → HasStood front 1 us
+    → HasStood front (most + 1) (ts ++ us)
+stood_later front most ts us long moved stands =
+    let all = length-append ts us in
+    let last : Try = record { first = 2 * front; second = Some (2 * front) } in (
+      omega (arith, all, long, stands.0),
+      (
+        ts ++ stands.1.0,
+        each_append HasMoved ts stands.1.0 moved stands.1.1,
+        ap (λ l. ts ++ l) stands.1.2 ∙ sym (append_assoc ts stands.1.0 (last ∷ [])),
+      ),
+    )
+
+pub ends_later : (r : Listed) (first last most : ℕ) (ts us : List Try) → EndAs (Moved first last) most ts → EndAs r 1 us
+    → EndAs r (most + 1) (ts ++ us)
+ends_later (Whole front) first last most ts us given ends = stood_later front most ts us given.0 given.1 ends
+ends_later (Part front next) first last most ts us given ends = stood_later front most ts us given.0 given.1 ends
+ends_later (Moved f n) first last most ts us given ends =
+    let all = length-append ts us in
+    let e = ends.2 in (
+      omega (arith, all, given.0, ends.0),
+      each_append HasMoved ts us given.1 ends.1,
+      (ts ++ e.0, e.1, ap (λ l. ts ++ l) e.2 ∙ sym (append_assoc ts e.0 (e.1 ∷ [])), e.3, e.4),
+    )
+
+-- where tries are left
+pub ends_early : (r : Listed) (most more : ℕ) (ts : List Try) → most ≤ more → ((first last : ℕ) → r ≡ Moved first last → ⊥)
+    → EndAs r most ts → EndAs r more ts
+ends_early (Whole front) most more ts less counted ends = (omega (arith, less, ends.0), ends.1)
+ends_early (Part front next) most more ts less counted ends = (omega (arith, less, ends.0), ends.1)
+ends_early (Moved first last) most more ts less counted ends = absurd (counted first last refl)
+
+pub recent_later : (r : Listed) (a b h : List Mark) → IsPrefix a b → IsRecent r b h → IsRecent r a h
+recent_later (Whole front) a b h p is = (let e = updates_below a b p in omega (arith, e, is.0), is.1)
+recent_later (Part front next) a b h p is = (let e = updates_below a b p in omega (arith, e, is.0), is.1)
+recent_later (Moved first last) a b h p is = tt
+
+-- A list under a front that its seat holds.
+
+-- the commit of a front that was taken and not stored under
+abbrev pub unmade : ℕ → Commit
+unmade front = record { found = front; stored = false }
+
+-- From the view v the front was taken, and a try with two looks was made.
+pub record ListsHolding (k : Shape) (v : View) (key front first n : ℕ) (d : View) : Type 0 where
+  pub holding : View
+  pub takes : TakesFront v front holding
+  pub looks : LooksTwice k holding key first n d
+  pub first_own : first ≡ front + 1
+
+abbrev pub lists_holding : {k : Shape} {v h e a b u d : View} {key entered front first n : ℕ} → v.section ≡ None → TakesFront v front h
+    → entered ≡ key → HasEntered h entered e → Told k e LookAtFront first a → HasLoaded a b → Told k b LookAtFront n u → HasLeft u d
+    → ListsHolding k v key front first n d
+lists_holding {k} {v} {h} {e} {a} {b} {u} {d} {key} {entered} {front} {first} {n} outside takes same enters first_look loads look left = record {
+  holding = h;
+  takes = takes;
+  looks = looks_twice same enters first_look loads look left (ap (λ (z : View). z.section) takes.others ∙ outside);
+  first_own = first_look.gains.own (unmade front) (ap (λ (z : View). z.commit) enters.others ∙ ap (λ (z : View). z.commit) takes.others);
+}
+
+module _ {k : Shape} {v : View} {key front first n : ℕ} {d : View} (x : ListsHolding k v key front first n d) where
+  is_open : x.looks.loaded.commit ≡ Some (unmade front)
+  is_open = ap (λ (z : View). z.commit) (loaded_try x.holding key (first ∷ []) x.looks.first_seen x.looks.begins x.looks.loaded x.looks.loads).others
+      ∙ ap (λ (z : View). z.commit) x.takes.others
+
+  pub now : IsListedNow x.looks.told.marks (record x.looks.loads.section { listing = Some x.looks.loads.after }) x.looks.loads.after
+  now = held x.looks (unmade front) is_open refl x.first_own
+
+  pub may_give : IsAsked k d (GiveFrontBack front)
+  may_give = may_give_back k d d front
+      (ap (λ (z : View). z.commit) (tried_twice x.looks).others ∙ ap (λ (z : View). z.commit) x.takes.others)
+
+  module _ {count : ℕ} (half : count ≡ front / 2) (w : View) (told : Told k d (GiveFrontBack front) front w) where
+    gives : GivesFrontBack d front w
+    gives = gives_back k d w front told
+
+    pub half_first : count ≡ first / 2
+    half_first = omega (arith, half, x.takes.even, x.first_own)
+
+    twice : front ≡ 2 * count
+    twice = omega (arith, half, x.takes.even)
+
+    first_is : first ≡ 2 * count + 1
+    first_is = omega (arith, twice, x.first_own)
+
+    second_is : n ≡ 2 * count + 1
+    second_is = let own = second_own x.looks (unmade front) is_open refl in omega (arith, twice, own)
+
+    pub seen : w.seen ≡ d.seen
+    seen = ap (λ (z : View). z.seen) gives.others
+
+    tried : HasTried x.holding key (record { first = 2 * count + 1; second = Some (2 * count + 1) } ∷ []) d
+    tried = subst (λ (t : Try). HasTried x.holding key (t ∷ []) d) (λ i. record { first = first_is i; second = Some (second_is i) })
+        (tried_twice x.looks)
+
+    pub alone : {walk : List StepMade → Type 0} → HasWalked x.looks.first_seen walk x.looks.loaded → HasListedAlone v key count walk w
+    alone {walk} walked = record {
+      holding = x.holding;
+      listed = d;
+      takes = subst (λ f. TakesFront v f x.holding) twice x.takes;
+      tried = tried;
+      walked = walked_twice x.looks tried.made walked;
+      gives = subst (λ f. GivesFrontBack d f w) twice gives;
+    }
+
+    pub alone_holds : (keys : Interval) (next : Option ℕ) (page : Paged) → length page.pairs ≤ page.capacity
+        → Gathers x.looks.loads.after keys page next → HoldsUpTo count next keys w.seen page
+    alone_holds keys next page fit g = subst (λ (h : List Mark). HoldsUpTo count next keys h page) (sym seen)
+        (holds_up_to x.looks now half_first keys next page fit g)
+
+    pub alone_recent : IsBetweenFronts count v.seen w.seen
+    alone_recent = subst (λ (h : List Mark). IsBetweenFronts count v.seen h) (sym seen)
+        (subst (λ (h : List Mark). IsBetweenFronts count h d.seen) (ap (λ (z : View). z.seen) x.takes.others) (recent x.looks now half_first))
+
+-- who listed alone is as quiet as before
+pub quiet_alone : {s t : SeatAt} {key front : ℕ} {walk : List StepMade → Type 0} → HasListedAlone s.view key front walk t.view
+    → t.listed ≡ s.listed → IsQuietSeat s → IsQuietSeat t
+quiet_alone {s} {t} {key} {front} {walk} a listed quiet =
+    let gives = a.gives.others in
+    let tried = a.tried.others in
+    let takes = a.takes.others in
+    still_quiet s t (ap (λ (v : View). v.section) gives ∙ ap (λ (v : View). v.section) tried ∙ ap (λ (v : View). v.section) takes)
+    (ap (λ (v : View). v.locks) gives ∙ ap (λ (v : View). v.locks) tried ∙ ap (λ (v : View). v.locks) takes)
+    (ap (λ (v : View). v.hands) gives ∙ ap (λ (v : View). v.hands) tried ∙ ap (λ (v : View). v.hands) takes)
+    (ap (λ (v : View). v.moving) gives ∙ ap (λ (v : View). v.moving) tried ∙ ap (λ (v : View). v.moving) takes)
+    (ap (λ (v : View). v.commit) gives ∙ sym quiet.view.commit) listed quiet
+
+pub alone_tickets : {v w : View} {key front : ℕ} {walk : List StepMade → Type 0} → HasListedAlone v key front walk w
+    → w.allowance.tickets ≡ v.allowance.tickets
+alone_tickets a = ap (λ (z : View). z.allowance.tickets) a.gives.others
+    ∙ ap (λ (z : View). z.allowance.tickets) a.tried.others ∙ ap (λ (z : View). z.allowance.tickets) a.takes.others
+
+-- and so is who never had the front
+pub quiet_lost : {s t : SeatAt} → LosesFront s.view t.view → t.listed ≡ s.listed → IsQuietSeat s → IsQuietSeat t
+quiet_lost {s} {t} l listed quiet =
+    let is = l.others in
+    still_quiet s t (ap (λ (v : View). v.section) is) (ap (λ (v : View). v.locks) is) (ap (λ (v : View). v.hands) is)
+    (ap (λ (v : View). v.moving) is) (ap (λ (v : View). v.commit) is) listed quiet
+
+-- The nearest pair, by what a try has found, and after tries in which updates were made.
+
+-- what was found is so of the dictionary at the front
+module _ {k : Shape} {v : View} {key first n : ℕ} {d : View} (z : LooksTwice k v key first n d) {front : ℕ}
+    (listed : IsListedNow z.told.marks (record z.loads.section { listing = Some z.loads.after }) z.loads.after)
+    (half : front ≡ first / 2) where
+  none_in : (y : ℕ) → IsInGap z.loads.after.gaps y → had_at (updates_of d.seen) front y ≡ None
+  none_in y gap = had z listed half y ∙ listed.gaps gap.1.0 gap.0 gap.1.1 y gap.2
+
+  pub is_nearest : (side : Side) (from : ℕ) (pair : Option Found) → FindsNearest z.loads.after side from pair
+      → IsNearest (had_at (updates_of d.seen) front) side from pair
+  is_nearest side from None finds = λ y on. none_in y (finds y on)
+  is_nearest side from (Some p) finds = record {
+    there = had z listed half p.key ∙ listed.facts finds.there.0 (fact_of (p.key, p.value)) finds.there.1;
+    on = finds.on;
+    none_before = λ y on before. none_in y (finds.none_before y on before);
+  }
+
+  pub is_told : (side : Side) (from : ℕ) (pair : Option Found) → FindsNearest z.loads.after side from pair
+      → IsTold (Some (record { front = front; pair = pair })) side from v.seen d.seen
+  is_told side from pair finds = (is_nearest side from pair finds, recent z listed half)
+
+-- both looks found twice the front
+pub came_twice : (first n front : ℕ) → n ≡ first → (first % 2 == 1) ≡ false → front ≡ first / 2
+    → ◌≡◌ {A = Try} (record { first = first; second = Some n }) (record { first = 2 * front; second = Some (2 * front) })
+came_twice first n front same even half =
+    let twice : first ≡ 2 * front = omega (arith, half, is_even first even) in
+    λ j. record { first = twice j; second = Some ((same ∙ twice) j) }
+
+-- under a front that the seat holds
+module _ {k : Shape} {v : View} {key front first n : ℕ} {d : View} (x : ListsHolding k v key front first n d) {count : ℕ}
+    (half : count ≡ front / 2) (w : View) (told : Told k d (GiveFrontBack front) front w) where
+  pub alone_nearest : (side : Side) (from : ℕ) (pair : Option Found) → FindsNearest x.looks.loads.after side from pair
+      → IsNearest (had_at (updates_of w.seen) count) side from pair
+  alone_nearest side from pair finds = subst (λ (h : List Mark). IsNearest (had_at (updates_of h) count) side from pair)
+      (sym (seen x half w told)) (is_nearest x.looks (now x) (half_first x half w told) side from pair finds)
+
+-- From the view v so many tries were made, with an update under way or made in each.
+pub record HasFailed (v : View) (key count : ℕ) (w : View) : Type 0 where
+  pub made : List Try
+  pub tried : HasTried v key made w
+  pub many : length made ≡ count
+  pub moved : Each made HasMoved
+
+pub fails_none : (v : View) (key : ℕ) → HasFailed v key 0 v
+fails_none v key = record { made = []; tried = tried_none v key; many = refl; moved = each_none HasMoved }
+
+module _ {v u : View} {key count : ℕ} (x : HasFailed v key count u) where
+  one_more_try : {w : View} (t : Try) → HasTried u key (t ∷ []) w → HasTried v key (x.made ++ t ∷ []) w
+  one_more_try {w} t tried = tried_both v u w key x.made (t ∷ []) x.tried tried
+
+  -- one try more
+  module _ {w : View} {looked : Option Nearest} (t : (t : Try) × HasTried u key (t ∷ []) w × ComesBy looked t) where
+    pub fails_again : looked ≡ None → HasFailed v key (count + 1) w
+    fails_again is = record {
+      made = x.made ++ t.0 ∷ [];
+      tried = one_more_try t.0 t.1;
+      many = (let all = length-append x.made (t.0 ∷ []) in let many = x.many in omega (arith, all, many));
+      moved = each_append HasMoved x.made (t.0 ∷ []) x.moved (each_one HasMoved t.0 (subst (λ o. ComesBy o t.0) is t.2));
+    }
+
+    pub comes_by_try : {nearest : Nearest} {walk : List StepMade → Type 0} → looked ≡ Some nearest → (most : ℕ) → count < most
+        → HasListed v key nearest.front most walk w
+    comes_by_try {nearest} {walk} is most less =
+        let last : Try = record { first = 2 * nearest.front; second = Some (2 * nearest.front) } in
+        let one : t.0 ≡ last = subst (λ o. ComesBy o t.0) is t.2 in
+        let all = length-append x.made (t.0 ∷ []) in
+        let many = x.many in
+        inl (record {
+          tries = x.made ++ t.0 ∷ [];
+          tried = one_more_try t.0 t.1;
+          stood = (omega (arith, all, many, less), (x.made, x.moved, ap (λ (l : Try). x.made ++ l ∷ []) one));
+        })
+
+  -- after all of them the seat goes on alone
+  pub comes_alone : {w : View} {front most : ℕ} {walk : List StepMade → Type 0} → count ≡ most → HasListedAlone u key front walk w
+      → HasListed v key front most walk w
+  comes_alone {w} {front} {most} {walk} all alone =
+      inr (record { tries = x.made; failed = u; tried = x.tried; all = x.many ∙ all; moved = x.moved; alone = alone })

@@ -1,10 +1,3 @@
 pub mod Pairs
-pub mod Laws
 pub mod Tries
-pub mod Answers
-pub mod Fronts
-pub mod Walked
-pub mod Ways
 pub mod Loads
-pub mod Alone
-pub mod Nearest

@@ -1,19 +1,78 @@
--- Which loads a walk makes: of a list, and of a search for the nearest pair.
+-- Which loads are made on the way, lists that always come, and the nearest pair.
+-- The way of a walk: where it has come to, and the slots to which it goes back.
 -- Source: docs/TREE_CALLS.md, "Lists of a key range".
-use Rattle.std.specs.Prelude.{◌≡◌, ◌≢◌, ℕ, ◌+◌, ◌*◌, ◌==◌, ◌≤◌, if◌then◌else◌, Bool, true, false, List, [], ◌∷◌, ◌++◌, map, Option, Some, None}
+use Rattle.std.specs.Prelude.{◌≡◌, ℕ, ◌+◌, ◌≤◌, ◌⊎◌, if◌then◌else◌, true, false, List, [], ◌∷◌, ◌++◌, length, Option, Some, None, ◌≢◌, ◌*◌, ◌==◌, Bool, map, ◌^◌, ◌<◌}
+use Rattle.core_state.specs.declared.shape.Shape.{Shape}
+use Rattle.core_state.specs.declared.view.Gap.{Gap}
+use Rattle.core_state.specs.declared.view.Listing.{Listing}
+use Rattle.core_state.specs.declared.view.Visit.{Visit}
+use Rattle.core_state.specs.Parts.{low_bound, high_bound, IsBetween}
+use Rattle.exact_list.specs.declared.way.Next.{Next}
+use Rattle.exact_list.specs.declared.way.Next.TheVariants.{At, Done, Lost}
+use Rattle.exact_list.specs.declared.way.Passed.{Passed}
+use Rattle.exact_list.specs.declared.way.Way.{Way}
+use Rattle.exact_list.specs.Tries.{KnowsKey, Leads, is_load, TakesFront, GivesFrontBack, Paged, IsWhole, IsPart, HasStood, Try, HasMoved, HasTried, IsBetweenFronts}
 use Rattle.std.specs.List.{filter, filter_map}
 use Rattle.prcu_marks.specs.declared.mark.Side.{Side}
-use Rattle.prcu_marks.specs.declared.mark.Side.TheVariants.{Right}
+use Rattle.prcu_marks.specs.declared.mark.Side.TheVariants.{Right, Left}
 use Rattle.core_state.specs.declared.words.Field.{Field}
 use Rattle.core_state.specs.declared.words.Field.TheVariants.{Key, Value, Link}
 use Rattle.core_state.specs.declared.words.Kind.TheVariants.{K17}
 use Rattle.core_state.specs.declared.view.StepMade.{StepMade}
 use Rattle.core_state.specs.declared.view.View.{View}
 use Rattle.exact_list.specs.declared.nearest.Found.{Found}
-use Rattle.exact_list.specs.declared.way.Way.{Way}
-use Rattle.exact_list.specs.Pairs.{Pair}
-use Rattle.exact_list.specs.Tries.{is_load}
-use Rattle.exact_list.specs.Ways.{most_kept, least_passed}
+use Rattle.exact_list.specs.Pairs.{Pair, had_at, fact_of}
+use Rattle.key_interval.specs.Keys.{Interval}
+use Rattle.prcu_marks.specs.declared.mark.Mark.{Mark}
+use Rattle.list_laws.specs.Counts.{Each, IsIn}
+use Rattle.exact_list.specs.declared.alone.Exact.{Exact}
+use Rattle.prcu_marks.specs.Marks.{updates_of}
+use Rattle.exact_list.specs.declared.nearest.Nearest.{Nearest}
+
+-- so many slots of a way are kept
+abbrev pub most_kept : ℕ
+most_kept = 64
+
+-- One slot more on the way. Only where the way was full, it was cut, and the slot is the only one.
+abbrev pub HasPassed : Way → Passed → Way → Type 0
+HasPassed way p new =
+    ((new.passed.items ≡ way.passed.items ++ p ∷ []) × (new.cut ≡ way.cut))
+    ⊎ ((length way.passed.items ≡ most_kept) × (new.passed.items ≡ p ∷ []) × (new.cut ≡ true))
+
+-- where a walk goes on: at the latest slot; it is through; or at the root, only where the way was cut and no slot is left
+abbrev pub NextIs : Way → Next → Way → Type 0
+NextIs way (At p) new = (way.passed.items ≡ new.passed.items ++ p ∷ []) × (new.cut ≡ way.cut)
+NextIs way Done new = (way.passed.items ≡ []) × (way.cut ≡ false)
+NextIs way Lost new = (way.passed.items ≡ []) × (way.cut ≡ true) × (new.passed.items ≡ []) × (new.cut ≡ false)
+
+-- At least so many slots were passed to the left since the way began at the root: those kept, or where it was cut one more than there is
+-- room for.
+abbrev pub least_passed : Way → ℕ
+least_passed way = if way.cut then most_kept + 1 else length way.passed.items
+
+-- a slot where the walk has been, with the key that it found there, and this upper bound
+pub record IsKept (k : Shape) (visits : List Visit) (high : Option ℕ) (p : Passed) : Type 0 where
+  pub low : Option ℕ
+  pub known : KnowsKey k visits p.slot p.key (record { low = low; high = high })
+
+-- The walk was at each of these slots. The upper bound is the first number at the first, the key of the one before at each other, and the
+-- key of the last where the walk is now.
+abbrev pub AreKept : Shape → List Visit → Option ℕ → List Passed → Option ℕ → Type 0
+AreKept k visits first [] high = high ≡ first
+AreKept k visits first (p ∷ ps) high = IsKept k visits first p × AreKept k visits (Some p.key) ps high
+
+-- Where a walk for keys from one on has come to by its latest link. Where nothing was given up of its way, the first slot has no upper
+-- bound.
+pub record HasCome (k : Shape) (l : Listing) (from link : ℕ) (way : Way) : Type 0 where
+  pub bounds : Gap
+  pub low : low_bound bounds.low ≤ from
+  pub first : Option ℕ
+  pub whole : way.cut ≡ false → first ≡ None
+  pub kept : AreKept k l.visits first way.passed.items bounds.high
+  pub leads : Leads k l bounds link
+
+-- Which loads a walk makes: of a list, and of a search for the nearest pair.
+-- Source: docs/TREE_CALLS.md, "Lists of a key range".
 
 -- a load in a section, of this word, which found this number
 abbrev pub load : Field → ℕ → StepMade
@@ -85,3 +144,115 @@ pub record IsWayDown (to : ℕ) (loads : List StepMade) : Type 0 where
 abbrev pub IsOneWayDown : Option Found → List StepMade → Type 0
 IsOneWayDown None loads = IsWayDown 0 loads
 IsOneWayDown (Some pair) loads = (way : List StepMade) × (slot : ℕ) × IsWayDown 0 way × (loads ≡ way ++ load (Value slot) pair.value ∷ [])
+
+-- Lists that always come: by a try, or alone, under a front that the seat holds.
+-- Source: docs/TREE_CALLS.md, "Lists of a key range".
+
+-- what the page holds: all pairs of the range, or the first ones, with the key after them
+abbrev pub HoldsUpTo : ℕ → Option ℕ → Interval → List Mark → Paged → Type 0
+HoldsUpTo front None keys h page = IsWhole keys h front page
+HoldsUpTo front (Some next) keys h page = IsPart keys h front next page
+
+abbrev pub HoldsExactly : Exact → Interval → List Mark → Paged → Type 0
+HoldsExactly answer keys h page = HoldsUpTo answer.front answer.next keys h page
+
+-- The seat took the front after so many updates, made one try, both of whose looks found the front as it had made it, and gave it back. So
+-- it held the front for one section, and made no update under it. All that it loaded meanwhile is this walk.
+pub record HasListedAlone (v : View) (key front : ℕ) (walk : List StepMade → Type 0) (w : View) : Type 0 where
+  pub holding : View
+  pub listed : View
+  pub takes : TakesFront v (2 * front) holding
+  pub tried : HasTried holding key (record { first = 2 * front + 1; second = Some (2 * front + 1) } ∷ []) listed
+  pub walked : walk (loads_of tried.made.steps)
+  pub gives : GivesFrontBack listed (2 * front) w
+
+-- The last of at most so many tries found twice the front at both looks.
+pub record HasListedByTry (v : View) (key front most : ℕ) (w : View) : Type 0 where
+  pub tries : List Try
+  pub tried : HasTried v key tries w
+  pub stood : HasStood front most tries
+
+-- Just so many tries were made, with an update under way or made in each; then the seat listed alone.
+pub record HasListedAfterTries (v : View) (key front most : ℕ) (walk : List StepMade → Type 0) (w : View) : Type 0 where
+  pub tries : List Try
+  pub failed : View
+  pub tried : HasTried v key tries failed
+  pub all : length tries ≡ most
+  pub moved : Each tries HasMoved
+  pub alone : HasListedAlone failed key front walk w
+
+abbrev pub HasListed : View → ℕ → ℕ → ℕ → (List StepMade → Type 0) → View → Type 0
+HasListed v key front most walk w = HasListedByTry v key front most w ⊎ HasListedAfterTries v key front most walk w
+
+-- The pair of a dictionary that is nearest to a key, on a side of it, and what a listing has to find for that.
+-- Source: docs/TREE_CALLS.md, "Lists of a key range".
+
+-- a key on this side of another, or that key itself
+abbrev pub IsOn : Side → ℕ → ℕ → Type 0
+IsOn Left from key = key ≤ from
+IsOn Right from key = (from ≤ key) × (key < 2 ^ 64)
+
+-- who goes to this side comes past the first key before the second
+abbrev pub IsBefore : Side → ℕ → ℕ → Type 0
+IsBefore Left key end = end < key
+IsBefore Right key end = key < end
+
+-- The map has the pair, which is on this side of the key, and it has no key there that comes before.
+pub record IsNearestPair (map : ℕ → Option ℕ) (side : Side) (from : ℕ) (pair : Found) : Type 0 where
+  pub there : map pair.key ≡ Some pair.value
+  pub on : IsOn side from pair.key
+  pub none_before : (key : ℕ) → IsOn side from key → IsBefore side key pair.key → map key ≡ None
+
+-- the map's pair that is nearest to the key, on this side of it; or none, where the map has no key there
+abbrev pub IsNearest : (ℕ → Option ℕ) → Side → ℕ → Option Found → Type 0
+IsNearest map side from None = (key : ℕ) → IsOn side from key → map key ≡ None
+IsNearest map side from (Some pair) = IsNearestPair map side from pair
+
+-- the key lies in one of the gaps found
+abbrev pub IsInGap : List Gap → ℕ → Type 0
+IsInGap gaps key = (gap : Gap) × IsIn gaps gap × IsBetween gap key
+
+-- The pair is one of the facts found, on this side of the key, and each key there that comes before lies in a gap found.
+pub record FindsPair (l : Listing) (side : Side) (from : ℕ) (pair : Found) : Type 0 where
+  pub there : IsIn l.facts (fact_of (pair.key, pair.value))
+  pub on : IsOn side from pair.key
+  pub none_before : (key : ℕ) → IsOn side from key → IsBefore side key pair.key → IsInGap l.gaps key
+
+abbrev pub FindsNearest : Listing → Side → ℕ → Option Found → Type 0
+FindsNearest l side from None = (key : ℕ) → IsOn side from key → IsInGap l.gaps key
+FindsNearest l side from (Some pair) = FindsPair l side from pair
+
+-- what one try came to: an update was under way or made; or both looks found twice the front that is told
+abbrev pub ComesBy : Option Nearest → Try → Type 0
+ComesBy None t = HasMoved t
+ComesBy (Some nearest) t = t ≡ record { first = 2 * nearest.front; second = Some (2 * nearest.front) }
+
+-- what a try tells where it came: the nearest pair at its front, which isn't older than what was seen before
+abbrev pub IsTold : Option Nearest → Side → ℕ → List Mark → List Mark → Type 0
+IsTold None side from before now = Unit {0}
+IsTold (Some nearest) side from before now = IsNearest (had_at (updates_of now) nearest.front) side from nearest.pair
+    × IsBetweenFronts nearest.front before now
+
+-- the bound on the other side doesn't leave the key out
+abbrev pub IsOpenTo : Side → ℕ → Gap → Type 0
+IsOpenTo Left from bounds = from < high_bound bounds.high
+IsOpenTo Right from bounds = low_bound bounds.low ≤ from
+
+-- the bound on this side
+abbrev pub bound_on : Side → Gap → Option ℕ
+bound_on Left bounds = bounds.low
+bound_on Right bounds = bounds.high
+
+-- the slot passed last on the side on which a pair is sought: its key is there, and is the bound on that side
+abbrev pub IsPassed : Shape → List Visit → Side → ℕ → Gap → Option Passed → Type 0
+IsPassed k visits side from bounds None = bound_on side bounds ≡ None
+IsPassed k visits side from bounds (Some p) = (bound_on side bounds ≡ Some p.key) × IsOn side from p.key
+    × ((there : Gap) × KnowsKey k visits p.slot p.key there)
+
+-- Where a way down has come to by its latest link, in search of the nearest pair on a side of the key: between bounds that are open to that
+-- side from the key up to the slot passed last there.
+pub record HasReached (k : Shape) (l : Listing) (side : Side) (from link : ℕ) (best : Option Passed) : Type 0 where
+  pub bounds : Gap
+  pub near : IsOpenTo side from bounds
+  pub passed : IsPassed k l.visits side from bounds best
+  pub leads : Leads k l bounds link

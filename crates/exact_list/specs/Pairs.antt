@@ -1,15 +1,16 @@
+-- The pairs of a range, and what facts and gaps of them come to.
 -- The pairs of a dictionary in a range of keys, and what a listing has to find of them.
 -- Source: docs/TREE_CALLS.md, "Lists of a key range".
-use Rattle.std.specs.Prelude.{◌≡◌, ℕ, ◌<◌, ◌≤◌, ◌⊎◌, List, Option, Some}
-use Rattle.std.specs.FinMap as finite
+use Rattle.std.specs.Prelude.{◌≡◌, ℕ, ◌<◌, ◌≤◌, ◌⊎◌, List, Option, Some, None}
 use mathlib.Core.Option.{some}
 use lib.ListN.{get_elem?}
 use Rattle.prcu_model.specs.declared.operation.Update.{Update}
 use Rattle.prcu_model.specs.Dictionary.{map_at}
 use Rattle.core_state.specs.declared.view.Fact.{Fact}
 use Rattle.core_state.specs.declared.view.Gap.{Gap}
-use Rattle.core_state.specs.parts.ListingParts.{IsBetween}
+use Rattle.core_state.specs.Parts.{IsBetween}
 use Rattle.list_laws.specs.Counts.{IsIn, Each}
+use Rattle.std.specs.FinMap as finite
 
 -- a key and its value
 abbrev pub Pair : Type 0
@@ -45,3 +46,17 @@ pub record Cover (facts : List Fact) (gaps : List Gap) (low below : ℕ) (pairs 
   pub found : Each pairs (λ (p : Pair). IsIn facts (fact_of p))
   pub all : (key : ℕ) → low ≤ key → key < below → ((value : ℕ) × IsIn pairs (key, value))
       ⊎ ((gap : Gap) × IsIn gaps gap × IsBetween gap key)
+
+-- What a listing's facts and gaps come to, over definitions alone.
+-- Source: docs/TREE_CALLS.md, "Lists of a key range".
+
+-- Where the facts found are so of a map, and it has no key in the gaps found, pairs that cover a range are exactly the map's there.
+abbrev pub CoversAreExact : Type 0
+CoversAreExact = (map : ℕ → Option ℕ) (facts : List Fact) (gaps : List Gap) (low below : ℕ) (pairs : List Pair)
+    → Each facts (λ (f : Fact). map f.key ≡ Some f.value) → Each gaps (λ (gap : Gap). (y : ℕ) → IsBetween gap y → map y ≡ None)
+    → Cover facts gaps low below pairs → ArePairs map low below pairs
+
+-- A map has one such list for a range, no other.
+abbrev pub PairsAreOne : Type 0
+PairsAreOne = (map : ℕ → Option ℕ) (low below : ℕ) (pairs others : List Pair) → ArePairs map low below pairs → ArePairs map low below others
+    → pairs ≡ others

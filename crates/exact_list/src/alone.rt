@@ -1,10 +1,9 @@
 //! Lists that always come: where others update in each try, the list goes on alone, under a front that it holds.
 ghost use Rattle.std.specs.Prelude.{◌≡◌, ◌≤◌, IfOk, IfErr};
-ghost use Rattle.seat_table.specs.Rounds.{HasMade};
+ghost use Rattle.seat_table.specs.Sections.{HasMade};
 ghost use Rattle.seat_table.specs.Seats.{IsQuietSeat};
-ghost use Rattle.exact_list.specs.Alone.{HasListed, HasListedAlone, HoldsExactly};
-ghost use Rattle.exact_list.specs.Answers.{IsBetweenFronts};
-ghost use Rattle.exact_list.specs.Loads.{IsOneWalk};
+ghost use Rattle.exact_list.specs.Loads.{HasListed, HasListedAlone, HoldsExactly, IsOneWalk};
+ghost use Rattle.exact_list.specs.Tries.{IsBetweenFronts};
 
 use crate::front::take_front;
 use crate::listing::{Listed, list};

@@ -1,16 +1,14 @@
 //! The way down to the pair that is nearest to a key.
 ghost use Rattle.std.specs.Prelude.{◌≡◌, ◌↔◌, IsTrue, IfOk, IfErr};
-ghost use Rattle.core_state.specs.memory.Words.{across};
-ghost use Rattle.seat_table.specs.Rounds.{HasMade};
+ghost use Rattle.core_state.specs.Memory.{across};
+ghost use Rattle.seat_table.specs.Sections.{HasMade};
 ghost use Rattle.seat_table.specs.Seats.{shape_of};
-ghost use Rattle.exact_list.specs.Loads.{HasWalked, IsWayDown, IsOneWayDown};
-ghost use Rattle.exact_list.specs.Nearest.{IsOn, HasReached, FindsNearest};
-ghost use Rattle.exact_list.specs.Walked.{IsListing, HasLoaded};
+ghost use Rattle.exact_list.specs.Loads.{HasWalked, IsWayDown, IsOneWayDown, IsOn, HasReached, FindsNearest};
+ghost use Rattle.exact_list.specs.Tries.{IsListing, HasLoaded};
 
 use crate::nearest::Found;
 use crate::way::Passed;
-use core_acts::Part;
-use core_state::child_of;
+use core_state::{Part, child_of};
 use patience::Patience;
 use prcu_marks::Side;
 use seat_table::{CitrusTable, Seat, WaitWords, steps};

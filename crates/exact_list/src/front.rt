@@ -1,8 +1,8 @@
 //! The front, taken for a while: no other seat makes an update meanwhile.
 ghost use Rattle.std.specs.Prelude.{◌≡◌, ◌%◌, ◌≤◌, None, IfOk, IfErr};
-ghost use Rattle.prcu_marks.specs.Bounds.{most_front};
-ghost use Rattle.seat_table.specs.Rounds.{HasMade};
-ghost use Rattle.exact_list.specs.Fronts.{LosesFront, TakesFront};
+ghost use Rattle.prcu_marks.specs.Marks.{most_front};
+ghost use Rattle.seat_table.specs.Sections.{HasMade};
+ghost use Rattle.exact_list.specs.Tries.{LosesFront, TakesFront};
 
 use core_state::linking;
 use patience::Patience;

@@ -1,9 +1,8 @@
 //! Lists of a key range.
 ghost use Rattle.std.specs.Prelude.{◌≡◌, ◌≤◌, List, [], ◌∷◌, None, IfOk, IfErr};
-ghost use Rattle.seat_table.specs.Rounds.{HasMade};
+ghost use Rattle.seat_table.specs.Sections.{HasMade};
 ghost use Rattle.seat_table.specs.Seats.{IsQuietSeat};
-ghost use Rattle.exact_list.specs.Answers.{Holds, IsRecent, EndAs};
-ghost use Rattle.exact_list.specs.Tries.{Try, HasTried};
+ghost use Rattle.exact_list.specs.Tries.{Holds, IsRecent, EndAs, Try, HasTried};
 
 use crate::page::Page;
 use crate::walks::gather;

@@ -1,14 +1,11 @@
 //! The pair that is nearest to a key.
 ghost use Rattle.std.specs.Prelude.{◌≡◌, [], ◌∷◌, None, IfOk, IfErr};
 ghost use Rattle.prcu_marks.specs.Marks.{updates_of};
-ghost use Rattle.seat_table.specs.Rounds.{HasMade};
+ghost use Rattle.seat_table.specs.Sections.{HasMade};
 ghost use Rattle.seat_table.specs.Seats.{IsQuietSeat};
-ghost use Rattle.exact_list.specs.Alone.{HasListed, HasListedAlone};
-ghost use Rattle.exact_list.specs.Answers.{IsBetweenFronts};
-ghost use Rattle.exact_list.specs.Loads.{IsOneWayDown};
-ghost use Rattle.exact_list.specs.Nearest.{IsNearest, ComesBy, IsTold};
+ghost use Rattle.exact_list.specs.Loads.{HasListed, HasListedAlone, IsOneWayDown, IsNearest, ComesBy, IsTold};
+ghost use Rattle.exact_list.specs.Tries.{IsBetweenFronts, Try, HasTried};
 ghost use Rattle.exact_list.specs.Pairs.{had_at};
-ghost use Rattle.exact_list.specs.Tries.{Try, HasTried};
 
 use crate::descent::seek_pair;
 use crate::front::take_front;

@@ -16,7 +16,7 @@ pub struct Page {
 impl Model for Page {
     ghost use Rattle.std.specs.Prelude.{◌<◌, ◌≤◌};
     ghost use Rattle.std.specs.Vec.{vec_len, vec_capacity};
-    ghost use Rattle.exact_list.specs.Answers.{Paged};
+    ghost use Rattle.exact_list.specs.Tries.{Paged};
 
     ghost Value = { Paged };
 

@@ -2,12 +2,9 @@
 ghost use Rattle.std.specs.Prelude.{◌≡◌, ◌≤◌, List};
 ghost use Rattle.prcu_marks.specs.Marks.{updates_of};
 ghost use Rattle.seat_table.specs.Seats.{IsQuietSeat};
-ghost use Rattle.exact_list.specs.Alone.{HasListed, HoldsExactly};
-ghost use Rattle.exact_list.specs.Answers.{Holds, IsBetweenFronts, IsRecent, EndAs};
-ghost use Rattle.exact_list.specs.Loads.{IsOneWalk, IsOneWayDown};
-ghost use Rattle.exact_list.specs.Nearest.{IsNearest};
+ghost use Rattle.exact_list.specs.Loads.{HasListed, HoldsExactly, IsOneWalk, IsOneWayDown, IsNearest};
+ghost use Rattle.exact_list.specs.Tries.{Holds, IsBetweenFronts, IsRecent, EndAs, Try, HasTried};
 ghost use Rattle.exact_list.specs.Pairs.{had_at};
-ghost use Rattle.exact_list.specs.Tries.{Try, HasTried};
 
 use crate::alone::Exact;
 use crate::listing::Listed;

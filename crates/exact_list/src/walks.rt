@@ -1,15 +1,13 @@
 //! The walk of a listing: in order, on the way by which it came.
 ghost use Rattle.std.specs.Prelude.{◌≡◌, ◌<◌, ◌≤◌, [], length, IfOk, IfErr};
-ghost use Rattle.seat_table.specs.Rounds.{HasMade};
+ghost use Rattle.seat_table.specs.Sections.{HasMade};
 ghost use Rattle.seat_table.specs.Seats.{shape_of};
-ghost use Rattle.exact_list.specs.Loads.{HasWalked, GoesDown, IsOneWalk};
-ghost use Rattle.exact_list.specs.Walked.{IsListing, HasLoaded, Gathers};
-ghost use Rattle.exact_list.specs.Ways.{HasCome};
+ghost use Rattle.exact_list.specs.Loads.{HasWalked, GoesDown, IsOneWalk, HasCome};
+ghost use Rattle.exact_list.specs.Tries.{IsListing, HasLoaded, Gathers};
 
 use crate::page::Page;
 use crate::way::{Next, Way};
-use core_acts::Part;
-use core_state::child_of;
+use core_state::{Part, child_of};
 use key_interval::Keys;
 use patience::Patience;
 use prcu_marks::Side;

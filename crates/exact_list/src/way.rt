@@ -1,6 +1,6 @@
 //! The way back of a walk.
 ghost use Rattle.std.specs.Prelude.{◌≡◌, [], false};
-ghost use Rattle.exact_list.specs.Ways.{HasPassed, NextIs};
+ghost use Rattle.exact_list.specs.Loads.{HasPassed, NextIs};
 
 use arrayvec::ArrayVec;
 

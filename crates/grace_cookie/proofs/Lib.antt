@@ -1,6 +1,1 @@
-pub mod Counting
-pub mod Starting
-pub mod Asking
-pub mod Giving
 pub mod Keeping
-pub mod Quiet

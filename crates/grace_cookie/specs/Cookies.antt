@@ -1,6 +1,7 @@
+-- Cookies, what asking about them answers and leaves, and what any other call has to leave.
 -- Cookies: waits that were begun, and are asked about later.
 -- Source: docs/TREE_CALLS.md, "Cookies".
-use Rattle.std.specs.Prelude.{◌≡◌, ℕ, ◌+◌, ◌<◌, ◌≤◌, Bool, true, false, List, [], ◌∷◌, ◌++◌, length, Some}
+use Rattle.std.specs.Prelude.{◌≡◌, ℕ, ◌+◌, ◌<◌, ◌≤◌, Bool, true, false, List, [], ◌∷◌, ◌++◌, length, Some, ◌⊎◌, take}
 use Rattle.std.specs.List.{AllByRecursion}
 use mathlib.Core.List.{IsPrefix}
 use Rattle.prcu_marks.specs.declared.mark.Mark.{Mark}
@@ -10,10 +11,18 @@ use Rattle.core_state.specs.declared.shape.Shape.{Shape}
 use Rattle.core_state.specs.declared.view.Retired.{Retired}
 use Rattle.core_state.specs.declared.view.View.{View}
 use Rattle.core_state.specs.declared.view.Waiting.{Waiting}
-use Rattle.core_state.specs.steps.Slots.{IsRetiredAt}
+use Rattle.core_state.specs.Links.{IsRetiredAt}
 use Rattle.list_laws.specs.Counts.{times, IsIn}
 use Rattle.seat_table.specs.Seats.{SeatAt}
-use Rattle.seat_table.specs.Waits.{Reached, HasReached, HaveLeft}
+use Rattle.seat_table.specs.Waits.{Reached, HasReached, HaveLeft, HasLooked, Shows, StopsAt, IsOver}
+use Rattle.core_state.specs.declared.view.StepMade.{StepMade}
+use Rattle.prcu_marks.specs.declared.mark.Why.{Why}
+use Rattle.seat_table.specs.Looks.{FindsNone, FindsOnce}
+use Rattle.node_slots.specs.Reclaiming.{GivesBack, without_slots}
+use Rattle.grace_cookie.specs.declared.answers.Ask.{Ask}
+use Rattle.grace_cookie.specs.declared.answers.Ask.TheVariants.{Over, NotYet, GivenUp}
+use mathlib.Core.Option.{some}
+use lib.ListN.{get_elem?}
 
 -- the keys of everybody
 abbrev pub everybody : Interval
@@ -81,3 +90,103 @@ pub record HasKept (c : CookieAt) (s : SeatAt) : Type 0 where
 -- no generation of a slot of these was raised since it was unlinked
 abbrev pub AreUnraised : View → List ℕ → Type 0
 AreUnraised v slots = AllByRecursion (λ slot. (i : ℕ) (r : Retired) → IsRetiredAt v i r slot → r.raised ≡ false) slots
+
+-- What asking about a cookie answers, and what giving slots back by it leaves.
+-- Source: docs/TREE_CALLS.md, "Cookies".
+
+-- the same cookie, which may have been found over, or have come further
+abbrev pub IsSameCookie : CookieAt → CookieAt → Type 0
+IsSameCookie c d = d ≡ record c { over = d.over; reached = d.reached }
+
+-- It was found over before, and nothing changed; or its wait is the latest one and ended by this poll, which found no reader in its way.
+abbrev pub EndedNowOrBefore : Shape → CookieAt → View → View → Type 0
+EndedNowOrBefore k c v w = ((c.over ≡ true) × (w ≡ v))
+    ⊎ ((c.over ≡ false) × IsLatest c v × IsOver k v w × FindsNone c.keys c.clock v w)
+
+pub record IsFoundOver (k : Shape) (c : CookieAt) (v : View) (d : CookieAt) (w : View) : Type 0 where
+  pub over : d.over ≡ true
+  pub outlasted : HasOutlasted v.allowance.place c.count c.keys w.seen
+  pub how : EndedNowOrBefore k c v w
+
+-- Its wait is the latest one, and goes on by what this one poll found: it stopped at the first reader in its way. The cookie has come
+-- there, so that the next question looks there first.
+pub record IsFoundGoing (c : CookieAt) (v : View) (wait : Waiting) (steps : List StepMade) (new : Waiting) (why : Why) (d : CookieAt)
+    (w : View) : Type 0 where
+  pub was : c.over ≡ false
+  pub going : d.over ≡ false
+  pub latest : IsLatest c v
+  pub wait_is : v.wait ≡ Some wait
+  pub count_is : wait.count ≡ c.count
+  pub looked : HasLooked v wait steps new w
+  pub once : FindsOnce c.keys c.clock v why w
+  pub there : StopsAt d.reached why
+
+-- It wasn't found over before, and the place has begun a later wait, the latest of which has this number. Nothing changed.
+pub record IsGivenUp (c : CookieAt) (v : View) (latest : ℕ) (d : CookieAt) (w : View) : Type 0 where
+  pub was : c.over ≡ false
+  pub later : c.count < latest
+  pub latest_is : v.counts.waits ≡ latest + 1
+  pub cookie : d ≡ c
+  pub view : w ≡ v
+
+abbrev pub Asked : Shape → CookieAt → View → Ask → CookieAt → View → Type 0
+Asked k c v Over d w = IsFoundOver k c v d w
+Asked k c v (NotYet why) d w = (wait : Waiting) × (steps : List StepMade) × (new : Waiting) × IsFoundGoing c v wait steps new why d w
+    × Shows wait steps why
+Asked k c v (GivenUp latest) d w = IsGivenUp c v latest d w
+
+-- Where the cookie was given up the seat is as it was.
+abbrev pub LeavesAlone : Ask → SeatAt → SeatAt → Type 0
+LeavesAlone (GivenUp latest) s t = t ≡ s
+LeavesAlone _ s t = Unit {0}
+
+-- None was retired at the start, or the place has begun a later wait. The answer is 0, and nothing changed.
+pub record GivesNone (c : CookieAt) (s : SeatAt) (answer : ℕ) (t : SeatAt) : Type 0 where
+  pub why : (c.slots ≡ 0) ⊎ (c.count + 1 < s.view.counts.waits)
+  pub answer_is : answer ≡ 0
+  pub same : t ≡ s
+
+-- The first of the listed slots went back, as many as were retired at the start, and the answer is their number.
+pub record GivesSome (c : CookieAt) (s : SeatAt) (answer : ℕ) (t : SeatAt) : Type 0 where
+  pub some : 1 ≤ c.slots
+  pub latest : IsLatest c s.view
+  pub answer_is : answer ≡ c.slots
+  pub gives : GivesBack s.view (take c.slots s.listed) t.view
+  pub listed : t.listed ≡ without_slots (take c.slots s.listed) s.listed
+
+abbrev pub HasGivenBack : CookieAt → SeatAt → ℕ → SeatAt → Type 0
+HasGivenBack c s answer t = GivesNone c s answer t ⊎ GivesSome c s answer t
+
+-- What a call leaves of a seat, so that a cookie of the seat stays good.
+-- Source: docs/TREE_CALLS.md, "Cookies".
+
+-- The retired slot is still retired, and was waited for where it was.
+abbrev pub StaysRetired : Retired → Retired → Type 0
+StaysRetired r now = (now.slot ≡ r.slot) × (now.unlinked ≡ r.unlinked) × (r.waited ≡ true → now.waited ≡ true)
+
+-- Each retired slot stays where it is, and later ones are behind.
+pub record KeepsRetired (v w : View) : Type 0 where
+  pub each : (i : ℕ) (r : Retired) → get_elem? v.hands.retired i ≡ some r
+      → (now : Retired) × (get_elem? w.hands.retired i ≡ some now) × StaysRetired r now
+
+-- The place is the same, it has begun no fewer waits, and the seat has seen as much. Where it has begun no further wait, the latest one is
+-- as it was.
+pub record KeepsLatest (v w : View) : Type 0 where
+  pub place : w.allowance.place ≡ v.allowance.place
+  pub seen : IsPrefix v.seen w.seen
+  pub waits : v.counts.waits ≤ w.counts.waits
+  pub wait : w.counts.waits ≡ v.counts.waits → w.wait ≡ v.wait
+
+-- The same, and where the place has begun no further wait the retired slots stay, and further slots are listed behind.
+pub record KeepsCookies (s t : SeatAt) : Type 0 where
+  pub latest : KeepsLatest s.view t.view
+  pub retired : t.view.counts.waits ≡ s.view.counts.waits → KeepsRetired s.view t.view
+  pub listed : t.view.counts.waits ≡ s.view.counts.waits → (later : List ℕ) × (t.listed ≡ s.listed ++ later)
+
+-- After a call that keeps the latest wait a cookie is of the seat still.
+abbrev pub WaitsStay : Type 0
+WaitsStay = (k : Shape) (c : CookieAt) (v w : View) → KeepsLatest v w → IsOf k c v → IsOf k c w
+
+-- Where it keeps the slots too, what was retired at the cookie's start is kept.
+abbrev pub CookiesStay : Type 0
+CookiesStay = (k : Shape) (c : CookieAt) (s t : SeatAt) → KeepsCookies s t → IsOf k c s.view → HasKept c s → IsOf k c t.view × HasKept c t

@@ -1,3 +1,1 @@
 pub mod Cookies
-pub mod Asking
-pub mod Keeping

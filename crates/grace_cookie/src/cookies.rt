@@ -2,11 +2,10 @@
 ghost use Rattle.std.specs.Prelude.{◌≡◌, ◌≤◌, ℕ, true, false, [], length, None, take};
 ghost use Rattle.list_laws.specs.Counts.{times};
 ghost use Rattle.seat_table.specs.Gains.{IsInformed};
-ghost use Rattle.seat_table.specs.Onward.{LooksAt, IsOnward, IsWithin};
+ghost use Rattle.seat_table.specs.Looks.{LooksAt, IsOnward, IsWithin};
 ghost use Rattle.seat_table.specs.Seats.{AreListed, IsQuietSeat, shape_of};
 ghost use Rattle.seat_table.specs.Sections.{HasBegun};
-ghost use Rattle.grace_cookie.specs.Cookies.{IsOf, HasKept, IsLatest, AreUnraised, everybody};
-ghost use Rattle.grace_cookie.specs.Asking.{IsSameCookie, Asked, LeavesAlone, HasGivenBack};
+ghost use Rattle.grace_cookie.specs.Cookies.{IsOf, HasKept, IsLatest, AreUnraised, everybody, IsSameCookie, Asked, LeavesAlone, HasGivenBack};
 
 use crate::answers::Ask;
 use key_interval::Keys;

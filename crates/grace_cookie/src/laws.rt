@@ -1,5 +1,5 @@
 //! How a cookie stays good beside other calls of its seat. The functions have no bodies; their promises are the laws.
-ghost use Rattle.grace_cookie.specs.Keeping.{WaitsStay, CookiesStay};
+ghost use Rattle.grace_cookie.specs.Cookies.{WaitsStay, CookiesStay};
 
 /// A cookie may be asked about after each call that keeps what `KeepsLatest` says.
 pub fn waits_stay()

@@ -1,16 +1,15 @@
+-- What a step leaves of other classes: frames, and stores by field and by word.
 -- What keeps the parts of the rule on one class, when a step elsewhere was made.
-use Rattle.std.proofs.Common.{◌≡◌, ◌≢◌, ◌⊎◌, ℕ, ◌+◌, ◌%◌, ◌<◌, ◌≤◌, Bool, true, false, cond, List, [], ◌++◌, set, Option, Some, None, refl, sym, ap, subst, ◌∙◌, inl, inr, arith, option_to_list}
-use Rattle.std.specs.FinMap as finite
+use Rattle.std.proofs.Common.{◌≡◌, ◌≢◌, ◌⊎◌, ℕ, ◌+◌, ◌%◌, ◌<◌, ◌≤◌, Bool, true, false, cond, List, [], ◌++◌, set, Option, Some, None, refl, sym, ap, subst, ◌∙◌, inl, inr, arith, option_to_list, ne_eqb, ◌==◌, eq-eqb, ◌*◌, nat_le, ◌&&◌, length, sum, slice_index, get_or-set_other, get_or-set_same}
 use Rattle.std.specs.List.{AllByRecursion}
 use mathlib.Core.Logic.{dite}
-use mathlib.Core.Option.{some, some-injective}
-use native.Mathlib.Decide.{dec_le, ℕ_discrete}
+use mathlib.Core.Option.{some}
+use native.Mathlib.Decide.{dec_le}
 use lib.ListN.{get_elem?}
-use Rattle.atomic_table.proofs.Lists.{set_here, set_else}
 use Rattle.prcu_marks.specs.declared.mark.Mark.{Mark}
 use Rattle.prcu_model.specs.declared.operation.Update.{Update}
-use Rattle.prcu_model.specs.Dictionary.{map_of}
-use Rattle.prcu_marks.proofs.Histories.{said_longer}
+use Rattle.prcu_model.specs.Dictionary.{map_of, WasSaid}
+use Rattle.prcu_marks.proofs.Callers.{said_longer}
 use Rattle.hash_core.specs.declared.words.Field.{Field}
 use Rattle.hash_core.specs.declared.words.Field.TheVariants.{Front, Lock, Readers, Head, Free, Retired, Key, Value, Next, Chain}
 use Rattle.hash_core.specs.declared.view.SearchState.{SearchState}
@@ -19,17 +18,15 @@ use Rattle.hash_core.specs.declared.view.Section.{Section}
 use Rattle.hash_core.specs.declared.view.Hold.{Hold}
 use Rattle.hash_core.specs.declared.view.View.{View}
 use Rattle.list_laws.specs.Counts.{times}
-use Rattle.hash_core.specs.Memory.{Memory}
-use Rattle.hash_core.specs.Slots.{is_slot_of, IsOfClass}
+use Rattle.hash_core.specs.Memory.{Memory, is_slot_of, IsOfClass, same_field, stored, word_of, is_field, memory_of, word_count, NoPlaceIsShared, FieldsAreWithin, IsOwnWord, LinesAreOwn}
 use Rattle.prcu_marks.specs.Marks.{gone_at, IsGone, last_unlinked}
-use Rattle.hash_core.specs.Buckets.{Bucket, IsChained, AreListed, HaveOneRole, IsMapped, HoldsOther, IsLocked, IsKnown, HaveAges, inside_count, AreCounted, IsFreeOfReaders, AreClean, taken_of, unlinked_of, moved_of, link_of}
-use Rattle.prcu_model.specs.Dictionary.{WasSaid}
+use Rattle.hash_core.specs.Rule.{Bucket, IsChained, AreListed, HaveOneRole, IsMapped, HoldsOther, IsLocked, IsKnown, HaveAges, inside_count, AreCounted, IsFreeOfReaders, AreClean, taken_of, unlinked_of, moved_of, link_of, IsHeldBack, HasWay, WillAnswer, AreAnswered, BucketRule, HoldsIt}
 use Rattle.prcu_model.proofs.ListFacts.{all_map}
-use Rattle.hash_core.specs.Readers.{IsHeldBack, HasWay, WillAnswer, AreAnswered}
-use Rattle.hash_core.specs.Rule.{BucketRule}
-use Rattle.std.proofs.Common.{ne_eqb}
-use Rattle.list_laws.proofs.Lists.{at_below, each_set, total_set, all_change, all_times, times_here, times_append}
-use Rattle.hash_core.proofs.Paths.{path_cons, IsPath-same, IsPath-from, seek-same, HaveDistinctKeys-same}
+use Rattle.list_laws.proofs.Lists.{each_set, total_set, all_change, all_times, times_here, times_append, only_change}
+use Rattle.hash_core.proofs.SlotLists.{path_cons, IsPath-same, IsPath-from, seek-same, HaveDistinctKeys-same, one_class}
+use Rattle.std.proofs.lemmas.Bool.{eqb-true, ltb-true, leb-true, and_parts}
+use Rattle.hash_core.specs.declared.layout.TheConstants.{APART, CLASS_BASE, CLASS_WORDS}
+use Rattle.std.specs.FinMap as finite
 
 -- What stands in the slots of a class is the same.
 abbrev pub SameSlots : List ℕ → ℕ → Memory → Memory → Type 0
@@ -240,31 +237,14 @@ module _ (c : ℕ) (m m' : Memory) (vs : List View) (id : ℕ) (v w : View) (at 
     word ∙ locked.0,
     each_set (λ j u. HoldsOther c u) vs id w (hold_other c v.hold w.hold held_same (locked.1 id v at)) (λ j u other e. locked.1 j u e),
   )
-  locked_same (Some hold) locked =
-      dite (ℕ_discrete locked.id id)
-      (λ e.
-      let same : v ≡ locked.view = some-injective v locked.view (sym at ∙ subst (λ k. get_elem? vs k ≡ some locked.view) e locked.there) in
-      let held : v.hold ≡ Some hold = ap (λ (z : View). z.hold) same ∙ locked.holds in record {
-        id = id;
-        view = w;
-        there = set_here vs id w (at_below vs id v at);
-        holds = hold_same c v.hold w.hold hold held_same held locked.class;
-        class = locked.class;
-        word = word ∙ locked.word ∙ ap (λ n. n + 1) (ap (λ (z : View). z.place) (sym same) ∙ sym place);
-        alone = λ j u other. λ there. each_set (λ k z. k ≢ id → HoldsOther c z) vs id w (λ ne. absurd (ne refl))
-            (λ k z ne q _. locked.alone k z (λ f. ne (f ∙ e)) q) j u there other;
+  locked_same (Some hold) locked = only_change vs id v w at
+      (λ (mine : HoldsIt c m hold v). record {
+        holds = hold_same c v.hold w.hold hold held_same mine.holds mine.class;
+        class = mine.class;
+        word = word ∙ mine.word ∙ ap (λ n. n + 1) (sym place);
       })
-      (λ ne. record {
-        id = locked.id;
-        view = locked.view;
-        there = set_else vs id locked.id w ne ∙ locked.there;
-        holds = locked.holds;
-        class = locked.class;
-        word = word ∙ locked.word;
-        alone = λ j u other there. each_set (λ k z. k ≢ locked.id → HoldsOther c z) vs id w
-            (λ far. hold_other c v.hold w.hold held_same (locked.alone id v (λ f. ne (sym f)) at))
-            (λ k z not_id q far. locked.alone k z far q) j u there other;
-      })
+      (λ u (theirs : HoldsIt c m hold u). record { holds = theirs.holds; class = theirs.class; word = word ∙ theirs.word })
+      (λ (other : HoldsOther c v). hold_other c v.hold w.hold held_same other) locked
 
 -- slots that no section holds back, where the sections are the same
 module _ (capacities : List ℕ) (c : ℕ) (h h' : List Mark) (vs : List View) (id : ℕ) (v w : View) (at : get_elem? vs id ≡ some v)
@@ -380,3 +360,231 @@ module _ (capacities : List ℕ) (c : ℕ) (m m' : Memory) (h h' : List Mark) (u
     clean = frame_clean;
     answered = frame_answered;
   }
+
+-- A store in a field of one class leaves what the others read.
+
+cond_ne : (m : ℕ) (n x a b : ℕ) → a ≢ b → cond (a == b) n x ≡ x
+cond_ne m n x a b ne = ap (λ t. cond t n x) (ne_eqb a b ne)
+
+-- what a store put at its field
+pub stored_here : (m : Memory) (field : Field) (n : ℕ) → same_field field field ≡ true → stored m field n field ≡ n
+stored_here m field n same = ap (λ t. cond t n (m field)) same
+
+pub same_self : (field : Field) → same_field field field ≡ true
+same_self Front = refl
+same_self (Lock c) = eq-eqb c c refl
+same_self (Readers c) = eq-eqb c c refl
+same_self (Head c) = eq-eqb c c refl
+same_self (Free c) = eq-eqb c c refl
+same_self (Retired c) = eq-eqb c c refl
+same_self (Key s) = eq-eqb s s refl
+same_self (Value s) = eq-eqb s s refl
+same_self (Next s) = eq-eqb s s refl
+same_self (Chain s) = eq-eqb s s refl
+
+-- the test on fields tells equal ones
+pub same_is : (field other : Field) → same_field field other ≡ true → field ≡ other
+same_is Front Front e = refl
+same_is (Lock c) (Lock d) e = ap Lock (eqb-true c d e)
+same_is (Readers c) (Readers d) e = ap Readers (eqb-true c d e)
+same_is (Head c) (Head d) e = ap Head (eqb-true c d e)
+same_is (Free c) (Free d) e = ap Free (eqb-true c d e)
+same_is (Retired c) (Retired d) e = ap Retired (eqb-true c d e)
+same_is (Key c) (Key d) e = ap Key (eqb-true c d e)
+same_is (Value c) (Value d) e = ap Value (eqb-true c d e)
+same_is (Next c) (Next d) e = ap Next (eqb-true c d e)
+same_is (Chain c) (Chain d) e = ap Chain (eqb-true c d e)
+same_is _ _ e = absurd (cc)
+
+pub same_words : (capacities : List ℕ) (d : ℕ) (m : Memory) → SameWords capacities d m m
+same_words capacities d m = record {
+  lock = refl;
+  readers = refl;
+  head = refl;
+  free = refl;
+  retired = refl;
+  slots = λ s of. (refl, refl, refl, refl);
+}
+
+pub front_words : (capacities : List ℕ) (d : ℕ) (m : Memory) (n : ℕ) → SameWords capacities d m (stored m Front n)
+front_words capacities d m n = record {
+  lock = refl;
+  readers = refl;
+  head = refl;
+  free = refl;
+  retired = refl;
+  slots = λ s of. (refl, refl, refl, refl);
+}
+
+module _ (capacities : List ℕ) (c d : ℕ) (m : Memory) (n : ℕ) (other : d ≢ c) where
+  far : c ≢ d
+  far e = other (sym e)
+
+  pub lock_words : SameWords capacities d m (stored m (Lock c) n)
+  lock_words = record {
+    lock = cond_ne 0 n (m (Lock d)) c d far;
+    readers = refl;
+    head = refl;
+    free = refl;
+    retired = refl;
+    slots = λ s of. (refl, refl, refl, refl);
+  }
+
+  pub readers_words : SameWords capacities d m (stored m (Readers c) n)
+  readers_words = record {
+    lock = refl;
+    readers = cond_ne 0 n (m (Readers d)) c d far;
+    head = refl;
+    free = refl;
+    retired = refl;
+    slots = λ s of. (refl, refl, refl, refl);
+  }
+
+  -- a slot of another class
+  far_slot : (s t : ℕ) → is_slot_of capacities c s ≡ true → is_slot_of capacities d t ≡ true → s ≢ t
+  far_slot s t of_c of_d e = far (one_class capacities c d s of_c (subst (λ z. is_slot_of capacities d z ≡ true) (sym e) of_d))
+
+  -- a field of one class is no word of the other
+  far_field : (field other : Field) → IsOfClass capacities c field → IsOfClass capacities d other → same_field field other ≡ false
+  far_field Front _ of _ = absurd of
+  far_field (Lock e) _ of _ = absurd of
+  far_field (Readers e) _ of _ = absurd of
+  far_field (Head e) (Head f) of there = ne_eqb e f (λ g. far (sym of ∙ g ∙ there))
+  far_field (Free e) (Free f) of there = ne_eqb e f (λ g. far (sym of ∙ g ∙ there))
+  far_field (Retired e) (Retired f) of there = ne_eqb e f (λ g. far (sym of ∙ g ∙ there))
+  far_field (Key s) (Key t) of there = ne_eqb s t (far_slot s t of there)
+  far_field (Value s) (Value t) of there = ne_eqb s t (far_slot s t of there)
+  far_field (Next s) (Next t) of there = ne_eqb s t (far_slot s t of there)
+  far_field (Chain s) (Chain t) of there = ne_eqb s t (far_slot s t of there)
+  far_field _ _ of there = refl
+
+  -- and not how many read the other, nor who has its lock
+  far_words : (field : Field) → IsOfClass capacities c field
+      → (same_field field (Lock d) ≡ false) × (same_field field (Readers d) ≡ false)
+  far_words (Lock e) of = absurd of
+  far_words (Readers e) of = absurd of
+  far_words _ of = (refl, refl)
+
+  pub class_words : (field : Field) → IsOfClass capacities c field → SameWords capacities d m (stored m field n)
+  class_words field of =
+      let away : (other : Field) → same_field field other ≡ false → stored m field n other ≡ m other =
+      λ other e. ap (λ t. cond t n (m other)) e in
+      let stays : (other : Field) → IsOfClass capacities d other → stored m field n other ≡ m other =
+      λ other there. away other (far_field field other of there) in
+      record {
+        lock = away (Lock d) (far_words field of).0;
+        readers = away (Readers d) (far_words field of).1;
+        head = stays (Head d) refl;
+        free = stays (Free d) refl;
+        retired = stays (Retired d) refl;
+        slots = λ s there. (stays (Key s) there, stays (Value s) there, stays (Next s) there, stays (Chain s) there);
+      }
+
+-- A store in a word of the table is a store in its field.
+
+-- where a field lies
+abbrev Lies : List ℕ → Field → Type 0
+Lies capacities Front = Unit {0}
+Lies capacities (Lock c) = c < 64
+Lies capacities (Readers c) = c < 64
+Lies capacities (Head c) = c < 64
+Lies capacities (Free c) = c < 64
+Lies capacities (Retired c) = c < 64
+Lies capacities (Key s) = (1 ≤ s) × (s ≤ sum capacities)
+Lies capacities (Value s) = (1 ≤ s) × (s ≤ sum capacities)
+Lies capacities (Next s) = (1 ≤ s) × (s ≤ sum capacities)
+Lies capacities (Chain s) = (1 ≤ s) × (s ≤ sum capacities)
+
+slot_lies : (capacities : List ℕ) (s : ℕ) → (nat_le 1 s && nat_le s (sum capacities)) ≡ true → (1 ≤ s) × (s ≤ sum capacities)
+slot_lies capacities s e = let both = and_parts _ _ e in (leb-true 1 s both.0, leb-true s (sum capacities) both.1)
+
+lies : (capacities : List ℕ) (field : Field) → is_field capacities field ≡ true → Lies capacities field
+lies capacities Front e = tt
+lies capacities (Lock c) e = ltb-true c 64 e
+lies capacities (Readers c) e = ltb-true c 64 e
+lies capacities (Head c) e = ltb-true c 64 e
+lies capacities (Free c) e = ltb-true c 64 e
+lies capacities (Retired c) e = ltb-true c 64 e
+lies capacities (Key s) e = slot_lies capacities s e
+lies capacities (Value s) e = slot_lies capacities s e
+lies capacities (Next s) e = slot_lies capacities s e
+lies capacities (Chain s) e = slot_lies capacities s e
+
+-- no two fields share a word
+one_field : (capacities : List ℕ) (f g : Field) → Lies capacities f → Lies capacities g → word_of f ≡ word_of g → same_field f g ≡ true
+one_field capacities Front Front p q e = refl
+one_field capacities (Lock c) (Lock d) p q e = eq-eqb c d (omega arith)
+one_field capacities (Readers c) (Readers d) p q e = eq-eqb c d (omega arith)
+one_field capacities (Head c) (Head d) p q e = eq-eqb c d (omega arith)
+one_field capacities (Free c) (Free d) p q e = eq-eqb c d (omega arith)
+one_field capacities (Retired c) (Retired d) p q e = eq-eqb c d (omega arith)
+one_field capacities (Key c) (Key d) p q e = eq-eqb c d (omega arith)
+one_field capacities (Value c) (Value d) p q e = eq-eqb c d (omega arith)
+one_field capacities (Next c) (Next d) p q e = eq-eqb c d (omega arith)
+one_field capacities (Chain c) (Chain d) p q e = eq-eqb c d (omega arith)
+one_field capacities _ _ p q e = absurd (omega arith)
+
+-- no two fields stand at one place of the row
+pub one_place : NoPlaceIsShared
+one_place capacities f g p q e = same_is f g (one_field capacities f g (lies capacities f p) (lies capacities g q) e)
+
+-- a field's word is one of the table's
+pub word_inside : FieldsAreWithin
+word_inside capacities field is = inside_case field (lies capacities field is)
+  where
+    inside_case : (f : Field) → Lies capacities f → word_of f < word_count capacities
+    inside_case Front p = omega arith
+    inside_case (Lock c) p = omega arith
+    inside_case (Readers c) p = omega arith
+    inside_case (Head c) p = omega arith
+    inside_case (Free c) p = omega arith
+    inside_case (Retired c) p = omega arith
+    inside_case (Key s) p = omega arith
+    inside_case (Value s) p = omega arith
+    inside_case (Next s) p = omega arith
+    inside_case (Chain s) p = omega arith
+
+-- a class's words stand behind the front, in the class's own room
+own_place : (c : ℕ) (f : Field) → IsOwnWord c f → (CLASS_BASE + APART * c ≤ word_of f) × (word_of f < CLASS_BASE + APART * c + CLASS_WORDS)
+own_place c (Lock d) e = (omega arith, omega arith)
+own_place c (Readers d) e = (omega arith, omega arith)
+own_place c (Head d) e = (omega arith, omega arith)
+own_place c (Free d) e = (omega arith, omega arith)
+own_place c (Retired d) e = (omega arith, omega arith)
+own_place c _ e = absurd e
+
+pub lines_are_own : LinesAreOwn
+lines_are_own c g here = let at = own_place c g here in let low = at.0 in (
+  omega arith,
+  λ b f less there. let before = own_place b f there in let high = before.1 in omega arith,
+)
+
+-- what is loaded from a field's word
+pub memory-word : (capacities words : List ℕ) (field : Field) → is_field capacities field ≡ true
+    → memory_of capacities words field ≡ slice_index words (word_of field)
+memory-word capacities words field is = ap (λ b. cond b (slice_index words (word_of field)) 0) is
+
+pub memory-stored : (capacities words : List ℕ) (field : Field) (n : ℕ) → is_field capacities field ≡ true
+    → length words ≡ word_count capacities → memory_of capacities (set words (word_of field) n)
+    ≡ stored (memory_of capacities words) field n
+memory-stored capacities words field n is long = λ i other. at_field other i
+  where
+    here : word_of field < length words
+    here = let a = word_inside capacities field is in omega arith
+
+    read_case : (other : Field) (t u : Bool) → is_field capacities other ≡ t → same_field field other ≡ u
+        → cond t (slice_index (set words (word_of field) n) (word_of other)) 0 ≡ cond u n (cond t (slice_index words (word_of other)) 0)
+    read_case other true true has same =
+        let f : field ≡ other = same_is field other same in
+        subst (λ z. slice_index (set words (word_of field) n) (word_of z) ≡ n) f (get_or-set_same words (word_of field) n 0 here)
+    read_case other true false has same =
+        get_or-set_other words (word_of field) (word_of other) n 0
+        (λ e. let z : true ≡ false = sym (one_field capacities field other (lies capacities field is) (lies capacities other has) (sym e))
+        ∙ same in absurd (cc))
+    read_case other false true has same = absurd (let f : field ≡ other = same_is field other same in
+        let z : true ≡ false = sym is ∙ ap (is_field capacities) f ∙ has in cc)
+    read_case other false false has same = refl
+
+    at_field : (other : Field) → memory_of capacities (set words (word_of field) n) other
+        ≡ stored (memory_of capacities words) field n other
+    at_field other = read_case other (is_field capacities other) (same_field field other) refl refl

@@ -1,36 +1,332 @@
--- Each kind of step keeps the rule, and what an unlinked slot has.
-use Rattle.std.proofs.Common.{◌≡◌, ℕ, ◌+◌, ◌-◌, ◌%◌, ◌≤◌, ◌==◌, Bool, true, false, cond, List, [], ◌∷◌, ◌++◌, set, Some, None, refl, sym, ap, subst, ◌∙◌, eq-eqb, ne_eqb, append-nil}
+-- What the rule gives, and that each kind of step and each act keeps it.
+-- What the rule gives of chains, slots, readers and searches.
+use Rattle.std.proofs.Common.{◌≡◌, ◌⊎◌, ℕ, ◌%◌, ◌<◌, ◌≤◌, true, List, ◌++◌, Option, Some, None, refl, sym, ap, subst, ◌∙◌, inl, inr, arith, ◌≢◌, zero, suc, ◌+◌, ◌==◌, nat_lt, nat_le, ◌&&◌, Bool, false, cond, [], ◌∷◌, length, is_some, length-append, option_to_list, rules, ◌-◌, set, eq-eqb, ne_eqb, append-nil, unwrap_or}
 use mathlib.Core.Logic.{dite}
-use mathlib.Core.Option.{some}
-use native.Mathlib.Decide.{ℕ_discrete}
-use lib.ListN.{get_elem?}
-use Rattle.atomic_table.proofs.Lists.{set_here, set_again}
+use native.Mathlib.Decide.{dec_le, ℕ_discrete}
 use Rattle.prcu_marks.specs.declared.mark.Mark.{Mark}
-use Rattle.prcu_marks.specs.declared.mark.Mark.TheVariants.{Entered, Left}
-use Rattle.prcu_marks.specs.Marks.{gone_at, IsGone}
-use Rattle.hash_core.specs.declared.words.Field.{Field}
-use Rattle.hash_core.specs.declared.words.Field.TheVariants.{Front, Lock, Readers, Head, Free, Retired, Key, Value, Next, Chain}
-use Rattle.hash_core.specs.declared.words.Kind.{Kind}
-use Rattle.hash_core.specs.declared.words.Kind.TheVariants.{H1, H2, H3, H4, H5, H6, H7, H8, H9, H10, H11, H12, H13, H14, H15, H16}
-use Rattle.hash_core.specs.declared.view.Hold.{Hold}
+use Rattle.prcu_model.specs.Dictionary.{map_of, WasSaid}
+use Rattle.prcu_marks.specs.Marks.{updates_of, gone_at, IsGone}
+use Rattle.prcu_marks.proofs.Callers.{said_now}
+use Rattle.hash_core.specs.declared.words.Field.TheVariants.{Value, Next, Free, Retired, Key, Chain, Front, Lock, Readers, Head}
+use Rattle.hash_core.specs.declared.view.SearchState.{SearchState}
+use Rattle.hash_core.specs.declared.view.SearchState.TheVariants.{Start, Unread, Passed, Found, Ended}
+use Rattle.hash_core.specs.declared.view.Section.{Section}
 use Rattle.hash_core.specs.declared.view.View.{View}
-use Rattle.hash_core.specs.Memory.{Memory, same_field, stored}
-use Rattle.hash_core.specs.Steps.{stepped, fresh_hold, after_enter, after_leave, after_search_load, after_unlock, after_readers_load, after_held_load, after_refill, after_move, after_push, after_chain, IsFieldOf, NeedsWrite, after_write, LinksTo, after_even}
-use Rattle.hash_core.specs.Kinds.{IsStep, step2, step3, step4, step5, step6, step7, step8, step9, step10_take, step10_refill, step10_move, step10_push, step10_chain, step11, step12, step13, step14, step15, step16, is_store}
-use Rattle.hash_core.specs.Known.{IsOnWalk}
-use Rattle.hash_core.specs.Buckets.{taken_of}
-use Rattle.hash_core.specs.Rule.{MemoryRule}
-use Rattle.hash_core.specs.Laws.{KeepsPast, IsKept, StepsKeep, SplitsKeep, JoinsKeep, FreshHolds, Run, begins, steps, splits, joins, RunsHold}
-use Rattle.list_laws.proofs.Lists.{at_below, all_times, set_twice}
-use Rattle.hash_core.proofs.Stores.{same_is}
-use Rattle.hash_core.proofs.Quiet.{law_stepped}
+use Rattle.list_laws.specs.Counts.{times}
+use Rattle.hash_core.specs.Memory.{Memory, is_slot_of, IsPath, capacity, base, same_field, stored}
+use Rattle.hash_core.specs.Steps.{StandsAt, known_in, fresh_hold, after_enter, after_leave, after_search_load, after_unlock, after_readers_load, after_held_load, after_take, after_move, after_refill, after_push, after_chain, after_write, after_link, after_unlink, after_replace, after_even, IsFieldOf, NeedsWrite, LinksTo, IsOnWalk, section_of, hold_of, commit_of, noted, Needs, said, left, done, field_of, marks_of}
+use Rattle.hash_core.specs.Rule.{seek, IsHeldBack, HasWay, WillAnswer, BucketRule, MemoryRule, HaveDistinctKeys, link_of, taken_of}
+use Rattle.hash_core.specs.Laws.{ChainsAreMap, SlotsHaveOneRole, ReadersAreCounted, FrontCounts, IsOpenIn, Answers, value_at, SearchesAreAnswered, IsLinked, SearchesStand, MarksAreInOrder, SlotsAreReused, HasPairs, KeepsPast, IsKept, ActsKeep, SplitsKeep, JoinsKeep, FreshHolds, Run, begins, steps, splits, joins, RunsHold}
+use Rattle.list_laws.proofs.Lists.{all_times, all_from_times, times_here, times_append, at_most_one, times_other, at_below, set_twice}
+use Rattle.hash_core.proofs.Frames.{chain_slot, same_is}
+use Rattle.hash_core.proofs.SlotLists.{path_cons, seek_here, seek_past, path_none, cut_at}
+use Rattle.std.proofs.lemmas.Bool.{lt-ltb, le-leb, le-ltb, lt-leb}
+use Rattle.std.specs.List.{AllByRecursion}
+use mathlib.Core.Option.{some}
+use lib.ListN.{get_elem?}
+use Rattle.hash_core.specs.declared.view.Hold.{Hold}
+use Rattle.hash_core.proofs.Stocks.{rule, is_known, roles_by, moved_by, had, law_take, law_refill, law_move, law_push, law_chain, law11}
+use Rattle.atomic_table.proofs.Lists.{set_here, set_again}
+use Rattle.prcu_marks.specs.declared.commit.Commit.{Commit}
+use Rattle.prcu_marks.specs.declared.mark.Mark.TheVariants.{Left as LeftMark, Given}
+use Rattle.hash_core.specs.declared.act.Act.{Act}
+use Rattle.hash_core.specs.declared.words.Field.{Field}
+use Rattle.hash_core.proofs.SeatFrames.{law_stepped}
 use Rattle.hash_core.proofs.Sections.{law3, law4, law5}
 use Rattle.hash_core.proofs.Locks.{law6, law7, law8, law9, law12, law16}
-use Rattle.hash_core.proofs.Stocks.{rule, had, law_take, law_refill, law_move, law_push, law_chain, law11}
 use Rattle.hash_core.proofs.Links.{on_chain, law13, law15}
 use Rattle.hash_core.proofs.Unlinks.{law14}
-use Rattle.hash_core.proofs.Splits.{law1, law2}
-use Rattle.hash_core.proofs.First.{starts}
+use Rattle.hash_core.proofs.Splits.{law1, law2, starts}
+use Rattle.std.specs.FinMap as finite
+use Rattle.hash_core.specs.declared.act.Act.TheVariants as act
+
+pub chains_are_map : ChainsAreMap
+chains_are_map capacities places tickets m vs h r c small =
+    let b = r.buckets c small in
+    record {
+      chain = (r.bucket c).chain;
+      chained = b.chained;
+      slots = all_from_times (λ s. is_slot_of capacities c s ≡ true) (r.bucket c).chain (chain_slot capacities c (r.bucket c) b.roles);
+      once = λ s. let a = b.roles.once s in let l = at_most_one (is_slot_of capacities c s) _ a in omega arith;
+      mapped = b.mapped;
+    }
+
+pub slots_have_one_role : SlotsHaveOneRole
+slots_have_one_role capacities places tickets m vs h r c small =
+    let b = r.buckets c small in record {
+      bucket = r.bucket c;
+      path = b.chained.path;
+      listed = b.listed;
+      holder = b.locked;
+      roles = b.roles;
+    }
+
+pub readers_are_counted : ReadersAreCounted
+readers_are_counted capacities places tickets m vs h r c small = (r.buckets c small).counted.readers
+
+pub front_counts : FrontCounts
+front_counts capacities places tickets m vs h r = r.turned
+
+pub marks_are_in_order : MarksAreInOrder
+marks_are_in_order capacities places tickets m vs h r = r.marks
+
+pub slots_are_reused : SlotsAreReused
+slots_are_reused capacities places tickets m vs h r = r.reuse
+
+module _ (capacities : List ℕ) (places tickets : ℕ) (m : Memory) (vs : List View) (h : List Mark)
+    (r : MemoryRule capacities places tickets m vs h) (section : Section) (opened : IsOpenIn vs section) where
+  c : ℕ
+  c = section.key % 64
+
+  small : section.key % 64 < 64
+  small = omega arith
+
+  bucket_rule : BucketRule capacities (section.key % 64) m h (updates_of h) vs (r.bucket (section.key % 64))
+  bucket_rule = r.buckets (section.key % 64) small
+
+  will : WillAnswer capacities (section.key % 64) m h (updates_of h) (r.bucket (section.key % 64)).chain section section.state
+  will = bucket_rule.answered.readers opened.id opened.view section opened.there opened.has refl
+
+  abbrev Way : ℕ → Type 0
+  Way slot = HasWay capacities (section.key % 64) m h (updates_of h) (r.bucket (section.key % 64)).chain section slot
+
+  abbrev IsAnswered : SearchState → Type 0
+  IsAnswered state = (answer : Option ℕ) × Answers m section state answer × WasSaid (updates_of h) section.key section.from answer
+
+  answered : (state : SearchState) → WillAnswer capacities (section.key % 64) m h (updates_of h)
+      (r.bucket (section.key % 64)).chain section state → IsAnswered state
+  answered Start w = (
+    finite.get (map_of (updates_of h)) section.key,
+    record {
+      path = (r.bucket (section.key % 64)).chain;
+      leads = bucket_rule.chained.path;
+      found = sym (bucket_rule.mapped.answers section.key refl);
+    },
+    said_now (updates_of h) section.key section.from (r.sections.open_here opened.id opened.view section opened.there opened.has).2,
+  )
+  answered (Unread s) w = (seek m section.key (w.olds ++ w.rest), record { path = w.olds ++ w.rest; leads = w.path; found = refl }, w.said)
+  answered (Passed s) w =
+      let way = w.0 in
+      let first = path_cons (λ t. m (Next t)) s (way.olds ++ way.rest) way.some way.path in
+      let past : seek m section.key (way.olds ++ way.rest) ≡ seek m section.key first.0 =
+      ap (seek m section.key) first.1 ∙ seek_past m section.key s first.0 w.1 in (
+        seek m section.key first.0,
+        record { path = first.0; leads = first.2; found = refl },
+        subst (WasSaid (updates_of h) section.key section.from) past way.said,
+      )
+  answered (Found s) w = found_case section.loaded refl
+    where
+      here : seek m section.key (w.0.olds ++ w.0.rest) ≡ Some (m (Value s))
+      here =
+          let first = path_cons (λ t. m (Next t)) s (w.0.olds ++ w.0.rest) w.0.some w.0.path in
+          ap (seek m section.key) first.1 ∙ seek_here m section.key s first.0 w.1
+
+      found_case : (loaded : Option ℕ) → section.loaded ≡ loaded → IsAnswered (Found s)
+      found_case None is = (
+        Some (m (Value s)),
+        ap (λ z. Some (value_at m s z)) (sym is),
+        subst (WasSaid (updates_of h) section.key section.from) here w.0.said,
+      )
+      found_case (Some value) is = (
+        Some value,
+        ap (λ z. Some (value_at m s z)) (sym is),
+        bucket_rule.answered.loaded opened.id opened.view section value opened.there opened.has refl is,
+      )
+  answered Ended w = (None, refl, w)
+
+  -- the first slot of a way is held back, or linked
+  way_stands : (slot : ℕ) → Way slot → (is_slot_of capacities (section.key % 64) slot ≡ true)
+      × (IsLinked m (section.key % 64) slot ⊎ IsHeldBack h section slot)
+  way_stands slot way =
+      let chain : List ℕ = (r.bucket (section.key % 64)).chain in
+      let first = path_cons (λ t. m (Next t)) slot (way.olds ++ way.rest) way.some way.path in
+      let there : 1 ≤ times slot (way.olds ++ way.rest) =
+      (let t = times_here slot first.0 in let e = ap (times slot) first.1 in omega arith) in
+      let sum = times_append slot way.olds way.rest in
+      dite (dec_le 1 (times slot way.olds))
+      (λ in_olds. (
+        all_times (λ t. is_slot_of capacities (section.key % 64) t ≡ true) way.olds slot way.slots in_olds,
+        inr (all_times (IsHeldBack h section) way.olds slot way.held in_olds),
+      ))
+      (λ not_olds.
+      let cut = times_append slot way.front way.rest in
+      let whole = ap (times slot) way.joins in
+      let linked : 1 ≤ times slot chain = omega arith in (
+        chain_slot capacities (section.key % 64) (r.bucket (section.key % 64)) bucket_rule.roles slot linked,
+        inl (record { chain = chain; path = bucket_rule.chained.path; there = linked }),
+      ))
+
+  stands : (state : SearchState) → WillAnswer capacities (section.key % 64) m h (updates_of h)
+      (r.bucket (section.key % 64)).chain section state → (slot : ℕ) → StandsAt state slot
+      → (is_slot_of capacities (section.key % 64) slot ≡ true) × (IsLinked m (section.key % 64) slot ⊎ IsHeldBack h section slot)
+  stands Start w slot at = absurd at
+  stands (Unread s) w slot at = way_stands slot (subst Way at w)
+  stands (Passed s) w slot at = way_stands slot (subst Way at w.0)
+  stands (Found s) w slot at = way_stands slot (subst Way at w.0)
+  stands Ended w slot at = absurd at
+
+pub searches_are_answered : SearchesAreAnswered
+searches_are_answered capacities places tickets m vs h r section opened =
+    answered capacities places tickets m vs h r section opened section.state (will capacities places tickets m vs h r section opened)
+
+pub searches_stand : SearchesStand
+searches_stand capacities places tickets m vs h r section opened slot at =
+    stands capacities places tickets m vs h r section opened section.state (will capacities places tickets m vs h r section opened) slot at
+
+-- Where a class has no free slot and no retired one, and its holder has none in hand, it has as many pairs as slots.
+
+nothing_counted : (xs : List ℕ) → ((x : ℕ) → times x xs ≡ 0) → xs ≡ []
+nothing_counted [] none = refl
+nothing_counted (x ∷ xs) none = absurd (let a = none x in let b = times_here x xs in omega arith)
+
+-- a list that has each number from one after `first` to n after it once, and no other, is n long
+pub counted_length : (first n : ℕ) (xs : List ℕ) → ((x : ℕ) → first < x → x ≤ first + n → times x xs ≡ 1)
+    → ((x : ℕ) → x ≤ first → times x xs ≡ 0) → ((x : ℕ) → first + n < x → times x xs ≡ 0) → length xs ≡ n
+counted_length first zero xs inside below above =
+    ap length (nothing_counted xs (λ x. dite (dec_le x first) (λ le. below x le) (λ gt. above x (omega arith))))
+counted_length first (suc n) xs inside below above =
+    let last : ℕ = first + suc n in
+    let c = cut_at last xs (let a = inside last (omega arith) (omega arith) in omega arith) in
+    let rest : List ℕ = c.0 ++ c.1 in
+    let split : (x : ℕ) → times x xs ≡ times x (c.0 ++ c.1) + times x (last ∷ []) = λ x.
+    let a = ap (times x) c.2 in
+    let b = times_append x c.0 (last ∷ c.1) in
+    let d = times_append x c.0 c.1 in
+    let e : times x (last ∷ c.1) ≡ times x (last ∷ []) + times x c.1 =
+    (let f : times x (last ∷ c.1) ≡ cond (last == x) 1 0 + times x c.1 = refl in
+    let g : times x (last ∷ []) ≡ cond (last == x) 1 0 + 0 = refl in omega arith) in omega arith in
+    let other : (x : ℕ) → x ≢ last → times x (c.0 ++ c.1) ≡ times x xs = λ x ne. let a = split x in
+    let b = times_other x last [] (λ e. ne (sym e)) in let d : times x [] ≡ 0 = refl in omega arith in
+    let here : times last (c.0 ++ c.1) ≡ 0 = (let a = split last in let b = times_here last [] in
+    let d = inside last (omega arith) (omega arith) in let e : times last [] ≡ 0 = refl in omega arith) in
+    let shorter : length (c.0 ++ c.1) ≡ n = counted_length first n (c.0 ++ c.1)
+    (λ x lo hi. other x (λ e. absurd (omega arith)) ∙ inside x lo (omega arith))
+    (λ x lo. other x (λ e. absurd (omega arith)) ∙ below x lo)
+    (λ x hi. dite (ℕ_discrete x last) (λ e. ap (λ z. times z (c.0 ++ c.1)) e ∙ here) (λ ne. other x ne ∙ above x (omega arith))) in
+    let long = ap length c.2 ∙ length-append c.0 (last ∷ c.1) in
+    let l = length-append c.0 c.1 in omega arith
+
+abbrev keys_on : Memory → List ℕ → List ℕ
+keys_on m [] = []
+keys_on m (s ∷ ss) = m (Key s) ∷ keys_on m ss
+
+keys_length : (m : Memory) (ss : List ℕ) → length (keys_on m ss) ≡ length ss
+keys_length m [] = refl
+keys_length m (s ∷ ss) = ap suc (keys_length m ss)
+
+keys_class : (m : Memory) (c : ℕ) (ss : List ℕ) → AllByRecursion (λ s. m (Key s) % 64 ≡ c) ss
+    → AllByRecursion (λ key. key % 64 ≡ c) (keys_on m ss)
+keys_class m c [] all = tt
+keys_class m c (s ∷ ss) all = (all.0, keys_class m c ss all.1)
+
+-- a key is found just where a slot has it
+not_found : (m : Memory) (key : ℕ) (ss : List ℕ) → seek m key ss ≡ None → times key (keys_on m ss) ≡ 0
+not_found m key [] none = refl
+not_found m key (s ∷ ss) none = dite (ℕ_discrete (m (Key s)) key)
+    (λ e. absurd (let z : Some (m (Value s)) ≡ None = sym (seek_here m key s ss e) ∙ none in cc))
+    (λ ne. times_other key (m (Key s)) (keys_on m ss) ne ∙ not_found m key ss (sym (seek_past m key s ss ne) ∙ none))
+
+found_there : (m : Memory) (key : ℕ) (ss : List ℕ) → 1 ≤ times key (keys_on m ss) → is_some (seek m key ss) ≡ true
+found_there m key [] there = absurd (let z : times key [] ≡ 0 = refl in omega arith)
+found_there m key (s ∷ ss) there = dite (ℕ_discrete (m (Key s)) key)
+    (λ e. ap is_some (seek_here m key s ss e))
+    (λ ne. ap is_some (seek_past m key s ss ne) ∙ found_there m key ss
+    (let t = times_other key (m (Key s)) (keys_on m ss) ne in omega arith))
+
+there_found : (m : Memory) (key : ℕ) (ss : List ℕ) → is_some (seek m key ss) ≡ true → 1 ≤ times key (keys_on m ss)
+there_found m key ss is = dite (dec_le 1 (times key (keys_on m ss))) (λ there. there)
+    (λ not. absurd (by (omega arith) (seek m key ss) refl))
+  where
+    by : times key (keys_on m ss) ≡ 0 → (found : Option ℕ) → seek m key ss ≡ found → ⊥
+    by none None e = absurd (let z : false ≡ true = ap is_some (sym e) ∙ is in cc)
+    by none (Some value) e = not_missing ss none value e
+      where
+        not_missing : (xs : List ℕ) → times key (keys_on m xs) ≡ 0 → (value : ℕ) → seek m key xs ≡ Some value → ⊥
+        not_missing [] zero_times value e = cc
+        not_missing (x ∷ xs) zero_times value e = dite (ℕ_discrete (m (Key x)) key)
+            (λ q. let t : times key (m (Key x) ∷ keys_on m xs) ≡ 1 + times key (keys_on m xs) =
+            subst (λ z. times z (m (Key x) ∷ keys_on m xs) ≡ 1 + times z (keys_on m xs)) q (times_here (m (Key x)) (keys_on m xs)) in
+            absurd (omega arith))
+            (λ ne. let t = times_other key (m (Key x)) (keys_on m xs) ne in
+            not_missing xs (omega arith) value (sym (seek_past m key x xs ne) ∙ e))
+
+and_false : (t : Bool) → (t && false) ≡ false
+and_false true = refl
+and_false false = refl
+
+keys_once : (m : Memory) (ss : List ℕ) → HaveDistinctKeys m ss → (key : ℕ) → times key (keys_on m ss) ≤ 1
+keys_once m [] d key = let z : times key [] ≡ 0 = refl in omega arith
+keys_once m (s ∷ ss) d key = dite (ℕ_discrete (m (Key s)) key)
+    (λ e. let none : times (m (Key s)) (keys_on m ss) ≡ 0 = not_found m (m (Key s)) ss d.0 in
+    let t : times key (m (Key s) ∷ keys_on m ss) ≡ 1 + times key (keys_on m ss) =
+    subst (λ z. times z (m (Key s) ∷ keys_on m ss) ≡ 1 + times z (keys_on m ss)) e (times_here (m (Key s)) (keys_on m ss)) in
+    let n : times key (keys_on m ss) ≡ 0 = ap (λ z. times z (keys_on m ss)) (sym e) ∙ none in omega arith)
+    (λ ne. let t = times_other key (m (Key s)) (keys_on m ss) ne in let r = keys_once m ss d.1 key in omega arith)
+
+module _ (capacities : List ℕ) (places tickets : ℕ) (m : Memory) (vs : List View) (h : List Mark)
+    (r : MemoryRule capacities places tickets m vs h) (id : ℕ) (v : View) (at : get_elem? vs id ≡ some v) (hold : Hold)
+    (mine : v.hold ≡ Some hold) where
+  -- the holder has nothing in hand, and both lists are empty
+  pub full_class : known_in hold.known (Free hold.class) ≡ Some 0 → m (Retired hold.class) ≡ 0 → hold.taken ≡ None → hold.unlinked ≡ None
+      → hold.moved ≡ None → HasPairs hold.class (map_of (updates_of h)) (capacity capacities hold.class)
+  full_class free_is retired_is no_taken no_unlinked no_moved =
+      let b : BucketRule capacities hold.class m h (updates_of h) vs (r.bucket hold.class) =
+      rule capacities places tickets m vs h r id v at hold mine in
+      let chain : List ℕ = (r.bucket hold.class).chain in
+      let no_free : (r.bucket hold.class).free ≡ [] =
+      path_none (λ s. m (Chain s)) (r.bucket hold.class).free
+      (subst (λ z. IsPath (λ s. m (Chain s)) z (r.bucket hold.class).free)
+      (is_known capacities places tickets m vs h r id v at hold mine (Free hold.class) 0 free_is).1 b.listed.free) in
+      let no_retired : (r.bucket hold.class).retired ≡ [] =
+      path_none (λ s. m (Chain s)) (r.bucket hold.class).retired
+      (subst (λ z. IsPath (λ s. m (Chain s)) z (r.bucket hold.class).retired) retired_is b.listed.retired) in
+      let none_moved : (r.bucket hold.class).moved ≡ [] =
+      path_none (λ s. m (Chain s)) (r.bucket hold.class).moved
+      (subst (λ z. IsPath (λ s. m (Chain s)) (link_of z) (r.bucket hold.class).moved) no_moved
+      (moved_by capacities places tickets m vs h r id v at hold mine)) in
+      let once : (x : ℕ) → times x (r.bucket hold.class).chain ≡ cond (is_slot_of capacities hold.class x) 1 0 = λ x.
+      let a = roles_by capacities places tickets m vs h r id v at hold mine x in
+      let e1 = ap (times x) no_free in let e2 = ap (times x) no_retired in let e3 = ap (times x) none_moved in
+      let e4 = ap (λ o. times x (option_to_list o)) no_taken in let e5 = ap (λ o. times x (option_to_list o)) no_unlinked in
+      let z : times x [] ≡ 0 = refl in omega arith in
+      let first : ℕ = base capacities hold.class in
+      let n : ℕ = capacity capacities hold.class in
+      let is_in : (x : ℕ) → base capacities hold.class < x → x ≤ base capacities hold.class + capacity capacities hold.class
+      → is_slot_of capacities hold.class x ≡ true =
+      λ x lo hi. ap (λ t. t && nat_le x (base capacities hold.class + capacity capacities hold.class))
+      (lt-ltb (base capacities hold.class) x lo) ∙ le-leb x (base capacities hold.class + capacity capacities hold.class) hi in
+      record {
+        keys = keys_on m (r.bucket hold.class).chain;
+        as_many = keys_length m (r.bucket hold.class).chain
+            ∙ counted_length (base capacities hold.class) (capacity capacities hold.class) (r.bucket hold.class).chain
+            (λ x lo hi. once x ∙ ap (λ t. cond t 1 0) (is_in x lo hi))
+            (λ x le. once x ∙ ap (λ t. cond t 1 0) (outside_below (base capacities hold.class) (capacity capacities hold.class) x le))
+            (λ x gt. once x ∙ ap (λ t. cond t 1 0) (outside_above (base capacities hold.class) (capacity capacities hold.class) x gt));
+        once = keys_once m (r.bucket hold.class).chain b.chained.distinct;
+        of_class = keys_class m hold.class (r.bucket hold.class).chain b.chained.classes;
+        there = λ key class. (
+          (λ is. there_found m key (r.bucket hold.class).chain (ap is_some (sym (b.mapped.answers key class)) ∙ is)),
+          (λ is. ap is_some (b.mapped.answers key class) ∙ found_there m key (r.bucket hold.class).chain is),
+        );
+      }
+    where
+      outside_below : (first n x : ℕ) → x ≤ first → (nat_lt first x && nat_le x (first + n)) ≡ false
+      outside_below first n x le = ap (λ t. t && nat_le x (first + n)) (le-ltb first x le)
+
+      outside_above : (first n x : ℕ) → first + n < x → (nat_lt first x && nat_le x (first + n)) ≡ false
+      outside_above first n x gt = ap (λ t. nat_lt first x && t) (lt-leb x (first + n) gt) ∙ and_false (nat_lt first x)
+
+-- Each act keeps the rule, and what an unlinked slot has.
+
+-- What a view has open, where it has it open.
+pub section_is : (v : View) (section : Section) → v.section ≡ Some section → section_of v ≡ section
+section_is v section is = ap (λ o. unwrap_or o (record { key = 0; count = 0; entered = 0; from = 0; state = Start; loaded = None })) is
+
+pub hold_is : (v : View) (hold : Hold) → v.hold ≡ Some hold → hold_of v ≡ hold
+hold_is v hold is = ap (λ o. unwrap_or o (fresh_hold 0)) is
+
+commit_is : (v : View) (commit : Commit) → v.commit ≡ Some commit → commit_of v ≡ commit
+commit_is v commit is = ap (λ o. unwrap_or o (record { found = 0; stored = false })) is
 
 -- a store of what was found
 stored_same : (m : Memory) (field : Field) → stored m field (m field) ≡ m
@@ -64,90 +360,44 @@ one_slot s t _ a b = absurd a
 not_gone : (h : List Mark) (s t : ℕ) → gone_at t h ≡ None → s ≡ t → IsGone h s → ⊥
 not_gone h s t none e gone = let z : None ≡ Some gone.0 = sym none ∙ ap (λ y. gone_at y h) (sym e) ∙ gone.1 in absurd (cc)
 
-module _ (capacities : List ℕ) (places tickets : ℕ) (m : Memory) (h : List Mark) where
-  abbrev Kept : Memory → List View → List Mark → Type 0
-  Kept to vs h' = IsKept capacities places tickets m h to vs h'
+module _ (capacities : List ℕ) (places tickets : ℕ) (m : Memory) (vs : List View) (h : List Mark) (id : ℕ) (v : View)
+    (r : MemoryRule capacities places tickets m vs h) (at : get_elem? vs id ≡ some v) (works : 1 ≤ v.places) where
+  abbrev Kept : Memory → View → List Mark → Type 0
+  Kept to w marks = IsKept capacities places tickets m h to (set vs id w) (h ++ marks)
 
-  -- a step that leaves no mark
-  no_mark : (to : Memory) (vs : List View) → Kept to vs h → Kept to vs (h ++ [])
-  no_mark to vs kept = subst (Kept to vs) (sym (append-nil h)) kept
+  -- A law makes the step from any views of which this is one, with the step in its trail.
+  abbrev Law : Act → Memory → View → List Mark → Type 0
+  Law a to w h' = (us : List View) → MemoryRule capacities places tickets m us h
+      → get_elem? us id ≡ some (noted v a (said v a (m (field_of v a)))) → MemoryRule capacities places tickets to (set us id w) h'
 
-  -- a step that only loads
-  loaded : (field : Field) (n : ℕ) (vs : List View) → m field ≡ n → MemoryRule capacities places tickets m vs h
-      → Kept (stored m field n) vs (h ++ [])
-  loaded field n vs found r = no_mark (stored m field n) vs
-      (subst (λ z. Kept z vs h) (sym (ap (stored m field) (sym found) ∙ stored_same m field))
-      (record { rule = r; past = record { content = λ s other gone of. refl } }))
+  marked : (a : Act) (to : Memory) (w : View) (marks : List Mark) → KeepsPast m h to → Law a to w (h ++ marks) → Kept to w marks
+  marked a to w marks past law =
+      let u : View = noted v a (said v a (m (field_of v a))) in record {
+        rule = subst (λ z. MemoryRule capacities places tickets to z (h ++ marks)) (set_twice vs id u w)
+            (law (set vs id u) (law_stepped capacities places tickets m vs h r id v at _ (field_of v a) (said v a (m (field_of v a))))
+            (set_here vs id u (at_below vs id v at)));
+        past = past;
+      }
 
-module _ (capacities : List ℕ) (places tickets : ℕ) (m : Memory) (vs : List View) (h : List Mark)
-    (r : MemoryRule capacities places tickets m vs h) (id : ℕ) (v : View) (at : get_elem? vs id ≡ some v) (works : 1 ≤ v.places) where
-  abbrev Rules : Memory → List View → List Mark → Type 0
-  Rules to us h' = MemoryRule capacities places tickets to us h'
+  unmarked : (a : Act) (to : Memory) (w : View) → KeepsPast m h to → Law a to w h → Kept to w []
+  unmarked a to w past law = marked a to w [] past (λ us r' at'. subst (λ z. MemoryRule capacities places tickets to (set us id w) z)
+      (sym (append-nil h)) (law us r' at'))
 
-  abbrev Keeping : Kind → View → Field → ℕ → ℕ → List Mark → Type 0
-  Keeping kind w field found left marks = IsStep capacities h v kind field found left w marks → m field ≡ found
-      → IsKept capacities places tickets m h (stored m field left) (set vs id w) (h ++ marks)
+  loaded : (a : Act) (field : Field) (w : View) → Law a m w h → Kept (stored m field (m field)) w []
+  loaded a field w law = subst (λ z. Kept z w []) (sym (stored_same m field)) (unmarked a m w (record { content = λ s other gone of. refl }) law)
 
-  same_view : MemoryRule capacities places tickets m (set vs id v) h
-  same_view = subst (λ z. MemoryRule capacities places tickets m z h) (sym (set_again vs id v at)) r
+  quiet : (a : Act) (field : Field) → Kept (stored m field (m field)) (noted v a (said v a (m (field_of v a)))) []
+  quiet a field = let u : View = noted v a (said v a (m (field_of v a))) in
+      loaded a field u (λ us r' at'. subst (λ z. MemoryRule capacities places tickets m z h) (sym (set_again us id u at')) r')
 
-  case2 : (field : Field) (found left : ℕ) (w : View) (marks : List Mark) → Keeping H2 w field found left marks
-  case2 field found left w marks (step2 {n = n}) e = loaded capacities places tickets m h Front n (set vs id v) e same_view
+  -- what holds of the hold that is there holds of the one that the act speaks of; and with the front that is odd by it
+  held : (P : Hold → Type 0) (hold : Hold) → v.hold ≡ Some hold → P hold → P (hold_of v)
+  held P hold is p = subst P (sym (hold_is v hold is)) p
 
-  case3 : (field : Field) (found left : ℕ) (w : View) (marks : List Mark) → Keeping H3 w field found left marks
-  case3 field found left w marks (step3 {n = n} key fits quiet) e = record {
-    rule = subst (λ z. Rules (stored m (Readers (key % 64)) (z + 1)) (set vs id (after_enter v key h))
-        (h ++ Entered v.place v.sections key ∷ [])) e (law3 capacities places tickets m vs h r id v at key fits works quiet.0);
-    past = kept_by m h (Readers (key % 64)) (n + 1) (λ s gone of. of);
-  }
-
-  case4 : (field : Field) (found left : ℕ) (w : View) (marks : List Mark) → Keeping H4 w field found left marks
-  case4 field found left w marks (step4 {n = n} section inside) e = record {
-    rule = subst (λ z. Rules (stored m (Readers (section.key % 64)) (z - 1)) (set vs id (after_leave v section h))
-        (h ++ Left v.place section.count ∷ [])) e (law4 capacities places tickets m vs h r id v at section inside);
-    past = kept_by m h (Readers (section.key % 64)) (n - 1) (λ s gone of. of);
-  }
-
-  case5 : (field : Field) (found left : ℕ) (w : View) (marks : List Mark) → Keeping H5 w field found left marks
-  case5 field found left w marks (step5 {n = n} section f inside may) e =
-      loaded capacities places tickets m h f n (set vs id (after_search_load v section f n)) e
-      (subst (λ z. Rules m (set vs id (after_search_load v section f z)) h) e
-      (law5 capacities places tickets m vs h r id v at section inside f may))
-
-  case6 : (field : Field) (found left : ℕ) (w : View) (marks : List Mark) → Keeping H6 w field found left marks
-  case6 field found left w marks (step6 {n = n} class small quiet) e = dite (ℕ_discrete n 0)
-      (λ zero_found. subst (λ b. IsKept capacities places tickets m h (stored m (Lock class) (cond b (v.place + 1) n))
-      (set vs id (cond b (record v { hold = Some (fresh_hold class) }) v)) (h ++ [])) (sym (eq-eqb n 0 zero_found))
-      (no_mark capacities places tickets m h (stored m (Lock class) (v.place + 1)) (set vs id (record v { hold = Some (fresh_hold class) }))
-      (record {
-        rule = law6 capacities places tickets m vs h r id v at class small quiet works (e ∙ zero_found);
-        past = kept_by m h (Lock class) (v.place + 1) (λ s gone of. of);
-      })))
-      (λ held. subst (λ b. IsKept capacities places tickets m h (stored m (Lock class) (cond b (v.place + 1) n))
-      (set vs id (cond b (record v { hold = Some (fresh_hold class) }) v)) (h ++ [])) (sym (ne_eqb n 0 held))
-      (loaded capacities places tickets m h (Lock class) n (set vs id v) e same_view))
-
-  case7 : (field : Field) (found left : ℕ) (w : View) (marks : List Mark) → Keeping H7 w field found left marks
-  case7 field found left w marks (step7 hold needs) e =
-      no_mark capacities places tickets m h (stored m (Lock hold.class) 0) (set vs id (after_unlock v))
-      (record {
-        rule = law7 capacities places tickets m vs h r id v at hold needs;
-        past = kept_by m h (Lock hold.class) 0 (λ s gone of. of);
-      })
-
-  case8 : (field : Field) (found left : ℕ) (w : View) (marks : List Mark) → Keeping H8 w field found left marks
-  case8 field found left w marks (step8 {n = n} hold mine) e =
-      loaded capacities places tickets m h (Readers hold.class) n (set vs id (after_readers_load v hold n)) e (dite (ℕ_discrete n 0)
-      (λ none_found. subst (λ b. Rules m (set vs id (cond b (record v { hold = Some (record hold { clear = true }) }) v)) h)
-      (sym (eq-eqb n 0 none_found)) (law8 capacities places tickets m vs h r id v at hold mine (e ∙ none_found)))
-      (λ some_found. subst (λ b. Rules m (set vs id (cond b (record v { hold = Some (record hold { clear = true }) }) v)) h)
-      (sym (ne_eqb n 0 some_found)) same_view))
-
-  case9 : (field : Field) (found left : ℕ) (w : View) (marks : List Mark) → Keeping H9 w field found left marks
-  case9 field found left w marks (step9 {n = n} hold f mine of) e =
-      loaded capacities places tickets m h f n (set vs id (after_held_load v hold f n h)) e
-      (subst (λ z. Rules m (set vs id (after_held_load v hold f z h)) h) e
-      (law9 capacities places tickets m vs h r id v at hold mine f of (m f == 0)))
+  odd : (P : Hold → ℕ → Type 0) (hold : Hold) (even : ℕ) → v.hold ≡ Some hold
+      → v.commit ≡ Some (record { found = even; stored = false }) → P hold even → P (hold_of v) (commit_of v).found
+  odd P hold even is turn p = subst (λ (z : Hold × ℕ). P z.0 z.1)
+      (λ i. (sym (hold_is v hold is) i, (sym (commit_is v (record { found = even; stored = false }) turn) i).found)) p
 
   -- the slot that is written is taken, so it isn't unlinked
   written : (hold : Hold) (slot : ℕ) (field : Field) → NeedsWrite v hold slot field → (s : ℕ) → IsGone h s → IsFieldOf s field → ⊥
@@ -168,117 +418,113 @@ module _ (capacities : List ℕ) (places tickets : ℕ) (m : Memory) (vs : List 
   linked_at hold mine (Next t) is s gone of = walked hold mine t is s (sym of) gone
   linked_at hold mine _ is s gone of = absurd is
 
-  case10 : (field : Field) (found left : ℕ) (w : View) (marks : List Mark) → Keeping H10 w field found left marks
-  case10 field found left w marks (step10_take slot next hold needs) e = record {
-    rule = law_take capacities places tickets m vs h r id v at hold needs.hold_is slot next needs;
-    past = kept_by m h (Free hold.class) next (λ s gone of. of);
-  }
-  case10 field found left w marks (step10_refill slot hold needs) e =
-      no_mark capacities places tickets m h (stored m (Free hold.class) slot) (set vs id (after_refill v hold slot))
-      (record {
-        rule = law_refill capacities places tickets m vs h r id v at hold needs.hold_is slot needs;
-        past = kept_by m h (Free hold.class) slot (λ s gone of. of);
-      })
-  case10 field found left w marks (step10_move slot hold needs) e =
-      no_mark capacities places tickets m h (stored m (Retired hold.class) 0) (set vs id (after_move v hold slot))
-      (record {
-        rule = law_move capacities places tickets m vs h r id v at hold needs.hold_is slot needs;
-        past = kept_by m h (Retired hold.class) 0 (λ s gone of. of);
-      })
-  case10 field found left w marks (step10_push slot first hold needs) e =
-      no_mark capacities places tickets m h (stored m (Retired hold.class) slot) (set vs id (after_push v hold slot))
-      (record {
-        rule = law_push capacities places tickets m vs h r id v at hold needs.hold_is slot first needs;
-        past = kept_by m h (Retired hold.class) slot (λ s gone of. of);
-      })
-  case10 field found left w marks (step10_chain slot number hold needs) e =
-      no_mark capacities places tickets m h (stored m (Chain slot) number) (set vs id (after_chain v hold slot number))
-      (record {
-        rule = law_chain capacities places tickets m vs h r id v at hold needs.0 slot number needs;
-        past = kept_by m h (Chain slot) number (λ s gone of. of);
-      })
+  keeps : (a : Act) → Needs capacities v a
+      → Kept (stored m (field_of v a) (left v a (m (field_of v a)))) (done v a h (m (field_of v a))) (marks_of v a)
+  keeps act.LoadFront d = quiet act.LoadFront Front
+  keeps (act.Enter key) d =
+      let a : Act = act.Enter key in let f = Readers (key % 64) in let u : View = noted v a (m f) in
+      marked a (stored m f (m f + 1)) (after_enter u key h) (marks_of v a) (kept_by m h f (m f + 1) (λ s gone of. of))
+      (λ us r' at'. law3 capacities places tickets m us h r' id u at' key d.0 works d.1.0)
+  keeps act.Leave d =
+      let a : Act = act.Leave in let u : View = noted v a (m (field_of v a)) in let f = Readers (d.0.key % 64) in
+      subst (λ (z : Section). Kept (stored m (Readers (z.key % 64)) (m (Readers (z.key % 64)) - 1)) (after_leave u z h)
+      (LeftMark v.place z.count ∷ [])) (sym (section_is v d.0 d.1))
+      (marked a (stored m f (m f - 1)) (after_leave u d.0 h) (LeftMark v.place d.0.count ∷ []) (kept_by m h f (m f - 1) (λ s gone of. of))
+      (λ us r' at'. law4 capacities places tickets m us h r' id u at' d.0 d.1))
+  keeps (act.SearchLoad f) d =
+      let a : Act = act.SearchLoad f in let u : View = noted v a (m f) in
+      subst (λ (z : Section). Kept (stored m f (m f)) (after_search_load u z f (m f)) []) (sym (section_is v d.0 d.1))
+      (loaded a f (after_search_load u d.0 f (m f)) (λ us r' at'. law5 capacities places tickets m us h r' id u at' d.0 d.1 f d.2))
+  keeps (act.Lock c) d =
+      let a : Act = act.Lock c in let n : ℕ = m (Lock c) in let u : View = noted v a n in
+      let mine : View = record u { hold = Some (fresh_hold c) } in dite (ℕ_discrete n 0)
+      (λ free. subst (λ b. Kept (stored m (Lock c) (cond b (v.place + 1) n)) (cond b mine u) []) (sym (eq-eqb n 0 free))
+      (unmarked a (stored m (Lock c) (v.place + 1)) mine (kept_by m h (Lock c) (v.place + 1) (λ s gone of. of))
+      (λ us r' at'. law6 capacities places tickets m us h r' id u at' c d.0 d.1 works free)))
+      (λ taken. subst (λ b. Kept (stored m (Lock c) (cond b (v.place + 1) n)) (cond b mine u) []) (sym (ne_eqb n 0 taken))
+      (quiet a (Lock c)))
+  keeps act.Unlock d =
+      let a : Act = act.Unlock in let u : View = noted v a 0 in
+      held (λ z. Kept (stored m (Lock z.class) 0) (after_unlock u) []) d.0 d.1.hold_is
+      (unmarked a (stored m (Lock d.0.class) 0) (after_unlock u) (kept_by m h (Lock d.0.class) 0 (λ s gone of. of))
+      (λ us r' at'. law7 capacities places tickets m us h r' id u at' d.0 (search rules)))
+  keeps act.LoadReaders d =
+      let a : Act = act.LoadReaders in let u : View = noted v a (m (field_of v a)) in
+      let f = Readers d.0.class in let clear : View = record u { hold = Some (record d.0 { clear = true }) } in
+      held (λ z. Kept (stored m (Readers z.class) (m (Readers z.class))) (after_readers_load u z (m (Readers z.class))) []) d.0 d.1
+      (dite (ℕ_discrete (m f) 0)
+      (λ none. subst (λ b. Kept (stored m f (m f)) (cond b clear u) []) (sym (eq-eqb (m f) 0 none))
+      (loaded a f clear (λ us r' at'. law8 capacities places tickets m us h r' id u at' d.0 d.1 none)))
+      (λ some. subst (λ b. Kept (stored m f (m f)) (cond b clear u) []) (sym (ne_eqb (m f) 0 some)) (quiet a f)))
+  keeps (act.LockedLoad f) d =
+      let a : Act = act.LockedLoad f in let u : View = noted v a (m f) in
+      held (λ z. Kept (stored m f (m f)) (after_held_load u z f (m f) h) []) d.0 d.1
+      (loaded a f (after_held_load u d.0 f (m f) h) (λ us r' at'. law9 capacities places tickets m us h r' id u at' d.0 d.1 f d.2 (m f == 0)))
+  keeps (act.TakeSlot slot next) d =
+      let a : Act = act.TakeSlot slot next in let u : View = noted v a next in let f = Free d.0.class in
+      held (λ z. Kept (stored m (Free z.class) next) (after_take u z slot next h) (Given slot ∷ [])) d.0 d.1.hold_is
+      (marked a (stored m f next) (after_take u d.0 slot next h) (Given slot ∷ []) (kept_by m h f next (λ s gone of. of))
+      (λ us r' at'. law_take capacities places tickets m us h r' id u at' d.0 d.1.hold_is slot next (search rules)))
+  keeps (act.TakeRetired slot) d =
+      let a : Act = act.TakeRetired slot in let u : View = noted v a 0 in let f = Retired d.0.class in
+      held (λ z. Kept (stored m (Retired z.class) 0) (after_move u z slot) []) d.0 d.1.hold_is
+      (unmarked a (stored m f 0) (after_move u d.0 slot) (kept_by m h f 0 (λ s gone of. of))
+      (λ us r' at'. law_move capacities places tickets m us h r' id u at' d.0 d.1.hold_is slot (search rules)))
+  keeps (act.FreeRetired slot) d =
+      let a : Act = act.FreeRetired slot in let u : View = noted v a slot in let f = Free d.0.class in
+      held (λ z. Kept (stored m (Free z.class) slot) (after_refill u z slot) []) d.0 d.1.hold_is
+      (unmarked a (stored m f slot) (after_refill u d.0 slot) (kept_by m h f slot (λ s gone of. of))
+      (λ us r' at'. law_refill capacities places tickets m us h r' id u at' d.0 d.1.hold_is slot (search rules)))
+  keeps (act.StoreChain slot number) d =
+      let a : Act = act.StoreChain slot number in let u : View = noted v a number in let f = Chain slot in
+      held (λ z. Kept (stored m f number) (after_chain u z slot number) []) d.0 d.1.0
+      (unmarked a (stored m f number) (after_chain u d.0 slot number) (kept_by m h f number (λ s gone of. of))
+      (λ us r' at'. law_chain capacities places tickets m us h r' id u at' d.0 d.1.0 slot number d.1))
+  keeps (act.Retire slot) d =
+      let a : Act = act.Retire slot in let u : View = noted v a slot in let f = Retired d.0.class in
+      held (λ z. Kept (stored m (Retired z.class) slot) (after_push u z slot) []) d.0 d.2.hold_is
+      (unmarked a (stored m f slot) (after_push u d.0 slot) (kept_by m h f slot (λ s gone of. of))
+      (λ us r' at'. law_push capacities places tickets m us h r' id u at' d.0 d.2.hold_is slot d.1 (search rules)))
+  keeps (act.Fill f number) d =
+      let a : Act = act.Fill f number in let u : View = noted v a number in
+      held (λ z. Kept (stored m f number) (after_write u z f number) []) d.0 d.2.hold_is
+      (unmarked a (stored m f number) (after_write u d.0 f number) (kept_by m h f number (written d.0 d.1 f d.2))
+      (λ us r' at'. law11 capacities places tickets m us h r' id u at' d.0 d.2.hold_is d.1 f number (search rules)))
+  keeps (act.OpenCommit even) d =
+      let a : Act = act.OpenCommit even in let n : ℕ = m Front in let u : View = noted v a n in
+      let mine : View = record u { commit = Some (record { found = even; stored = false }) } in dite (ℕ_discrete n even)
+      (λ free. subst (λ b. Kept (stored m Front (cond b (even + 1) n)) (cond b mine u) []) (sym (eq-eqb n even free))
+      (unmarked a (stored m Front (even + 1)) mine (kept_by m h Front (even + 1) (λ s gone of. of))
+      (λ us r' at'. law12 capacities places tickets m us h r' id u at' d.0 even d.1 free)))
+      (λ taken. subst (λ b. Kept (stored m Front (cond b (even + 1) n)) (cond b mine u) []) (sym (ne_eqb n even taken)) (quiet a Front))
+  keeps (act.LinkSlot slot key value) d =
+      let a : Act = act.LinkSlot slot key value in let u : View = noted v a slot in let f = Head d.0.class in
+      odd (λ z even. Kept (stored m (Head z.class) slot) (after_link u z even slot key value h) (marks_of v a))
+      d.0 d.1 d.3.commit.hold_is d.3.commit.commit_is
+      (marked a (stored m f slot) (after_link u d.0 d.1 slot key value h) (marks_of v a) (kept_by m h f slot (λ s gone of. of))
+      (λ us r' at'. law13 capacities places tickets m us h r' id u at' d.0 d.3.commit.hold_is d.1 slot key value d.2 (search rules)))
+  keeps (act.UnlinkSlot f slot key next) d =
+      let a : Act = act.UnlinkSlot f slot key next in let u : View = noted v a next in
+      odd (λ z even. Kept (stored m f next) (after_unlink u z even f slot key next h) (marks_of v a))
+      d.0 d.1 d.2.commit.hold_is d.2.commit.commit_is
+      (marked a (stored m f next) (after_unlink u d.0 d.1 f slot key next h) (marks_of v a)
+      (kept_by m h f next (linked_at d.0 d.2.commit.hold_is f d.2.link_is))
+      (λ us r' at'. law14 capacities places tickets m us h r' id u at' d.0 d.2.commit.hold_is d.1 f slot key next (search rules)))
+  keeps (act.ReplaceValue slot key value) d =
+      let a : Act = act.ReplaceValue slot key value in let u : View = noted v a value in let f = Value slot in
+      odd (λ z even. Kept (stored m f value) (after_replace u z even slot key value h) (marks_of v a))
+      d.0 d.1 d.2.commit.hold_is d.2.commit.commit_is
+      (marked a (stored m f value) (after_replace u d.0 d.1 slot key value h) (marks_of v a)
+      (kept_by m h f value (λ s gone of. walked d.0 d.2.commit.hold_is slot d.2.on_walk s (sym of) gone))
+      (λ us r' at'. law15 capacities places tickets m us h r' id u at' d.0 d.2.commit.hold_is d.1 slot key value (search rules)))
+  keeps (act.CloseCommit front) d =
+      let a : Act = act.CloseCommit front in let u : View = noted v a front in
+      subst (λ z. Kept (stored m Front z) (after_even u) []) (sym d.2)
+      (unmarked a (stored m Front (d.0 + 2)) (after_even u) (kept_by m h Front (d.0 + 2) (λ s gone of. of))
+      (λ us r' at'. law16 capacities places tickets m us h r' id u at' d.0 d.1))
 
-  case11 : (field : Field) (found left : ℕ) (w : View) (marks : List Mark) → Keeping H11 w field found left marks
-  case11 field found left w marks (step11 slot number hold f needs) e =
-      no_mark capacities places tickets m h (stored m f number) (set vs id (after_write v hold f number))
-      (record {
-        rule = law11 capacities places tickets m vs h r id v at hold needs.hold_is slot f number needs;
-        past = kept_by m h f number (written hold slot f needs);
-      })
-
-  case12 : (field : Field) (found left : ℕ) (w : View) (marks : List Mark) → Keeping H12 w field found left marks
-  case12 field found left w marks (step12 {n = n} even hold needs) e = dite (ℕ_discrete n even)
-      (λ found_even. subst (λ b. IsKept capacities places tickets m h (stored m Front (cond b (even + 1) n))
-      (set vs id (cond b (record v { commit = Some (record { found = even; stored = false }) }) v)) (h ++ []))
-      (sym (eq-eqb n even found_even))
-      (no_mark capacities places tickets m h (stored m Front (even + 1))
-      (set vs id (record v { commit = Some (record { found = even; stored = false }) }))
-      (record {
-        rule = law12 capacities places tickets m vs h r id v at hold even needs (e ∙ found_even);
-        past = kept_by m h Front (even + 1) (λ s gone of. of);
-      })))
-      (λ other. subst (λ b. IsKept capacities places tickets m h (stored m Front (cond b (even + 1) n))
-      (set vs id (cond b (record v { commit = Some (record { found = even; stored = false }) }) v)) (h ++ []))
-      (sym (ne_eqb n even other))
-      (loaded capacities places tickets m h Front n (set vs id v) e same_view))
-
-  case13 : (field : Field) (found left : ℕ) (w : View) (marks : List Mark) → Keeping H13 w field found left marks
-  case13 field found left w marks (step13 even slot key value first hold needs) e = record {
-    rule = law13 capacities places tickets m vs h r id v at hold needs.commit.hold_is even slot key value first needs;
-    past = kept_by m h (Head hold.class) slot (λ s gone of. of);
-  }
-
-  case14 : (field : Field) (found left : ℕ) (w : View) (marks : List Mark) → Keeping H14 w field found left marks
-  case14 field found left w marks (step14 even slot key next hold link needs) e = record {
-    rule = law14 capacities places tickets m vs h r id v at hold needs.commit.hold_is even link slot key next needs;
-    past = kept_by m h link next (linked_at hold needs.commit.hold_is link needs.link_is);
-  }
-
-  case15 : (field : Field) (found left : ℕ) (w : View) (marks : List Mark) → Keeping H15 w field found left marks
-  case15 field found left w marks (step15 even slot key value hold needs) e = record {
-    rule = law15 capacities places tickets m vs h r id v at hold needs.commit.hold_is even slot key value needs;
-    past = kept_by m h (Value slot) value (λ s gone of. walked hold needs.commit.hold_is slot needs.on_walk s (sym of) gone);
-  }
-
-  case16 : (field : Field) (found left : ℕ) (w : View) (marks : List Mark) → Keeping H16 w field found left marks
-  case16 field found left w marks (step16 even needs) e =
-      no_mark capacities places tickets m h (stored m Front (even + 2)) (set vs id (after_even v))
-      (record {
-        rule = law16 capacities places tickets m vs h r id v at even needs;
-        past = kept_by m h Front (even + 2) (λ s gone of. of);
-      })
-
-  -- no step of one view is a split
-  case1 : (field : Field) (found left : ℕ) (w : View) (marks : List Mark) → Keeping H1 w field found left marks
-  case1 field found left w marks step e = elim step [ ]
-
-  pub all_keep : (kind : Kind) (field : Field) (found left : ℕ) (w : View) (marks : List Mark) → Keeping kind w field found left marks
-  all_keep H1 = case1
-  all_keep H2 = case2
-  all_keep H3 = case3
-  all_keep H4 = case4
-  all_keep H5 = case5
-  all_keep H6 = case6
-  all_keep H7 = case7
-  all_keep H8 = case8
-  all_keep H9 = case9
-  all_keep H10 = case10
-  all_keep H11 = case11
-  all_keep H12 = case12
-  all_keep H13 = case13
-  all_keep H14 = case14
-  all_keep H15 = case15
-  all_keep H16 = case16
-
--- A step that is noted in the trail is made of the view with one more step there.
-pub steps_keep : StepsKeep
-steps_keep kind capacities places tickets m vs h id v w field left marks r at works step =
-    let number : ℕ = cond (is_store kind) left (m field) in
-    let noted : View = stepped v kind field number in
-    subst (λ z. IsKept capacities places tickets m h (stored m field left) z (h ++ marks)) (set_twice vs id noted w)
-    (all_keep capacities places tickets m (set vs id noted) h
-    (law_stepped capacities places tickets m vs h r id v at kind field number) id noted
-    (set_here vs id noted (at_below vs id v at)) works kind field (m field) left w marks step refl)
+pub acts_keep : ActsKeep
+acts_keep capacities places tickets m vs h id v a r at works needs = keeps capacities places tickets m vs h id v r at works a needs
 
 pub splits_keep : SplitsKeep
 splits_keep capacities places tickets m vs h id away given v r at needs = law1 capacities places tickets m vs h r id v at away given needs
@@ -296,8 +542,8 @@ runs_hold capacities places tickets m vs h shape run = holds m vs h run
     holds : (m : Memory) (vs : List View) (h : List Mark) → Run capacities places tickets m vs h
         → MemoryRule capacities places tickets m vs h
     holds m vs h (begins {m = m0} fresh) = starts capacities places tickets shape m0 fresh
-    holds m vs h (steps {m = m0} {vs = us} {h = g} id v w kind field left marks run there works step) =
-        (steps_keep kind capacities places tickets m0 us g id v w field left marks (holds m0 us g run) there works step).rule
+    holds m vs h (steps {m = m0} {vs = us} {h = g} id v a run there works needs) =
+        (acts_keep capacities places tickets m0 us g id v a (holds m0 us g run) there works needs).rule
     holds m vs h (splits {m = m0} {vs = us} {h = g} id away given v run there needs) =
         law1 capacities places tickets m0 us g (holds m0 us g run) id v there away given needs
     holds m vs h (joins {m = m0} {vs = us} {h = g} id other_id v other run at there two quiet quiet_other) =

@@ -10,8 +10,8 @@ use Rattle.prcu_marks.specs.declared.mark.Mark.TheVariants.{Done}
 use Rattle.prcu_model.specs.declared.operation.Op.{Op}
 use Rattle.prcu_model.specs.declared.operation.Op.TheVariants.{Put, Set}
 use Rattle.prcu_model.specs.declared.operation.Update.{Update}
-use Rattle.prcu_model.specs.Dictionary.{updated, map_of, key_of}
-use Rattle.prcu_model.proofs.Fronts.{map_of-push}
+use Rattle.prcu_model.specs.Dictionary.{updated, map_of, key_of, WasSaid}
+use Rattle.prcu_model.proofs.Dictionaries.{map_of-push, get-updated_other, get-put, get-set}
 use Rattle.hash_core.specs.declared.words.Field.TheVariants.{Head, Key, Value, Next}
 use Rattle.hash_core.specs.declared.view.SearchState.{SearchState}
 use Rattle.hash_core.specs.declared.view.SearchState.TheVariants.{Start, Unread, Passed, Found, Ended}
@@ -19,38 +19,20 @@ use Rattle.hash_core.specs.declared.view.Section.{Section}
 use Rattle.hash_core.specs.declared.view.Hold.{Hold}
 use Rattle.hash_core.specs.declared.view.View.{View}
 use Rattle.list_laws.specs.Counts.{times}
-use Rattle.hash_core.specs.Lists.{IsPath}
-use Rattle.hash_core.specs.Memory.{Memory, stored}
-use Rattle.hash_core.specs.Slots.{is_slot_of}
+use Rattle.hash_core.specs.Memory.{IsPath, Memory, stored, is_slot_of, AreMarks, ReuseByClass}
 use Rattle.prcu_marks.specs.Marks.{updates_of, open_at, gone_at, IsGone, entered_at, last_unlinked}
-use Rattle.hash_core.specs.Marks.{AreMarks, ReuseByClass}
-use Rattle.hash_core.specs.Known.{knowing, ShowsAbsent, IsOnWalk}
-use Rattle.hash_core.specs.Buckets.{Bucket, seek, IsFreeOfReaders, taken_of, unlinked_of, HaveDistinctKeys}
-use Rattle.prcu_model.specs.Dictionary.{WasSaid}
-use Rattle.hash_core.specs.Readers.{AreAnswered, WillAnswer, IsHeldBack, HasWay}
-use Rattle.hash_core.specs.Seats.{open_of}
-use Rattle.hash_core.specs.Steps.{NeedsLink, after_link, NeedsReplace, after_replace}
-use Rattle.hash_core.specs.Rule.{BucketRule, MemoryRule}
+use Rattle.hash_core.specs.Steps.{knowing, ShowsAbsent, IsOnWalk, NeedsLink, after_link, NeedsReplace, after_replace}
+use Rattle.hash_core.specs.Rule.{Bucket, seek, IsFreeOfReaders, taken_of, unlinked_of, HaveDistinctKeys, AreAnswered, WillAnswer, IsHeldBack, HasWay, open_of, BucketRule, MemoryRule}
 use Rattle.prcu_model.proofs.ListFacts.{all_map}
 use Rattle.list_laws.proofs.Lists.{each_set, all_times}
-use Rattle.hash_core.proofs.Paths.{seek_here, seek_past, seek-same, HaveDistinctKeys-same}
-use Rattle.prcu_marks.proofs.MarkLists.{updates_of-append, entered_at-append}
-use Rattle.hash_core.proofs.Classes.{slot_within}
-use Rattle.prcu_marks.proofs.MarkPlaces.{open_at-below}
-use Rattle.prcu_marks.proofs.LastUnlinked.{last_unlinked-same}
-use Rattle.hash_core.proofs.MarkOrder.{marks_snoc}
-use Rattle.hash_core.proofs.Adds.{open_at-same, gone_at-same, reuse_more}
-use Rattle.hash_core.proofs.Frames.{SameMarks, chain_slot, taken_slot, clean_by}
-use Rattle.prcu_marks.proofs.Histories.{said_longer}
-use Rattle.hash_core.proofs.Stores.{class_words, stored_here, same_self}
+use Rattle.hash_core.proofs.SlotLists.{seek_here, seek_past, seek-same, HaveDistinctKeys-same, slot_within, will_still, whole_path, comes_on, lacks_none, cut_at, seek_some, seek_slot, seek_replaced}
+use Rattle.prcu_marks.proofs.Marks.{updates_of-append, entered_at-append, open_at-below, last_unlinked-same}
+use Rattle.hash_core.proofs.SeatFrames.{marks_snoc, open_at-same, gone_at-same, reuse_more, after_step}
+use Rattle.hash_core.proofs.Frames.{SameMarks, chain_slot, taken_slot, clean_by, class_words, stored_here, same_self}
+use Rattle.prcu_marks.proofs.Callers.{said_longer}
 use Rattle.hash_core.proofs.Sections.{free_each}
-use Rattle.hash_core.proofs.Locks.{counted_still, locked_by, elsewhere_held}
-use Rattle.hash_core.proofs.Ways.{will_still}
-use Rattle.hash_core.proofs.Whole.{after_step}
+use Rattle.hash_core.proofs.Locks.{counted_still, locked_by, elsewhere_held, said_after, seats_updated}
 use Rattle.hash_core.proofs.Stocks.{rule, had, is_known, known_after, roles_by, moved_by}
-use Rattle.hash_core.proofs.Cuts.{whole_path, comes_on, lacks_none, cut_at, seek_some, seek_slot, seek_replaced}
-use Rattle.prcu_model.proofs.Worth.{get-updated_other, get-put, get-set}
-use Rattle.hash_core.proofs.Updating.{said_after, seats_updated}
 
 module _ (capacities : List ℕ) (places tickets : ℕ) (m : Memory) (vs : List View) (h : List Mark)
     (r : MemoryRule capacities places tickets m vs h) (id : ℕ) (v : View) (at : get_elem? vs id ≡ some v) (hold : Hold)

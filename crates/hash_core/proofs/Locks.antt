@@ -1,10 +1,8 @@
+-- The steps on locks and on the front, and what an update leaves.
 -- The kinds of step on locks and on the front, and the loads under a lock.
-use Rattle.std.proofs.Common.{◌≡◌, ◌≢◌, ◌⊎◌, ℕ, ◌+◌, ◌*◌, ◌%◌, ◌<◌, ◌≤◌, Bool, true, false, cond, List, [], ◌++◌, length, set, Option, Some, None, refl, sym, ap, subst, ◌∙◌, inl, inr, arith, eq-eqb, append-nil, option_to_list}
-use mathlib.Core.Logic.{dite}
+use Rattle.std.proofs.Common.{◌≡◌, ◌≢◌, ◌⊎◌, ℕ, ◌+◌, ◌*◌, ◌%◌, ◌<◌, ◌≤◌, Bool, true, false, cond, List, [], ◌++◌, length, set, Option, Some, None, refl, sym, ap, subst, ◌∙◌, inl, inr, arith, eq-eqb, append-nil, option_to_list, ◌∷◌, ne_eqb, length-append}
 use mathlib.Core.Option.{some}
-use native.Mathlib.Decide.{ℕ_discrete}
 use lib.ListN.{get_elem?}
-use Rattle.atomic_table.proofs.Lists.{set_here}
 use Rattle.prcu_marks.specs.declared.mark.Mark.{Mark}
 use Rattle.prcu_model.specs.declared.operation.Update.{Update}
 use Rattle.hash_core.specs.declared.words.Field.{Field}
@@ -15,25 +13,20 @@ use Rattle.hash_core.specs.declared.view.Known.{Known}
 use Rattle.prcu_marks.specs.declared.commit.Commit.{Commit}
 use Rattle.hash_core.specs.declared.view.View.{View}
 use Rattle.list_laws.specs.Counts.{times}
-use Rattle.hash_core.specs.Lists.{IsPath}
-use Rattle.hash_core.specs.Memory.{Memory, same_field, stored}
-use Rattle.hash_core.specs.Slots.{is_slot_of, IsOfClass}
-use Rattle.prcu_marks.specs.Marks.{updates_of}
-use Rattle.hash_core.specs.Known.{known_in, knowing}
-use Rattle.hash_core.specs.Buckets.{Bucket, inside_count, AreCounted, HoldsOther, IsLocked, AreClean, IsFreeOfReaders, HaveOneRole, taken_of, unlinked_of, moved_of, link_of}
-use Rattle.prcu_model.specs.Dictionary.{WasSaid}
-use Rattle.hash_core.specs.Readers.{AreAnswered, WillAnswer}
-use Rattle.prcu_marks.specs.Commits.{updates_by}
-use Rattle.hash_core.specs.Seats.{HasNoCommit, IsTurned, AreOwned, AreSeen}
-use Rattle.hash_core.specs.Steps.{IsQuiet, fresh_hold, NeedsUnlock, after_unlock, NeedsCommit, NeedsEven, after_even}
-use Rattle.hash_core.specs.Rule.{BucketRule, MemoryRule}
+use Rattle.hash_core.specs.Memory.{IsPath, Memory, same_field, stored, is_slot_of, IsOfClass, AreMarks, ReuseByClass}
+use Rattle.prcu_marks.specs.Marks.{updates_of, open_at, own_of, entered_at, updates_by}
+use Rattle.hash_core.specs.Steps.{known_in, knowing, IsQuiet, fresh_hold, NeedsUnlock, after_unlock, NeedsCommit, NeedsEven, after_even, HasCommit, updated_view}
+use Rattle.hash_core.specs.Rule.{Bucket, inside_count, AreCounted, HoldsOther, IsLocked, AreClean, IsFreeOfReaders, HaveOneRole, taken_of, unlinked_of, moved_of, link_of, AreAnswered, WillAnswer, HasNoCommit, IsTurned, AreOwned, AreSeen, BucketRule, MemoryRule}
+use Rattle.prcu_model.specs.Dictionary.{WasSaid, updated, map_of, IsUpdateAt, IsLegal}
 use Rattle.prcu_model.proofs.ListFacts.{prefix_self}
-use Rattle.list_laws.proofs.Lists.{at_below, at_one, each_set, total_set, total_part}
-use Rattle.hash_core.proofs.Frames.{SameSlots, SameSection, SameHold, SameView, still_answer, clean_by}
-use Rattle.hash_core.proofs.Stores.{same_words, lock_words, front_words, stored_here, same_self, same_is}
-use Rattle.hash_core.proofs.SeatFrames.{seen_same, seen_whole, apart_same, owned_same, open_same, held_still, turned_same}
-use Rattle.hash_core.proofs.Quiet.{same_marks, same_section, same_hold, seats_same, section_back, section_forth, tickets_same, no_marks, seat_holds}
-use Rattle.hash_core.proofs.Whole.{SeatsRule, after_step, after_quiet}
+use Rattle.list_laws.proofs.Lists.{each_set, total_set, total_part, only_at, only_here}
+use Rattle.hash_core.proofs.Frames.{SameSlots, SameSection, SameHold, SameView, still_answer, clean_by, same_words, lock_words, front_words, stored_here, same_self, same_is}
+use Rattle.hash_core.proofs.SeatFrames.{seen_same, seen_whole, apart_same, owned_same, open_same, held_still, turned_same, same_marks, same_section, same_hold, seats_same, section_back, section_forth, tickets_same, no_marks, seat_holds, SeatsRule, after_step, after_quiet, owned_more}
+use Rattle.prcu_marks.specs.declared.mark.Mark.TheVariants.{Done}
+use Rattle.prcu_model.specs.declared.operation.Op.{Op}
+use Rattle.prcu_model.proofs.Dictionaries.{map_of-push}
+use Rattle.prcu_marks.proofs.Callers.{legal_more, said_now}
+use Rattle.std.specs.FinMap as finite
 
 -- the parts on a class that read views, where another view has the same section
 module _ (capacities : List ℕ) (c : ℕ) (m : Memory) (h : List Mark) (vs : List View) (id : ℕ) (v w : View) (at : get_elem? vs id ≡ some v)
@@ -76,11 +69,8 @@ module _ (capacities : List ℕ) (places tickets : ℕ) (m : Memory) (vs : List 
     where
       holder_case : (held : Option Hold) → (r.bucket c).hold ≡ held → IsLocked c m vs held → (r.bucket c).hold ≡ Some hold
       holder_case None is locked = absurd (locked.1 id v at hold mine class)
-      holder_case (Some other) is locked = dite (ℕ_discrete locked.id id)
-          (λ e.
-          let same : v ≡ locked.view = at_one vs id v locked.view at (subst (λ k. get_elem? vs k ≡ some locked.view) e locked.there) in
-          is ∙ sym (ap (λ (z : View). z.hold) same ∙ locked.holds) ∙ mine)
-          (λ ne. absurd (locked.alone id v (λ e. ne (sym e)) at hold mine class))
+      holder_case (Some other) is locked =
+          elim (only_at vs id v at locked) [ inl o ↦ is ∙ sym o.0.holds ∙ mine | inr free ↦ absurd (free hold mine class) ]
 
   pub class_small : (hold : Hold) → v.hold ≡ Some hold → hold.class < 64
   class_small hold mine = (r.held.held id v hold at mine).0
@@ -108,7 +98,7 @@ module _ (capacities : List ℕ) (places tickets : ℕ) (m : Memory) (vs : List 
       where
         none_case : (held : Option Hold) → (r.bucket c).hold ≡ held → IsLocked c m vs held → (r.bucket c).hold ≡ None
         none_case None is locked = is
-        none_case (Some hold) is locked = absurd (let a = locked.word in omega arith)
+        none_case (Some hold) is locked = absurd (let a = locked.has.word in omega arith)
 
     abbrev b6 : Bucket
     b6 = record (r.bucket c) { hold = Some (fresh_hold c) }
@@ -135,16 +125,9 @@ module _ (capacities : List ℕ) (places tickets : ℕ) (m : Memory) (vs : List 
                 ≡ cond (is_slot_of capacities c x) 1 0) none (b.roles.once x);
           };
           mapped = record { answers = b.mapped.answers };
-          locked = record {
-            id = id;
-            view = w6;
-            there = set_here vs id w6 (at_below vs id v at);
-            holds = refl;
-            class = refl;
-            word = stored_here m (Lock c) (v.place + 1) (same_self (Lock c));
-            alone = λ j u ne there. each_set (λ k z. k ≢ id → HoldsOther c z) vs id w6 (λ f. absurd (f refl))
-                (λ k z far e _. (subst (IsLocked c m vs) none b.locked).1 k z e) j u there ne;
-          };
+          locked = only_here vs id v w6 at
+              (record { holds = refl; class = refl; word = stored_here m (Lock c) (v.place + 1) (same_self (Lock c)) })
+              (λ j u _ e. (subst (IsLocked c m vs) none b.locked).1 j u e);
           known = record {
             known = λ hold field number is found. absurd
                 (let e : fresh_hold c ≡ hold = cc in let z : known_in hold.known field ≡ None =
@@ -216,11 +199,10 @@ module _ (capacities : List ℕ) (places tickets : ℕ) (m : Memory) (vs : List 
           mapped = record { answers = b.mapped.answers };
           locked = (
             stored_here m (Lock c) 0 (same_self (Lock c)),
-            λ j u there. each_set (λ k z. HoldsOther c z) vs id w7 (λ other is. absurd (cc))
-                (λ k z far e. dite (ℕ_discrete k locked.id)
-                (λ f. let me : id ≡ locked.id = dite (ℕ_discrete id locked.id) (λ q. q)
-                (λ q. absurd (locked.alone id v q at hold needs.hold_is refl)) in absurd (far (f ∙ sym me)))
-                (λ f. locked.alone k z f e)) j u there,
+            each_set (λ k z. HoldsOther c z) vs id w7 (λ other is. absurd (cc)) (elim (only_at vs id v at locked) [
+              | inl o ↦ o.1
+              | inr free ↦ absurd (free hold needs.hold_is refl)
+            ]),
           );
           known = record { known = λ other field number is found. absurd (cc) };
           ages = record {
@@ -260,18 +242,10 @@ module _ (capacities : List ℕ) (places tickets : ℕ) (m : Memory) (vs : List 
       let c : ℕ = hold.class in
       let locked = subst (IsLocked c m vs) (holder_of c (class_small hold mine) hold mine refl)
       (r.buckets c (class_small hold mine)).locked in
-      let me : id ≡ locked.id = dite (ℕ_discrete id locked.id) (λ q. q) (λ q. absurd (locked.alone id v q at hold mine refl)) in
-      let same : v ≡ locked.view = at_one vs id v locked.view at (subst (λ k. get_elem? vs k ≡ some locked.view) (sym me) locked.there) in
-      record {
-        id = id;
-        view = w;
-        there = set_here vs id w (at_below vs id v at);
-        holds = is;
-        class = class;
-        word = word ∙ locked.word ∙ ap (λ n. n + 1) (ap (λ (z : View). z.place) (sym same) ∙ sym place);
-        alone = λ j u ne there. each_set (λ k z. k ≢ id → HoldsOther c z) vs id w (λ f. absurd (f refl))
-            (λ k z far e _. locked.alone k z (λ f. far (f ∙ sym me)) e) j u there ne;
-      }
+      elim (only_at vs id v at locked) [
+        | inl o ↦ only_here vs id v w at (record { holds = is; class = class; word = word ∙ o.0.word ∙ ap (λ n. n + 1) (sym place) }) o.1
+        | inr free ↦ absurd (free hold mine refl)
+      ]
 
   -- what the holder does is nothing to other classes
   pub elsewhere_held : (d : ℕ) (hold new : Hold) → v.hold ≡ Some hold → new.class ≡ hold.class → d ≢ hold.class → (w : View)
@@ -463,20 +437,15 @@ module _ (capacities : List ℕ) (places tickets : ℕ) (m : Memory) (vs : List 
     turned12 = turn_case r.turned
       where
         turn_case : IsTurned m vs (length (updates_of h)) → IsTurned m12 (set vs id w12) (length (updates_of h))
-        turn_case (inl free) = inr (record {
-          id = id;
-          view = w12;
+        turn_case (inl free) = inr (only_here vs id v w12 at (record {
           commit = turn12;
           hold = hold;
-          there = set_here vs id w12 (at_below vs id v at);
           has = refl;
           holds = needs.0;
           word = refl;
           updates = let a = free.0 in omega arith;
-          alone = λ j u ne there. each_set (λ k z. k ≢ id → HasNoCommit z) vs id w12 (λ f. absurd (f refl))
-              (λ k z far e _. free.1 k z e) j u there ne;
-        })
-        turn_case (inr odd) = absurd (parity odd.commit.stored odd.commit.found odd.updates odd.word)
+        }) (λ j u _ e. free.1 j u e))
+        turn_case (inr odd) = let o = odd.has in absurd (parity o.commit.stored o.commit.found o.updates o.word)
           where
             parity : (t : Bool) (n : ℕ) → n + cond t 2 0 ≡ 2 * length (updates_of h) → m Front ≡ n + 1 → ⊥
             parity true n b a = let z = needs.1 in omega arith
@@ -498,18 +467,14 @@ module _ (capacities : List ℕ) (places tickets : ℕ) (m : Memory) (vs : List 
       where
         turn_case : IsTurned m vs (length (updates_of h)) → IsTurned m16 (set vs id w16) (length (updates_of h))
         turn_case (inl free) = absurd (let z : Some (record { found = even; stored = true }) ≡ None = sym needs ∙ free.1 id v at in cc)
-        turn_case (inr odd) =
-            let me : id ≡ odd.id = dite (ℕ_discrete id odd.id) (λ q. q)
-            (λ q. absurd (let z : Some (record { found = even; stored = true }) ≡ None = sym needs ∙ odd.alone id v q at in cc)) in
-            let same : v ≡ odd.view = at_one vs id v odd.view at (subst (λ k. get_elem? vs k ≡ some odd.view) (sym me) odd.there) in
-            let commit : Some (record { found = even; stored = true }) ≡ Some odd.commit =
-            sym needs ∙ ap (λ (z : View). z.commit) same ∙ odd.has in
-            let by : updates_by (record { found = even; stored = true }) ≡ updates_by odd.commit =
-            ap (λ (o : Option Commit). turn_updates o) commit in
-            inl (
-              (let b = odd.updates in omega arith),
-              λ j u there. each_set (λ k z. HasNoCommit z) vs id w16 refl (λ k z far e. odd.alone k z (λ f. far (f ∙ sym me)) e) j u there,
-            )
+        turn_case (inr odd) = elim (only_at vs id v at odd) [
+          | inl o ↦
+              let commit : Some (record { found = even; stored = true }) ≡ Some o.0.commit = sym needs ∙ o.0.has in
+              let by : updates_by (record { found = even; stored = true }) ≡ updates_by o.0.commit =
+              ap (λ (o : Option Commit). turn_updates o) commit in
+              inl ((let b = o.0.updates in omega arith), each_set (λ k z. HasNoCommit z) vs id w16 refl o.1)
+          | inr none ↦ absurd (let z : Some (record { found = even; stored = true }) ≡ None = sym needs ∙ none in cc)
+        ]
           where
             turn_updates : Option Commit → ℕ
             turn_updates None = 0
@@ -517,3 +482,84 @@ module _ (capacities : List ℕ) (places tickets : ℕ) (m : Memory) (vs : List 
 
     pub law16 : MemoryRule capacities places tickets m16 (set vs id w16) h
     law16 = front_stored (even + 2) None turned16
+
+-- What an update leaves of the parts on seats and on other classes, and what it makes of the dictionary.
+
+-- what the last front says
+pub said_after : (us : List Update) (u : Update) (key from : ℕ) (answer : Option ℕ) → from ≤ length us
+    → finite.get (updated (map_of us) u.op) key ≡ answer → WasSaid (us ++ u ∷ []) key from answer
+said_after us u key from answer since e =
+    let l = length-append us (u ∷ []) in
+    subst (WasSaid (us ++ u ∷ []) key from) (ap (λ z. finite.get z key) (map_of-push us u) ∙ e)
+    (said_now (us ++ u ∷ []) key from (omega arith))
+
+module _ (capacities : List ℕ) (places tickets : ℕ) (m : Memory) (vs : List View) (h : List Mark)
+    (r : MemoryRule capacities places tickets m vs h) (id : ℕ) (v : View) (at : get_elem? vs id ≡ some v) (hold : Hold)
+    (mine : v.hold ≡ Some hold) (even : ℕ) (commit : HasCommit v hold even) where
+  -- the front is odd by this view
+  pub turned_by : (m Front ≡ even + 1) × (even ≡ 2 * length (updates_of h))
+      × ((j : ℕ) (u : View) → j ≢ id → get_elem? vs j ≡ some u → HasNoCommit u)
+  turned_by = elim r.turned [
+    | inl quiet ↦ absurd (let a : None ≡ Some (record { found = even; stored = false }) = sym (quiet.1 id v at) ∙ commit.commit_is in cc)
+    | inr odd ↦ elim (only_at vs id v at odd) [
+      | inl o ↦
+          let there : Some o.0.commit ≡ Some (record { found = even; stored = false }) = sym o.0.has ∙ commit.commit_is in
+          let it : ◌≡◌ {A = Commit} o.0.commit (record { found = even; stored = false }) = cc in
+          let found : o.0.commit.found ≡ even = ap (λ (z : Commit). z.found) it in
+          let count : updates_by o.0.commit ≡ updates_by (record { found = even; stored = false }) = ap updates_by it in
+          (let a = o.0.word in omega arith, let a = o.0.updates in omega arith, o.1)
+      | inr none ↦ absurd (let a : None ≡ Some (record { found = even; stored = false }) = sym none ∙ commit.commit_is in cc)
+    ]
+  ]
+
+  module _ (op : Op) (new : Hold) (class : new.class ≡ hold.class) (m' : Memory) (front : m' Front ≡ m Front) (more : List Mark)
+      (longer : updates_of (h ++ Done (record { caller = v.place; op = op }) ∷ more) ≡ updates_of h
+      ++ record { caller = v.place; op = op } ∷ [])
+      (none : (p : ℕ) → own_of p more ≡ [])
+      (opened : (p : ℕ) → open_at p (h ++ Done (record { caller = v.place; op = op }) ∷ more) ≡ open_at p h)
+      (entered : (p : ℕ) → entered_at p (h ++ Done (record { caller = v.place; op = op }) ∷ more) ≡ entered_at p h)
+      (order : AreMarks places (h ++ Done (record { caller = v.place; op = op }) ∷ more))
+      (reuse : ReuseByClass capacities (h ++ Done (record { caller = v.place; op = op }) ∷ more))
+      (is_update : IsUpdateAt (map_of (updates_of h)) op)
+    where
+      abbrev w_new : View
+      w_new = updated_view v new even op h more
+
+      abbrev h_new : List Mark
+      h_new = h ++ Done (record { caller = v.place; op = op }) ∷ more
+
+      one_longer : length (updates_of h_new) ≡ length (updates_of h) + 1
+      one_longer = ap length longer ∙ length-append (updates_of h) (record { caller = v.place; op = op } ∷ [])
+
+      pub seats_updated : SeatsRule capacities places tickets m' (set vs id w_new) h_new
+      seats_updated = record {
+        seen = seen_whole vs id v w_new at h h_new refl refl (Done (record { caller = v.place; op = op }) ∷ more, refl) r.seen;
+        apart = apart_same vs id v w_new at places (record { place = refl; places = refl; joined = refl }) r.apart;
+        owned = owned_more vs id v w_new at places h more (Done (record { caller = v.place; op = op }))
+            (record { place = refl; places = refl; joined = refl }) (works capacities places tickets m vs h r id v at hold mine) refl refl
+            (eq-eqb v.place v.place refl) (λ p ne. ne_eqb v.place p (λ e. ne (sym e))) none r.apart r.owned;
+        sections = open_same vs id v w_new at h h_new (updates_of h) (updates_of h_new) refl refl refl (section_back v w_new refl)
+            (section_forth v w_new refl) opened entered (let n = one_longer in omega arith) r.sections;
+        held = held_still vs id v w_new at (λ other is. let e : new ≡ other = cc in (
+          subst (λ (z : Hold). z.class < 64) e (subst (λ z. z < 64) (sym class)
+              (class_small capacities places tickets m vs h r id v at hold mine)),
+          works capacities places tickets m vs h r id v at hold mine,
+        )) r.held;
+        turned = inr (only_here vs id v w_new at (record {
+          commit = record { found = even; stored = true };
+          hold = new;
+          has = refl;
+          holds = refl;
+          word = front ∙ turned_by.0;
+          updates = let a = turned_by.1 in let n = one_longer in omega arith;
+        }) turned_by.2);
+        tickets_are =
+            (let sum = total_set (λ (z : View). z.tickets) vs id v w_new at in
+            let was = r.tickets_are in
+            let some_ticket = commit.ticket in
+            let part = total_part (λ (z : View). z.tickets) vs id v at in
+            let n = one_longer in omega arith);
+        legal = subst IsLegal (sym longer) (legal_more (updates_of h) (record { caller = v.place; op = op }) r.legal is_update);
+        marks = order;
+        reuse = reuse;
+      }

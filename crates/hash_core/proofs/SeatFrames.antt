@@ -1,31 +1,141 @@
--- What keeps the parts of the rule on seats.
-use Rattle.std.proofs.Common.{◌≡◌, ◌≢◌, ◌⊎◌, ℕ, ◌^◌, ◌<◌, ◌≤◌, true, false, cond, List, [], ◌∷◌, ◌++◌, length, set, Some, refl, sym, ap, subst, ◌∙◌, inl, inr, arith, append-nil}
-use Rattle.std.specs.List.{AllByRecursion}
-use mathlib.Core.Logic.{dite}
+-- What one more mark leaves, what a step leaves of seats, and the whole rule after a step.
+-- What is true of each list of marks stays true with one more mark, and is true of each beginning.
+use Rattle.std.proofs.Common.{◌≡◌, ℕ, ◌^◌, ◌<◌, List, [], ◌∷◌, ◌++◌, Some, None, sym, ap, subst, ◌∙◌, ⊎_elim, ◌≢◌, cond, length, Option, refl, eq-eqb, ne_eqb, append-nil, ◌⊎◌, ◌≤◌, true, false, set, inl, inr, arith, ◌+◌, ◌==◌}
 use mathlib.Core.Option.{some}
 use mathlib.Core.List.{IsPrefix}
-use native.Mathlib.Decide.{ℕ_discrete}
 use lib.ListN.{get_elem?}
-use Rattle.atomic_table.proofs.Lists.{set_here, set_else}
+use Rattle.atomic_table.proofs.Lists.{at_longer}
 use Rattle.prcu_marks.specs.declared.mark.Mark.{Mark}
+use Rattle.prcu_marks.specs.declared.mark.Mark.TheVariants.{Entered, Left, Began, Ended, Done, Given, Unlinked, Freed}
+use Rattle.prcu_marks.specs.Marks.{Open, open_at, entered_at, last_unlinked, next_open, next_gone, gone_at, own_of, is_of, updates_of}
+use Rattle.hash_core.specs.Memory.{IsLeftHere, AreMarks, ReuseByClass, Memory}
+use Rattle.list_laws.proofs.Lists.{at_end, before_at, past_snoc, each_set, total_set, somewhere_here, somewhere_still, only_change}
+use Rattle.prcu_marks.proofs.Marks.{open_at-snoc, gone_at-snoc, own_of-append}
+use Rattle.std.specs.List.{AllByRecursion}
+use mathlib.Core.Logic.{dite}
+use native.Mathlib.Decide.{ℕ_discrete}
 use Rattle.prcu_model.specs.declared.operation.Update.{Update}
 use Rattle.hash_core.specs.declared.words.Field.TheVariants.{Front}
 use Rattle.hash_core.specs.declared.view.Section.{Section}
 use Rattle.hash_core.specs.declared.view.Hold.{Hold}
 use Rattle.prcu_marks.specs.declared.commit.Commit.{Commit}
 use Rattle.hash_core.specs.declared.view.View.{View}
-use Rattle.list_laws.specs.Counts.{times}
-use Rattle.hash_core.specs.Memory.{Memory}
-use Rattle.prcu_marks.specs.Marks.{Open, open_at, own_of, is_of, entered_at}
-use Rattle.hash_core.specs.Seats.{HasHeard, AreSeen, HasPlace, AnswersFor, AreApart, AreOwned, open_of, IsOpenOf, AreOpen, AreHeld, HasNoCommit, IsTurned}
+use Rattle.list_laws.specs.Counts.{times, total}
+use Rattle.hash_core.specs.Rule.{HasHeard, AreSeen, HasPlace, AnswersFor, AreApart, AreOwned, open_of, AreOpen, AreHeld, HasNoCommit, IsTurned, Bucket, BucketRule, MemoryRule, HasOpen, MakesOdd}
 use Rattle.prcu_model.proofs.ListFacts.{prefix_self, prefix_trans, all_map}
-use Rattle.list_laws.proofs.Lists.{at_below, at_one, each_set}
-use Rattle.prcu_marks.proofs.MarkLists.{own_of-append}
+use Rattle.prcu_model.specs.Dictionary.{IsLegal}
+use Rattle.hash_core.proofs.Frames.{SameWords, SameMarks, SameView, bucket_frame, SameSection, SameHold, same_words}
+use Rattle.hash_core.specs.declared.words.Field.{Field}
+use Rattle.hash_core.specs.declared.words.Kind.{Kind}
+use Rattle.hash_core.specs.declared.view.StepMade.{StepMade}
+use Rattle.hash_core.specs.Steps.{stepped}
 
--- An open section is that of its view wherever the view stands.
-pub open_in : {vs vs' : List View} {p : ℕ} {o : Open} (q : IsOpenOf vs p o) → get_elem? vs' q.id ≡ some q.view → IsOpenOf vs' p o
-open_in q there =
-    record { id = q.id; view = q.view; section = q.section; there = there; place = q.place; inside = q.inside; same = q.same }
+-- what a new mark has to meet, after these
+abbrev pub NewMark : ℕ → List Mark → Mark → Type 0
+NewMark places h (Entered p c x) = (p < places) × (x < 2 ^ 64) × (c ≡ entered_at p h) × (open_at p h ≡ None)
+NewMark places h (Left p c) = (o : Open) × (open_at p h ≡ Some o) × (o.count ≡ c)
+NewMark places h m = IsLeftHere m
+
+left_here : (places : ℕ) (h : List Mark) (m : Mark) → NewMark places h m → IsLeftHere m
+left_here places h (Entered p c x) n = tt
+left_here places h (Left p c) n = tt
+left_here places h (Began p c a b) n = n
+left_here places h (Ended p c) n = n
+left_here places h (Done u) n = tt
+left_here places h (Given s) n = tt
+left_here places h (Unlinked s) n = tt
+left_here places h (Freed s) n = n
+
+pub marks_snoc : (places : ℕ) (h : List Mark) (m : Mark) → NewMark places h m → AreMarks places h → AreMarks places (h ++ m ∷ [])
+marks_snoc places h m new t = record {
+  entered = λ j p c x. past_snoc (NewMark places) h m (Entered p c x) new (λ i. t.entered i p c x) j;
+  left = λ j p c. past_snoc (NewMark places) h m (Left p c) new (λ i. t.left i p c) j;
+  others = λ j a e. ⊎_elim (λ (o : get_elem? h j ≡ some a). t.others j a o) (λ n. subst IsLeftHere n.1 (left_here places h m new))
+      (at_end h m a j e);
+}
+
+pub marks_begin : (places : ℕ) (a h : List Mark) → IsPrefix a h → AreMarks places h → AreMarks places a
+marks_begin places a h begins all =
+    let t = subst (AreMarks places) (sym begins.1) all in
+    let r : List Mark = begins.0 in
+    record {
+      entered = λ j p c x e. (let q = t.entered j p c x (at_longer a r j _ e) in let b = before_at a r j _ e in
+          (q.0, q.1, q.2 ∙ ap (entered_at p) b, ap (open_at p) (sym b) ∙ q.3));
+      left = λ j p c e. (let q = t.left j p c (at_longer a r j _ e) in (q.0, ap (open_at p) (sym (before_at a r j _ e)) ∙ q.1, q.2));
+      others = λ j m e. t.others j m (at_longer a r j m e);
+    }
+
+pub reuse_begins : (capacities : List ℕ) (a h : List Mark) → IsPrefix a h → ReuseByClass capacities h → ReuseByClass capacities a
+reuse_begins capacities a h begins all j s c i p o given of last there class =
+    let t = subst (ReuseByClass capacities) (sym begins.1) all in
+    let b = before_at a begins.0 j _ given in
+    t j s c i p o (at_longer a begins.0 j _ given) of (ap (last_unlinked s) b ∙ last) (ap (open_at p) b ∙ there) class
+
+-- What one more mark leaves as it was.
+
+-- a mark that neither enters nor leaves a section
+abbrev pub TurnsNoSection : Mark → Type 0
+TurnsNoSection (Entered p c x) = ⊥
+TurnsNoSection (Left p c) = ⊥
+TurnsNoSection _ = Unit {0}
+
+-- a mark that says nothing of where slots are
+abbrev pub TurnsNoSlot : Mark → Type 0
+TurnsNoSlot (Given s) = ⊥
+TurnsNoSlot (Unlinked s) = ⊥
+TurnsNoSlot (Freed s) = ⊥
+TurnsNoSlot _ = Unit {0}
+
+next_open-same : (p i : ℕ) (o : Option Open) (m : Mark) → TurnsNoSection m → next_open p i o m ≡ o
+next_open-same p i o (Entered q c x) n = absurd n
+next_open-same p i o (Left q c) n = absurd n
+next_open-same p i o (Began q c a b) n = refl
+next_open-same p i o (Ended q c) n = refl
+next_open-same p i o (Done u) n = refl
+next_open-same p i o (Given s) n = refl
+next_open-same p i o (Unlinked s) n = refl
+next_open-same p i o (Freed s) n = refl
+
+next_gone-same : (s i : ℕ) (g : Option ℕ) (m : Mark) → TurnsNoSlot m → next_gone s i g m ≡ g
+next_gone-same s i g (Entered q c x) n = refl
+next_gone-same s i g (Left q c) n = refl
+next_gone-same s i g (Began q c a b) n = refl
+next_gone-same s i g (Ended q c) n = refl
+next_gone-same s i g (Done u) n = refl
+next_gone-same s i g (Given t) n = absurd n
+next_gone-same s i g (Unlinked t) n = absurd n
+next_gone-same s i g (Freed t) n = absurd n
+
+module _ (h : List Mark) (m : Mark) where
+  pub open_at-same : TurnsNoSection m → (p : ℕ) → open_at p (h ++ m ∷ []) ≡ open_at p h
+  open_at-same n p = open_at-snoc p h m ∙ next_open-same p (length h) (open_at p h) m n
+
+  pub gone_at-same : TurnsNoSlot m → (s : ℕ) → gone_at s (h ++ m ∷ []) ≡ gone_at s h
+  gone_at-same n s = gone_at-snoc s h m ∙ next_gone-same s (length h) (gone_at s h) m n
+
+pub gone_at-given_here : (h : List Mark) (s : ℕ) → gone_at s (h ++ Given s ∷ []) ≡ None
+gone_at-given_here h s = gone_at-snoc s h (Given s) ∙ ap (λ b. cond b None (gone_at s h)) (eq-eqb s s refl)
+
+pub gone_at-given_other : (h : List Mark) (s t : ℕ) → t ≢ s → gone_at s (h ++ Given t ∷ []) ≡ gone_at s h
+gone_at-given_other h s t ne = gone_at-snoc s h (Given t) ∙ ap (λ b. cond b None (gone_at s h)) (ne_eqb t s ne)
+
+pub gone_at-unlinked_here : (h : List Mark) (s : ℕ) → gone_at s (h ++ Unlinked s ∷ []) ≡ Some (length h)
+gone_at-unlinked_here h s = gone_at-snoc s h (Unlinked s) ∙ ap (λ b. cond b (Some (length h)) (gone_at s h)) (eq-eqb s s refl)
+
+pub gone_at-unlinked_other : (h : List Mark) (s t : ℕ) → t ≢ s → gone_at s (h ++ Unlinked t ∷ []) ≡ gone_at s h
+gone_at-unlinked_other h s t ne = gone_at-snoc s h (Unlinked t) ∙ ap (λ b. cond b (Some (length h)) (gone_at s h)) (ne_eqb t s ne)
+
+-- a mark that gives no slot keeps reuse
+pub reuse_more : (capacities : List ℕ) (h : List Mark) (m : Mark) → ((s : ℕ) → m ≢ Given s) → ReuseByClass capacities h
+    → ReuseByClass capacities (h ++ m ∷ [])
+reuse_more capacities h m none reuse j s c i p o given of gone there class =
+    past_snoc (λ (past : List Mark) (a : Mark). a ≡ Given s → last_unlinked s past ≡ Some i → open_at p past ≡ Some o → i < o.at) h m
+    (Given s) (λ e _ _. absurd (none s e)) (λ n old _ last now. reuse n s c i p o old of last now class) j given refl gone there
+
+pub reuse_nothing : (capacities : List ℕ) (h : List Mark) → ReuseByClass capacities h → ReuseByClass capacities (h ++ [])
+reuse_nothing capacities h reuse = subst (ReuseByClass capacities) (sym (append-nil h)) reuse
+
+-- What keeps the parts of the rule on seats.
 
 -- Who answers for which places is the same.
 pub record SamePlaces (v w : View) : Type 0 where
@@ -41,10 +151,7 @@ module _ (vs : List View) (id : ℕ) (v w : View) (at : get_elem? vs id ≡ some
         (s.heard id v at)) (λ j u other e. s.heard j u e);
     begins = each_set (λ j u. IsPrefix u.seen h) vs id w (subst (λ z. IsPrefix z h) (sym same) (s.begins id v at))
         (λ j u other e. s.begins j u e);
-    longest = let l = s.longest in dite (ℕ_discrete l.0 id)
-        (λ e. let g : v ≡ l.1 = at_one vs id v l.1 at (subst (λ k. get_elem? vs k ≡ some l.1) e l.2) in
-        (id, w, set_here vs id w (at_below vs id v at), same ∙ (ap (λ (z : View). z.seen) g ∙ l.3)))
-        (λ other. (l.0, l.1, set_else vs id l.0 w other ∙ l.2, l.3));
+    longest = somewhere_still vs id v w at (λ all. same ∙ all) s.longest;
   }
 
   pub seen_whole : (h h' : List Mark) → w.seen ≡ h' → w.heard ≡ v.heard → IsPrefix h h' → AreSeen vs h → AreSeen (set vs id w) h'
@@ -56,7 +163,7 @@ module _ (vs : List View) (id : ℕ) (v w : View) (at : get_elem? vs id ≡ some
         (λ j u other e. s.heard j u e);
     begins = each_set (λ j u. IsPrefix u.seen h') vs id w (subst (λ z. IsPrefix z h') (sym new) (prefix_self h'))
         (λ j u other e. prefix_trans u.seen h h' (s.begins j u e) longer);
-    longest = (id, w, set_here vs id w (at_below vs id v at), new);
+    longest = somewhere_here vs id v w at new;
   }
 
   answers_back : (p : ℕ) → SamePlaces v w → AnswersFor w p → AnswersFor v p
@@ -194,20 +301,9 @@ module _ (vs : List View) (id : ℕ) (v w : View) (at : get_elem? vs id ≡ some
     entered = λ j u there works. each_set (λ k z. 1 ≤ z.places → z.sections ≡ entered_at z.place h') vs id w
         (λ mine. sections ∙ s.entered id v at (omega arith) ∙ ap (λ p. entered_at p h) (sym place) ∙ sym (entered w.place))
         (λ k z other e theirs. s.entered k z e theirs ∙ sym (entered z.place)) j u there works;
-    all = λ p o is. let q = s.all p o (sym (opened p) ∙ is) in
-        dite (ℕ_discrete q.id id)
-        (λ e. let same : v ≡ q.view = at_one vs id v q.view at (subst (λ k. get_elem? vs k ≡ some q.view) e q.there) in
-        let now = forth q.section (ap (λ (z : View). z.section) same ∙ q.inside) in
-        record {
-          id = id;
-          view = w;
-          section = now.0;
-          there = set_here vs id w (at_below vs id v at);
-          place = place ∙ ap (λ (z : View). z.place) same ∙ q.place;
-          inside = now.1;
-          same = q.same ∙ now.2;
-        })
-        (λ ne. open_in q (set_else vs id q.id w ne ∙ q.there));
+    all = λ p o is. somewhere_still vs id v w at
+        (λ (mine : HasOpen v p o). let now = forth mine.1 mine.2 in (place ∙ mine.0, now.0, now.1, mine.3 ∙ now.2))
+        (s.all p o (sym (opened p) ∙ is));
   }
 
   pub held_still : ((hold : Hold) → w.hold ≡ Some hold → (hold.class < 64) × (1 ≤ w.places)) → AreHeld vs → AreHeld (set vs id w)
@@ -222,35 +318,185 @@ module _ (vs : List View) (id : ℕ) (v w : View) (at : get_elem? vs id ≡ some
       → IsTurned m vs count → IsTurned m' (set vs id w) count
   turned_same m m' count front commit hold (inl even) =
       inl (front ∙ even.0, each_set (λ k z. HasNoCommit z) vs id w (commit ∙ even.1 id v at) (λ k z other e. even.1 k z e))
-  turned_same m m' count front commit hold (inr odd) = inr (
-      dite (ℕ_discrete odd.id id)
-      (λ e.
-      let same : v ≡ odd.view = at_one vs id v odd.view at (subst (λ k. get_elem? vs k ≡ some odd.view) e odd.there) in
-      let mine : v.commit ≡ Some odd.commit = ap (λ (z : View). z.commit) same ∙ odd.has in
-      let held = hold odd.commit odd.hold mine (ap (λ (z : View). z.hold) same ∙ odd.holds) in record {
-        id = id;
-        view = w;
-        commit = odd.commit;
+  turned_same m m' count front commit hold (inr odd) = inr (only_change vs id v w at
+      (λ (mine : MakesOdd m count v). let held = hold mine.commit mine.hold mine.has mine.holds in record {
+        commit = mine.commit;
         hold = held.0;
-        there = set_here vs id w (at_below vs id v at);
-        has = commit ∙ mine;
+        has = commit ∙ mine.has;
         holds = held.1;
-        word = front ∙ odd.word;
-        updates = odd.updates;
-        alone = λ j u ne there. each_set (λ k z. k ≢ id → HasNoCommit z) vs id w (λ f. absurd (f refl))
-            (λ k z other q _. odd.alone k z (λ f. other (f ∙ e)) q) j u there ne;
+        word = front ∙ mine.word;
+        updates = mine.updates;
       })
-      (λ ne. record {
-        id = odd.id;
-        view = odd.view;
-        commit = odd.commit;
-        hold = odd.hold;
-        there = set_else vs id odd.id w ne ∙ odd.there;
-        has = odd.has;
-        holds = odd.holds;
-        word = front ∙ odd.word;
-        updates = odd.updates;
-        alone = λ j u far there. each_set (λ k z. k ≢ odd.id → HasNoCommit z) vs id w
-            (λ f. commit ∙ odd.alone id v (λ g. ne (sym g)) at) (λ k z other q f. odd.alone k z f q) j u there far;
+      (λ u (theirs : MakesOdd m count u). record {
+        commit = theirs.commit;
+        hold = theirs.hold;
+        has = theirs.has;
+        holds = theirs.holds;
+        word = front ∙ theirs.word;
+        updates = theirs.updates;
       })
+      (λ (none : HasNoCommit v). commit ∙ none) odd
       )
+
+-- The whole rule after one step, from its parts.
+
+-- What a step owes beside the parts on the classes.
+pub record SeatsRule (capacities : List ℕ) (places tickets : ℕ) (m : Memory) (vs : List View) (h : List Mark) : Type 0 where
+  pub seen : AreSeen vs h
+  pub apart : AreApart places vs
+  pub owned : AreOwned places vs h
+  pub sections : AreOpen vs h (updates_of h)
+  pub held : AreHeld vs
+  pub turned : IsTurned m vs (length (updates_of h))
+  pub tickets_are : length (updates_of h) + total (λ v. v.tickets) vs ≡ tickets
+  pub legal : IsLegal (updates_of h)
+  pub marks : AreMarks places h
+  pub reuse : ReuseByClass capacities h
+
+-- What the parts on a class read is the same after the step.
+pub record IsElsewhere (capacities : List ℕ) (d : ℕ) (m m' : Memory) (h h' : List Mark) (v w : View) : Type 0 where
+  pub words : SameWords capacities d m m'
+  pub marks : SameMarks capacities d h h' (updates_of h) (updates_of h')
+  pub view : SameView d v w
+
+module _ (capacities : List ℕ) (places tickets : ℕ) (m : Memory) (vs : List View) (h : List Mark)
+    (r : MemoryRule capacities places tickets m vs h) (id : ℕ) (v w : View) (at : get_elem? vs id ≡ some v) (m' : Memory) (h' : List Mark)
+    (seats : SeatsRule capacities places tickets m' (set vs id w) h') where
+  still : (d : ℕ) → d < 64 → IsElsewhere capacities d m m' h h' v w
+      → BucketRule capacities d m' h' (updates_of h') (set vs id w) (r.bucket d)
+  still d small elsewhere = bucket_frame capacities d m m' h h' (updates_of h) (updates_of h') vs id v w
+      (r.bucket d) at elsewhere.words elsewhere.marks elsewhere.view (r.buckets d small)
+
+  -- the rule after the step, whatever the classes are like
+  rule_with : (bucket : ℕ → Bucket) → ((d : ℕ) → d < 64 → BucketRule capacities d m' h' (updates_of h') (set vs id w) (bucket d))
+      → MemoryRule capacities places tickets m' (set vs id w) h'
+  rule_with bucket buckets = record {
+    shape = r.shape;
+    seen = seats.seen;
+    apart = seats.apart;
+    owned = seats.owned;
+    sections = seats.sections;
+    held = seats.held;
+    turned = seats.turned;
+    tickets_are = seats.tickets_are;
+    legal = seats.legal;
+    marks = seats.marks;
+    reuse = seats.reuse;
+    bucket = bucket;
+    buckets = buckets;
+  }
+
+  -- a step in one class
+  pub after_step : (c : ℕ) (b : Bucket) → (c < 64 → BucketRule capacities c m' h' (updates_of h') (set vs id w) b)
+      → ((d : ℕ) → d < 64 → d ≢ c → IsElsewhere capacities d m m' h h' v w) → MemoryRule capacities places tickets m' (set vs id w) h'
+  after_step c b mine others = rule_with (λ d. cond (d == c) b (r.bucket d)) (λ d small. dite (ℕ_discrete d c)
+      (λ e. let here : b ≡ cond (d == c) b (r.bucket d) = ap (λ t. cond t b (r.bucket d)) (sym (eq-eqb d c e)) in
+      subst (BucketRule capacities d m' h' (updates_of h') (set vs id w)) here
+      (subst (λ z. BucketRule capacities z m' h' (updates_of h') (set vs id w) b) (sym e) (mine (subst (λ z. z < 64) e small))))
+      (λ ne. let there : r.bucket d ≡ cond (d == c) b (r.bucket d) = ap (λ t. cond t b (r.bucket d)) (sym (ne_eqb d c ne)) in
+      subst (BucketRule capacities d m' h' (updates_of h') (set vs id w)) there (still d small (others d small ne))))
+
+  -- a step that no class is concerned with
+  pub after_quiet : ((d : ℕ) → d < 64 → IsElsewhere capacities d m m' h h' v w) → MemoryRule capacities places tickets m' (set vs id w) h'
+  after_quiet others = rule_with r.bucket (λ d small. still d small (others d small))
+
+-- Steps that leave no mark.
+
+-- What the parts on seats read of a view is the same, but for where its search stands and what it knows.
+pub record SameSeat (v w : View) : Type 0 where
+  pub places : SamePlaces v w
+  pub tickets : w.tickets ≡ v.tickets
+  pub sections : w.sections ≡ v.sections
+  pub back : (section : Section) → w.section ≡ Some section
+      → (old : Section) × (v.section ≡ Some old) × (open_of section ≡ open_of old) × (section.from ≡ old.from)
+  pub forth : (section : Section) → v.section ≡ Some section → (new : Section) × (w.section ≡ Some new) × (open_of section ≡ open_of new)
+  pub commit : w.commit ≡ v.commit
+  pub kept : (commit : Commit) (hold : Hold) → v.commit ≡ Some commit → v.hold ≡ Some hold → (k : Hold) × (w.hold ≡ Some k)
+  pub held : (hold : Hold) → w.hold ≡ Some hold → (hold.class < 64) × (1 ≤ w.places)
+  pub own : w.own ≡ v.own
+  pub heard : w.heard ≡ v.heard
+
+-- a section that stays
+pub section_back : (v w : View) → w.section ≡ v.section → (section : Section) → w.section ≡ Some section
+    → (old : Section) × (v.section ≡ Some old) × (open_of section ≡ open_of old) × (section.from ≡ old.from)
+section_back v w same section is = (section, sym same ∙ is, refl, refl)
+
+pub section_forth : (v w : View) → w.section ≡ v.section → (section : Section) → v.section ≡ Some section
+    → (new : Section) × (w.section ≡ Some new) × (open_of section ≡ open_of new)
+section_forth v w same section is = (section, same ∙ is, refl)
+
+-- where a step changes what the seat holds, and its trail
+pub seat_holds : (v : View) (new : Option Hold) (trail : List StepMade)
+    → ((commit : Commit) (hold : Hold) → v.commit ≡ Some commit → v.hold ≡ Some hold → (k : Hold) × (new ≡ Some k))
+    → ((hold : Hold) → new ≡ Some hold → (hold.class < 64) × (1 ≤ v.places)) → SameSeat v (record v { hold = new; trail = trail })
+seat_holds v new trail kept held = record {
+  places = record { place = refl; places = refl; joined = refl };
+  tickets = refl;
+  sections = refl;
+  back = section_back v v refl;
+  forth = section_forth v v refl;
+  commit = refl;
+  kept = kept;
+  held = held;
+  own = refl;
+  heard = refl;
+}
+
+pub no_marks : (p : ℕ) → own_of p [] ≡ []
+no_marks p = refl
+
+pub same_marks : (capacities : List ℕ) (d : ℕ) (h : List Mark) → SameMarks capacities d h h (updates_of h) (updates_of h)
+same_marks capacities d h = record {
+  more = [];
+  longer = sym (append-nil _);
+  gone = λ s of. refl;
+  last = λ s of. refl;
+  pairs = λ key class. refl;
+}
+
+pub same_section : (d : ℕ) (a : Option Section) → SameSection d a a
+same_section d None = tt
+same_section d (Some s) = inl refl
+
+pub same_hold : (d : ℕ) (a : Option Hold) → SameHold d a a
+same_hold d None = tt
+same_hold d (Some k) = inl refl
+
+module _ (capacities : List ℕ) (places tickets : ℕ) (m : Memory) (vs : List View) (h : List Mark)
+    (r : MemoryRule capacities places tickets m vs h) (id : ℕ) (v w : View) (at : get_elem? vs id ≡ some v) (m' : Memory) where
+  pub tickets_same : w.tickets ≡ v.tickets → length (updates_of h) + total (λ (z : View). z.tickets) (set vs id w) ≡ tickets
+  tickets_same same = let sum = total_set (λ (z : View). z.tickets) vs id v w at in let was = r.tickets_are in omega arith
+
+  -- no mark, and nothing more was seen
+  pub seats_same : SameSeat v w → w.seen ≡ v.seen → m' Front ≡ m Front → SeatsRule capacities places tickets m' (set vs id w) h
+  seats_same same seen front = record {
+    seen = seen_same vs id v w at h seen same.heard r.seen;
+    apart = apart_same vs id v w at places same.places r.apart;
+    owned = subst (λ z. AreOwned places (set vs id w) z) (append-nil h)
+        (owned_same vs id v w at places h [] same.places same.own (inl seen) no_marks r.owned);
+    sections = open_same vs id v w at h h (updates_of h)
+        (updates_of h) same.places.place same.places.places same.sections same.back same.forth (λ p. refl) (λ p. refl)
+        (omega arith) r.sections;
+    held = held_still vs id v w at same.held r.held;
+    turned = turned_same vs id v w at m m' (length (updates_of h)) front same.commit same.kept r.turned;
+    tickets_are = tickets_same same.tickets;
+    legal = r.legal;
+    marks = r.marks;
+    reuse = r.reuse;
+  }
+
+-- the trail is read by no part
+pub law_stepped : (capacities : List ℕ) (places tickets : ℕ) (m : Memory) (vs : List View) (h : List Mark)
+    → MemoryRule capacities places tickets m vs h → (id : ℕ) (v : View) → get_elem? vs id ≡ some v
+    → (kind : Kind) (field : Field) (number : ℕ)
+    → MemoryRule capacities places tickets m (set vs id (stepped v kind field number)) h
+law_stepped capacities places tickets m vs h r id v at kind field number =
+    let w : View = stepped v kind field number in
+    after_quiet capacities places tickets m vs h r id v w at m h
+    (seats_same capacities places tickets m vs h r id v w at m
+    (seat_holds v v.hold w.trail (λ commit hold is held. (hold, held)) (λ hold is. r.held.held id v hold at is)) refl refl)
+    (λ d small. record {
+      words = same_words capacities d m;
+      marks = same_marks capacities d h;
+      view = record { place = refl; section = same_section d v.section; hold = same_hold d v.hold };
+    })

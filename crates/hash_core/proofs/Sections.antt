@@ -6,12 +6,10 @@ use mathlib.Core.Logic.{dite}
 use mathlib.Core.Option.{some}
 use native.Mathlib.Decide.{ℕ_discrete}
 use lib.ListN.{get_elem?}
-use Rattle.atomic_table.proofs.Lists.{set_here, set_else}
 use Rattle.prcu_marks.specs.declared.mark.Mark.{Mark}
 use Rattle.prcu_marks.specs.declared.mark.Mark.TheVariants.{Entered, Left, Ended}
-use Rattle.prcu_model.specs.Dictionary.{map_of}
-use Rattle.prcu_model.specs.History.{IsLegal}
-use Rattle.prcu_marks.proofs.Histories.{said_now}
+use Rattle.prcu_model.specs.Dictionary.{map_of, IsLegal, WasSaid}
+use Rattle.prcu_marks.proofs.Callers.{said_now}
 use Rattle.hash_core.specs.declared.words.Field.{Field}
 use Rattle.hash_core.specs.declared.words.Field.TheVariants.{Readers, Head, Free, Retired, Key, Value, Next, Chain}
 use Rattle.hash_core.specs.declared.view.SearchState.{SearchState}
@@ -19,28 +17,16 @@ use Rattle.hash_core.specs.declared.view.SearchState.TheVariants.{Start, Unread,
 use Rattle.hash_core.specs.declared.view.Section.{Section}
 use Rattle.hash_core.specs.declared.view.View.{View}
 use Rattle.list_laws.specs.Counts.{total}
-use Rattle.hash_core.specs.Lists.{IsPath}
-use Rattle.hash_core.specs.Memory.{Memory, stored}
-use Rattle.hash_core.specs.Slots.{is_slot_of, IsOfClass}
+use Rattle.hash_core.specs.Memory.{IsPath, Memory, stored, is_slot_of, IsOfClass}
 use Rattle.prcu_marks.specs.Marks.{updates_of, Open, open_at, gone_at, entered_at, last_unlinked}
-use Rattle.hash_core.specs.Buckets.{Bucket, seek, inside_count, IsKnown, IsFreeOfReaders, AreClean}
-use Rattle.prcu_model.specs.Dictionary.{WasSaid}
-use Rattle.hash_core.specs.Readers.{IsHeldBack, HasWay, WillAnswer}
-use Rattle.hash_core.specs.Seats.{open_of, AreOpen, IsTurned}
+use Rattle.hash_core.specs.Rule.{Bucket, seek, inside_count, IsKnown, IsFreeOfReaders, AreClean, IsHeldBack, HasWay, WillAnswer, open_of, AreOpen, IsTurned, BucketRule, MemoryRule, HasOpen}
 use Rattle.hash_core.specs.Steps.{after_enter, after_leave, after_search_load, link_stand, searched, MayLoad}
-use Rattle.hash_core.specs.Rule.{BucketRule, MemoryRule}
 use Rattle.prcu_model.proofs.ListFacts.{all_map}
-use Rattle.list_laws.proofs.Lists.{at_below, at_one, each_set, total_set, total_part}
-use Rattle.hash_core.proofs.Paths.{path_cons, path_none, seek_here, seek_past}
-use Rattle.prcu_marks.proofs.MarkLists.{open_at-snoc, updates_of-append, entered_at-append}
-use Rattle.prcu_marks.proofs.LastUnlinked.{last_unlinked-below, last_unlinked-same}
-use Rattle.hash_core.proofs.MarkOrder.{marks_snoc}
-use Rattle.hash_core.proofs.Adds.{gone_at-same, reuse_more}
-use Rattle.hash_core.proofs.Frames.{SameMarks, SameSection, locked_same, still_said, still_answer, frame_ages_same, clean_by}
-use Rattle.hash_core.proofs.Stores.{same_words, readers_words, stored_here, same_self}
-use Rattle.hash_core.proofs.SeatFrames.{open_in, seen_whole, apart_same, owned_more, held_still, turned_same}
-use Rattle.hash_core.proofs.Quiet.{same_marks, same_hold, seats_same, tickets_same}
-use Rattle.hash_core.proofs.Whole.{SeatsRule, after_step}
+use Rattle.list_laws.proofs.Lists.{each_set, total_set, total_part, somewhere_at, somewhere_here, somewhere_still}
+use Rattle.hash_core.proofs.SlotLists.{path_cons, path_none, seek_here, seek_past}
+use Rattle.prcu_marks.proofs.Marks.{open_at-snoc, updates_of-append, entered_at-append, last_unlinked-below, last_unlinked-same}
+use Rattle.hash_core.proofs.SeatFrames.{marks_snoc, gone_at-same, reuse_more, seen_whole, apart_same, owned_more, held_still, turned_same, same_marks, same_hold, seats_same, tickets_same, SeatsRule, after_step}
+use Rattle.hash_core.proofs.Frames.{SameMarks, SameSection, locked_same, still_said, still_answer, frame_ages_same, clean_by, same_words, readers_words, stored_here, same_self}
 
 -- a link that was loaded: the end, or the next slot
 link_case : (P : SearchState → Type 0) (link : ℕ) → (link ≡ 0 → P Ended) → (link ≢ 0 → P (Unread link)) → P (link_stand link)
@@ -134,11 +120,11 @@ module _ (capacities : List ℕ) (places tickets : ℕ) (m : Memory) (vs : List 
         closed_case None is = refl
         closed_case (Some o) is =
             let q = r.sections.all v.place o is in
-            let there = r.sections.open_here q.id q.view q.section q.there q.inside in
+            let there = r.sections.open_here q.id q.view q.has.1 q.there q.has.2 in
             let me : q.id ≡ id = r.apart.apart q.id id v.place q.view v q.there at
-            (let e = q.place in let w = there.0 in inl (omega arith, omega arith)) (inl (omega arith, omega arith)) in
-            let same : v ≡ q.view = at_one vs id v q.view at (subst (λ k. get_elem? vs k ≡ some q.view) me q.there) in
-            absurd (let z : Some q.section ≡ None = sym (ap (λ (y : View). y.section) same ∙ q.inside) ∙ outside in cc)
+            (let e = q.has.0 in let w = there.0 in inl (omega arith, omega arith)) (inl (omega arith, omega arith)) in
+            let mine : HasOpen v v.place o = somewhere_at vs id v at q me in
+            absurd (let z : Some mine.1 ≡ None = sym mine.2 ∙ outside in cc)
 
     sections3 : AreOpen (set vs id w3) h3 (updates_of h3)
     sections3 = record {
@@ -166,20 +152,10 @@ module _ (capacities : List ℕ) (places tickets : ℕ) (m : Memory) (vs : List 
       all = λ p o is. dite (ℕ_discrete p v.place)
           (λ e. let now : open_at v.place h3 ≡ Some o = subst (λ q. open_at q h3 ≡ Some o) e is in
           let same : open_of section3 ≡ o = cc (open_here3, now) in
-          record {
-            id = id;
-            view = w3;
-            section = section3;
-            there = set_here vs id w3 (at_below vs id v at);
-            place = sym e;
-            inside = refl;
-            same = sym same;
-          })
-          (λ ne. let q = r.sections.all p o (sym (open_else3 p ne) ∙ is) in
-          let far : q.id ≢ id = λ e.
-          let same : v ≡ q.view = at_one vs id v q.view at (subst (λ k. get_elem? vs k ≡ some q.view) e q.there) in
-          absurd (let z : Some q.section ≡ None = sym (ap (λ (y : View). y.section) same ∙ q.inside) ∙ outside in cc) in
-          open_in q (set_else vs id q.id w3 far ∙ q.there));
+          somewhere_here vs id v w3 at (sym e, section3, refl, sym same))
+          (λ ne. somewhere_still vs id v w3 at
+          (λ (mine : HasOpen v p o). absurd (let z : Some mine.1 ≡ None = sym mine.2 ∙ outside in cc))
+          (r.sections.all p o (sym (open_else3 p ne) ∙ is)));
     }
 
     seats3 : SeatsRule capacities places tickets m3 (set vs id w3) h3
@@ -318,11 +294,8 @@ module _ (capacities : List ℕ) (places tickets : ℕ) (m : Memory) (vs : List 
       all = λ p o is. dite (ℕ_discrete p v.place)
           (λ e. absurd (let now : open_at v.place h4 ≡ Some o = subst (λ q. open_at q h4 ≡ Some o) e is in
           let z : None ≡ Some o = sym open_here4 ∙ now in cc))
-          (λ ne. let q = r.sections.all p o (sym (open_else4 p ne) ∙ is) in
-          let far : q.id ≢ id = λ e.
-          let same : v ≡ q.view = at_one vs id v q.view at (subst (λ k. get_elem? vs k ≡ some q.view) e q.there) in
-          ne (sym q.place ∙ ap (λ (y : View). y.place) (sym same)) in
-          open_in q (set_else vs id q.id w4 far ∙ q.there));
+          (λ ne. somewhere_still vs id v w4 at (λ (mine : HasOpen v p o). absurd (ne (sym mine.0)))
+          (r.sections.all p o (sym (open_else4 p ne) ∙ is)));
     }
 
     seats4 : SeatsRule capacities places tickets m4 (set vs id w4) h4

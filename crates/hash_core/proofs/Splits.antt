@@ -1,37 +1,139 @@
--- Seats are split and joined.
-use Rattle.std.proofs.Common.{◌≡◌, ◌≢◌, ◌⊎◌, ℕ, zero, suc, ◌+◌, ◌-◌, ◌<◌, ◌≤◌, ◌==◌, true, false, cond, List, [], ◌∷◌, ◌++◌, length, set, refl, sym, ap, subst, ◌∙◌, inl, inr, arith, append-nil}
+-- The rule where no step is made: seats are split and joined, and a table is made.
+-- What keeps the rule where only views change that are outside a section and without a lock.
+use Rattle.std.proofs.Common.{◌≡◌, ◌⊎◌, ℕ, ◌+◌, ◌≤◌, List, length, Option, Some, None, sym, ap, subst, ◌∙◌, ⊎_elim, inl, inr, refl, ◌≢◌, zero, suc, ◌-◌, ◌<◌, ◌==◌, true, false, cond, [], ◌∷◌, ◌++◌, set, arith, append-nil, ◌^◌, ◌&&◌, nat_lt, nat_le, Bool, sum, slice_index, eq-eqb, ne_eqb}
+use mathlib.Core.Option.{some, some-injective, some-ne-none}
+use lib.ListN.{get_elem?}
+use Rattle.prcu_marks.specs.declared.mark.Mark.{Mark}
+use Rattle.prcu_model.specs.declared.operation.Update.{Update}
+use Rattle.hash_core.specs.declared.view.Section.{Section}
+use Rattle.hash_core.specs.declared.view.Hold.{Hold}
+use Rattle.hash_core.specs.declared.view.View.{View}
+use Rattle.list_laws.specs.Counts.{total, times, numbers_from, Somewhere}
+use Rattle.hash_core.specs.Memory.{Memory, IsPath, word_of, memory_of, capacity, base, is_slot_of}
+use Rattle.prcu_marks.specs.Marks.{updates_of, entered_at, own_of, longer, open_at}
+use Rattle.hash_core.specs.Rule.{Bucket, IsLocked, inside_count, IsFreeOfReaders, AreSeen, AreApart, AreOwned, HasNoCommit, IsTurned, BucketRule, MemoryRule, HasHeard, HasPlace, AnswersFor, HoldsOther, WillAnswer, open_of, IsShape}
+use Rattle.hash_core.specs.Steps.{IsQuiet, NeedsSplit, first_of, second_of, both_of, spent}
+use Rattle.hash_core.proofs.Frames.{clean_by}
+use Rattle.list_laws.proofs.Lists.{at_one, at_below, at_end, each_set, total_set, total_append, times_append, times_from, from_times, all_from_times, somewhere_set, somewhere_still, somewhere_longer, only_at}
 use mathlib.Core.Logic.{dite}
-use mathlib.Core.Option.{some}
 use mathlib.Core.List.{IsPrefix}
 use native.Mathlib.Decide.{dec_le, ℕ_discrete}
-use lib.ListN.{get_elem?}
-use Rattle.atomic_table.proofs.Lists.{set_here, set_else}
-use Rattle.prcu_marks.specs.declared.mark.Mark.{Mark}
+use Rattle.atomic_table.proofs.Lists.{at_longer, set_here, set_else}
 use Rattle.prcu_marks.specs.declared.mark.Mark.TheVariants.{Entered, Left, Began, Ended, Done, Given, Unlinked, Freed}
-use Rattle.hash_core.specs.declared.view.View.{View}
-use Rattle.list_laws.specs.Counts.{times, numbers_from, total}
-use Rattle.hash_core.specs.Memory.{Memory}
-use Rattle.prcu_marks.specs.Marks.{own_of, entered_at, updates_of, longer}
-use Rattle.hash_core.specs.Buckets.{inside_count}
-use Rattle.hash_core.specs.Seats.{HasHeard, AreSeen, HasPlace, AnswersFor, AreApart, AreOwned, HasNoCommit}
-use Rattle.hash_core.specs.Steps.{IsQuiet, NeedsSplit, first_of, second_of, both_of, spent}
-use Rattle.hash_core.specs.Rule.{MemoryRule}
-use Rattle.list_laws.proofs.Lists.{at_below, at_end, at_one, each_set, total_set, total_append, times_append, times_from, from_times}
 use Rattle.prcu_model.proofs.ListFacts.{prefix_trans, all_map, all_append}
-use Rattle.prcu_marks.proofs.MarkLists.{own_of-append, own_of-between}
-use Rattle.prcu_marks.proofs.Seen.{longer_begins, longer_first, longer_second, longer_whole_first, longer_whole_second}
-use Rattle.hash_core.proofs.Busy.{SameBusy, quiet_turn, rule_busy}
+use Rattle.prcu_marks.proofs.Marks.{own_of-append, own_of-between, longer_begins, longer_first, longer_second, longer_whole_first, longer_whole_second}
+use Rattle.std.proofs.lemmas.Bool.{lt-ltb, le-leb, and_from}
+use Rattle.std.specs.Ordering.{nat_cmp}
+use Rattle.hash_core.specs.declared.words.Field.TheVariants.{Front, Free, Chain}
+use Rattle.prcu_model.specs.Dictionary.{WasSaid}
+use Rattle.hash_core.specs.Laws.{first_view, first_slot, slot_after, IsFreshClass, IsFresh}
+use Rattle.hash_core.proofs.SlotLists.{slot_bounds, slot_within}
+use Rattle.std.specs.FinMap as finite
+
+-- Each view that isn't quiet stands where it stood, and the open sections of each class are as many.
+pub record SameBusy (vs vs' : List View) : Type 0 where
+  pub back : (j : ℕ) (u : View) → get_elem? vs' j ≡ some u → (get_elem? vs j ≡ some u) ⊎ (IsQuiet u × HasNoCommit u)
+  pub forth : (j : ℕ) (u : View) → get_elem? vs j ≡ some u → (get_elem? vs' j ≡ some u) ⊎ IsQuiet u
+  pub count : (c : ℕ) → total (λ v. inside_count c v.section) vs' ≡ total (λ v. inside_count c v.section) vs
+
+-- who holds no lock has no commit
+pub quiet_turn : (m : Memory) (vs : List View) (count : ℕ) → IsTurned m vs count → (id : ℕ) (v : View) → get_elem? vs id ≡ some v
+    → v.hold ≡ None → HasNoCommit v
+quiet_turn m vs count (inl even) id v at free = even.1 id v at
+quiet_turn m vs count (inr odd) id v at free = elim (only_at vs id v at odd) [
+  | inl o ↦ absurd (let held : None ≡ Some o.0.hold = sym free ∙ o.0.holds in cc)
+  | inr none ↦ none
+]
+
+module _ (vs vs' : List View) (busy : SameBusy vs vs') where
+  section_back : (j : ℕ) (u : View) (section : Section) → get_elem? vs' j ≡ some u → u.section ≡ Some section → get_elem? vs j ≡ some u
+  section_back j u section at is = elim (busy.back j u at) [
+    | inl e ↦ e
+    | inr q ↦ absurd (let z : None ≡ Some section = sym q.0.0 ∙ is in cc)
+  ]
+
+  section_forth : (j : ℕ) (u : View) (section : Section) → get_elem? vs j ≡ some u → u.section ≡ Some section → get_elem? vs' j ≡ some u
+  section_forth j u section at is = elim (busy.forth j u at) [
+    | inl e ↦ e
+    | inr q ↦ absurd (let z : None ≡ Some section = sym q.0 ∙ is in cc)
+  ]
+
+  hold_back : (j : ℕ) (u : View) (hold : Hold) → get_elem? vs' j ≡ some u → u.hold ≡ Some hold → get_elem? vs j ≡ some u
+  hold_back j u hold at is = elim (busy.back j u at) [ inl e ↦ e | inr q ↦ absurd (let z : None ≡ Some hold = sym q.0.1 ∙ is in cc) ]
+
+  hold_forth : (j : ℕ) (u : View) (hold : Hold) → get_elem? vs j ≡ some u → u.hold ≡ Some hold → get_elem? vs' j ≡ some u
+  hold_forth j u hold at is = elim (busy.forth j u at) [ inl e ↦ e | inr q ↦ absurd (let z : None ≡ Some hold = sym q.1 ∙ is in cc) ]
+
+  locked_busy : (c : ℕ) (m : Memory) (hold : Option Hold) → IsLocked c m vs hold → IsLocked c m vs' hold
+  locked_busy c m None locked = (locked.0, λ j u at hold is. locked.1 j u (hold_back j u hold at is) hold is)
+  locked_busy c m (Some hold) locked = record {
+    id = locked.id;
+    view = locked.view;
+    there = hold_forth locked.id locked.view hold locked.there locked.has.holds;
+    has = locked.has;
+    alone = λ j u far at other is. locked.alone j u far (hold_back j u other at is) other is;
+  }
+
+  free_busy : (c : ℕ) (h : List Mark) (s : ℕ) → IsFreeOfReaders c h vs s → IsFreeOfReaders c h vs' s
+  free_busy c h s free p j u section was at is class = free p j u section was (section_back j u section at is) is class
+
+  bucket_busy : (capacities : List ℕ) (c : ℕ) (m : Memory) (h : List Mark) (us : List Update) (b : Bucket)
+      → BucketRule capacities c m h us vs b → BucketRule capacities c m h us vs' b
+  bucket_busy capacities c m h us b r = record {
+    chained = r.chained;
+    listed = r.listed;
+    roles = r.roles;
+    mapped = r.mapped;
+    locked = locked_busy c m b.hold r.locked;
+    known = r.known;
+    ages = r.ages;
+    counted = record { readers = r.counted.readers ∙ sym (busy.count c) };
+    clean = clean_by capacities c h h vs vs' b b (free_busy c h) refl refl r.clean.clear r.clean;
+    answered = record {
+      readers = λ j u section at is class. r.answered.readers j u section (section_back j u section at is) is class;
+      loaded = λ j u section value at is class read. r.answered.loaded j u section value (section_back j u section at is) is class read;
+    };
+  }
+
+  turned_busy : (m : Memory) (count : ℕ) → IsTurned m vs count → IsTurned m vs' count
+  turned_busy m count (inl even) = inl (even.0, λ j u at. elim (busy.back j u at) [ inl e ↦ even.1 j u e | inr q ↦ q.1 ])
+  turned_busy m count (inr odd) = inr (record {
+    id = odd.id;
+    view = odd.view;
+    there = hold_forth odd.id odd.view odd.has.hold odd.there odd.has.holds;
+    has = odd.has;
+    alone = λ j u far at. elim (busy.back j u at) [ inl e ↦ odd.alone j u far e | inr q ↦ q.1 ];
+  })
+
+  -- the rule, where the parts on seats hold that read quiet views
+  pub rule_busy : (capacities : List ℕ) (places tickets : ℕ) (m : Memory) (h : List Mark) → MemoryRule capacities places tickets m vs h
+      → AreSeen vs' h → AreApart places vs' → AreOwned places vs' h
+      → ((j : ℕ) (u : View) → get_elem? vs' j ≡ some u → 1 ≤ u.places → u.sections ≡ entered_at u.place h)
+      → total (λ (v : View). v.tickets) vs' ≡ total (λ (v : View). v.tickets) vs → MemoryRule capacities places tickets m vs' h
+  rule_busy capacities places tickets m h r seen apart owned entered same = record {
+    shape = r.shape;
+    seen = seen;
+    apart = apart;
+    owned = owned;
+    sections = record {
+      open_here = λ j u section at is. r.sections.open_here j u section (section_back j u section at is) is;
+      entered = entered;
+      all = λ p o is. let q = r.sections.all p o is in
+          record { id = q.id; view = q.view; there = section_forth q.id q.view q.has.1 q.there q.has.2; has = q.has };
+    };
+    held = record { held = λ j u hold at is. r.held.held j u hold (hold_back j u hold at is) is };
+    turned = turned_busy m (length (updates_of h)) r.turned;
+    tickets_are = ap (λ n. length (updates_of h) + n) same ∙ r.tickets_are;
+    legal = r.legal;
+    marks = r.marks;
+    reuse = r.reuse;
+    bucket = r.bucket;
+    buckets = λ c small. bucket_busy capacities c m h (updates_of h) (r.bucket c) (r.buckets c small);
+  }
+
+-- Seats are split and joined.
 
 module _ {A : Type 0} where
-  end_here : (l : List A) (a : A) → get_elem? (l ++ a ∷ []) (length l) ≡ some a
-  end_here [] a = refl
-  end_here (x ∷ xs) a = end_here xs a
-
-  end_else : (l : List A) (a b : A) (j : ℕ) → get_elem? l j ≡ some b → get_elem? (l ++ a ∷ []) j ≡ some b
-  end_else [] a b j e = absurd (let p = at_below [] j b e in omega arith)
-  end_else (x ∷ xs) a b zero e = e
-  end_else (x ∷ xs) a b (suc j) e = end_else xs a b j e
-
   -- a fact of each element, after one has changed and another has come
   each_split : (P : ℕ → A → Type 0) (vs : List A) (id : ℕ) (v w : A) → P id v → P (length (set vs id v)) w
       → ((j : ℕ) (u : A) → j ≢ id → get_elem? vs j ≡ some u → P j u)
@@ -109,14 +211,7 @@ module _ (capacities : List ℕ) (places tickets : ℕ) (m : Memory) (vs : List 
     seen1 = record {
       begins = each1 (λ j u. IsPrefix u.seen h) (r.seen.begins id v at) (r.seen.begins id v at) (λ j u _ e. r.seen.begins j u e);
       heard = each1 (λ j u. HasHeard u) (r.seen.heard id v at) tt (λ j u _ e. r.seen.heard j u e);
-      longest = let l = r.seen.longest in dite (ℕ_discrete l.0 id)
-          (λ e. let same : v ≡ l.1 = at_one vs id v l.1 at (subst (λ k. get_elem? vs k ≡ some l.1) e l.2) in (
-            id,
-            first1,
-            end_else (set vs id first1) second1 first1 id (set_here vs id first1 (at_below vs id v at)),
-            ap (λ (z : View). z.seen) same ∙ l.3,
-          ))
-          (λ far. (l.0, l.1, end_else (set vs id first1) second1 l.1 l.0 (set_else vs id l.0 first1 far ∙ l.2), l.3));
+      longest = somewhere_longer (set vs id first1) (second1 ∷ []) (somewhere_still vs id v first1 at (λ all. all) r.seen.longest);
     }
 
     apart1 : AreApart places vs1
@@ -181,7 +276,7 @@ module _ (capacities : List ℕ) (places tickets : ℕ) (m : Memory) (vs : List 
           (λ j u _ e. inl e);
       forth = λ j u e. dite (ℕ_discrete j id)
           (λ same. inr (subst IsQuiet (at_one vs id v u at (subst (λ k. get_elem? vs k ≡ some u) same e)) needs.0))
-          (λ far. inl (end_else (set vs id first1) second1 u j (set_else vs id j first1 far ∙ e)));
+          (λ far. inl (at_longer (set vs id first1) (second1 ∷ []) j u (set_else vs id j first1 far ∙ e)));
       count = count1;
     }
 
@@ -221,9 +316,6 @@ module _ (capacities : List ℕ) (places tickets : ℕ) (m : Memory) (vs : List 
 
   other_at : get_elem? (set vs id both2) j ≡ some other
   other_at = set_else vs id j both2 (λ e. two (sym e)) ∙ there
-
-  else_at : (k : ℕ) (u : View) → k ≢ id → k ≢ j → get_elem? vs k ≡ some u → get_elem? vs2 k ≡ some u
-  else_at k u not_id not_j e = set_else (set vs id both2) j k spent not_j ∙ (set_else vs id k both2 not_id ∙ e)
 
   not_two : (q : ℕ) → AnswersFor v q → AnswersFor other q → ⊥
   not_two q mine theirs = two (r.apart.apart id j q v other at there mine theirs)
@@ -272,19 +364,13 @@ module _ (capacities : List ℕ) (places tickets : ℕ) (m : Memory) (vs : List 
   both_seen : IsPrefix both2.seen h
   both_seen = longer_begins v.seen other.seen h mine_seen theirs_seen
 
-  longest2 : (k : ℕ) × (u : View) × (get_elem? vs2 k ≡ some u) × (u.seen ≡ h)
+  longest2 : Somewhere vs2 (λ u. u.seen ≡ h)
   longest2 =
-      let l = r.seen.longest in
-      dite (ℕ_discrete l.0 id)
-      (λ e.
-      let whole : v.seen ≡ h = ap (λ (z : View). z.seen) (at_one vs id v l.1 at (subst (λ k. get_elem? vs k ≡ some l.1) e l.2)) ∙ l.3 in
-      (id, both2, both_at, longer_whole_first v.seen other.seen h mine_seen theirs_seen whole))
-      (λ not_id. dite (ℕ_discrete l.0 j)
-      (λ e.
-      let whole : other.seen ≡ h = ap (λ (z : View). z.seen) (at_one vs j other l.1 there (subst (λ k. get_elem? vs k ≡ some l.1) e l.2))
-      ∙ l.3 in
-      (id, both2, both_at, longer_whole_second v.seen other.seen h mine_seen theirs_seen whole))
-      (λ not_j. (l.0, l.1, else_at l.0 l.1 not_id not_j l.2, l.3)))
+      let ours : both2.seen ≡ h → Somewhere vs2 (λ u. u.seen ≡ h) = (λ all. record { id = id; view = both2; there = both_at; has = all }) in
+      ⊎_elim (λ (whole : v.seen ≡ h). ours (longer_whole_first v.seen other.seen h mine_seen theirs_seen whole))
+      (λ (rest : Somewhere (set vs id both2) (λ u. u.seen ≡ h)). ⊎_elim
+      (λ (whole : other.seen ≡ h). ours (longer_whole_second v.seen other.seen h mine_seen theirs_seen whole)) (λ left. left)
+      (somewhere_set (set vs id both2) j other spent other_at rest)) (somewhere_set vs id v both2 at r.seen.longest)
 
   -- the list that is kept begins with what each of the two has seen
   longer_mine : IsPrefix v.seen both2.seen
@@ -392,7 +478,7 @@ module _ (capacities : List ℕ) (places tickets : ℕ) (m : Memory) (vs : List 
         (λ same. inr (subst IsQuiet (at_one vs id v u at (subst (λ l. get_elem? vs l ≡ some u) same e)) quiet))
         (λ not_id. dite (ℕ_discrete k j)
         (λ same. inr (subst IsQuiet (at_one vs j other u there (subst (λ l. get_elem? vs l ≡ some u) same e)) quiet_other))
-        (λ not_j. inl (else_at k u not_id not_j e)));
+        (λ not_j. inl (set_else (set vs id both2) j k spent not_j ∙ (set_else vs id k both2 not_id ∙ e))));
     count = count2;
   }
 
@@ -409,3 +495,181 @@ module _ (capacities : List ℕ) (places tickets : ℕ) (m : Memory) (vs : List 
   -- H2 keeps the rule
   pub law2 : MemoryRule capacities places tickets m (set (set vs id (both_of v other)) j spent) h
   law2 = rule_busy vs vs2 busy2 capacities places tickets m h r seen2 apart2 owned2 entered2 tickets2
+
+-- The rule holds of a table as it is made.
+
+-- a fact of the one element of a list
+each_one : {A : Type 0} (P : ℕ → A → Type 0) (a : A) → P 0 a → (j : ℕ) (b : A) → get_elem? (a ∷ []) j ≡ some b → P j b
+each_one P a mine zero b e = subst (P 0) (some-injective a b e) mine
+each_one P a mine (suc j) b e = absurd (some-ne-none b (sym e))
+
+-- numbers in their order lead from one to the next
+path_from : (next : ℕ → ℕ) (n first link : ℕ) → 1 ≤ first → (n ≡ 0 → link ≡ 0) → (1 ≤ n → link ≡ first)
+    → ((s : ℕ) → first ≤ s → s + 1 < first + n → next s ≡ s + 1) → ((s : ℕ) → 1 ≤ n → s + 1 ≡ first + n → next s ≡ 0)
+    → IsPath next link (numbers_from first n)
+path_from next zero first link some_slot none begins goes ends = none refl
+path_from next (suc n) first link some_slot none begins goes ends = (
+  begins (omega arith),
+  some_slot,
+  path_from next n (first + 1) (next first) (omega arith) (λ e. ends first (omega arith) (omega arith))
+      (λ more. goes first (omega arith) (omega arith)) (λ s low high. goes s (omega arith) (omega arith))
+      (λ s more e. ends s (omega arith) (omega arith)),
+)
+
+module _ (capacities : List ℕ) (places tickets : ℕ) (shape : IsShape capacities places tickets) (m : Memory)
+    (fresh : IsFresh capacities m) where
+  abbrev one_view : List View
+  one_view = first_view places tickets ∷ []
+
+  abbrev first_bucket : ℕ → Bucket
+  first_bucket c = record {
+    chain = [];
+    free = numbers_from (base capacities c + 1) (capacity capacities c);
+    retired = [];
+    moved = [];
+    hold = None;
+  }
+
+  each_view : (P : ℕ → View → Type 0) → P 0 (first_view places tickets) → (j : ℕ) (u : View) → get_elem? one_view j ≡ some u → P j u
+  each_view P = each_one P (first_view places tickets)
+
+  module _ (c : ℕ) (small : c < 64) where
+    is_slot : (s : ℕ) → base capacities c + 1 ≤ s → s < base capacities c + 1 + capacity capacities c → is_slot_of capacities c s ≡ true
+    is_slot s low high = and_from _ _ (lt-ltb (base capacities c) s (omega arith))
+        (le-leb s (base capacities c + capacity capacities c) (omega arith))
+
+    free_path : IsPath (λ s. m (Chain s)) (m (Free c)) (numbers_from (base capacities c + 1) (capacity capacities c))
+    free_path =
+        let room : ℕ = capacity capacities c in
+        let before : ℕ = base capacities c in
+        path_from (λ s. m (Chain s)) room (before + 1) (m (Free c)) (omega arith)
+        (λ none. fresh.free c small ∙ ap (λ b. cond b 0 (before + 1)) (eq-eqb room 0 none))
+        (λ some_slot. fresh.free c small ∙ ap (λ b. cond b 0 (before + 1)) (ne_eqb room 0 (λ e. omega arith)))
+        (λ s low high. fresh.chains c s small (is_slot s low (omega arith))
+        ∙ ap (λ b. cond b 0 (s + 1)) (ne_eqb s (before + room) (λ e. omega arith)))
+        (λ s some_slot last. fresh.chains c s small (is_slot s (omega arith) (omega arith))
+        ∙ ap (λ b. cond b 0 (s + 1)) (eq-eqb s (before + room) (omega arith)))
+
+    once_free : (x : ℕ) → times x (numbers_from (base capacities c + 1) (capacity capacities c)) ≡ cond (is_slot_of capacities c x) 1 0
+    once_free x = once_case (is_slot_of capacities c x) refl
+      where
+        once_case : (t : Bool) → is_slot_of capacities c x ≡ t
+            → times x (numbers_from (base capacities c + 1) (capacity capacities c)) ≡ cond t 1 0
+        once_case true is =
+            let bounds = slot_bounds capacities c x is in let low = bounds.0 in let high = bounds.1 in
+            from_times x (base capacities c + 1) (capacity capacities c) (omega arith) (omega arith)
+        once_case false is = dite (dec_le 1 (times x (numbers_from (base capacities c + 1) (capacity capacities c))))
+            (λ there. let bounds = times_from x (base capacities c + 1) (capacity capacities c) there in
+            absurd (let z : false ≡ true = sym is ∙ is_slot x bounds.0 bounds.1 in cc))
+            (λ not_there. omega arith)
+
+    all_free : (s : ℕ) → IsFreeOfReaders c [] one_view s
+    all_free s p j u section was = absurd (cc)
+
+    bucket_first : BucketRule capacities c m [] [] one_view (first_bucket c)
+    bucket_first = record {
+      chained = record { path = fresh.heads c small; classes = tt; distinct = tt };
+      listed = record { free = free_path; retired = fresh.retired c small; moved = refl };
+      roles = record { once = λ x. let a = once_free x in omega arith };
+      mapped = record { answers = λ key class. finite.get-empty nat_cmp key };
+      locked = (fresh.locks c small, each_view (λ j u. HoldsOther c u) (λ hold is. absurd (cc)));
+      known = record { known = λ hold field number is found. absurd (cc) };
+      ages = record { chain = tt; taken = λ s is. absurd (cc); retired = tt; moved = tt; unlinked = λ s is. absurd (cc) };
+      counted = record { readers = let none = fresh.readers c small in omega arith };
+      clean = record {
+        free = all_from_times (IsFreeOfReaders c [] one_view) (first_bucket c).free (λ s _. all_free s);
+        moved = tt;
+        clear = λ hold is clear s of. all_free s;
+      };
+      answered = record {
+        readers = λ j u section there is class. each_view
+            (λ k z. z.section ≡ Some section → WillAnswer capacities c m [] [] [] section section.state) (λ mine. absurd (cc)) j u there is;
+        loaded = λ j u section value there is class read. each_view
+            (λ k z. z.section ≡ Some section → WasSaid [] section.key section.from (Some value)) (λ mine. absurd (cc)) j u there is;
+      };
+    }
+
+  place_first : (q : ℕ) → AnswersFor (first_view places tickets) q → q < places
+  place_first q (inl has) = let high = has.1 in omega arith
+  place_first q (inr joined) = absurd (omega arith)
+
+  -- The rule holds of a table as it is made.
+  pub starts : MemoryRule capacities places tickets m (first_view places tickets ∷ []) []
+  starts = record {
+    shape = shape;
+    seen = record {
+      begins = each_view (λ j u. IsPrefix u.seen []) ([], refl);
+      heard = each_view (λ j u. HasHeard u) tt;
+      longest = record { id = 0; view = first_view places tickets; there = refl; has = refl };
+    };
+    apart = record {
+      within = λ j u q there a. each_view (λ k z. AnswersFor z q → q < places) (place_first q) j u there a;
+      apart = λ i j q a b ei ej aa ab. each_view (λ k z. k ≡ j) (each_view (λ l y. 0 ≡ l) refl j b ej) i a ei;
+      joined = λ j u q there has. each_view (λ k z. times q z.joined ≡ 0) refl j u there;
+    };
+    owned = record {
+      own = λ j u q there a. each_view (λ k z. own_of q [] ≡ own_of q z.own) refl j u there;
+      met = λ j u q there a. each_view (λ k z. own_of q z.seen ≡ own_of q z.own) refl j u there;
+      within = λ q far. refl;
+      none = λ j u q there a. each_view (λ k z. own_of q z.own ≡ []) refl j u there;
+      unused = λ j u q there has far. each_view (λ k z. own_of q z.own ≡ []) refl j u there;
+    };
+    sections = record {
+      open_here = λ j u section there is. each_view
+          (λ k z. z.section ≡ Some section → (1 ≤ z.places) × (open_at z.place [] ≡ Some (open_of section)) × (section.from ≤ 0)
+          × (section.key < 2 ^ 64)) (λ mine. absurd (cc)) j u there is;
+      entered = λ j u there works. each_view (λ k z. z.sections ≡ entered_at z.place []) refl j u there;
+      all = λ p o is. absurd (cc);
+    };
+    held = record {
+      held = λ j u hold there is. each_view (λ k z. z.hold ≡ Some hold → (hold.class < 64) × (1 ≤ z.places))
+          (λ mine. absurd (cc)) j u there is;
+    };
+    turned = inl (let zero_front = fresh.front in omega arith, each_view (λ j u. HasNoCommit u) refl);
+    tickets_are = omega arith;
+    legal = tt;
+    marks = record { entered = λ j p c x e. absurd (cc); left = λ j p c e. absurd (cc); others = λ j a e. absurd (cc) };
+    reuse = λ j s c i p o given. absurd (cc);
+    bucket = first_bucket;
+    buckets = bucket_first;
+  }
+
+-- a word of a field that the table has
+has_field : (t : Bool) (n number : ℕ) → t ≡ true → n ≡ number → cond t n 0 ≡ number
+has_field t n number has is = ap (λ b. cond b n 0) has ∙ is
+
+-- A memory is fresh where its words are: of each class its lock, readers, head, free and retired, and of each slot its chain.
+pub fresh_memory : (capacities ws : List ℕ) → slice_index ws (word_of Front) ≡ 0
+    → ((c : ℕ) → c < 64 → IsFreshClass ws c (first_slot capacities c))
+    → ((c i : ℕ) → c < 64 → i < capacity capacities c
+    → slice_index ws (word_of (Chain (base capacities c + i + 1)))
+    ≡ cond (i + 1 == capacity capacities c) 0 (base capacities c + i + 2))
+    → IsFresh capacities (memory_of capacities ws)
+fresh_memory capacities ws front classes slots = record {
+  front = front;
+  locks = λ c small. has_field (nat_lt c 64) _ 0 (lt-ltb c 64 small) (classes c small).lock;
+  readers = λ c small. has_field (nat_lt c 64) _ 0 (lt-ltb c 64 small) (classes c small).readers;
+  heads = λ c small. has_field (nat_lt c 64) _ 0 (lt-ltb c 64 small) (classes c small).head;
+  free = λ c small. has_field (nat_lt c 64) _ _ (lt-ltb c 64 small) (classes c small).free;
+  retired = λ c small. has_field (nat_lt c 64) _ 0 (lt-ltb c 64 small) (classes c small).retired;
+  chains = λ c s small of.
+      let within = slot_within capacities c s of in
+      let bounds = slot_bounds capacities c s of in
+      let low = bounds.0 in
+      let high = bounds.1 in
+      let before : ℕ = base capacities c in
+      let room : ℕ = capacity capacities c in
+      has_field (nat_le 1 s && nat_le s (sum capacities)) _ _ (and_from _ _ (le-leb 1 s within.0) (le-leb s (sum capacities) within.1))
+      (subst (λ z. slice_index ws (word_of (Chain z)) ≡ slot_after capacities c z)
+      (let e : before + (s - (before + 1)) + 1 ≡ s = omega arith in e)
+      (slots c (s - (before + 1)) small (omega arith) ∙ chain_link before room (s - (before + 1))));
+}
+  where
+    chain_link : (before room i : ℕ) → cond (i + 1 == room) 0 (before + i + 2)
+        ≡ cond (before + i + 1 == before + room) 0 (before + i + 1 + 1)
+    chain_link before room i = dite (ℕ_discrete (i + 1) room)
+        (λ e. ap (λ b. cond b 0 (before + i + 2)) (eq-eqb (i + 1) room e)
+        ∙ sym (ap (λ b. cond b 0 (before + i + 1 + 1)) (eq-eqb (before + i + 1) (before + room) (omega arith))))
+        (λ ne. let same : before + i + 2 ≡ before + i + 1 + 1 = omega arith in
+        ap (λ b. cond b 0 (before + i + 2)) (ne_eqb (i + 1) room ne) ∙ same
+        ∙ sym (ap (λ b. cond b 0 (before + i + 1 + 1)) (ne_eqb (before + i + 1) (before + room) (λ e. ne (omega arith)))))

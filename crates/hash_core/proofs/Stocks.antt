@@ -7,41 +7,24 @@ use lib.ListN.{get_elem?}
 use Rattle.prcu_marks.specs.declared.mark.Mark.{Mark}
 use Rattle.prcu_marks.specs.declared.mark.Mark.TheVariants.{Given}
 use Rattle.prcu_model.specs.declared.operation.Update.{Update}
-use Rattle.prcu_model.specs.Dictionary.{map_of}
-use Rattle.prcu_model.specs.History.{IsLegal}
+use Rattle.prcu_model.specs.Dictionary.{map_of, IsLegal, WasSaid}
 use Rattle.hash_core.specs.declared.words.Field.{Field}
 use Rattle.hash_core.specs.declared.words.Field.TheVariants.{Front, Head, Free, Retired, Key, Value, Next, Chain}
 use Rattle.hash_core.specs.declared.view.Section.{Section}
 use Rattle.hash_core.specs.declared.view.Hold.{Hold}
 use Rattle.hash_core.specs.declared.view.View.{View}
 use Rattle.list_laws.specs.Counts.{times, total}
-use Rattle.hash_core.specs.Lists.{IsPath}
-use Rattle.hash_core.specs.Memory.{Memory, same_field, stored}
-use Rattle.hash_core.specs.Slots.{is_slot_of, IsOfClass}
+use Rattle.hash_core.specs.Memory.{IsPath, Memory, same_field, stored, is_slot_of, IsOfClass, ReuseByClass}
 use Rattle.prcu_marks.specs.Marks.{updates_of, Open, open_at, gone_at, IsGone, last_unlinked}
-use Rattle.hash_core.specs.Marks.{ReuseByClass}
-use Rattle.hash_core.specs.Known.{known_in, knowing}
-use Rattle.hash_core.specs.Buckets.{Bucket, IsKnown, IsFreeOfReaders, taken_of, unlinked_of, moved_of, link_of, AreClean}
-use Rattle.prcu_model.specs.Dictionary.{WasSaid}
-use Rattle.hash_core.specs.Readers.{AreAnswered, WillAnswer}
-use Rattle.hash_core.specs.Seats.{IsTurned}
-use Rattle.hash_core.specs.Steps.{NeedsTake, after_take, NeedsRefill, after_refill, NeedsMove, after_move, NeedsPush, after_push, NeedsChain, after_chain, IsFieldOf, NeedsWrite, after_write}
-use Rattle.hash_core.specs.Rule.{BucketRule, MemoryRule}
+use Rattle.hash_core.specs.Steps.{known_in, knowing, NeedsTake, after_take, NeedsRefill, after_refill, NeedsMove, after_move, NeedsPush, after_push, NeedsChain, after_chain, IsFieldOf, NeedsWrite, after_write}
+use Rattle.hash_core.specs.Rule.{Bucket, IsKnown, IsFreeOfReaders, taken_of, unlinked_of, moved_of, link_of, AreClean, AreAnswered, WillAnswer, IsTurned, BucketRule, MemoryRule}
 use Rattle.prcu_model.proofs.ListFacts.{all_map}
 use Rattle.list_laws.proofs.Lists.{past_snoc, each_set, all_change, all_from_times, times_here, at_most_one}
-use Rattle.hash_core.proofs.Paths.{path_cons, path_none, IsPath-same, seek-same, HaveDistinctKeys-same}
-use Rattle.prcu_marks.proofs.MarkLists.{updates_of-append, entered_at-append}
-use Rattle.prcu_marks.proofs.LastUnlinked.{last_unlinked-same, last_gone}
-use Rattle.hash_core.proofs.MarkOrder.{marks_snoc}
-use Rattle.hash_core.proofs.Adds.{open_at-same, gone_at-given_here, gone_at-given_other}
-use Rattle.hash_core.proofs.Classes.{one_class, slot_within}
-use Rattle.hash_core.proofs.Frames.{SameMarks, SameLists, free_slot, retired_slot, taken_slot, unlinked_slot}
-use Rattle.hash_core.proofs.Stores.{class_words, stored_here, same_self, same_is}
-use Rattle.hash_core.proofs.SeatFrames.{seen_whole, apart_same, owned_same, open_same, held_still, turned_same}
-use Rattle.hash_core.proofs.Quiet.{same_marks, seats_same, section_back, section_forth, tickets_same, seat_holds}
+use Rattle.hash_core.proofs.SlotLists.{path_cons, path_none, IsPath-same, seek-same, HaveDistinctKeys-same, one_class, slot_within, KeepsWays, will_still}
+use Rattle.prcu_marks.proofs.Marks.{updates_of-append, entered_at-append, last_unlinked-same, last_gone}
+use Rattle.hash_core.proofs.SeatFrames.{marks_snoc, open_at-same, gone_at-given_here, gone_at-given_other, seen_whole, apart_same, owned_same, open_same, held_still, turned_same, same_marks, seats_same, section_back, section_forth, tickets_same, seat_holds, SeatsRule, after_step}
+use Rattle.hash_core.proofs.Frames.{SameMarks, SameLists, free_slot, retired_slot, taken_slot, unlinked_slot, class_words, stored_here, same_self, same_is}
 use Rattle.hash_core.proofs.Locks.{counted_still, free_still, answered_still, holder_of, class_small, works, locked_by, elsewhere_held, clean_still}
-use Rattle.hash_core.proofs.Ways.{KeepsWays, will_still}
-use Rattle.hash_core.proofs.Whole.{SeatsRule, after_step}
 
 module _ (capacities : List ℕ) (places tickets : ℕ) (m : Memory) (vs : List View) (h : List Mark)
     (r : MemoryRule capacities places tickets m vs h) (id : ℕ) (v : View) (at : get_elem? vs id ≡ some v) (hold : Hold)
@@ -516,9 +499,9 @@ module _ (capacities : List ℕ) (places tickets : ℕ) (m : Memory) (vs : List 
         let q = r.sections.all p o now in
         let c_is : hold.class ≡ d = one_class capacities hold.class d slot slot_of_take
         (subst (λ z. is_slot_of capacities d z ≡ true) (sym e) of) in
-        let key : q.section.key % 64 ≡ hold.class = ap (λ (z : Open). z.key % 64) (sym q.same) ∙ class ∙ sym c_is in
-        let l = slot_clean i q.id q.view q.section (ap (λ z. last_unlinked z h) e ∙ last) q.there q.inside key in
-        let at_is : o.at ≡ q.section.entered = ap (λ (z : Open). z.at) q.same in omega arith)
+        let key : q.has.1.key % 64 ≡ hold.class = ap (λ (z : Open). z.key % 64) (sym q.has.3) ∙ class ∙ sym c_is in
+        let l = slot_clean i q.id q.view q.has.1 (ap (λ z. last_unlinked z h) e ∙ last) q.there q.has.2 key in
+        let at_is : o.at ≡ q.has.1.entered = ap (λ (z : Open). z.at) q.has.3 in omega arith)
         (λ n old _ last now. r.reuse n s d i p o old of last now class) j given refl gone there
 
     same_marks_take : (d : ℕ) → d ≢ hold.class → SameMarks capacities d h h_take (updates_of h) (updates_of h_take)

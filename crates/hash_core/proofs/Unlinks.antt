@@ -8,8 +8,8 @@ use lib.ListN.{get_elem?}
 use Rattle.prcu_marks.specs.declared.mark.Mark.{Mark}
 use Rattle.prcu_marks.specs.declared.mark.Mark.TheVariants.{Done, Unlinked}
 use Rattle.prcu_model.specs.declared.operation.Op.TheVariants.{Del}
-use Rattle.prcu_model.specs.Dictionary.{updated, map_of}
-use Rattle.prcu_model.proofs.Fronts.{map_of-push}
+use Rattle.prcu_model.specs.Dictionary.{updated, map_of, WasSaid}
+use Rattle.prcu_model.proofs.Dictionaries.{map_of-push, get-updated_other, get-del}
 use Rattle.hash_core.specs.declared.words.Field.{Field}
 use Rattle.hash_core.specs.declared.words.Field.TheVariants.{Head, Free, Retired, Key, Value, Next, Chain}
 use Rattle.hash_core.specs.declared.view.SearchState.{SearchState}
@@ -18,35 +18,20 @@ use Rattle.hash_core.specs.declared.view.Section.{Section}
 use Rattle.hash_core.specs.declared.view.Hold.{Hold}
 use Rattle.hash_core.specs.declared.view.View.{View}
 use Rattle.list_laws.specs.Counts.{times}
-use Rattle.hash_core.specs.Lists.{IsPath}
-use Rattle.hash_core.specs.Memory.{Memory, stored}
-use Rattle.hash_core.specs.Slots.{is_slot_of, IsOfClass}
+use Rattle.hash_core.specs.Memory.{IsPath, Memory, stored, is_slot_of, IsOfClass, AreMarks, ReuseByClass}
 use Rattle.prcu_marks.specs.Marks.{updates_of, open_at, gone_at, IsGone, entered_at, last_unlinked}
-use Rattle.hash_core.specs.Marks.{AreMarks, ReuseByClass}
-use Rattle.hash_core.specs.Known.{known_in, knowing}
-use Rattle.hash_core.specs.Buckets.{Bucket, seek, HaveDistinctKeys, IsFreeOfReaders, taken_of, link_of}
-use Rattle.prcu_model.specs.Dictionary.{WasSaid}
-use Rattle.hash_core.specs.Readers.{WillAnswer, IsHeldBack, HasWay}
-use Rattle.hash_core.specs.Steps.{LinksTo, NeedsUnlink, after_unlink}
-use Rattle.hash_core.specs.Rule.{BucketRule, MemoryRule}
+use Rattle.hash_core.specs.Steps.{known_in, knowing, LinksTo, NeedsUnlink, after_unlink}
+use Rattle.hash_core.specs.Rule.{Bucket, seek, HaveDistinctKeys, IsFreeOfReaders, taken_of, link_of, WillAnswer, IsHeldBack, HasWay, BucketRule, MemoryRule}
 use Rattle.prcu_model.proofs.ListFacts.{all_append, all_map}
 use Rattle.list_laws.proofs.Lists.{all_change, all_times, all_from_times, times_here, times_append, at_most_one}
-use Rattle.hash_core.proofs.Paths.{IsPath-same, path_cons, seek-same, seek_here, seek_past, seek_append, HaveDistinctKeys-same}
-use Rattle.prcu_marks.proofs.MarkLists.{updates_of-append, entered_at-append}
-use Rattle.hash_core.proofs.Classes.{one_class}
-use Rattle.prcu_marks.proofs.LastUnlinked.{last_unlinked-same, last_unlinked-other}
-use Rattle.hash_core.proofs.MarkOrder.{marks_snoc}
-use Rattle.hash_core.proofs.Adds.{open_at-same, gone_at-same, gone_at-unlinked_here, gone_at-unlinked_other, reuse_more}
-use Rattle.hash_core.proofs.Frames.{SameLists, chain_slot}
-use Rattle.prcu_marks.proofs.Histories.{said_longer}
-use Rattle.hash_core.proofs.Stores.{class_words, stored_here, same_self}
+use Rattle.hash_core.proofs.SlotLists.{IsPath-same, path_cons, seek-same, seek_here, seek_past, seek_append, HaveDistinctKeys-same, one_class, path_past, path_back, cut_at, two_cuts, seek_without, distinct_without, seek_some}
+use Rattle.prcu_marks.proofs.Marks.{updates_of-append, entered_at-append, last_unlinked-same, last_unlinked-other}
+use Rattle.hash_core.proofs.SeatFrames.{marks_snoc, open_at-same, gone_at-same, gone_at-unlinked_here, gone_at-unlinked_other, reuse_more, after_step}
+use Rattle.hash_core.proofs.Frames.{SameLists, chain_slot, class_words, stored_here, same_self}
+use Rattle.prcu_marks.proofs.Callers.{said_longer}
 use Rattle.hash_core.proofs.Sections.{free_each}
-use Rattle.hash_core.proofs.Locks.{counted_still, locked_by, elsewhere_held}
-use Rattle.hash_core.proofs.Whole.{after_step}
+use Rattle.hash_core.proofs.Locks.{counted_still, locked_by, elsewhere_held, said_after, seats_updated}
 use Rattle.hash_core.proofs.Stocks.{rule, had, is_known, known_after, roles_by, moved_by}
-use Rattle.hash_core.proofs.Cuts.{path_past, path_back, cut_at, two_cuts, seek_without, distinct_without, seek_some}
-use Rattle.prcu_model.proofs.Worth.{get-updated_other, get-del}
-use Rattle.hash_core.proofs.Updating.{said_after, seats_updated}
 use Rattle.hash_core.proofs.Links.{on_chain, answered_from, marks_elsewhere}
 
 -- A chain from which a slot is unlinked: the slots before it lead on past it.

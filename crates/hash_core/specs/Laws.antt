@@ -1,34 +1,69 @@
--- What the rule gives, in plain words; and what it is for a kind of step to keep it.
--- Source: docs/HASH_DICTIONARY.md, "The hash dictionary's rule".
-use Rattle.std.specs.Prelude.{◌≡◌, ◌≢◌, ◌⊎◌, ℕ, ◌%◌, ◌<◌, ◌≤◌, true, List, [], ◌∷◌, ◌++◌, length, set, Option, Some, None}
+-- What is proved of the rule, and a table as it is made.
+-- A table as it is made: all slots are free, and one view has all places.
+-- Source: docs/HASH_DICTIONARY.md, "The hash dictionary".
+use Rattle.std.specs.Prelude.{◌≡◌, ℕ, ◌+◌, ◌<◌, ◌==◌, if◌then◌else◌, true, List, [], slice_index, ◌%◌, ◌≤◌, ◌↔◌, length, ◌≢◌, ◌⊎◌, ◌∷◌, ◌++◌, set, Option, Some, None}
+use Rattle.hash_core.specs.declared.words.Field.TheVariants.{Front, Lock, Readers, Head, Free, Retired, Chain, Value, Next}
+use Rattle.hash_core.specs.declared.view.View.{View}
+use Rattle.hash_core.specs.Memory.{Memory, word_of, capacity, base, is_slot_of, IsPath, stored, AreMarks, ReuseByClass}
+use Rattle.hash_core.specs.Steps.{new_view, IsQuiet, NeedsSplit, first_of, second_of, both_of, spent, StandsAt, IsFieldOf, field_of, Needs, marks_of, left, done}
 use Rattle.std.specs.List.{AllByRecursion}
+use Rattle.prcu_model.specs.Dictionary.{Dictionary, WasSaid}
+use Rattle.list_laws.specs.Counts.{times, total, Somewhere}
 use mathlib.Core.Option.{some}
 use lib.ListN.{get_elem?}
 use Rattle.prcu_marks.specs.declared.mark.Mark.{Mark}
 use Rattle.prcu_model.specs.declared.operation.Update.{Update}
-use Rattle.prcu_model.specs.Dictionary.{WasSaid}
 use Rattle.prcu_marks.specs.Marks.{updates_of, IsGone}
 use Rattle.hash_core.specs.declared.words.Field.{Field}
-use Rattle.hash_core.specs.declared.words.Field.TheVariants.{Readers, Head, Value, Next}
-use Rattle.hash_core.specs.declared.words.Kind.{Kind}
 use Rattle.hash_core.specs.declared.view.SearchState.{SearchState}
 use Rattle.hash_core.specs.declared.view.SearchState.TheVariants.{Start, Unread, Passed, Found, Ended}
 use Rattle.hash_core.specs.declared.view.Section.{Section}
-use Rattle.hash_core.specs.declared.view.View.{View}
-use Rattle.list_laws.specs.Counts.{times, total}
-use Rattle.hash_core.specs.Lists.{IsPath}
-use Rattle.hash_core.specs.Memory.{Memory, stored}
-use Rattle.hash_core.specs.Slots.{is_slot_of}
-use Rattle.hash_core.specs.Marks.{AreMarks, ReuseByClass}
-use Rattle.hash_core.specs.Steps.{IsQuiet, NeedsSplit, first_of, second_of, both_of, spent, StandsAt, IsFieldOf}
-use Rattle.hash_core.specs.Kinds.{Steps}
 use Rattle.hash_core.specs.declared.act.Act.{Act}
-use Rattle.hash_core.specs.Acts.{kind_of, field_of, Needs, marks_of, left, done}
-use Rattle.hash_core.specs.Fresh.{first_view, IsFresh}
-use Rattle.hash_core.specs.Buckets.{Bucket, seek, IsChained, AreListed, HaveOneRole, IsMapped, IsLocked, inside_count}
-use Rattle.hash_core.specs.Readers.{IsHeldBack}
-use Rattle.hash_core.specs.Seats.{IsTurned}
-use Rattle.hash_core.specs.Rule.{IsShape, MemoryRule}
+use Rattle.hash_core.specs.Rule.{Bucket, seek, IsChained, AreListed, HaveOneRole, IsMapped, IsLocked, inside_count, IsHeldBack, IsTurned, IsShape, MemoryRule}
+use Rattle.std.specs.FinMap as finite
+
+abbrev pub first_view : ℕ → ℕ → View
+first_view places tickets = new_view 0 places tickets []
+
+-- the first slot of a class, 0 where it has none
+abbrev pub first_slot : List ℕ → ℕ → ℕ
+first_slot capacities c = if capacity capacities c == 0 then 0 else base capacities c + 1
+
+-- the slot that comes after one of the class, 0 after the last
+abbrev pub slot_after : List ℕ → ℕ → ℕ → ℕ
+slot_after capacities c s = if s == base capacities c + capacity capacities c then 0 else s + 1
+
+-- A class's lock, readers, head, free and retired: its free list has its first slot.
+pub record IsFreshClass (ws : List ℕ) (c first : ℕ) : Type 0 where
+  pub lock : slice_index ws (word_of (Lock c)) ≡ 0
+  pub readers : slice_index ws (word_of (Readers c)) ≡ 0
+  pub head : slice_index ws (word_of (Head c)) ≡ 0
+  pub free : slice_index ws (word_of (Free c)) ≡ first
+  pub retired : slice_index ws (word_of (Retired c)) ≡ 0
+
+-- Each class's free list has all its slots in their order, and nothing else was done.
+pub record IsFresh (capacities : List ℕ) (m : Memory) : Type 0 where
+  pub front : m Front ≡ 0
+  pub locks : (c : ℕ) → c < 64 → m (Lock c) ≡ 0
+  pub readers : (c : ℕ) → c < 64 → m (Readers c) ≡ 0
+  pub heads : (c : ℕ) → c < 64 → m (Head c) ≡ 0
+  pub free : (c : ℕ) → c < 64 → m (Free c) ≡ first_slot capacities c
+  pub retired : (c : ℕ) → c < 64 → m (Retired c) ≡ 0
+  pub chains : (c s : ℕ) → c < 64 → is_slot_of capacities c s ≡ true → m (Chain s) ≡ slot_after capacities c s
+
+-- How many pairs of a class a dictionary has.
+-- Source: docs/HASH_DICTIONARY.md, "The hash dictionary".
+
+-- The keys of the class that the dictionary has are so many: they are those of a list without repetition of that length.
+pub record HasPairs (c : ℕ) (dictionary : Dictionary) (count : ℕ) : Type 0 where
+  pub keys : List ℕ
+  pub as_many : length keys ≡ count
+  pub once : (key : ℕ) → times key keys ≤ 1
+  pub of_class : AllByRecursion (λ key. key % 64 ≡ c) keys
+  pub there : (key : ℕ) → key % 64 ≡ c → (finite.contains_key dictionary key ≡ true) ↔ (1 ≤ times key keys)
+
+-- What the rule gives, in plain words; and what it is for a kind of step to keep it.
+-- Source: docs/HASH_DICTIONARY.md, "The hash dictionary's rule".
 
 -- From a class's head `next` leads over distinct slots of the class with distinct keys of it, and the pairs there are those of the
 -- dictionary now whose key is of the class.
@@ -66,11 +101,8 @@ FrontCounts = (capacities : List ℕ) (places tickets : ℕ) (m : Memory) (vs : 
     → MemoryRule capacities places tickets m vs h → IsTurned m vs (length (updates_of h))
 
 -- a section that is open
-pub record IsOpenIn (vs : List View) (section : Section) : Type 0 where
-  pub id : ℕ
-  pub view : View
-  pub there : get_elem? vs id ≡ some view
-  pub inside : view.section ≡ Some section
+abbrev pub IsOpenIn : List View → Section → Type 0
+IsOpenIn vs section = Somewhere vs (λ v. v.section ≡ Some section)
 
 -- what a search finds that goes on from a link, along `next` to a link that is 0, as the words are now
 pub record Finds (m : Memory) (link key : ℕ) (answer : Option ℕ) : Type 0 where
@@ -129,22 +161,7 @@ pub record IsKept (capacities : List ℕ) (places tickets : ℕ) (m : Memory) (h
   pub rule : MemoryRule capacities places tickets to vs h'
   pub past : KeepsPast m h to
 
--- Each step of the kind, as a seat makes it that works at a place, keeps the rule, from any state that has it.
-abbrev pub Keeps : Kind → Type 0
-Keeps kind = (capacities : List ℕ) (places tickets : ℕ) (m : Memory) (vs : List View) (h : List Mark) (id : ℕ) (v w : View) (field : Field)
-    (left : ℕ) (marks : List Mark)
-    → MemoryRule capacities places tickets m vs h → get_elem? vs id ≡ some v → 1 ≤ v.places
-    → Steps capacities h v kind field (m field) left w marks
-    → IsKept capacities places tickets m h (stored m field left) (set vs id w) (h ++ marks)
-
-abbrev pub StepsKeep : Type 0
-StepsKeep = (kind : Kind) → Keeps kind
-
--- An act whose needs are met is a step of its kind, whatever it finds; so it keeps the rule.
-abbrev pub ActsAreSteps : Type 0
-ActsAreSteps = (capacities : List ℕ) (h : List Mark) (v : View) (n : ℕ) (a : Act) → Needs capacities v a
-    → Steps capacities h v (kind_of a) (field_of v a) n (left v a n) (done v a h n) (marks_of v a)
-
+-- An act whose needs are met keeps the rule, from any state that has it.
 abbrev pub ActsKeep : Type 0
 ActsKeep = (capacities : List ℕ) (places tickets : ℕ) (m : Memory) (vs : List View) (h : List Mark) (id : ℕ) (v : View) (a : Act)
     → MemoryRule capacities places tickets m vs h → get_elem? vs id ≡ some v → 1 ≤ v.places → Needs capacities v a
@@ -172,10 +189,10 @@ FreshHolds = (capacities : List ℕ) (places tickets : ℕ) (m : Memory) → IsS
 -- The words, the views and the marks that a table can come to.
 pub data Run (capacities : List ℕ) (places tickets : ℕ) : Memory → List View → List Mark → Type 0 where
   begins : {m : Memory} → IsFresh capacities m → Run capacities places tickets m (first_view places tickets ∷ []) []
-  steps : {m : Memory} {vs : List View} {h : List Mark} (id : ℕ) (v w : View) (kind : Kind) (field : Field) (left : ℕ) (marks : List Mark)
-      → Run capacities places tickets m vs h → get_elem? vs id ≡ some v → 1 ≤ v.places
-      → Steps capacities h v kind field (m field) left w marks
-      → Run capacities places tickets (stored m field left) (set vs id w) (h ++ marks)
+  steps : {m : Memory} {vs : List View} {h : List Mark} (id : ℕ) (v : View) (a : Act) → Run capacities places tickets m vs h
+      → get_elem? vs id ≡ some v → 1 ≤ v.places → Needs capacities v a
+      → Run capacities places tickets (stored m (field_of v a) (left v a (m (field_of v a)))) (set vs id (done v a h (m (field_of v a))))
+      (h ++ marks_of v a)
   splits : {m : Memory} {vs : List View} {h : List Mark} (id away given : ℕ) (v : View) → Run capacities places tickets m vs h
       → get_elem? vs id ≡ some v → NeedsSplit v away given
       → Run capacities places tickets m (set vs id (first_of away given v) ++ second_of away given v ∷ []) h

@@ -1,16 +1,4 @@
-pub mod Lists
 pub mod Memory
-pub mod Slots
-pub mod Places
-pub mod Marks
-pub mod Known
 pub mod Steps
-pub mod Kinds
-pub mod Fresh
-pub mod Buckets
-pub mod Readers
-pub mod Seats
 pub mod Rule
-pub mod Pairs
-pub mod Acts
 pub mod Laws

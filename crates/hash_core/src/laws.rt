@@ -1,6 +1,6 @@
 //! How words stand, what the rule gives, and that each kind of step keeps it. Each is a function without a body whose promise is the law.
-ghost use Rattle.hash_core.specs.Places.{NoPlaceIsShared, FieldsAreWithin, LinesAreOwn};
-ghost use Rattle.hash_core.specs.Laws.{ChainsAreMap, SlotsHaveOneRole, ReadersAreCounted, FrontCounts, SearchesAreAnswered, SearchesStand, MarksAreInOrder, SlotsAreReused, StepsKeep, ActsAreSteps, ActsKeep, SplitsKeep, JoinsKeep, FreshHolds, RunsHold};
+ghost use Rattle.hash_core.specs.Memory.{NoPlaceIsShared, FieldsAreWithin, LinesAreOwn};
+ghost use Rattle.hash_core.specs.Laws.{ChainsAreMap, SlotsHaveOneRole, ReadersAreCounted, FrontCounts, SearchesAreAnswered, SearchesStand, MarksAreInOrder, SlotsAreReused, ActsKeep, SplitsKeep, JoinsKeep, FreshHolds, RunsHold};
 
 /// Each field has a place of its own in the table's row, and the words of a class share no line of memory with those of another class or
 /// the front, wherever the row begins.
@@ -55,17 +55,7 @@ pub fn fresh_holds()
     ensures { FreshHolds }
 {}
 
-/// Each step of each kind keeps the rule, and leaves an unlinked slot its key, value and next until it is given.
-pub fn steps_keep()
-    ensures { StepsKeep }
-{}
-
-/// An act whose needs are met is a step of its kind, whatever it finds.
-pub fn acts_are_steps()
-    ensures { ActsAreSteps }
-{}
-
-/// So it keeps the rule.
+/// An act whose needs are met keeps the rule, whatever it finds, and leaves an unlinked slot its key, value and next until it is given.
 pub fn acts_keep()
     ensures { ActsKeep }
 {}

@@ -7,11 +7,11 @@ use lib.ListN.{get_elem?}
 use Rattle.prcu_marks.specs.declared.mark.Mark.{Mark}
 use Rattle.prcu_marks.specs.declared.mark.Mark.TheVariants.{Began}
 use Rattle.hash_core.specs.declared.view.View.{View}
-use Rattle.hash_core.specs.Seats.{AnswersFor}
+use Rattle.hash_core.specs.Rule.{AnswersFor}
 use Rattle.hash_core.specs.Steps.{IsQuiet, new_view}
 use Rattle.class_hash.specs.Answers.{IsInformed}
 use Rattle.class_hash.specs.Seats.{TableAt}
-use Rattle.class_hash.specs.Clients.{ClientAt}
+use Rattle.class_hash.specs.Replies.{ClientAt}
 
 -- what a seat knows that has done and seen nothing, and has these places and tickets
 abbrev pub idle_view : ℕ → ℕ → ℕ → View

@@ -1,8 +1,7 @@
 //! Workers that have made their scripts' calls: their seats as one, and what each was told.
 ghost use Rattle.std.specs.Prelude.{◌≡◌, ◌+◌, ◌≤◌, ◌∷◌, ◌++◌, length, map, vec_len, vec_capacity};
-ghost use Rattle.class_hash.specs.Clients.{ClientAt};
-ghost use Rattle.client_run.specs.Workers.{Work};
-ghost use Rattle.client_run.specs.Crews.{AreDone, HasDismissed};
+ghost use Rattle.class_hash.specs.Replies.{ClientAt};
+ghost use Rattle.client_run.specs.Crews.{Work, AreDone, HasDismissed};
 ghost use Rattle.hash_core.specs.Steps.{IsQuiet};
 ghost use Rattle.hash_run.specs.Crews.{IsDone, StandsFor};
 

@@ -1,19 +1,17 @@
 //! Scripts run beside each other.
 ghost use Rattle.std.specs.Prelude.{◌≡◌, ℕ, ◌<◌, ◌≤◌, IfOk, length};
 ghost use Rattle.prcu_model.specs.Fronts.{AreExplainable};
-ghost use Rattle.prcu_model.specs.History.{IsLegal};
-ghost use Rattle.prcu_model.specs.Lists.{entries_of};
+ghost use Rattle.prcu_model.specs.Dictionary.{IsLegal};
+ghost use Rattle.prcu_model.specs.Scripts.{entries_of, op_count};
 ghost use Rattle.prcu_marks.specs.Marks.{updates_of};
-ghost use Rattle.prcu_marks.specs.Runs.{FitsScripts};
-ghost use Rattle.prcu_model.specs.Scripts.{op_count};
-ghost use Rattle.client_run.specs.Workers.{HaveMade};
-ghost use Rattle.hash_core.specs.Seats.{AnswersFor};
+ghost use Rattle.prcu_marks.specs.Callers.{FitsScripts};
+ghost use Rattle.client_run.specs.Crews.{HaveMade, IsCrew, HaveRun};
+ghost use Rattle.hash_core.specs.Rule.{AnswersFor};
 ghost use Rattle.hash_core.specs.Steps.{IsQuiet};
 ghost use Rattle.class_hash.specs.Answers.{IsInformed};
 ghost use Rattle.class_hash.specs.Seats.{TableAt};
-ghost use Rattle.class_hash.specs.Clients.{HasCalled};
+ghost use Rattle.class_hash.specs.Replies.{HasCalled};
 ghost use Rattle.hash_run.specs.Capacities.{AreCapacities};
-ghost use Rattle.client_run.specs.Crews.{IsCrew, HaveRun};
 ghost use Rattle.hash_run.specs.Crews.{HaveNoWaits, client_for, StandsFor};
 
 use crate::capacities::capacities_for;

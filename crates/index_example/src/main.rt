@@ -5,7 +5,6 @@
 ghost use Rattle.std.specs.Prelude.{◌/◌, ◌≤◌};
 ghost use Rattle.citrus_tree.specs.Lookups.{Looked};
 
-use eer_wait::Eer;
 use prcu_marks::{Client, OpenGate};
 use prcu_model::{NoMemory, Op, Reply};
 use seat_table::CitrusTable;
@@ -13,7 +12,8 @@ use std::alloc::Global;
 use std::process::ExitCode;
 use std::sync::Wait;
 use std::thread::{Threads, join};
-use tree_client::TreeClient;
+use tree_lift::TreeClient;
+use waiters::Eer;
 
 /// How many articles each thread adds, and how many tickets it may use: sixteen for each of four calls about an article.
 const OWN: u32 = 100;

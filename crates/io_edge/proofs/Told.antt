@@ -2,8 +2,7 @@
 use Rattle.std.proofs.Common.{◌≡◌, ℕ, ◌+◌, ◌-◌, ◌≤◌, List, [], ◌++◌, length, take, drop, Option, Some, None, refl, sym, ◌∙◌, arith, append-nil, append_assoc, take-append-drop, length-append, length-take, length-take-le}
 use Rattle.std.proofs.lemmas.List.{drop-drop, take_rest}
 use Rattle.std.proofs.Math.Seq.{take-add}
-use Rattle.io_edge.specs.Edge.{Takes, Appends, AppendsFront}
-use Rattle.io_edge.specs.Whole.{TakesToLimit}
+use Rattle.io_edge.specs.Edge.{Takes, Appends, AppendsFront, TakesToLimit}
 
 -- a piece from `at` on of the bytes that a source holds
 pub Takes-piece : (bytes rest piece : List ℕ) (at n : ℕ) → drop at bytes ≡ rest → piece ≡ take n (drop at bytes)

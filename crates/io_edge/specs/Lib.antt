@@ -1,4 +1,1 @@
 pub mod Edge
-pub mod Memory
-pub mod Whole
-pub mod Standard

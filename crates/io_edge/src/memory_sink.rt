@@ -21,7 +21,7 @@ pub struct MemorySink {
 impl Model for MemorySink {
     ghost use Rattle.std.specs.Prelude.{◌-◌, ◌≤◌};
     ghost use Rattle.std.specs.Vec.{vec_len, vec_capacity};
-    ghost use Rattle.io_edge.specs.Memory.{Store};
+    ghost use Rattle.io_edge.specs.Edge.{Store};
 
     ghost Value = { Store };
 

@@ -20,7 +20,7 @@ pub struct MemorySource {
 impl Model for MemorySource {
     ghost use Rattle.std.specs.Prelude.{◌≤◌, drop};
     ghost use Rattle.std.specs.Vec.{vec_len};
-    ghost use Rattle.io_edge.specs.Memory.{Supply};
+    ghost use Rattle.io_edge.specs.Edge.{Supply};
 
     ghost Value = { Supply };
 

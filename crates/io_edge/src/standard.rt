@@ -14,7 +14,7 @@ pub struct StdSource<R> {
 }
 
 impl<R> Model for StdSource<R> {
-    ghost use Rattle.io_edge.specs.Standard.{Untold};
+    ghost use Rattle.io_edge.specs.Edge.{Untold};
 
     ghost Value = { Untold };
 
@@ -60,7 +60,7 @@ pub struct StdSink<W> {
 }
 
 impl<W> Model for StdSink<W> {
-    ghost use Rattle.io_edge.specs.Standard.{Untold};
+    ghost use Rattle.io_edge.specs.Edge.{Untold};
 
     ghost Value = { Untold };
 

@@ -17,7 +17,7 @@ pub struct SteadySource {
 impl Model for SteadySource {
     ghost use Rattle.std.specs.Prelude.{◌≤◌, drop};
     ghost use Rattle.std.specs.Vec.{vec_len};
-    ghost use Rattle.io_edge.specs.Memory.{SteadySupply};
+    ghost use Rattle.io_edge.specs.Edge.{SteadySupply};
 
     ghost Value = { SteadySupply };
 

@@ -1,7 +1,6 @@
 //! Whole texts, read from a source and written to a sink.
 ghost use Rattle.std.specs.Prelude.{◌≡◌, ℕ, ◌-◌, ◌<◌, ◌≤◌, ◌++◌, Err, length, take, IfOk, OnOk, OnErr, vec_len};
-ghost use Rattle.io_edge.specs.Edge.{Rose, Takes, IsAtEnd, Appends, AppendsFront};
-ghost use Rattle.io_edge.specs.Whole.{TakesToLimit, ReadsToEnd};
+ghost use Rattle.io_edge.specs.Edge.{Rose, Takes, IsAtEnd, Appends, AppendsFront, TakesToLimit, ReadsToEnd};
 
 use crate::edge::{Failed, Sink, Source};
 use std::alloc::{AllocError, Global};

@@ -1,8 +1,7 @@
 -- How far the first key of a class lies above a key; and the greatest class of an interval.
 use Rattle.std.proofs.Common.{◌≡◌, ℕ, ◌+◌, ◌-◌, ◌*◌, ◌/◌, ◌%◌, ◌<◌, ◌≤◌, ◌↔◌, IsTrue, leb, refl, arith}
 use Rattle.std.proofs.lemmas.Bool.{leb-true, le-leb}
-use Rattle.key_interval.specs.Keys.{Interval, MeetsClass}
-use Rattle.key_interval.specs.LastClass.{IsLastClass}
+use Rattle.key_interval.specs.Keys.{Interval, MeetsClass, IsLastClass}
 
 abbrev pub steps_to : ℕ → ℕ → ℕ
 steps_to low class = (class + 64 - low % 64) % 64

@@ -1,6 +1,6 @@
 -- Closed intervals of keys, and the classes of keys.
 -- Source: docs/TREE.md, "Keys and classes".
-use Rattle.std.specs.Prelude.{◌≡◌, ℕ, ◌%◌, ◌≤◌}
+use Rattle.std.specs.Prelude.{◌≡◌, ℕ, ◌%◌, ◌≤◌, ◌<◌}
 
 -- the keys from low to high, both among them
 pub record Interval : Type 0 where
@@ -20,3 +20,11 @@ class_of x = x % 64
 -- Some key of the interval has this class, so that the class is in its image.
 abbrev pub MeetsClass : Interval → ℕ → Type 0
 MeetsClass keys class = (x : ℕ) × Holds keys x × (class_of x ≡ class)
+
+-- The greatest class of an interval.
+-- Source: docs/TREE.md, "Keys and classes".
+
+-- Some key has this class, and none has a greater one.
+pub record IsLastClass (keys : Interval) (class : ℕ) : Type 0 where
+  pub met : MeetsClass keys class
+  pub greatest : (other : ℕ) → class < other → other < 64 → MeetsClass keys other → ⊥

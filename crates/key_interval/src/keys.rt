@@ -1,7 +1,6 @@
 //! The keys that a wait, a list or a section speaks of.
 ghost use Rattle.std.specs.Prelude.{◌≡◌, ◌+◌, ◌<◌, ◌≤◌, ◌↔◌, IsTrue, IsNone, IfSome};
-ghost use Rattle.key_interval.specs.Keys.{Interval, Holds, Covers, MeetsClass, class_of};
-ghost use Rattle.key_interval.specs.LastClass.{IsLastClass};
+ghost use Rattle.key_interval.specs.Keys.{Interval, Holds, Covers, MeetsClass, class_of, IsLastClass};
 
 use std::marker::Model;
 

@@ -7,8 +7,8 @@ use mathlib.Core.Logic.{dite}
 use mathlib.Core.Option.{some, some-injective, some-ne-none}
 use native.Mathlib.Decide.{dec_le, ℕ_discrete}
 use lib.ListN.{get_elem?}
-use Rattle.atomic_table.proofs.Lists.{at_set, at_longer}
-use Rattle.list_laws.specs.Counts.{times, numbers_from, total, IsIn, Each}
+use Rattle.atomic_table.proofs.Lists.{at_set, at_longer, set_here, set_else}
+use Rattle.list_laws.specs.Counts.{times, numbers_from, total, IsIn, Each, Somewhere, OnlyOne}
 
 module _ {A : Type 0} where
   pub at_below : (l : List A) (i : ℕ) (a : A) → get_elem? l i ≡ some a → i < length l
@@ -56,6 +56,74 @@ module _ {A : Type 0} where
   pub each_change : (P Q : A → Type 0) (vs : List A) (id : ℕ) (v w : A) → get_elem? vs id ≡ some v → (P v → Q w) → ((u : A) → P u → Q u)
       → Each vs P → Each (set vs id w) Q
   each_change P Q vs id v w at mine others all = each_set (λ j u. Q u) vs id w (mine (all id v at)) (λ j u other e. others u (all j u e))
+
+  -- the element at this place, where it is the one that has the property
+  pub somewhere_at : {P : A → Type 0} (vs : List A) (id : ℕ) (v : A) → get_elem? vs id ≡ some v → (s : Somewhere vs P) → s.id ≡ id → P v
+  somewhere_at {P} vs id v at s same = subst P (at_one vs id s.view v (subst (λ j. get_elem? vs j ≡ some s.view) same s.there) at) s.has
+
+  -- the changed element has it
+  pub somewhere_here : {P : A → Type 0} (vs : List A) (id : ℕ) (v w : A) → get_elem? vs id ≡ some v → P w → Somewhere (set vs id w) P
+  somewhere_here vs id v w at has = record { id = id; view = w; there = set_here vs id w (at_below vs id v at); has = has }
+
+  -- After one has changed: the changed one had it, or another one has it still.
+  pub somewhere_set : {P : A → Type 0} (vs : List A) (id : ℕ) (v w : A) → get_elem? vs id ≡ some v → Somewhere vs P
+      → P v ⊎ Somewhere (set vs id w) P
+  somewhere_set vs id v w at s = dite (ℕ_discrete s.id id) (λ same. inl (somewhere_at vs id v at s same))
+      (λ ne. inr (record { id = s.id; view = s.view; there = set_else vs id s.id w ne ∙ s.there; has = s.has }))
+
+  -- the same, where the changed one keeps it
+  pub somewhere_still : {P : A → Type 0} (vs : List A) (id : ℕ) (v w : A) → get_elem? vs id ≡ some v → (P v → P w) → Somewhere vs P
+      → Somewhere (set vs id w) P
+  somewhere_still {P} vs id v w at kept s = ⊎_elim (λ (had : P v). somewhere_here vs id v w at (kept had)) (λ still. still)
+      (somewhere_set vs id v w at s)
+
+  -- and back, where the changed one had it
+  pub somewhere_was : {P : A → Type 0} (vs : List A) (id : ℕ) (v w : A) → get_elem? vs id ≡ some v → (P w → P v) → Somewhere (set vs id w) P
+      → Somewhere vs P
+  somewhere_was {P} vs id v w at had s =
+      ⊎_elim (λ (t : (s.id ≡ id) × (w ≡ s.view)). record { id = id; view = v; there = at; has = had (subst P (sym t.1) s.has) })
+      (λ (t : (s.id ≢ id) × (get_elem? vs s.id ≡ some s.view)). record { id = s.id; view = s.view; there = t.1; has = s.has })
+      (at_set vs id s.id w s.view s.there)
+
+  pub somewhere_longer : {P : A → Type 0} (vs us : List A) → Somewhere vs P → Somewhere (vs ++ us) P
+  somewhere_longer vs us s = record { id = s.id; view = s.view; there = at_longer vs us s.id s.view s.there; has = s.has }
+
+  -- an element is the only one that has the first property, or has the second
+  pub only_at : {P Q : A → Type 0} (vs : List A) (id : ℕ) (v : A) → get_elem? vs id ≡ some v → OnlyOne vs P Q
+      → (P v × ((j : ℕ) (u : A) → j ≢ id → get_elem? vs j ≡ some u → Q u)) ⊎ Q v
+  only_at {P} vs id v at one = dite (ℕ_discrete one.id id)
+      (λ same. inl (
+        subst P (at_one vs id one.view v (subst (λ j. get_elem? vs j ≡ some one.view) same one.there) at) one.has,
+        λ j u ne e. one.alone j u (λ f. ne (f ∙ same)) e,
+      ))
+      (λ ne. inr (one.alone id v (λ e. ne (sym e)) at))
+
+  -- after one has changed it is the only one
+  pub only_here : {P Q : A → Type 0} (vs : List A) (id : ℕ) (v w : A) → get_elem? vs id ≡ some v → P w
+      → ((j : ℕ) (u : A) → j ≢ id → get_elem? vs j ≡ some u → Q u) → OnlyOne (set vs id w) P Q
+  only_here {Q = Q} vs id v w at has others = record {
+    id = id;
+    view = w;
+    there = set_here vs id w (at_below vs id v at);
+    has = has;
+    alone = λ j u ne e. others j u ne (sym (set_else vs id j w ne) ∙ e);
+  }
+
+  -- or the only one is the one that was
+  pub only_change : {P Q R : A → Type 0} (vs : List A) (id : ℕ) (v w : A) → get_elem? vs id ≡ some v → (P v → R w)
+      → ((u : A) → P u → R u) → (Q v → Q w) → OnlyOne vs P Q → OnlyOne (set vs id w) R Q
+  only_change {P} {Q} vs id v w at mine others free one = dite (ℕ_discrete one.id id)
+      (λ same. only_here vs id v w at
+      (mine (subst P (at_one vs id one.view v (subst (λ j. get_elem? vs j ≡ some one.view) same one.there) at) one.has))
+      (λ j u ne e. one.alone j u (λ f. ne (f ∙ same)) e))
+      (λ ne. record {
+        id = one.id;
+        view = one.view;
+        there = set_else vs id one.id w ne ∙ one.there;
+        has = others one.view one.has;
+        alone = λ j u far e. each_set (λ k z. k ≢ one.id → Q z) vs id w (λ _. free (one.alone id v (λ f. ne (sym f)) at))
+            (λ k z _ q f. one.alone k z f q) j u e far;
+      })
 
   pub total_set : (f : A → ℕ) (vs : List A) (id : ℕ) (v w : A) → get_elem? vs id ≡ some v → total f (set vs id w) + f v ≡ total f vs + f w
   total_set f [] id v w e = absurd (some-ne-none v (sym e))

@@ -1,6 +1,6 @@
 -- Elements of lists, how often a number stands in a list, and sums over lists.
 -- Source: docs/HANDBOOK.md, "Rules over shared words".
-use Rattle.std.specs.Prelude.{◌≡◌, ℕ, zero, suc, ◌+◌, ◌==◌, if◌then◌else◌, List, [], ◌∷◌}
+use Rattle.std.specs.Prelude.{◌≡◌, ◌≢◌, ℕ, zero, suc, ◌+◌, ◌==◌, if◌then◌else◌, List, [], ◌∷◌}
 use mathlib.Core.Option.{some}
 use lib.ListN.{get_elem?}
 
@@ -26,3 +26,18 @@ IsIn xs a = (i : ℕ) × (get_elem? xs i ≡ some a)
 -- what holds of each element of a list
 abbrev pub Each : {A : Type 0} → List A → (A → Type 0) → Type 0
 Each {A} xs P = (i : ℕ) (a : A) → get_elem? xs i ≡ some a → P a
+
+-- some element of a list has a property
+pub record Somewhere {A : Type 0} (xs : List A) (P : A → Type 0) : Type 0 where
+  pub id : ℕ
+  pub view : A
+  pub there : get_elem? xs id ≡ some view
+  pub has : P view
+
+-- one element has a property, and all others have another
+pub record OnlyOne {A : Type 0} (xs : List A) (P Q : A → Type 0) : Type 0 where
+  pub id : ℕ
+  pub view : A
+  pub there : get_elem? xs id ≡ some view
+  pub has : P view
+  pub alone : (j : ℕ) (other : A) → j ≢ id → get_elem? xs j ≡ some other → Q other

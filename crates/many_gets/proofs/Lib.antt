@@ -1,4 +1,1 @@
-pub mod Hopping
-pub mod Going
-pub mod Turning
-pub mod Budget
+pub mod Lanes

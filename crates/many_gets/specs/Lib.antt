@@ -1,2 +1,1 @@
 pub mod Many
-pub mod Lanes

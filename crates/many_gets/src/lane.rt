@@ -1,9 +1,9 @@
 //! One of the lookups that are made beside each other.
 ghost use Rattle.std.specs.Prelude.{◌≡◌, ◌≢◌, ℕ, ◌+◌, ◌<◌, ◌≤◌, false, true, List, None, length, slice_index_or};
 ghost use Rattle.std.specs.declared.option.Option.{Option};
-ghost use Rattle.seat_table.specs.Rounds.{HasStepped};
+ghost use Rattle.seat_table.specs.Sections.{HasStepped};
 ghost use Rattle.seat_table.specs.Seats.{SeatAt, IsQuietSeat, shape_of};
-ghost use Rattle.many_gets.specs.Lanes.{HasCome, HasGot, IsAt, IsLane, Sought};
+ghost use Rattle.many_gets.specs.Many.{HasCome, HasGot, IsAt, IsLane, Sought};
 
 use citrus_tree::{Step, load_links, look_on};
 use prcu_marks::Side;

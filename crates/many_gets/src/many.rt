@@ -3,8 +3,7 @@ ghost use Rattle.std.specs.Prelude.{◌≡◌, ℕ, ◌<◌, ◌≤◌, false, t
 ghost use Rattle.std.specs.declared.option.Option.{Option};
 ghost use Rattle.list_laws.specs.Counts.{Each};
 ghost use Rattle.seat_table.specs.Seats.{SeatAt, IsQuietSeat, shape_of};
-ghost use Rattle.many_gets.specs.Lanes.{AreLanes, AreOver};
-ghost use Rattle.many_gets.specs.Many.{AreKept, LooksUpAll, steps_of};
+ghost use Rattle.many_gets.specs.Many.{AreLanes, AreOver, AreKept, LooksUpAll, steps_of};
 ghost use Rattle.many_gets.specs.declared.lane.Lane.{Lane};
 
 use crate::lane::{Lane, enter, take_turn};

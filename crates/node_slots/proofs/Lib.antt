@@ -1,12 +1,4 @@
-pub mod Seizing
 pub mod Takes
-pub mod Trying
-pub mod PuttingBack
-pub mod Returning
-pub mod Marking
-pub mod Listing
-pub mod Informing
+pub mod Returns
 pub mod Reclaims
 pub mod Points
-pub mod Listed
-pub mod Locked

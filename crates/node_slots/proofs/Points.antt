@@ -12,9 +12,8 @@ use Rattle.core_state.specs.declared.words.Field.TheVariants.{Life}
 use Rattle.core_state.specs.declared.view.Held.{Held}
 use Rattle.core_state.specs.declared.view.Retired.{Retired}
 use Rattle.core_state.specs.declared.view.View.{View}
-use Rattle.core_state.specs.steps.Seating.{spare_slot}
-use Rattle.core_state.specs.views.Known.{noting}
-use Rattle.core_state.specs.views.Views.{held_list}
+use Rattle.core_state.specs.Steps.{spare_slot}
+use Rattle.core_state.specs.Views.{noting, held_list}
 use Rattle.list_laws.specs.Counts.{times, Each}
 use Rattle.list_laws.proofs.Lists.{times_here}
 use Rattle.core_points.specs.declared.stage.Spot.{Spot}
@@ -22,17 +21,15 @@ use Rattle.core_points.specs.declared.stage.Aim.{Aim}
 use Rattle.core_points.specs.declared.stage.Aim.TheVariants.{Leaf, Spare, Room}
 use Rattle.core_points.specs.declared.stage.Waits.TheVariants.{Reuse}
 use Rattle.core_points.specs.declared.stage.Stage.TheVariants as at
-use Rattle.core_points.specs.Callers.{Own, go, is_none_left, is_some, key_now, value_in}
+use Rattle.core_points.specs.Programs.{Own, go, is_none_left, is_some, key_now, value_in}
 use Rattle.core_points.specs.Facts.{HandFits}
-use Rattle.core_points.specs.Fits.{Fits}
-use Rattle.core_points.specs.Tickets.{owed_reserve}
+use Rattle.core_points.specs.Fits.{Fits, owed_reserve}
 use Rattle.core_points.proofs.Notes.{owns_noted, bare_noted}
 use Rattle.seat_table.specs.Gains.{IsFull}
 use Rattle.seat_table.specs.Seats.{IsSlotOf}
-use Rattle.tree_points.specs.At.{IsAt, IsDone}
-use Rattle.tree_points.specs.Progress.{HasGone, HasGivenAll}
-use Rattle.tree_points.proofs.SameCall.{moves_on}
-use Rattle.tree_points.proofs.Gone.{allowed, further_by, gone_with, gone_all}
+use Rattle.tree_points.specs.Points.{IsAt, IsDone, HasGone, HasGivenAll}
+use Rattle.tree_points.proofs.Passing.{moves_on}
+use Rattle.tree_points.proofs.Locks.{allowed, further_by, gone_with, gone_all}
 use Rattle.node_slots.specs.Slots.{aged, next_life, renewing, PutsBack}
 use Rattle.node_slots.specs.Taking.{HasTaken, FoundNone, TriesBy}
 use Rattle.node_slots.specs.Reclaiming.{first_spare, HasReclaimed}

@@ -10,24 +10,24 @@ use Rattle.prcu_model.proofs.ListFacts.{prefix_trans}
 use Rattle.prcu_marks.specs.declared.mark.Mark.{Mark}
 use Rattle.prcu_marks.specs.declared.mark.Mark.TheVariants.{Began, Ended}
 use Rattle.prcu_marks.specs.Marks.{own_of}
-use Rattle.core_frames.proofs.views.RetiredLists.{slots_in, without_none as retired_none, without_else as retired_else}
+use Rattle.core_frames.proofs.Roles.{slots_in, without_none as retired_none, without_else as retired_else}
 use Rattle.core_state.specs.declared.shape.Shape.{Shape}
 use Rattle.core_state.specs.declared.view.Retired.{Retired}
 use Rattle.core_state.specs.declared.view.Waiting.{Waiting}
 use Rattle.core_state.specs.declared.view.View.{View}
-use Rattle.core_state.specs.steps.Slots.{without_retired}
-use Rattle.core_state.specs.steps.Waits.{new_wait, waited_retired, waited_move, is_grace_for}
-use Rattle.core_state.specs.views.Views.{held_list}
+use Rattle.core_state.specs.Links.{without_retired}
+use Rattle.core_state.specs.Steps.{new_wait, waited_retired, waited_move, is_grace_for}
+use Rattle.core_state.specs.Views.{held_list}
 use Rattle.list_laws.specs.Counts.{times, IsIn, Each}
 use Rattle.list_laws.proofs.Lists.{times_here, times_other}
 use Rattle.seat_table.specs.Seats.{unlisted}
 use Rattle.seat_table.specs.Sections.{HasBegun}
 use Rattle.seat_table.specs.Waits.{HasWaited, HasEnded}
-use Rattle.seat_table.proofs.Sections.{seen_more, own_more}
+use Rattle.seat_table.proofs.SeveralSteps.{seen_more, own_more}
 use Rattle.node_slots.specs.Reclaiming.{IsReady, AreReady, first_slots, without_slots, without_all, return_marks, first_spare, GivesBack, HasReclaimed}
-use Rattle.node_slots.proofs.Marking.{each_begins, each_own, returned_nobodys}
-use Rattle.seat_table.proofs.Unlisting.{unlisted_none, unlisted_else}
-use Rattle.node_slots.proofs.Listing.{unlisted_length}
+use Rattle.node_slots.proofs.Takes.{each_begins, each_own, returned_nobodys}
+use Rattle.seat_table.proofs.Seats.{unlisted_none, unlisted_else}
+use Rattle.node_slots.proofs.Returns.{unlisted_length}
 
 abbrev everyone : ℕ
 everyone = 18446744073709551615

@@ -10,8 +10,8 @@ use Rattle.core_state.specs.declared.shape.Shape.{Shape}
 use Rattle.core_state.specs.declared.view.Held.{Held}
 use Rattle.core_state.specs.declared.view.Retired.{Retired}
 use Rattle.core_state.specs.declared.view.View.{View}
-use Rattle.core_state.specs.views.Views.{held_list}
-use Rattle.core_state.specs.steps.Slots.{IsRetiredAt, without_retired, new_spare}
+use Rattle.core_state.specs.Views.{held_list}
+use Rattle.core_state.specs.Links.{IsRetiredAt, without_retired, new_spare}
 use Rattle.seat_table.specs.Seats.{unlisted}
 use Rattle.seat_table.specs.Sections.{Leaves}
 use Rattle.seat_table.specs.Waits.{HasWaited}

@@ -2,16 +2,15 @@
 -- Source: docs/TREE_CALLS.md, "The tree's slots and locks".
 use Rattle.std.specs.Prelude.{◌≡◌, ◌≢◌, ℕ, ◌+◌, ◌-◌, ◌*◌, ◌/◌, ◌≤◌, true, false, [], ◌∷◌, Some, None}
 use Rattle.prcu_marks.specs.declared.mark.Mark.TheVariants.{Given, Freed}
-use Rattle.prcu_marks.specs.Bounds.{most_tickets}
+use Rattle.prcu_marks.specs.Marks.{most_tickets}
 use Rattle.core_state.specs.declared.shape.Shape.{Shape}
 use Rattle.core_state.specs.declared.words.Field.TheVariants.{Free, State, Lock as LockOf, Life}
 use Rattle.core_state.specs.declared.words.Kind.TheVariants.{K9, K10, K11, K12, K13, K14, K15, K16}
 use Rattle.core_state.specs.declared.view.Held.{Held}
 use Rattle.core_state.specs.declared.view.View.{View}
-use Rattle.core_state.specs.views.Known.{without_lock, noting}
-use Rattle.core_state.specs.steps.Locks.{new_lock}
-use Rattle.core_state.specs.steps.Seating.{stepped}
-use Rattle.core_state.specs.steps.Slots.{seized}
+use Rattle.core_state.specs.Views.{without_lock, noting}
+use Rattle.core_state.specs.Steps.{new_lock, stepped}
+use Rattle.core_state.specs.Links.{seized}
 use Rattle.seat_table.specs.Gains.{Sees, IsFull}
 use Rattle.seat_table.specs.Sections.{Leaves}
 use Rattle.node_slots.specs.declared.answers.Reserve.{Reserve}

@@ -3,18 +3,17 @@
 use Rattle.std.specs.Prelude.{◌≡◌, ◌≢◌, ℕ, ◌+◌, ◌-◌, ◌/◌, ◌<◌, ◌≤◌, true, false, List, [], ◌∷◌, ◌++◌, length, Some, None}
 use Rattle.std.specs.List.{AllByRecursion}
 use Rattle.prcu_marks.specs.declared.mark.Mark.TheVariants.{Given}
-use Rattle.prcu_marks.specs.Bounds.{most_tickets}
+use Rattle.prcu_marks.specs.Marks.{most_tickets}
 use Rattle.core_state.specs.declared.shape.Shape.{Shape}
 use Rattle.core_state.specs.declared.words.Field.{Field}
 use Rattle.core_state.specs.declared.words.Field.TheVariants.{Free, State, Life}
 use Rattle.core_state.specs.declared.words.Kind.TheVariants.{K9, K10, K11}
 use Rattle.core_state.specs.declared.view.StepMade.{StepMade}
 use Rattle.core_state.specs.declared.view.View.{View}
-use Rattle.core_state.specs.views.Known.{noting}
+use Rattle.core_state.specs.Views.{noting}
 use Rattle.seat_table.specs.declared.notes.TheConstants.{MOST_NOTED}
 use Rattle.seat_table.specs.Gains.{Sees, IsFull}
-use Rattle.seat_table.specs.Scans.{next_slot, after_look}
-use Rattle.seat_table.specs.Seats.{IsLastFound}
+use Rattle.seat_table.specs.Seats.{next_slot, after_look, IsLastFound}
 use Rattle.seat_table.specs.Sections.{Leaves}
 use Rattle.node_slots.specs.Slots.{aged, with_slot}
 use Rattle.node_slots.specs.declared.answers.Taken.{Taken}

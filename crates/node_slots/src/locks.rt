@@ -1,11 +1,11 @@
 //! The locks of slots.
 ghost use Rattle.std.specs.Prelude.{◌≡◌, ◌+◌, ◌≤◌, ◌<◌, length, None};
 ghost use Rattle.core_state.specs.declared.view.HeldLock.{HeldLock};
-ghost use Rattle.core_state.specs.views.Known.{HasLock};
-ghost use Rattle.core_state.specs.steps.Locks.{NeedsUnlock};
+ghost use Rattle.core_state.specs.Views.{HasLock};
+ghost use Rattle.core_state.specs.Steps.{NeedsUnlock};
 ghost use Rattle.seat_table.specs.Seats.{shape_of};
-ghost use Rattle.core_acts.specs.declared.act.Act.TheVariants as acts;
-ghost use Rattle.seat_table.specs.Told.{Told};
+ghost use Rattle.core_state.specs.declared.act.Act.TheVariants as acts;
+ghost use Rattle.seat_table.specs.Gains.{Told};
 ghost use Rattle.node_slots.specs.Slots.{Tries, Unlocks, found_by};
 
 use crate::answers::Lock;

@@ -3,7 +3,7 @@ ghost use Rattle.std.specs.Prelude.{◌≡◌, ℕ, ◌+◌, ◌≤◌, ◌<◌,
 ghost use Rattle.list_laws.specs.Counts.{Each};
 ghost use Rattle.core_state.specs.declared.view.Held.{Held};
 ghost use Rattle.core_state.specs.declared.view.Retired.{Retired};
-ghost use Rattle.seat_table.specs.Rounds.{HasMade};
+ghost use Rattle.seat_table.specs.Sections.{HasMade};
 ghost use Rattle.seat_table.specs.Seats.{AreListed, shape_of, unlisted};
 ghost use Rattle.seat_table.specs.Gains.{IsInformed};
 ghost use Rattle.node_slots.specs.Reclaiming.{IsReady, AreReady, BecomesSpare, BecomesFree, Returns, GivesBack, HasReclaimed, first_of, first_slots, without_slots};

@@ -3,10 +3,9 @@ ghost use Rattle.std.specs.Prelude.{◌≡◌, ℕ, ◌+◌, ◌≤◌, ◌<◌,
 ghost use Rattle.list_laws.specs.Counts.{IsIn};
 ghost use Rattle.core_state.specs.declared.view.Held.{Held};
 ghost use Rattle.core_state.specs.declared.view.Retired.{Retired};
-ghost use Rattle.core_state.specs.views.Known.{HasLock};
-ghost use Rattle.core_state.specs.steps.Slots.{IsInHand, IsRetiredAt};
-ghost use Rattle.seat_table.specs.Scans.{after_look};
-ghost use Rattle.seat_table.specs.Seats.{shape_of};
+ghost use Rattle.core_state.specs.Views.{HasLock};
+ghost use Rattle.core_state.specs.Links.{IsInHand, IsRetiredAt};
+ghost use Rattle.seat_table.specs.Seats.{after_look, shape_of};
 ghost use Rattle.seat_table.specs.Gains.{IsInformed, StaysIn};
 ghost use Rattle.node_slots.specs.Slots.{Reserves, Seizes, PutsBack};
 

@@ -5,7 +5,7 @@ use mathlib.Core.Logic.{dite}
 use native.Mathlib.Decide.{ℕ_discrete}
 use Rattle.std.specs.Int.Bits.{bit_xor, differ, xor_step}
 use lib.Bits.{xor_zero_r}
-use Rattle.prcu_marks.specs.Accesses.{StaysWord, left_by}
+use Rattle.prcu_marks.specs.Marks.{StaysWord, left_by}
 use Rattle.prcu_marks.specs.declared.access.Access.{Access}
 use Rattle.prcu_marks.specs.declared.access.Access.TheVariants.{Load, Store, Exchange, Add, Subtract, Flip}
 

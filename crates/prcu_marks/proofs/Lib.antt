@@ -1,10 +1,3 @@
-pub mod MarkLists
-pub mod MarkPlaces
-pub mod LastUnlinked
-pub mod Seen
-pub mod OwnMarks
-pub mod Chains
 pub mod Callers
-pub mod Histories
-pub mod Runs
 pub mod Accesses
+pub mod Marks

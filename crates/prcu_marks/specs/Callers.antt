@@ -1,21 +1,33 @@
--- What a call of a client leaves in the list of marks, and how what it is told fits them.
--- Source: docs/ACCOUNTS.md, "Clients".
-use Rattle.std.specs.Prelude.{◌≡◌, ◌⊎◌, ℕ, ◌+◌, ◌-◌, ◌^◌, ◌<◌, ◌≤◌, ◌==◌, if◌then◌else◌, MatchBool, true, List, [], ◌∷◌, ◌++◌, length, slice_get, Some}
+-- Calls of clients: chains of them, what each leaves in the marks, and what runs of scripts leave.
+use Rattle.std.specs.Prelude.{◌≡◌, List, [], ◌∷◌, ◌⊎◌, ℕ, ◌+◌, ◌-◌, ◌^◌, ◌<◌, ◌≤◌, ◌==◌, if◌then◌else◌, MatchBool, true, ◌++◌, length, slice_get, Some, slice_index_or}
+use Rattle.prcu_model.specs.declared.operation.Op.{Op}
+use Rattle.prcu_model.specs.declared.operation.Told.{Told}
 use Rattle.std.specs.List.{AllByRecursion}
-use Rattle.std.specs.FinMap as map
 use mathlib.Core.List.{IsPrefix}
 use Rattle.prcu_marks.specs.declared.mark.Mark.{Mark}
 use Rattle.prcu_marks.specs.declared.mark.Mark.TheVariants.{Entered, Left, Began, Ended, Done}
-use Rattle.prcu_model.specs.declared.operation.Op.{Op}
 use Rattle.prcu_model.specs.declared.operation.Op.TheVariants.{Del}
 use Rattle.prcu_model.specs.declared.operation.Reply.{Reply}
-use Rattle.prcu_model.specs.declared.operation.Told.{Told}
 use Rattle.prcu_model.specs.declared.operation.Update.{Update}
-use Rattle.prcu_model.specs.Dictionary.{Dictionary, key_of, map_at}
-use Rattle.prcu_model.specs.Replies.{Confirms, tells_update}
+use Rattle.prcu_model.specs.Dictionary.{Dictionary, key_of, map_at, Confirms, tells_update, IsLegal}
 use Rattle.prcu_model.specs.declared.operation.Line.{Line}
 use Rattle.prcu_model.specs.Fronts.{own_updates, told_updates, IsConfirmed, MayStandBesideBy}
 use Rattle.prcu_marks.specs.Marks.{updates_of, own_of}
+use Rattle.std.specs.FinMap as map
+
+-- Calls of one client, one after another. What a call did is a relation between the client before it, the operation,
+-- what was told, and the client after it.
+-- Source: docs/ACCOUNTS.md, "Clients".
+
+-- The operations with what they told lead from one client to another, where each call was made from the client that the
+-- call before it left.
+abbrev pub IsChain : {C : Type 0} → (C → Op → Told → C → Type 0) → C → List Op → List Told → C → Type 0
+IsChain made before [] [] after = after ≡ before
+IsChain {C} made before (op ∷ ops) (told ∷ tolds) after = (next : C) × made before op told next × IsChain made next ops tolds after
+IsChain made before _ _ after = ⊥
+
+-- What a call of a client leaves in the list of marks, and how what it is told fits them.
+-- Source: docs/ACCOUNTS.md, "Clients".
 
 -- a caller: its place, the marks that it left, and those that it has seen
 pub record Caller : Type 0 where
@@ -102,3 +114,25 @@ pub record MeetsFronts (explains : Dictionary → Op → Reply → Type 0) (hist
   pub confirmed : AllByRecursion (IsConfirmed history) lines
   pub numbers : List ℕ
   pub fronts : MayStandBesideBy explains history 0 lines numbers
+
+-- What the marks of a run of scripts are, where the caller of each script has the place of its number.
+-- Source: docs/ACCOUNTS.md, "Clients".
+
+-- how many operations ask for the key
+abbrev pub asking : ℕ → List Op → ℕ
+asking key [] = 0
+asking key (op ∷ ops) = (if key_of op == key then 1 else 0) + asking key ops
+
+-- The key of a section is one that the script of its place asks for, and a wait of a script's place is for all keys or is
+-- that of a del.
+abbrev pub FitsScript : List (List Op) → List Update → Mark → Type 0
+FitsScript scripts history (Entered place c key) = place < length scripts → 1 ≤ asking key (slice_index_or scripts place [])
+FitsScript scripts history (Began place c low high) = place < length scripts → WaitsFor history (Began place c low high)
+FitsScript scripts history _ = Unit {0}
+
+-- The marks are those of the scripts' calls: their updates are a history; sections have keys that their scripts ask for, at
+-- least as many as operations on them; and waits are for all keys or those of dels.
+pub record FitsScripts (scripts : List (List Op)) (marks : List Mark) : Type 0 where
+  pub legal : IsLegal (updates_of marks)
+  pub each : AllByRecursion (FitsScript scripts (updates_of marks)) marks
+  pub enough : (i key : ℕ) → i < length scripts → asking key (slice_index_or scripts i []) ≤ entered_for i key marks

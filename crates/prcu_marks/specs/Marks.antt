@@ -1,9 +1,12 @@
--- What a list of marks says.
+-- What a list of marks says; and of words that callers share what a step does to one, and how large numbers may be.
 -- Source: docs/ACCOUNTS.md, "Marks".
-use Rattle.std.specs.Prelude.{ℕ, ◌+◌, ◌==◌, nat_lt, length, Bool, false, if◌then◌else◌, List, [], ◌∷◌, ◌≡◌, Option, Some, None}
+use Rattle.std.specs.Prelude.{ℕ, ◌+◌, ◌==◌, nat_lt, length, Bool, false, if◌then◌else◌, List, [], ◌∷◌, ◌≡◌, Option, Some, None, ◌-◌, ◌%◌, ◌^◌, ◌<◌, ◌≤◌}
 use Rattle.prcu_marks.specs.declared.mark.Mark.{Mark}
 use Rattle.prcu_marks.specs.declared.mark.Mark.TheVariants.{Entered, Left, Began, Ended, Done, Given, Unlinked, Freed}
 use Rattle.prcu_model.specs.declared.operation.Update.{Update}
+use Rattle.prcu_marks.specs.declared.access.Access.{Access}
+use Rattle.prcu_marks.specs.declared.access.Access.TheVariants.{Load, Store, Exchange, Add, Subtract, Flip}
+use Rattle.prcu_marks.specs.declared.commit.Commit.{Commit}
 
 -- the updates, in their order
 abbrev pub updates_of : List Mark → List Update
@@ -80,3 +83,58 @@ entered_at p (_ ∷ ms) = entered_at p ms
 -- the longer of two lists
 abbrev pub longer : List Mark → List Mark → List Mark
 longer a b = if nat_lt (length a) (length b) then b else a
+
+-- Words that callers share: what a step does to one, the front word during a commit, and how large numbers may be.
+
+-- What a step of any structure does to its word.
+-- Source: docs/TREE_INVARIANT.md, "The steps of the tree", and docs/HASH_DICTIONARY.md, "The steps of the hash dictionary".
+
+-- the number that it leaves where it finds one
+abbrev pub left_by : Access → ℕ → ℕ
+left_by Load n = n
+left_by (Store x) n = x
+left_by (Exchange old new) n = if n == old then new else n
+left_by (Add x) n = n + x
+left_by (Subtract x) n = n - x
+left_by Flip n = if n % 2 == 0 then n + 1 else n - 1
+
+-- the number that it tells: the one found, or stored where it is a store
+abbrev pub said_by : Access → ℕ → ℕ
+said_by (Store x) n = x
+said_by _ n = n
+
+-- what is added never wraps, and what is subtracted is there
+abbrev pub StaysWord : Access → ℕ → Type 0
+StaysWord (Add x) n = n + x < 2 ^ 64
+StaysWord (Subtract x) n = x ≤ n
+StaysWord _ n = Unit {0}
+
+-- The front word while an update is being committed.
+-- Source: docs/ACCOUNTS.md, "Marks".
+
+-- twice the number of updates by a commit: two more once its update is made
+abbrev pub updates_by : Commit → ℕ
+updates_by commit = commit.found + (if commit.stored then 2 else 0)
+
+-- The bounds that tables of concurrent calls share.
+-- Source: README.md, "Limits".
+
+-- the greatest key: keys are numbers of 64 bits
+abbrev pub greatest_key : ℕ
+greatest_key = 18446744073709551615
+
+-- the most tickets of a table, 2^57: no word that a ticket pays for comes near its end, nor does a seat's count of the gates that it turned
+abbrev pub most_tickets : ℕ
+most_tickets = 144115188075855872
+
+-- the greatest front: two for each update, and one more while an update is being stored
+abbrev pub most_front : ℕ
+most_front = 288230376151711745
+
+-- the greatest life of a slot: two for each use, and one where the slot is marked
+abbrev pub most_life : ℕ
+most_life = 288230376151711745
+
+-- the most gates that a seat turns: 64 for each wait
+abbrev pub most_turns : ℕ
+most_turns = 9223372036854775808

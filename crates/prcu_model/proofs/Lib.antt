@@ -1,10 +1,2 @@
-pub mod AddedOps
-pub mod MapViews
-pub mod Updates
-pub mod Searches
-pub mod Fronts
-pub mod EnoughSlots
-pub mod Worth
-pub mod PlainSizes
-pub mod ToldLists
 pub mod ListFacts
+pub mod Dictionaries

@@ -1,5 +1,4 @@
--- Which replies a history explains, and the number that stands beside each.
--- Source: docs/FORMATS.md, "Accounts".
+-- What a history says of replies: which it explains, the numbers beside them, and whether slots were enough.
 use Rattle.std.specs.Prelude.{◌≡◌, ℕ, ◌+◌, ◌-◌, ◌<◌, ◌≤◌, ◌==◌, if◌then◌else◌, MatchBool, IsTrue, List, [], ◌∷◌, length, map, slice_index_or}
 use Rattle.std.specs.List.{AllByRecursion}
 use Rattle.prcu_model.specs.declared.operation.Op.{Op}
@@ -7,8 +6,12 @@ use Rattle.prcu_model.specs.declared.operation.Reply.{Reply}
 use Rattle.prcu_model.specs.declared.operation.Told.{Told}
 use Rattle.prcu_model.specs.declared.operation.Line.{Line}
 use Rattle.prcu_model.specs.declared.operation.Update.{Update}
-use Rattle.prcu_model.specs.Dictionary.{Dictionary, map_at}
-use Rattle.prcu_model.specs.Replies.{Room, Explains, Confirms, tells_update}
+use Rattle.prcu_model.specs.Dictionary.{Dictionary, map_at, Room, Explains, Confirms, tells_update}
+use Rattle.prcu_model.specs.declared.operation.Reply.TheVariants.{Full}
+use Rattle.std.specs.FinMap as finite
+
+-- Which replies a history explains, and the number that stands beside each.
+-- Source: docs/FORMATS.md, "Accounts".
 
 -- the operations of one script, each with what it was told
 abbrev pub told_lines : List Op → List Told → List Line
@@ -106,3 +109,14 @@ AllAreNumbered room history [] [] = Unit {0}
 AllAreNumbered room history (told ∷ tolds) (lines ∷ scripts) =
     AreNumbered room history 0 told lines × AllAreNumbered room history tolds scripts
 AllAreNumbered room history _ _ = ⊥
+
+-- What a number of slots says of lines and of a history.
+-- Source: docs/FORMATS.md, "Accounts".
+
+-- no line of these scripts says `full`
+abbrev pub LacksFull : List (List Line) → Type 0
+LacksFull scripts = AllByRecursion (AllByRecursion (λ line. line.reply ≡ Full → ⊥)) scripts
+
+-- at no front of the history are there more pairs than slots
+abbrev pub StaysWithin : List Update → ℕ → Type 0
+StaysWithin history slots = (front : ℕ) → front ≤ length history → finite.len (map_at history front) ≤ slots

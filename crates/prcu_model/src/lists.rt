@@ -21,7 +21,7 @@ pub type LineList = RoomyList<Line>;
 impl<T> Model for RoomyList<T> {
     ghost use Rattle.std.specs.Prelude.{◌-◌};
     ghost use Rattle.std.specs.Vec.{vec_len, vec_capacity};
-    ghost use Rattle.prcu_model.specs.Lists.{Roomy, coded_roomy};
+    ghost use Rattle.prcu_model.specs.Scripts.{Roomy, coded_roomy};
 
     ghost Value = { Roomy T };
 

@@ -34,7 +34,7 @@ pub enum Reply {
 
 impl Reply {
     ghost use Rattle.std.specs.Prelude.{◌≡◌};
-    ghost use Rattle.prcu_model.specs.Replies.{tells_update};
+    ghost use Rattle.prcu_model.specs.Dictionary.{tells_update};
 
     /// Whether the reply tells of an update: `New`, `Gone` and `Was` do.
     pub fn tells_update(self) -> bool

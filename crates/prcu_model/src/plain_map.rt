@@ -4,8 +4,7 @@ ghost use Rattle.std.specs.List.Sorted.{IsStrictlySortedBy};
 ghost use Rattle.std.specs.Map.{keys_of};
 ghost use Rattle.std.specs.Ordering.{nat_cmp};
 ghost use Rattle.std.specs.FinMap as map;
-ghost use Rattle.prcu_model.specs.Dictionary.{updated};
-ghost use Rattle.prcu_model.specs.Plain.{is_filled, plain_reply};
+ghost use Rattle.prcu_model.specs.Dictionary.{updated, is_filled, plain_reply};
 
 use crate::memory::NoMemory;
 use crate::operation::{Op, Reply};

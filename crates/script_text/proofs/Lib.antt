@@ -1,5 +1,1 @@
-pub mod Decimals
-pub mod CutLines
-pub mod OpTexts
-pub mod OneReading
-pub mod Printed
+pub mod ScriptTexts

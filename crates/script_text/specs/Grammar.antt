@@ -1,9 +1,54 @@
+-- The grammar of scripts: where bytes are parted, lines and operations, and which texts are scripts.
+use Rattle.std.specs.Prelude.{◌≡◌, ◌≢◌, ℕ, List, ◌∷◌, ◌++◌, All, ◌==◌, if◌then◌else◌, [], codes, decimal, flat_map, ◌-◌, ◌<◌, ◌≤◌, ◌⊎◌, length, take, slice_get, Some}
+use Rattle.prcu_model.specs.declared.operation.Op.{Op}
+use Rattle.prcu_model.specs.declared.operation.Op.TheVariants.{Put, Get, Del, Set}
+use Rattle.prcu_model.specs.Scripts.{with_op, op_count, FitsWords}
+
+-- A list of bytes, parted at the first of some byte.
+-- Source: docs/FORMATS.md, "Scripts".
+
+-- no such byte is among them
+abbrev pub Lacks : List ℕ → ℕ → Type 0
+Lacks bytes byte = All (λ b. b ≢ byte) bytes
+
+-- front is what stands before the first such byte, and rest what stands after it
+pub record IsParted (bytes : List ℕ) (byte : ℕ) (front rest : List ℕ) : Type 0 where
+  pub whole : bytes ≡ front ++ byte ∷ rest
+  pub first : Lacks front byte
+
+-- The lines of a text, and the text of an operation.
+-- Source: docs/FORMATS.md, "Scripts".
+
+-- a byte before the first of these lines, or alone where there is none
+abbrev pub onto_first : ℕ → List (List ℕ) → List (List ℕ)
+onto_first byte [] = (byte ∷ []) ∷ []
+onto_first byte (line ∷ lines) = (byte ∷ line) ∷ lines
+
+-- The text, cut at each byte 10. Where it ends with byte 10, nothing follows that.
+abbrev pub lines_of : List ℕ → List (List ℕ)
+lines_of [] = []
+lines_of (byte ∷ bytes) = if byte == 10 then [] ∷ lines_of bytes else onto_first byte (lines_of bytes)
+
+-- an operation's words, parted by one space. A number has no leading zero.
+abbrev pub op_text : Op → List ℕ
+op_text (Put key value) = codes "put " ++ decimal key ++ codes " " ++ decimal value
+op_text (Get key) = codes "get " ++ decimal key
+op_text (Del key) = codes "del " ++ decimal key
+op_text (Set key value) = codes "set " ++ decimal key ++ codes " " ++ decimal value
+
+abbrev pub op_line : Op → List ℕ
+op_line op = op_text op ++ 10 ∷ []
+
+-- one script's lines, without comments and blank lines
+abbrev pub script_text : List Op → List ℕ
+script_text script = codes "script\n" ++ flat_map op_line script
+
+-- the one text of scripts without comments and blank lines
+abbrev pub scripts_text : List (List Op) → List ℕ
+scripts_text scripts = flat_map script_text scripts
+
 -- Which texts are scripts.
 -- Source: docs/FORMATS.md, "Scripts".
-use Rattle.std.specs.Prelude.{◌≡◌, ℕ, ◌-◌, ◌<◌, ◌≤◌, ◌⊎◌, List, [], ◌∷◌, ◌++◌, length, take, codes, slice_get, Some}
-use Rattle.prcu_model.specs.declared.operation.Op.{Op}
-use Rattle.prcu_model.specs.Scripts.{with_op, op_count, FitsWords}
-use Rattle.script_text.specs.Lines.{lines_of, op_text}
 
 -- nothing at all, or a comment, which begins with `#`
 abbrev pub IsBlank : List ℕ → Type 0

@@ -2,7 +2,7 @@
 ghost use Rattle.std.specs.Prelude.{◌≡◌, ◌^◌, ◌<◌, ◌++◌, codes, decimal, ℕ, OnOk, MatchOption};
 ghost use Rattle.prcu_model.specs.declared.operation.Op.{Op};
 ghost use Rattle.prcu_model.specs.Scripts.{FitsWords};
-ghost use Rattle.script_text.specs.Lines.{op_text};
+ghost use Rattle.script_text.specs.Grammar.{op_text};
 
 use crate::number::{push_number, read_number};
 use crate::split::split_at_first;

@@ -1,8 +1,7 @@
 //! Printing scripts.
 ghost use Rattle.std.specs.Prelude.{◌≡◌, ◌++◌, All, OnOk, IfOk};
 ghost use Rattle.prcu_model.specs.Scripts.{FitsWords};
-ghost use Rattle.script_text.specs.Lines.{script_text, scripts_text};
-ghost use Rattle.script_text.specs.Grammar.{IsScriptText};
+ghost use Rattle.script_text.specs.Grammar.{script_text, scripts_text, IsScriptText};
 
 use crate::operation::push_op;
 use prcu_model::{NoMemory, Op, Scripts};

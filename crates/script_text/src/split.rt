@@ -1,7 +1,6 @@
 //! A text's first line, and a line's first word.
 ghost use Rattle.std.specs.Prelude.{◌≡◌, ◌<◌, [], ◌∷◌, length, IfSome, IfNone};
-ghost use Rattle.script_text.specs.Lines.{lines_of};
-ghost use Rattle.script_text.specs.Split.{Lacks, IsParted};
+ghost use Rattle.script_text.specs.Grammar.{lines_of, Lacks, IsParted};
 
 /// What stands before the first such byte, and what stands after it. `None` where there is no such byte.
 pub fn split_at_first(bytes: &[u8], byte: u8) -> Option<(&[u8], &[u8])>

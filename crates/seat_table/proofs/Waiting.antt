@@ -1,32 +1,154 @@
--- Looks of a wait, one after another.
-use Rattle.std.proofs.Common.{rules, ◌≡◌, ◌≢◌, ◌%◌, ◌<◌, ⊎_elim, ℕ, ◌+◌, append_assoc, append-nil, if◌then◌else◌, Bool, true, false, List, [], ◌∷◌, ◌++◌, length, map, Some, refl, sym, ap, subst, ◌∙◌, arith}
+-- Waits look by look, and the polls that make these looks.
+use Rattle.std.proofs.Common.{◌≡◌, ℕ, append_assoc, append-nil, List, [], ◌∷◌, ◌++◌, sym, ap, subst, ◌∙◌, if◌then◌else◌, Bool, true, false, Option, Some, None, refl, ◌≤◌, arith, rules, ◌≢◌, ◌%◌, ◌<◌, ⊎_elim, ◌+◌, length, map, ◌==◌, ◌||◌, nat_le, nat_lt, eq-eqb}
+use Rattle.std.specs.List.{AllByRecursion, flat_map}
+use Rattle.std.proofs.lemmas.Grind.{flat_map-append}
+use Rattle.prcu_model.proofs.ListFacts.{all_append, all_map}
+use Rattle.prcu_marks.specs.declared.mark.Why.{Why}
+use Rattle.core_state.specs.declared.view.StepMade.{StepMade}
+use Rattle.core_state.specs.declared.view.Trail.{Trail}
+use Rattle.core_state.specs.declared.view.View.{View}
+use Rattle.key_interval.specs.Keys.{Interval, IsLastClass, Holds, MeetsClass}
+use Rattle.seat_table.specs.Waits.{Made, Reached, reached, start, IsBefore, IsTurnedBefore, IsSameWait, EndWith, Shows, is_look, HasLooked, HasEnded, HaveLeft, ended_by, Passed, IsLatestOf, IsOver, Polled, IsGoingOn, StopsAt, HasReached}
+use Rattle.seat_table.specs.Looks.{IsClear, FindsNone, FindsOnce, look_of, LooksAt, IsWithin, HasMet, HasPassed}
+use Rattle.prcu_marks.specs.declared.mark.Mark.{Mark}
+use Rattle.core_state.specs.declared.words.Field.{Field}
+use Rattle.core_state.specs.declared.words.Kind.{Kind}
+use Rattle.core_state.specs.declared.view.Section.{Section}
+use Rattle.core_state.specs.Steps.{stepped, gated, spot_seen, excuses, ending, with_excused, after_look, IsSpot, new_wait, waited_retired, waited_move, keys_of, is_for}
+use Rattle.core_state.specs.Acts.{wait_of, noted}
+use mathlib.Core.Logic.{dite}
+use native.Mathlib.Decide.{dec_le}
 use mathlib.Core.Option.{some}
 use lib.ListN.{get_elem?}
 use Rattle.atomic_table.proofs.Lists.{at_last}
-use Rattle.prcu_marks.specs.declared.mark.Mark.{Mark}
 use Rattle.prcu_marks.specs.declared.mark.Mark.TheVariants.{Ended}
-use Rattle.prcu_marks.specs.declared.mark.Why.{Why}
 use Rattle.prcu_marks.specs.declared.mark.Why.TheVariants.{Reader, Counter, Row as RowOf, Lock as LockOf, Front as FrontOf}
 use Rattle.core_state.specs.declared.shape.Shape.{Shape}
-use Rattle.core_state.specs.declared.words.Field.{Field}
 use Rattle.core_state.specs.declared.words.Field.TheVariants.{Announced, Stamp, Count, Row}
-use Rattle.core_state.specs.declared.words.Kind.{Kind}
-use Rattle.core_state.specs.declared.view.StepMade.{StepMade}
-use Rattle.core_state.specs.declared.view.Trail.{Trail}
 use Rattle.core_state.specs.declared.view.Waiting.{Waiting}
-use Rattle.core_state.specs.declared.view.View.{View}
-use Rattle.core_state.specs.steps.Seating.{stepped}
-use Rattle.core_state.specs.steps.Waits.{IsSpot, new_wait, excuses, ending, with_excused, after_look, waited_retired, waited_move}
 use Rattle.seat_table.specs.declared.wait.Grace.{Grace}
 use Rattle.seat_table.specs.declared.wait.Poll.TheVariants.{Over, NotYet}
-use Rattle.list_laws.specs.Counts.{IsIn}
-use Rattle.core_acts.specs.declared.act.Act.TheVariants.{BeginWait}
-use Rattle.core_acts.specs.Acts.{noted}
-use Rattle.seat_table.specs.Told.{Told}
-use Rattle.seat_table.specs.Gains.{Sees, IsInformed}
+use Rattle.list_laws.specs.Counts.{IsIn, times}
+use Rattle.core_state.specs.declared.act.Act.TheVariants.{BeginWait}
+use Rattle.seat_table.specs.Gains.{Told, Sees, IsInformed}
 use Rattle.seat_table.specs.Sections.{Leaves, EndBy}
-use Rattle.seat_table.specs.Waits.{Reached, reached, start, IsBefore, IsTurnedBefore, IsSameWait, Made, EndWith, Shows, is_look, HasLooked, HasEnded, HaveLeft, ended_by, Passed, IsLatestOf, IsOver, Polled, IsGoingOn}
-use Rattle.key_interval.specs.Keys.{Interval}
+use Rattle.std.proofs.lemmas.Bool.{eqb-true, ltb-true, leb-true, lt-ltb, and_from, and_parts, or_cases, or_left, or_right, le-leb, cases_Bool}
+use Rattle.core_state.specs.declared.shape.Waiter.TheVariants.{Domain}
+use Rattle.core_state.specs.Memory.{idle}
+use Rattle.core_laws.proofs.Acting.{wait_is}
+
+-- Looks of a poll, one after another, by what they found.
+
+-- a view's trail with these steps
+abbrev pub with_steps : View → List StepMade → Trail
+with_steps v l = record v.trail { steps = l }
+
+pub made_then : (u v w : View) (a b : List StepMade) → Made u a v → Made v b w → Made u (a ++ b) w
+made_then u v w a b first second =
+    second ∙ ap (λ (z : Trail). record z { steps = z.steps ++ b }) first ∙ ap (with_steps u) (append_assoc u.trail.steps a b)
+
+module _ {keys : Interval} {clock : ℕ} where
+  pub finds_nothing : {v : View} → FindsNone keys clock v v
+  finds_nothing {v} = record { looks = []; makes = ap (with_steps v) (sym (append-nil v.trail.steps)); each = tt }
+
+  -- one look
+  pub finds_clear : {v w : View} {steps : List StepMade} → Made v steps w → IsClear keys clock steps → FindsNone keys clock v w
+  finds_clear {v} {w} {steps} made clear = record {
+    looks = steps ∷ [];
+    makes = subst (λ l. Made v l w) (sym (append-nil steps)) made;
+    each = (clear, tt);
+  }
+
+  -- looks of a wait with these keys and this clock after others of it
+  pub finds_then : {u v w : View} {these : Interval} {this : ℕ} → these ≡ keys → this ≡ clock → FindsNone keys clock u v
+      → FindsNone these this v w → FindsNone keys clock u w
+  finds_then {u} {v} {w} {these} {this} same_keys same_clock a b =
+      let each = subst (λ (z : Interval × ℕ). AllByRecursion (IsClear z.0 z.1) b.looks) (λ i. (same_keys i, same_clock i)) b.each in
+      record {
+        looks = a.looks ++ b.looks;
+        makes = subst (λ l. Made u l w) (sym (flat_map-append (λ look. look) a.looks b.looks))
+            (made_then u v w (flat_map (λ look. look) a.looks) (flat_map (λ look. look) b.looks) a.makes b.makes);
+        each = all_append (IsClear keys clock) a.looks b.looks a.each each;
+      }
+
+  -- the look that found a reader in the way
+  pub finds_here : {v w : View} {why : Why} → Made v (look_of why) w → FindsOnce keys clock v why w
+  finds_here {v} {w} {why} made = record { mid = v; before = finds_nothing; latest = made }
+
+  pub finds_later : {u v w : View} {why : Why} {these : Interval} {this : ℕ} → these ≡ keys → this ≡ clock → FindsNone keys clock u v
+      → FindsOnce these this v why w → FindsOnce keys clock u why w
+  finds_later same_keys same_clock a b = record { mid = b.mid; before = finds_then same_keys same_clock a b.before; latest = b.latest }
+
+-- Steps one after another, by where they look.
+
+-- the trail after a look of a wait, and after a load of a gate: one step more
+module _ (v w : View) (kind : Kind) (field : Field) (found : ℕ) where
+  pub look_trail : (last : Bool) (h : List Mark) → w ≡ after_look (stepped v kind field found) (wait_of v) field last found h
+      → w.trail ≡ (stepped v kind field found).trail
+  look_trail last h goes = ap (λ (z : View). z.trail) goes ∙ looked (excuses (wait_of v) field found) last
+    where
+      looked : (excused ends : Bool) → (if excused then
+          (if ends then ending (stepped v kind field found) (with_excused (wait_of v) field) h
+          else record (stepped v kind field found) { wait = Some (with_excused (wait_of v) field) }) else stepped v kind field found).trail
+          ≡ (stepped v kind field found).trail
+      looked false ends = refl
+      looked true false = refl
+      looked true true = refl
+
+  pub gate_trail : (class : ℕ) → w ≡ gated (stepped v kind field found) class found v.section
+      → w.trail ≡ (stepped v kind field found).trail
+  gate_trail class goes = ap (λ (z : View). z.trail) goes ∙ loaded v.section
+    where
+      loaded : (there : Option Section) → (gated (stepped v kind field found) class found there).trail ≡ (stepped v kind field found).trail
+      loaded None = refl
+      loaded (Some section) = refl
+
+module _ (such : Field → Type 0) where
+  pub looks_none : (v : View) → LooksAt such v v
+  looks_none v = record { steps = []; makes = ap (with_steps v) (sym (append-nil v.trail.steps)); each = tt }
+
+  pub looks_then : (u v w : View) → LooksAt such u v → LooksAt such v w → LooksAt such u w
+  looks_then u v w a b = record {
+    steps = a.steps ++ b.steps;
+    makes = b.makes ∙ ap (λ (z : Trail). record z { steps = z.steps ++ b.steps }) a.makes
+        ∙ ap (with_steps u) (append_assoc u.trail.steps a.steps b.steps);
+    each = all_append (λ (t : StepMade). such (spot_seen t.field)) a.steps b.steps a.each b.each;
+  }
+
+  pub looks_as : (other : Field → Type 0) → ((field : Field) → such field → other field) → (v w : View) → LooksAt such v w
+      → LooksAt other v w
+  looks_as other more v w a = record {
+    steps = a.steps;
+    makes = a.makes;
+    each = all_map (λ (t : StepMade). such (spot_seen t.field)) (λ (t : StepMade). other (spot_seen t.field)) a.steps
+        (λ t is. more (spot_seen t.field) is) a.each;
+  }
+
+  -- one step
+  pub step_at : (v w : View) (kind : Kind) (field : Field) (number : ℕ) → w.trail ≡ (stepped v kind field number).trail
+      → such (spot_seen field) → LooksAt such v w
+  step_at v w kind field number trail is = record {
+    steps = record { kind = kind; field = field; number = number } ∷ [];
+    makes = trail;
+    each = (is, tt);
+  }
+
+  -- a look of a wait
+  pub look_at : (v w : View) (kind : Kind) (field : Field) (found : ℕ) (last : Bool) (h : List Mark)
+      → w ≡ after_look (stepped v kind field found) (wait_of v) field last found h → such (spot_seen field) → LooksAt such v w
+  look_at v w kind field found last h goes is = step_at v w kind field found (look_trail v w kind field found last h goes) is
+
+  -- a load of a gate
+  pub gate_at : (v w : View) (kind : Kind) (field : Field) (class found : ℕ) → w ≡ gated (stepped v kind field found) class found v.section
+      → such (spot_seen field) → LooksAt such v w
+  gate_at v w kind field class found goes is = step_at v w kind field found (gate_trail v w kind field found class goes) is
+
+-- A grace within the classes of its keys isn't beyond the last one.
+pub within_last : (keys : Interval) (class last : ℕ) → IsWithin keys class → IsLastClass keys last → class ≤ last
+within_last keys class last within is = dite (dec_le class last) (λ most. most)
+    (λ beyond. absurd (is.greatest within.0 (omega (arith, within.1, beyond)) within.2 within.3))
+
+-- Looks of a wait, one after another.
 
 abbrev pub step_of : Kind → Field → ℕ → List StepMade
 step_of kind field found = record { kind = kind; field = field; number = found } ∷ []
@@ -284,3 +406,156 @@ latest k v w keys found grace keys_is clock_is begins told = (
     none_before (Row p c) spot before = absurd (⊎_elim (λ less. omega (arith, less, place))
         (λ (on : (p ≡ grace.place) × (c < grace.class)). omega (arith, on.1, class)) before)
     none_before _ spot before = absurd before
+
+-- A poll that goes on from part to part, and a look in it.
+
+-- The wait of a view is one.
+pub one_wait : (v : View) (a b : Waiting) → v.wait ≡ Some a → v.wait ≡ Some b → a ≡ b
+one_wait v a b first second = let one : Some a ≡ Some b = sym first ∙ second in cc
+
+module _ {W : Type 0} (k : Shape) (v u w : View) (grace next : Grace W) (come : IsGoingOn k v grace u) where
+  pub goes_further : IsGoingOn k u next w → IsGoingOn k v next w
+  goes_further p =
+      let second = subst (λ z. HasLooked u z p.steps p.new w) (one_wait u p.wait come.new p.was come.looked.wait_is) p.looked in
+      record {
+        wait = come.wait;
+        steps = come.steps ++ p.steps;
+        new = p.new;
+        was = come.was;
+        looked = looks_on v u w come.wait come.new p.new come.steps p.steps come.looked second;
+        reaches = p.reaches;
+      }
+
+  pub stops_further : (why : Why) → Polled k u (NotYet why) next w → Polled k v (NotYet why) next w
+  unfolding goes_further
+  stops_further why p =
+      let same = one_wait u p.on.wait come.new p.on.was come.looked.wait_is in
+      let shows = shows_later come.steps p.on.steps come.new why (subst (λ z. Shows z p.on.steps why) same p.shows) in
+      record {
+        on = goes_further p.on;
+        shows = shows_by come.wait come.new come.looked.same (come.steps ++ p.on.steps) why shows;
+        there = p.there;
+      }
+
+-- A look that met a reader stops the poll where it is.
+pub stops_here : {W : Type 0} (k : Shape) (v w : View) (grace : Grace W) → IsLatestOf k grace v → (why : Why) → StopsAt (reached grace) why
+    → HasMet v why w → Polled k v (NotYet why) grace w
+stops_here k v w grace latest why there p =
+    let same = one_wait v p.0 latest.0 p.2 latest.1 in
+    record {
+      on = record {
+        wait = latest.0;
+        steps = p.1;
+        new = latest.0;
+        was = latest.1;
+        looked = subst (λ z. HasLooked v z p.1 z w) same p.3;
+        reaches = latest.2;
+      };
+      shows = subst (λ z. Shows z p.1 why) same p.4;
+      there = there;
+    }
+
+pub comes_to : {W : Type 0} (k : Shape) (v u : View) (grace : Grace W) → IsGoingOn k v grace u → IsLatestOf k grace u
+comes_to k v u grace come = (come.new, come.looked.wait_is, come.reaches)
+
+-- Polls of any waiter: what its tests show, and from look to look.
+
+falsely : (b : Bool) → (b ≡ true → ⊥) → b ≡ false
+falsely b never = ⊎_elim (λ (t : b ≡ true). absurd (never t)) (λ (f : b ≡ false). f) (cases_Bool b)
+
+pub not_so : {P : Type 0} (b : Bool) → (P → b ≡ true) → b ≡ false → P → ⊥
+not_so b makes is p = absurd (let e : true ≡ false = sym (makes p) ∙ is in cc)
+
+-- A stamp that is idle or above the wait's clock is no reader's for whom the wait is.
+module _ (clock stamp : ℕ) where
+  pub stamp_idle : stamp ≡ idle → (stamp == idle || nat_lt clock stamp) ≡ true
+  stamp_idle is = or_left (stamp == idle) (nat_lt clock stamp) (eq-eqb stamp idle is)
+
+  pub stamp_late : clock < stamp → (stamp == idle || nat_lt clock stamp) ≡ true
+  stamp_late late = or_right (stamp == idle) (nat_lt clock stamp) (lt-ltb clock stamp late)
+
+  pub stamp_stays : stamp ≢ idle → stamp ≤ clock → (stamp == idle || nat_lt clock stamp) ≡ false
+  stamp_stays busy early = falsely (stamp == idle || nat_lt clock stamp) (λ t. ⊎_elim
+      (λ (e : (stamp == idle) ≡ true). busy (eqb-true stamp idle e))
+      (λ (l : nat_lt clock stamp ≡ true). let m : clock < stamp = ltb-true clock stamp l in absurd (omega (arith, m, early)))
+      (or_cases (stamp == idle) (nat_lt clock stamp) t))
+
+-- Nor is a key outside the interval.
+module _ (wait : Waiting) (keys : Interval) (key : ℕ) (low : wait.low ≡ keys.low) (high : wait.high ≡ keys.high) where
+  pub key_out : (Holds keys key → ⊥) → is_for wait key ≡ false
+  key_out out = falsely (is_for wait key) (λ t.
+      let p = and_parts (nat_le wait.low key) (nat_le key wait.high) t in
+      let a : wait.low ≤ key = leb-true wait.low key p.0 in
+      let b : key ≤ wait.high = leb-true key wait.high p.1 in
+      out (omega (arith, a, low), omega (arith, b, high)))
+
+  pub key_in : Holds keys key → is_for wait key ≡ true
+  key_in inside = and_from (nat_le wait.low key) (nat_le key wait.high) (le-leb wait.low key (omega (arith, inside.0, low)))
+      (le-leb key wait.high (omega (arith, inside.1, high)))
+
+-- one load, as its call tells it
+module _ (v w : View) (kind : Kind) (field : Field) (wait : Waiting) (found : ℕ) (last : Bool) (h : List Mark) (was : v.wait ≡ Some wait)
+    (sees : Sees v h) (goes : w ≡ after_look (stepped v kind field found) (wait_of v) field last found h) (informed : IsInformed w) where
+  look_is : w ≡ after_look (stepped v kind field found) wait field last found h
+  look_is = goes ∙ ap (λ z. after_look (stepped v kind field found) z field last found h) (wait_is v wait was)
+
+  pub load_passes : is_look kind ≡ true → excuses wait field found ≡ true → Passed v wait last (step_of kind field found) field w
+  load_passes looks is = look_passes v w kind field wait found h was sees informed looks last is look_is
+
+  pub load_stays : excuses wait field found ≡ false → HasLooked v wait (step_of kind field found) wait w
+  load_stays is = look_stays v w kind field wait found h was sees informed last is look_is
+
+-- from look to look
+module _ {W : Type 0} (k : Shape) (v u w : View) (grace : Grace W) (come : IsGoingOn k v grace u) where
+  same_was : (wait : Waiting) → u.wait ≡ Some wait → wait ≡ come.new
+  same_was wait was = let one : Some wait ≡ Some come.new = sym was ∙ come.looked.wait_is in cc
+
+  pub goes_on : (next : Grace W) (field : Field) → HasPassed u false field w
+      → HasReached k next.keys next.clock (reached next) (with_excused come.new field) → IsGoingOn k v next w
+  goes_on next field p there =
+      let second = subst (λ z. HasLooked u z p.1 (with_excused z field) w) (same_was p.0 p.2) p.3 in
+      record {
+        wait = come.wait;
+        steps = come.steps ++ p.1;
+        new = with_excused come.new field;
+        was = come.was;
+        looked = looks_on v u w come.wait come.new (with_excused come.new field) come.steps p.1 come.looked second;
+        reaches = there;
+      }
+
+  pub is_not_yet : (why : Why) → StopsAt (reached grace) why → HasMet u why w → Polled k v (NotYet why) grace w
+  is_not_yet why there p =
+      let same = same_was p.0 p.2 in
+      let second = subst (λ z. HasLooked u z p.1 z w) same p.3 in
+      let shows = shows_later come.steps p.1 come.new why (subst (λ z. Shows z p.1 why) same p.4) in
+      record {
+        on = record {
+          wait = come.wait;
+          steps = come.steps ++ p.1;
+          new = come.new;
+          was = come.was;
+          looked = looks_on v u w come.wait come.new come.new come.steps p.1 come.looked second;
+          reaches = come.reaches;
+        };
+        shows = shows_by come.wait come.new come.looked.same (come.steps ++ p.1) why shows;
+        there = there;
+      }
+
+  pub is_over : (field : Field) → HasPassed u true field w
+      → (k.waiter ≡ Domain → (c : ℕ) → c < 64 → MeetsClass (keys_of come.new) c → times c come.new.turned ≡ 1) → IsOver k v w
+  is_over field p each =
+      let second = subst (λ z. HasEnded u z p.1 (ended_by z field) w) (same_was p.0 p.2) p.3 in
+      let ended = looks_end v u w come.wait come.new (ended_by come.new field) come.steps p.1 come.looked second in
+      record {
+        wait = come.wait;
+        steps = come.steps ++ p.1;
+        new = ended_by come.new field;
+        was = come.was;
+        ended = ended;
+        turned = record { only = come.reaches.met; each = each };
+        left = have_left v come.wait (come.steps ++ p.1) (ended_by come.new field) w ended;
+      }
+
+  -- the same for waiters that turn no gates
+  pub ends : (field : Field) → HasPassed u true field w → (k.waiter ≡ Domain → ⊥) → IsOver k v w
+  ends field p never = is_over field p (λ domain. absurd (never domain))

@@ -1,20 +1,16 @@
--- What a call takes from the rule after a step.
--- Source: docs/TREE_CALLS.md, "What a step sees".
-use Rattle.std.specs.Prelude.{◌≡◌, ◌≢◌, ℕ, ◌+◌, ◌-◌, ◌*◌, ◌/◌, ◌<◌, ◌≤◌, ◌⊎◌, false, List, length, map, Some, None, []}
-use Rattle.std.specs.FinMap as finite
+-- What a seat knows by a step, between two steps, and what the step tells.
+use Rattle.std.specs.Prelude.{◌≡◌, ◌≢◌, ℕ, ◌+◌, ◌-◌, ◌*◌, ◌/◌, ◌<◌, ◌≤◌, ◌⊎◌, false, List, length, map, Some, None, [], Option}
 use mathlib.Core.List.{IsPrefix}
 use Rattle.prcu_marks.specs.declared.mark.Mark.{Mark}
 use Rattle.prcu_marks.specs.declared.mark.Side.{Side}
-use Rattle.prcu_marks.specs.Marks.{updates_of, own_of}
+use Rattle.prcu_marks.specs.Marks.{updates_of, own_of, most_front, most_life, most_tickets, most_turns, said_by}
 use Rattle.prcu_marks.specs.Callers.{IsNextKey}
-use Rattle.prcu_model.specs.History.{IsLegal}
-use Rattle.prcu_model.specs.Dictionary.{map_of, WasSaid}
+use Rattle.prcu_model.specs.Dictionary.{IsLegal, map_of, WasSaid}
 use Rattle.core_state.specs.declared.shape.Shape.{Shape}
 use Rattle.core_state.specs.declared.shape.Waiter.TheVariants.{Domain}
 use Rattle.core_state.specs.declared.words.Field.{Field}
 use Rattle.core_state.specs.declared.words.Field.TheVariants.{Clock, Front, Free, Lock, Life, Value, Tag}
 use Rattle.prcu_marks.specs.declared.commit.Commit.{Commit}
-use Rattle.prcu_marks.specs.Bounds.{most_front, most_life, most_tickets, most_turns}
 use Rattle.core_state.specs.declared.view.Fact.{Fact}
 use Rattle.core_state.specs.declared.view.Gap.{Gap}
 use Rattle.core_state.specs.declared.view.Held.{Held}
@@ -25,22 +21,24 @@ use Rattle.core_state.specs.declared.view.Section.{Section}
 use Rattle.core_state.specs.declared.view.View.{View}
 use Rattle.core_state.specs.declared.view.Visit.{Visit}
 use Rattle.list_laws.specs.Counts.{times, IsIn, Each}
-use Rattle.core_state.specs.memory.Bounds.{most_free}
-use Rattle.core_state.specs.memory.Lists.{IsEven}
-use Rattle.core_state.specs.memory.Memory.{slot_count}
+use Rattle.core_state.specs.Memory.{most_free, IsEven, slot_count}
 use Rattle.core_state.specs.Marks.{Grace, Reuse}
-use Rattle.core_state.specs.parts.ListingParts.{IsBetween}
-use Rattle.core_state.specs.parts.SeatParts.{HasMet}
-use Rattle.core_state.specs.parts.TreeParts.{map_now}
-use Rattle.core_state.specs.steps.Slots.{IsInHand, IsSpare, IsRetiredAt}
-use Rattle.core_state.specs.views.Known.{known_in, known_under, lock_of}
-use Rattle.core_acts.specs.declared.act.Act.{Act}
-use Rattle.core_acts.specs.declared.act.Act.TheVariants.{LoadClock, LeaveByStamp, BeginWait, LoadRetiredLife, Reserve, Seize, Lock as TakeLock, SearchLoad, LinkLeaf, Bypass, LinkCopy, LeaveByCount, LeaveByRow, ReplaceValue, LookAtFront}
-use Rattle.prcu_marks.specs.Accesses.{said_by}
-use Rattle.core_acts.specs.Acts.{field_of, access_of}
-use Rattle.core_state.specs.views.Views.{Works, places_of, slots_of}
+use Rattle.core_state.specs.Parts.{IsBetween, HasMet, map_now}
+use Rattle.core_state.specs.Links.{IsInHand, IsSpare, IsRetiredAt}
+use Rattle.core_state.specs.Views.{known_in, known_under, lock_of, Works, places_of, slots_of}
+use Rattle.core_state.specs.declared.act.Act.{Act}
+use Rattle.core_state.specs.declared.act.Act.TheVariants.{LoadClock, LeaveByStamp, BeginWait, LoadRetiredLife, Reserve, Seize, Lock as TakeLock, SearchLoad, LinkLeaf, Bypass, LinkCopy, LeaveByCount, LeaveByRow, ReplaceValue, LookAtFront}
+use Rattle.core_state.specs.Acts.{field_of, access_of, noted, Asks, after}
 use Rattle.core_frames.specs.Telling.{IsToldOf}
-use Rattle.prcu_model.specs.Slots.{StaysWithin}
+use Rattle.prcu_model.specs.Fronts.{StaysWithin}
+use Rattle.seat_table.specs.Seats.{TableAt, HasPlace, HasFew, IsInside, IsStamp, IsSlotOf, IsLastFound, shape_of}
+use Rattle.atomic_table.specs.Table.{Me, Step}
+use Rattle.prcu_marks.specs.declared.access.Access.{Access}
+use Rattle.seat_table.specs.declared.rule.Nothing.{Nothing}
+use Rattle.std.specs.FinMap as finite
+
+-- What a call takes from the rule after a step.
+-- Source: docs/TREE_CALLS.md, "What a step sees".
 
 -- All marks at a step: the view, which works at a place, has seen a beginning of them, and all marks of each place for which it answers.
 pub record Sees (v : View) (h : List Mark) : Type 0 where
@@ -214,3 +212,72 @@ Gains k v (LeaveByRow class) h found w = LeavesAnswer v w
 Gains k v (ReplaceValue slot key value) h found w = Changes v w h slot key
 Gains k v LookAtFront h found w = LooksAgain v h found
 Gains k v _ h found w = Unit {0}
+
+-- What is so of a seat between two steps.
+-- Source: docs/TREE_CALLS.md, "The tree's table".
+
+-- The numbers that a seat keeps when the program runs.
+pub record Numbers : Type 0 where
+  pub place : ℕ
+  pub places : ℕ
+  pub tickets : ℕ
+  pub key : Option ℕ
+  pub stamp : ℕ
+  pub hand : Option ℕ
+  pub spare : Option ℕ
+  pub waits : ℕ
+  pub turns : ℕ
+  pub free : ℕ
+  pub front : ℕ
+
+-- They are those of its view, which works at a place of the table, and of which the rule told this.
+pub record IsSeat (way : ℕ) (t : TableAt) (n : Numbers) (v : View) : Type 0 where
+  pub room : HasPlace t v
+  pub side : HasSide (shape_of way t) v
+  pub told : TellsNow (shape_of way t) v
+  pub few : HasFew v
+  pub place : v.allowance.place ≡ n.place
+  pub places : v.allowance.places ≡ n.places
+  pub tickets : v.allowance.tickets ≡ n.tickets
+  pub key : IsInside n.key v.section
+  pub stamp : IsStamp n.stamp v.section
+  pub hand : IsSlotOf n.hand v.hands.hand
+  pub spare : IsSlotOf n.spare v.hands.spare
+  pub waits : v.counts.waits ≡ n.waits
+  pub turns : v.counts.turns ≡ n.turns
+  pub free : IsLastFound t.slots n.free v.latest.free
+  pub front : IsLastFound 0 n.front v.latest.front
+
+-- What a step tells.
+-- Source: docs/TREE_CALLS.md, "What a step sees".
+
+-- What a call asks for an act may rest on what the rule tells of the view.
+abbrev pub IsAsked : Shape → View → Act → Type 0
+IsAsked k v a = TellsNow k v → Asks k v a
+
+-- The step was made with some list of all marks, of which the seat's marks are a beginning: the view went on as its act says, and
+-- what it gained from the rule; with these marks, what the rule told of the view before.
+pub record Told (k : Shape) (v : View) (a : Act) (found : ℕ) (w : View) : Type 0 where
+  pub marks : List Mark
+  pub sees : Sees v marks
+  pub goes : w ≡ after (noted v a found) a marks found
+  pub informed : IsInformed w
+  pub fits : WordFits k (field_of v.allowance.place a) found
+  pub gains : Gains k v a marks found w
+  pub stood : StoodInside k w
+  pub side : HasSide k w
+  pub before : TellsBefore k v a marks found
+  pub stays : StaysIn k w
+
+-- What an access asks: the word and the access are those of the act, which may be made.
+pub record Touches (way : ℕ) (t : TableAt) (v : View) (a : Act) (access : Access) (word : Field) : Type 0 where
+  pub room : HasPlace t v
+  pub at : word ≡ field_of v.allowance.place a
+  pub does : access_of v.allowance.place a ≡ access
+  pub asks : Asks (shape_of way t) v a
+
+abbrev pub tells : Shape → Act → Me Nothing View → ℕ → Me Nothing View → Type 0
+tells k a me found me' = (me'.1 ≡ me.1) × TellsNow k me'.0 × Told k me.0 a found me'.0
+
+abbrev pub told : Shape → Act → Step Nothing → Me Nothing View → ℕ → Me Nothing View → Type 0
+told k a st = tells k a

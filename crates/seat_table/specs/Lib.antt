@@ -1,12 +1,5 @@
-pub mod Scans
 pub mod Seats
 pub mod Gains
-pub mod Told
-pub mod Seated
-pub mod Fresh
 pub mod Sections
 pub mod Waits
 pub mod Looks
-pub mod Onward
-pub mod Once
-pub mod Rounds

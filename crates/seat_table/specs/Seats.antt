@@ -1,11 +1,9 @@
--- What a clause sees of a seat and of a table.
--- Source: docs/TREE_CALLS.md, "The tree's table".
-use Rattle.std.specs.Prelude.{◌≡◌, ℕ, zero, suc, ◌+◌, ◌≤◌, ◌==◌, not, filter, List, map, Option, Some, None}
+-- Seats: what a clause sees of one, where its scans come to, and the first one of a fresh table.
+use Rattle.std.specs.Prelude.{◌≡◌, ℕ, zero, suc, ◌+◌, ◌≤◌, ◌==◌, not, filter, List, map, Option, Some, None, ◌*◌, ◌/◌, nat_lt, if◌then◌else◌, ◌-◌, [], ◌∷◌, ◌++◌, length, replicate}
 use mathlib.Core.List.{IsPrefix}
 use Rattle.atomic_table.specs.Seated.{TableId}
-use Rattle.prcu_marks.specs.Marks.{own_of}
-use Rattle.prcu_marks.specs.Bounds.{most_tickets, most_turns}
-use Rattle.core_state.specs.memory.Bounds.{most_places}
+use Rattle.prcu_marks.specs.Marks.{own_of, most_tickets, most_turns}
+use Rattle.core_state.specs.Memory.{most_places, half, apart, lead, classes, place_room, class_room, row_room, slot_count, room_behind, idle, word_count, memory_of}
 use Rattle.core_state.specs.declared.shape.Shape.{Shape}
 use Rattle.core_state.specs.declared.shape.Waiter.{Waiter}
 use Rattle.core_state.specs.declared.shape.Waiter.TheVariants.{Eer, Domain, Deer}
@@ -14,7 +12,11 @@ use Rattle.core_state.specs.declared.view.Retired.{Retired}
 use Rattle.core_state.specs.declared.view.Section.{Section}
 use Rattle.core_state.specs.declared.view.View.{View}
 use Rattle.list_laws.specs.Counts.{times}
-use Rattle.core_state.specs.views.Views.{IsQuiet, places_of}
+use Rattle.core_state.specs.Views.{IsQuiet, places_of}
+use Rattle.core_state.specs.Invariant.{first_view, IsFresh, IsShape, Rule}
+
+-- What a clause sees of a seat and of a table.
+-- Source: docs/TREE_CALLS.md, "The tree's table".
 
 -- the waiter with this number
 abbrev pub way_of : ℕ → Waiter
@@ -111,3 +113,59 @@ pub record KeepsOwn (v other w : View) : Type 0 where
   pub second_seen : IsPrefix other.seen w.seen
   pub first_own : (p : ℕ) → 1 ≤ times p (places_of v) → own_of p w.seen ≡ own_of p v.seen
   pub second_own : (p : ℕ) → 1 ≤ times p (places_of other) → own_of p w.seen ≡ own_of p other.seen
+
+-- Where the scans of a seat for a free slot come to.
+-- Source: docs/TREE_CALLS.md, "The tree's slots and locks".
+
+-- the slot after this one, in a round of the slots from 1 to the last
+abbrev pub next_slot : ℕ → ℕ → ℕ
+next_slot last slot = if nat_lt slot last then slot + 1 else 1
+
+-- A look at the slot after the one to which the scans have come moves them on. A look at any other slot doesn't.
+abbrev pub after_look : ℕ → ℕ → ℕ → ℕ
+after_look last looked slot = if slot == next_slot last looked then slot else looked
+
+-- where the scans of a place begin: behind this slot, so that each place has a region of its own
+abbrev pub region : ℕ → ℕ → ℕ → ℕ
+region slots places place = places + place * slots / places
+
+-- A table as it is made: its words, and the one seat.
+-- Source: docs/TREE_INVARIANT.md, "The words of the tree's table".
+
+abbrev pub fresh_seat : ℕ → TableAt → SeatAt
+fresh_seat way table = record {
+  table = table;
+  view = first_view (shape_of way table);
+  listed = [];
+  looked = region table.slots table.places 0;
+}
+
+-- a word that stands alone, and the room behind it
+abbrev pub alone : ℕ → List ℕ
+alone word = word ∷ replicate (apart - 1) 0
+
+-- so many keys and stamps, each pair with the room behind it
+abbrev pub key_stamps : ℕ → List ℕ
+key_stamps zero = []
+key_stamps (suc n) = (0 ∷ idle ∷ replicate (place_room - 2) 0) ++ key_stamps n
+
+-- the waiter's words, and their room
+abbrev pub waiter_part : Waiter → ℕ → List ℕ
+waiter_part Eer places = key_stamps places
+waiter_part Domain places = replicate (class_room * classes) 0
+waiter_part Deer places = replicate (row_room * places) idle
+
+-- the states: the root and the spares aren't free
+abbrev pub first_states : Shape → List ℕ
+first_states k = replicate (k.places + 1) 1 ++ replicate k.slots 0
+
+-- the room before them, the clock, the front, the free count, the slots' other words, the states, and the waiter's words behind some room
+abbrev pub first_words : Shape → List ℕ
+first_words k = replicate (lead + 2 * apart) 0
+    ++ (alone k.slots ++ (replicate (2 * half * slot_count k) 0
+    ++ (first_states k ++ (replicate (room_behind (slot_count k)) 0 ++ waiter_part k.waiter k.places))))
+
+-- These words are those of a fresh table, as many as its shape has, and with the first seat's view they have the rule.
+abbrev pub FirstWordsHold : Type 0
+FirstWordsHold = (k : Shape) → IsShape k → (length (first_words k) ≡ word_count k) × IsFresh k (memory_of k (first_words k))
+    × Rule k (first_words k) (first_view k ∷ [])

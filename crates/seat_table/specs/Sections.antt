@@ -1,6 +1,5 @@
--- What is made of a view by entering a section, by leaving it, and by beginning a wait.
--- Source: docs/TREE_CALLS.md, "The tree's sections".
-use Rattle.std.specs.Prelude.{◌≡◌, ℕ, ◌+◌, ◌-◌, ◌%◌, ◌<◌, Bool, true, false, List, [], ◌∷◌, ◌++◌, length, Some, None}
+-- What sections and a wait that begins make of a view, and how many steps its seat has made.
+use Rattle.std.specs.Prelude.{◌≡◌, ℕ, ◌+◌, ◌-◌, ◌%◌, ◌<◌, Bool, true, false, List, [], ◌∷◌, ◌++◌, length, Some, None, ◌≤◌}
 use Rattle.std.specs.List.{AllByRecursion}
 use Rattle.prcu_marks.specs.declared.mark.Mark.{Mark}
 use Rattle.prcu_marks.specs.declared.mark.Mark.TheVariants.{Entered, Left, Began}
@@ -17,12 +16,13 @@ use Rattle.core_state.specs.declared.view.Section.{Section}
 use Rattle.core_state.specs.declared.view.StepMade.{StepMade}
 use Rattle.core_state.specs.declared.view.Trail.{Trail}
 use Rattle.core_state.specs.declared.view.View.{View}
-use Rattle.core_state.specs.steps.Seating.{stepped}
+use Rattle.core_state.specs.Steps.{stepped, fresh_reading, new_wait}
 use Rattle.list_laws.specs.Counts.{Each}
-use Rattle.core_state.specs.steps.Sections.{fresh_reading}
-use Rattle.core_state.specs.steps.Waits.{new_wait}
 use Rattle.seat_table.specs.Gains.{Sees, IsInformed, GivesAnswer}
 use Rattle.seat_table.specs.Seats.{SeatAt, IsQuietSeat}
+
+-- What is made of a view by entering a section, by leaving it, and by beginning a wait.
+-- Source: docs/TREE_CALLS.md, "The tree's sections".
 
 -- One mark was left, after all marks that there were then; of these the seat has seen a beginning, and all of its places.
 pub record Leaves (v : View) (mark : Mark) (w : View) : Type 0 where
@@ -138,3 +138,18 @@ pub record HasBegun (v : View) (low high : ℕ) (w : View) : Type 0 where
     seen = w.seen;
   }
   pub informed : IsInformed w
+
+-- How many steps a seat has made.
+-- Source: docs/TREE_CALLS.md, "The calls".
+
+-- The seat has made so many steps, or more.
+abbrev pub HasMade : ℕ → View → Type 0
+HasMade count v = count ≤ length v.trail.steps
+
+-- Between the two views a step was made, or more.
+abbrev pub HasStepped : View → View → Type 0
+HasStepped v w = length v.trail.steps < length w.trail.steps
+
+-- Between the two views at most so many steps were made.
+abbrev pub HasMadeAtMost : ℕ → View → View → Type 0
+HasMadeAtMost most v w = length w.trail.steps ≤ length v.trail.steps + most

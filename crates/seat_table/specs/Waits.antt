@@ -16,8 +16,8 @@ use Rattle.core_state.specs.declared.words.Kind.TheVariants.{K8, K31, K35}
 use Rattle.core_state.specs.declared.view.StepMade.{StepMade}
 use Rattle.core_state.specs.declared.view.Waiting.{Waiting}
 use Rattle.core_state.specs.declared.view.View.{View}
-use Rattle.core_state.specs.memory.Memory.{idle}
-use Rattle.core_state.specs.steps.Waits.{IsSpot, keys_of, excuses, with_excused, waited_retired, waited_move}
+use Rattle.core_state.specs.Memory.{idle}
+use Rattle.core_state.specs.Steps.{IsSpot, keys_of, excuses, with_excused, waited_retired, waited_move}
 use Rattle.key_interval.specs.Keys.{Interval, Holds, MeetsClass}
 use Rattle.list_laws.specs.Counts.{times, IsIn}
 use Rattle.seat_table.specs.declared.wait.Grace.{Grace}

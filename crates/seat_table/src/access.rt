@@ -1,18 +1,16 @@
 //! The access to a word that a step of any kind makes.
 ghost use Rattle.std.specs.Prelude.{◌≡◌};
-ghost use Rattle.core_state.specs.memory.Memory.{word_of};
-ghost use Rattle.prcu_marks.specs.Accesses.{said_by};
+ghost use Rattle.core_state.specs.Memory.{word_of};
+ghost use Rattle.prcu_marks.specs.Marks.{said_by};
 ghost use Rattle.seat_table.specs.Seats.{shape_of};
-ghost use Rattle.seat_table.specs.Gains.{TellsNow};
-ghost use Rattle.seat_table.specs.Told.{Touches, Told};
+ghost use Rattle.seat_table.specs.Gains.{TellsNow, Touches, Told};
 
 use crate::rule::Nothing;
 use crate::table::CitrusTable;
 use crate::told::{Detail, Told as Tells};
 use crate::waiter::WaitWords;
 use atomic_table::Seat;
-use core_acts::{Act, index_of};
-use core_state::{Field, View};
+use core_state::{Act, Field, View, index_of};
 use prcu_marks::Access;
 use std::marker::Brand;
 

@@ -15,7 +15,7 @@ mod told;
 mod wait;
 mod waiter;
 
-pub use core_acts::Part;
+pub use core_state::Part;
 pub use notes::MOST_NOTED;
 pub use scan::next_slot;
 pub use seat::Seat;

@@ -1,6 +1,6 @@
 //! The slots at which a seat looks first where it takes one.
 //!
-//! A search waits for memory once a line, and two slots share a line, those of the numbers 2k and 2k + 1 (`core_acts/src/layout.rt`). So a
+//! A search waits for memory once a line, and two slots share a line, those of the numbers 2k and 2k + 1 (`core_state/src/layout.rt`). So a
 //! pair is put into the slot beside that above which it will hang, where that is free; and where it isn't, into the first of a line of which
 //! the other stays for a child of its own. Then some two of five hops of a search go to a slot of the line that it has. What such places gain
 //! in a tree of pairs put in any order is told in docs/BENCHMARKS.md#the-tree.

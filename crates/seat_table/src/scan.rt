@@ -1,7 +1,7 @@
 //! Where a scan for a free slot looks next.
 ghost use Rattle.std.specs.Prelude.{◌≡◌, ◌+◌, ◌<◌, ◌≤◌};
-ghost use Rattle.core_state.specs.memory.Bounds.{most_slots, most_places};
-ghost use Rattle.seat_table.specs.Scans as scans;
+ghost use Rattle.core_state.specs.Memory.{most_slots, most_places};
+ghost use Rattle.seat_table.specs.Seats as scans;
 
 /// The slot after this one, in a round of the slots from 1 to the last. Slot 0 is the tree's root.
 pub fn next_slot(slot: u32, last: u32) -> u32

@@ -3,14 +3,13 @@ ghost use Rattle.std.specs.Prelude.{◌≡◌, ℕ, ◌+◌, ◌-◌, ◌<◌, �
 ghost use Rattle.list_laws.specs.Counts.{IsIn};
 ghost use Rattle.core_state.specs.declared.view.Section.{Section};
 ghost use Rattle.core_state.specs.declared.view.Retired.{Retired};
-ghost use Rattle.core_state.specs.steps.Seating.{NeedsSplit, first_of, second_of, both_of};
-ghost use Rattle.core_state.specs.steps.Slots.{IsRetiredAt};
-ghost use Rattle.core_state.specs.views.Known.{HasLock};
-ghost use Rattle.core_acts.specs.declared.act.Act.TheVariants.{LoadClock};
+ghost use Rattle.core_state.specs.Steps.{NeedsSplit, first_of, second_of, both_of};
+ghost use Rattle.core_state.specs.Links.{IsRetiredAt};
+ghost use Rattle.core_state.specs.Views.{HasLock};
+ghost use Rattle.core_state.specs.declared.act.Act.TheVariants.{LoadClock};
 ghost use Rattle.seat_table.specs.Seats.{IsQuietSeat, KeepsOwn, IsInside, IsSlotOf, IsLastFound, shape_of};
-ghost use Rattle.seat_table.specs.Gains.{TellsNow};
-ghost use Rattle.seat_table.specs.Scans as scans;
-ghost use Rattle.seat_table.specs.Told.{Told};
+ghost use Rattle.seat_table.specs.Gains.{TellsNow, Told};
+ghost use Rattle.seat_table.specs.Seats as scans;
 
 use crate::access::touch;
 use crate::listed::Listed;
@@ -20,8 +19,7 @@ use crate::scan::region;
 use crate::table::CitrusTable;
 use crate::told::{Cut, Glue};
 use crate::waiter::WaitWords;
-use core_acts::Act;
-use core_state::{Field, View};
+use core_state::{Act, Field, View};
 use prcu_marks::{Access, Share};
 use std::marker::{Brand, Model, PhantomData};
 
@@ -53,7 +51,7 @@ pub struct Seat<W: WaitWords> {
 impl<W: WaitWords> Model for Seat<W> {
     ghost use Rattle.std.specs.Prelude.{◌≡◌, []};
     ghost use Rattle.seat_table.specs.Seats.{SeatAt};
-    ghost use Rattle.seat_table.specs.Seated.{IsSeat};
+    ghost use Rattle.seat_table.specs.Gains.{IsSeat};
 
     ghost Value = { SeatAt };
 

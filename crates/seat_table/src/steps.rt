@@ -1,10 +1,10 @@
-//! One call for each step from K3 on, by the step's name in `core_acts`. Each makes one atomic step, and tells the view after it, and what
+//! One call for each step from K3 on, by the step's name in `core_state`. Each makes one atomic step, and tells the view after it, and what
 //! the seat gained from the rule.
 ghost use Rattle.std.specs.Prelude.{◌≡◌, ℕ, ◌+◌, ◌<◌};
 ghost use Rattle.core_state.specs.declared.shape.Shape.{Shape};
-ghost use Rattle.core_acts.specs.declared.act.Act.TheVariants as acts;
-ghost use Rattle.seat_table.specs.Scans as scans;
-ghost use Rattle.seat_table.specs.Told.{IsAsked, Told};
+ghost use Rattle.core_state.specs.declared.act.Act.TheVariants as acts;
+ghost use Rattle.seat_table.specs.Seats as scans;
+ghost use Rattle.seat_table.specs.Gains.{IsAsked, Told};
 ghost use Rattle.seat_table.specs.Seats.{shape_of, unlisted};
 
 mod waiters;
@@ -14,8 +14,7 @@ use crate::scan::after_look;
 use crate::seat::Seat;
 use crate::table::CitrusTable;
 use crate::waiter::WaitWords;
-use core_acts::{Act, Part, in_slot};
-use core_state::Field;
+use core_state::{Act, Field, Part, in_slot};
 use prcu_marks::{Access, Side};
 pub use waiters::{
     announce_key, begin_wait, enter_by_count, enter_by_row, enter_by_stamp, leave_by_count,

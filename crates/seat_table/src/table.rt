@@ -1,10 +1,9 @@
 //! The table, and how it is made.
 ghost use Rattle.std.specs.Prelude.{◌≡◌, ℕ, ◌+◌, ◌*◌, ◌<◌, ◌≤◌, ◌++◌, IfOk, length, replicate};
-ghost use Rattle.prcu_marks.specs.Bounds.{most_tickets};
+ghost use Rattle.prcu_marks.specs.Marks.{most_tickets};
 ghost use Rattle.core_state.specs.declared.shape.Shape.{Shape};
-ghost use Rattle.core_state.specs.memory.Bounds.{most_slots, most_places};
-ghost use Rattle.seat_table.specs.Fresh.{fresh_seat, alone, key_stamps, waiter_part, first_words};
-ghost use Rattle.seat_table.specs.Seats.{IsQuietSeat};
+ghost use Rattle.core_state.specs.Memory.{most_slots, most_places};
+ghost use Rattle.seat_table.specs.Seats.{fresh_seat, alone, key_stamps, waiter_part, first_words, IsQuietSeat};
 
 use crate::listed::Listed;
 use crate::notes::Notes;
@@ -14,12 +13,11 @@ use crate::seat::Seat;
 use crate::waiter::{WaitWords, waiter_of};
 use arrayvec::ArrayVec;
 use atomic_table::Table;
-use core_acts::{
-    APART, CLASS_ROOM, CLASSES, HALF, LEAD, PLACE_ROOM, ROW_ROOM, Rows, index_of, room_behind,
-    row_length, rows_of,
-};
 use core_state::shape::{ROOM, Waiter};
-use core_state::{Field, Shape, View};
+use core_state::{
+    APART, CLASS_ROOM, CLASSES, Field, HALF, LEAD, PLACE_ROOM, ROW_ROOM, Rows, Shape, View,
+    index_of, room_behind, row_length, rows_of,
+};
 use prcu_model::NoMemory;
 use std::alloc::{AllocError, Global};
 use std::marker::{Model, PhantomData};
@@ -38,8 +36,8 @@ pub struct CitrusTable<W: WaitWords> {
 impl<W: WaitWords> Model for CitrusTable<W> {
     ghost use Rattle.std.specs.Prelude.{◌≡◌, ◌≤◌};
     ghost use Rattle.core_state.specs.Invariant.{IsShape};
-    ghost use Rattle.core_state.specs.memory.Memory.{word_count};
-    ghost use Rattle.core_acts.specs.Places.{AreRows, most_words};
+    ghost use Rattle.core_state.specs.Memory.{word_count};
+    ghost use Rattle.core_state.specs.Acts.{AreRows, most_words};
     ghost use Rattle.seat_table.specs.Seats.{TableAt, way_of, with_way};
 
     ghost Value = { TableAt };

@@ -1,6 +1,6 @@
 //! What each step tells. These types are for the proofs alone.
-ghost use Rattle.seat_table.specs.Told.{told};
-ghost use Rattle.core_state.specs.steps.Seating.{first_of, second_of, both_of, spent_view};
+ghost use Rattle.seat_table.specs.Gains.{told};
+ghost use Rattle.core_state.specs.Steps.{first_of, second_of, both_of, spent_view};
 
 use crate::rule::Nothing;
 use atomic_table::{Join, Play, Split};
@@ -11,7 +11,7 @@ use std::marker::{Brand, PhantomData};
 /// Which step it is, on a table of which shape. Each access picks it.
 pub(crate) trait Detail {
     ghost use Rattle.core_state.specs.declared.shape.Shape.{Shape};
-    ghost use Rattle.core_acts.specs.declared.act.Act.{Act};
+    ghost use Rattle.core_state.specs.declared.act.Act.{Act};
 
     ghost shape: { Shape };
 
@@ -20,7 +20,7 @@ pub(crate) trait Detail {
 
 impl Detail for Brand {
     ghost use Rattle.core_state.specs.declared.shape.Waiter.TheVariants.{Eer};
-    ghost use Rattle.core_acts.specs.declared.act.Act.TheVariants.{LoadClock};
+    ghost use Rattle.core_state.specs.declared.act.Act.TheVariants.{LoadClock};
 
     ghost shape = { record { waiter = Eer; slots = 0; places = 0; room = 0; tickets = 0 } };
 

@@ -2,10 +2,8 @@
 ghost use Rattle.std.specs.Prelude.{◌≡◌, ◌≤◌, [], Some, None, IfErr, IfOk};
 ghost use Rattle.core_state.specs.declared.view.Section.{Section};
 ghost use Rattle.seat_table.specs.Seats.{IsQuietSeat, shape_of, way_of};
-ghost use Rattle.seat_table.specs.Sections.{HasEntered, EntersBy, HasLeft, HasBegun, IsQuietReader};
-ghost use Rattle.seat_table.specs.Onward.{LooksAt, IsOnward, IsWithin};
-ghost use Rattle.seat_table.specs.Once.{LooksOnce};
-ghost use Rattle.seat_table.specs.Rounds.{HasMade};
+ghost use Rattle.seat_table.specs.Sections.{HasEntered, EntersBy, HasLeft, HasBegun, IsQuietReader, HasMade};
+ghost use Rattle.seat_table.specs.Looks.{LooksAt, IsOnward, IsWithin, LooksOnce};
 ghost use Rattle.seat_table.specs.Waits.{IsLatestOf, Polled, HasWaited, reached, start};
 
 use crate::seat::Seat;

@@ -5,7 +5,7 @@ ghost use Rattle.seat_table.specs.Seats.{IsQuietSeat};
 use prcu_marks::OpenGate;
 use seat_table::{CitrusTable, Seat, WaitPart};
 use std::marker::Model;
-use tree_client::TreeClient;
+use tree_lift::TreeClient;
 
 /// A quiet seat at its table. Callers see for how many places it answers.
 #[derive(Drop)]

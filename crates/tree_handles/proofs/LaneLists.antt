@@ -1,14 +1,74 @@
--- Seats that are split off one after another, and what many lookups leave of lanes.
-use Rattle.std.proofs.Common.{◌≡◌, ℕ, zero, suc, ◌<◌, ◌≤◌, List, [], ◌∷◌, ◌++◌, length, map, take, drop, slice_set, Option, Some, None, option_to_list, refl, ap, subst, ◌∙◌, arith}
+-- Pairs that are found and written, and the lists of lanes and of their answers.
+-- A pair of a range, by the one that is nearest to an end of it.
+use Rattle.std.proofs.Common.{◌≡◌, ◌⊎◌, inl, inr, ℕ, ◌<◌, Option, Some, None, subst, arith, zero, suc, ◌≤◌, List, [], ◌∷◌, ◌++◌, length, map, take, drop, slice_set, sym, ap, option_to_list, refl, ◌∙◌}
+use Rattle.key_interval.specs.Keys.{Interval, Holds}
+use Rattle.prcu_marks.specs.declared.mark.Side.{Side}
+use Rattle.prcu_marks.specs.declared.mark.Side.TheVariants.{Left, Right}
+use Rattle.prcu_marks.specs.Marks.{updates_of}
+use Rattle.exact_list.specs.declared.nearest.Found.{Found}
+use Rattle.exact_list.specs.declared.nearest.Nearest.{Nearest}
+use Rattle.exact_list.specs.Loads.{IsNearest}
+use Rattle.exact_list.specs.Pairs.{had_at, IsAt}
+use Rattle.tree_handles.specs.Callers.{CallerAt}
+use Rattle.tree_handles.specs.Lists.{FindsPairIn, FindsNoneIn, Seeks, end_of, pair_of}
+use Rattle.tree_handles.specs.declared.lists.Pair.{Pair}
 use mathlib.Core.Option.{some}
 use lib.ListN.{get_elem?, get_or}
 use Rattle.core_state.specs.declared.view.View.{View}
-use Rattle.core_state.specs.steps.Seating.{first_of, second_of}
+use Rattle.core_state.specs.Steps.{first_of, second_of}
 use Rattle.list_laws.specs.Counts.{Each}
 use Rattle.many_gets.specs.Many.{AreKept}
 use Rattle.seat_table.specs.Seats.{SeatAt, TableAt}
 use Rattle.tree_handles.specs.Lanes.{AreSeated, AreSplitOff, answer_of}
 use Rattle.tree_handles.specs.declared.answers.Answer.{Answer}
+use Rattle.exact_list.specs.Pairs as found
+
+-- No key of the range has a pair, where none has on that side of its end; and where the nearest pair isn't of the range.
+none_nearest : (map : ℕ → Option ℕ) (side : Side) (keys : Interval) (key : ℕ) → keys.high < 18446744073709551616
+    → IsNearest map side (end_of side keys) None → Holds keys key → map key ≡ None
+none_nearest map Right keys key few is (from, to) = is key (from, omega (arith, to, few))
+none_nearest map Left keys key few is (from, to) = is key to
+
+none_beyond : (map : ℕ → Option ℕ) (side : Side) (keys : Interval) (f : Found) (key : ℕ) → (f.key < keys.low) ⊎ (keys.high < f.key)
+    → IsNearest map side (end_of side keys) (Some f) → Holds keys key → map key ≡ None
+none_beyond map Right keys f key (inl low) is (from, to) = absurd (let on = is.on.0 in omega (arith, low, on))
+none_beyond map Right keys f key (inr high) is (from, to) =
+    let few = is.on.1 in is.none_before key (from, omega (arith, to, high, few)) (omega (arith, to, high))
+none_beyond map Left keys f key (inl low) is (from, to) = is.none_before key to (omega (arith, low, from))
+none_beyond map Left keys f key (inr high) is (from, to) = absurd (let on = is.on in omega (arith, high, on))
+
+seeks_so : {c d : CallerAt} {side : Side} {from : ℕ} {n : Nearest} {pair : Option Found} → n.pair ≡ pair → Seeks c side from n d
+    → Seeks c side from (record { front = n.front; pair = pair }) d
+seeks_so {c} {d} {side} {from} {n} is seeks = subst (λ o. Seeks c side from (record { front = n.front; pair = o }) d) is seeks
+
+module _ {c d : CallerAt} {side : Side} {keys : Interval} {n : Nearest} where
+  pub finds_pair : {f : Found} → n.pair ≡ Some f → Holds keys f.key → Seeks c side (end_of side keys) n d
+      → FindsPairIn c side keys (f.key, f.value) d
+  finds_pair {f} is inside seeks = record { inside = inside; front = n.front; seeks = seeks_so is seeks }
+
+  finds_so : ((key : ℕ) → Holds keys key → had_at (updates_of d.seat.view.seen) n.front key ≡ None) → Seeks c side (end_of side keys) n d
+      → FindsNoneIn c side keys d
+  finds_so none seeks = record { nearest = n; seeks = seeks; none = none }
+
+  pub finds_none : keys.high < 18446744073709551616 → n.pair ≡ None → Seeks c side (end_of side keys) n d → FindsNoneIn c side keys d
+  finds_none few is seeks = finds_so
+      (λ key holds. none_nearest (had_at (updates_of d.seat.view.seen) n.front) side keys key few (seeks_so is seeks).is holds) seeks
+
+  pub finds_beyond : {f : Found} → n.pair ≡ Some f → (f.key < keys.low) ⊎ (keys.high < f.key) → Seeks c side (end_of side keys) n d
+      → FindsNoneIn c side keys d
+  finds_beyond {f} is out seeks = finds_so
+      (λ key holds. none_beyond (had_at (updates_of d.seat.view.seen) n.front) side keys f key out (seeks_so is seeks).is holds) seeks
+
+-- Pairs are written one after another.
+
+pub write_next : (xs : List found.Pair) (ys : List Pair) (i : ℕ) (x : found.Pair) → IsAt xs i x → length xs ≤ length ys
+    → slice_set (map pair_of (take i xs) ++ drop i ys) i (pair_of x) ≡ map pair_of (take (suc i) xs) ++ drop (suc i) ys
+write_next [] ys i x at room = absurd (cc)
+write_next (p ∷ ps) [] i x at room = absurd (omega (arith, room))
+write_next (p ∷ ps) (q ∷ qs) zero x at room = (let e : p ≡ x = cc in ap (λ (z : found.Pair). pair_of z ∷ qs) (sym e))
+write_next (p ∷ ps) (q ∷ qs) (suc i) x at room = ap (λ zs. pair_of p ∷ zs) (write_next ps qs i x at (omega (arith, room)))
+
+-- Seats that are split off one after another, and what many lookups leave of lanes.
 
 -- what holds of each element, and of one more behind them
 pub each_more : {A : Type 0} (P : A → Type 0) (xs : List A) (x : A) → Each xs P → P x → Each (xs ++ x ∷ []) P

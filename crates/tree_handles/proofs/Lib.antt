@@ -1,12 +1,5 @@
-pub mod Answered
-pub mod Chains
-pub mod Cookies
+pub mod HeldValues
 pub mod Crossing
-pub mod Filling
-pub mod Finding
-pub mod Inside
 pub mod LaneLists
-pub mod Tidied
-pub mod TidyMarks
 pub mod Values
-pub mod Writing
+pub mod Callers

@@ -1,16 +1,17 @@
+-- What a handle leads to, calls through it, and the numbers of their statuses.
 -- What a handle leads to.
 -- Source: docs/TREE_CALLS.md, "The tree's table".
-use Rattle.std.specs.Prelude.{◌≡◌, ℕ, ◌+◌, ◌-◌, ◌*◌, ◌≤◌, Bool, false, Option, Some, None}
-use Rattle.std.specs.FinMap as finite
-use Rattle.prcu_marks.specs.Bounds.{most_tickets}
-use Rattle.prcu_marks.specs.Marks.{updates_of}
+use Rattle.std.specs.Prelude.{◌≡◌, ℕ, ◌+◌, ◌-◌, ◌*◌, ◌≤◌, Bool, false, Option, Some, None, ◌⊎◌, ℤ, pos, negsuc}
+use Rattle.prcu_marks.specs.Marks.{most_tickets, updates_of}
 use Rattle.prcu_model.specs.Dictionary.{map_of}
 use Rattle.core_state.specs.declared.view.Section.{Section}
-use Rattle.core_state.specs.steps.Seating.{first_of, second_of}
-use Rattle.seat_table.specs.Fresh.{fresh_seat}
-use Rattle.seat_table.specs.Seats.{SeatAt, TableAt, IsQuietSeat}
+use Rattle.core_state.specs.Steps.{first_of, second_of}
+use Rattle.seat_table.specs.Seats.{fresh_seat, SeatAt, TableAt, IsQuietSeat}
 use Rattle.seat_table.specs.Sections.{IsQuietReader}
 use Rattle.grace_cookie.specs.Cookies.{CookieAt}
+use Rattle.tree_handles.specs.declared.status.Status.{Status}
+use Rattle.tree_handles.specs.declared.status.Status.TheVariants.{Closed, Done, Unchanged, Full, More, Moved, New, Different, BadArgument, NoMemory, Spent, Lost, Holds}
+use Rattle.std.specs.FinMap as finite
 
 -- what a clause sees of a caller: the number of its waiter, its table, the salt by which the index's nodes rise, its seat, whether a call of
 -- it gave up, and the cookie of the wait that it may ask about
@@ -86,3 +87,42 @@ pub record IsReopened (c other : CallerAt) : Type 0 where
   pub index : AreOfOneIndex c other
   pub cookie : other.cookie ≡ None
   pub may : MayGoOn other
+
+-- Calls through a handle.
+-- Source: docs/EMBEDDING.md, "Statuses".
+
+-- The handle holds nothing, which the status says, and holds nothing afterwards.
+pub record IsClosed (before : Option CallerAt) (status : Status) (after : Option CallerAt) : Type 0 where
+  pub was : before ≡ None
+  pub is : after ≡ None
+  pub says : status ≡ Closed
+
+-- The handle holds a caller, of which this call was made, and holds what the call left of it.
+pub record IsOpen (call : CallerAt → CallerAt → Type 0) (before after : Option CallerAt) : Type 0 where
+  pub first : CallerAt
+  pub second : CallerAt
+  pub was : before ≡ Some first
+  pub is : after ≡ Some second
+  pub made : call first second
+
+-- The call was made of what the handle holds, or it is closed.
+abbrev pub Makes : (CallerAt → CallerAt → Type 0) → Option CallerAt → Status → Option CallerAt → Type 0
+Makes call before status after = IsClosed before status after ⊎ IsOpen call before after
+
+-- The numbers of the statuses.
+-- Source: docs/EMBEDDING.md, "Statuses".
+
+abbrev pub code_of : Status → ℤ
+code_of Done = pos 0
+code_of Unchanged = pos 1
+code_of Full = pos 2
+code_of More = pos 3
+code_of Moved = pos 4
+code_of New = pos 5
+code_of Different = pos 6
+code_of Closed = negsuc 0
+code_of BadArgument = negsuc 1
+code_of NoMemory = negsuc 2
+code_of Spent = negsuc 3
+code_of Lost = negsuc 4
+code_of Holds = negsuc 5

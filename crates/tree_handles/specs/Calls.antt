@@ -1,29 +1,32 @@
+-- Gets and updates, each alone and one after another.
 -- What gets and updates answer, of a caller before and after.
 -- Source: docs/TREE_CALLS.md, "The calls".
-use Rattle.std.specs.Prelude.{◌≡◌, ◌⊎◌, ℕ, zero, suc, ◌+◌, ◌<◌, ◌≤◌, true, false, Option, Some, None}
+use Rattle.std.specs.Prelude.{◌≡◌, ◌⊎◌, ℕ, zero, suc, ◌+◌, ◌<◌, ◌≤◌, true, false, Option, Some, None, List, []}
 use Rattle.prcu_model.specs.declared.operation.Op.{Op}
 use Rattle.prcu_model.specs.declared.operation.Op.TheVariants.{Put, Get, Del, Set}
 use Rattle.prcu_model.specs.declared.operation.Reply.{Reply}
-use Rattle.prcu_model.specs.declared.operation.Reply.TheVariants as reply
 use Rattle.prcu_model.specs.declared.operation.Told.{Told}
 use Rattle.seat_table.specs.Gains.{IsInformed}
-use Rattle.seat_table.specs.Rounds.{HasMade}
+use Rattle.seat_table.specs.Sections.{HasMade}
 use Rattle.seat_table.specs.Seats.{SeatAt, IsQuietSeat, shape_of}
-use Rattle.tree_points.specs.Progress.{KeepsAllowance}
+use Rattle.tree_points.specs.Points.{KeepsAllowance}
 use Rattle.citrus_tree.specs.declared.comparing.Compared.{Compared}
-use Rattle.citrus_tree.specs.declared.comparing.Compared.TheVariants as compared
-use Rattle.citrus_tree.specs.Beginnings.{Begins, BeginsByLookup}
-use Rattle.citrus_tree.specs.Bounded.{EndsWithin}
-use Rattle.citrus_tree.specs.Clients.{IsTold}
-use Rattle.citrus_tree.specs.Compares.{Compares}
-use Rattle.citrus_tree.specs.Gone.{KeepsWait}
-use Rattle.citrus_tree.specs.Replies.{TellsValue}
+use Rattle.citrus_tree.specs.Deletes.{Begins, BeginsByLookup}
+use Rattle.citrus_tree.specs.Hops.{EndsWithin}
+use Rattle.citrus_tree.specs.Replies.{IsTold, Compares, TellsValue, room_of}
+use Rattle.citrus_tree.specs.Going.{KeepsWait}
 use Rattle.tree_lift.specs.declared.lifting.Aim.{Aim}
 use Rattle.tree_lift.specs.declared.lifting.Lifted.{Lifted}
 use Rattle.tree_lift.specs.Lifts.{LeavesNoUpdate, HasLifted as TriesTurns}
 use Rattle.tree_handles.specs.Callers.{CallerAt, AreOfOneIndex, IsSameCaller, IsFilled, IsInside, MayGoOn}
 use Rattle.tree_handles.specs.declared.status.Status.{Status}
 use Rattle.tree_handles.specs.declared.status.Status.TheVariants.{Done, Unchanged, Full, Moved, New, Different, Spent, Lost, Holds}
+use Rattle.prcu_marks.specs.Callers.{MeetsFronts, IsChain}
+use Rattle.prcu_marks.specs.Marks.{updates_of}
+use Rattle.prcu_model.specs.Fronts.{told_lines, own_updates}
+use Rattle.prcu_model.specs.Dictionary.{Explains}
+use Rattle.prcu_model.specs.declared.operation.Reply.TheVariants as reply
+use Rattle.citrus_tree.specs.declared.comparing.Compared.TheVariants as compared
 
 -- how many steps a seat has made at least with which a call gives up
 abbrev pub patient_steps : ℕ
@@ -203,3 +206,17 @@ Upserts c key value was Moved old d = (rounds : ℕ) × (rounds ≡ 1000) × Mis
 Upserts c key value was Holds old d = StaysInside c d × (old ≡ was)
 Upserts c key value was status old d = (a : CallerAt) × (MissesSome c key value a ⊎ MissesOnceMore c key value a) × CausedBy status a d
     × (old ≡ was)
+
+-- Calls of a handle, one after another.
+-- Source: docs/ACCOUNTS.md, "Clients".
+
+-- The caller made the operation and was told this, and it isn't lost.
+abbrev pub IsCalledAndKept : CallerAt → Op → Told → CallerAt → Type 0
+IsCalledAndKept c op told d = IsCalled c op told d × (d.lost ≡ false)
+
+-- Of a caller whose place had made no update, the calls so far tell of lines that fit the updates that it has seen.
+abbrev pub CallsMeetFronts : Type 0
+CallsMeetFronts = (ops : List Op) (tolds : List Told) (before after : CallerAt)
+    → own_updates before.seat.view.allowance.place (updates_of before.seat.view.seen) ≡ []
+    → IsChain IsCalledAndKept before ops tolds after → MeetsFronts (Explains (room_of (shape_of before.way before.table)))
+    (updates_of after.seat.view.seen) before.seat.view.allowance.place (told_lines ops tolds)

@@ -2,7 +2,7 @@
 -- Source: docs/TREE_CALLS.md, "The calls".
 use Rattle.std.specs.Prelude.{◌≡◌, ◌⊎◌, ℕ, ◌<◌, ◌≤◌, true, List, [], ◌∷◌, ◌++◌, length, map, drop, Option, Some, None}
 use Rattle.core_state.specs.declared.view.View.{View}
-use Rattle.core_state.specs.steps.Seating.{first_of, second_of}
+use Rattle.core_state.specs.Steps.{first_of, second_of}
 use Rattle.list_laws.specs.Counts.{Each}
 use Rattle.many_gets.specs.Many.{LooksUpAll}
 use Rattle.seat_table.specs.Seats.{SeatAt, TableAt, IsQuietSeat, shape_of}

@@ -1,16 +1,11 @@
+pub mod HeldValues
 pub mod Callers
 pub mod Waiters
-pub mod Statuses
 pub mod Calls
-pub mod Chains
 pub mod Holds
-pub mod Begun
 pub mod Lists
 pub mod Tidying
 pub mod Opening
 pub mod Ownership
-pub mod Handles
-pub mod Holding
 pub mod Lanes
 pub mod LaneWaiters
-pub mod LaneHandles

@@ -1,18 +1,16 @@
 -- What lists answer, of a caller before and after.
 -- Source: docs/TREE_CALLS.md, "Lists of a key range".
 use Rattle.std.specs.Prelude.{◌≡◌, ◌⊎◌, ℕ, ◌<◌, ◌≤◌, List, ◌++◌, length, map, drop, Some, None}
-use Rattle.core_state.specs.memory.Bounds.{most_slots}
+use Rattle.core_state.specs.Memory.{most_slots}
 use Rattle.core_state.specs.declared.view.StepMade.{StepMade}
 use Rattle.key_interval.specs.Keys.{Interval, Holds}
 use Rattle.prcu_marks.specs.declared.mark.Side.{Side}
 use Rattle.prcu_marks.specs.declared.mark.Side.TheVariants.{Left, Right}
 use Rattle.prcu_marks.specs.Marks.{updates_of}
 use Rattle.exact_list.specs.declared.alone.Exact.{Exact}
-use Rattle.exact_list.specs.Alone.{HasListed, HoldsExactly}
+use Rattle.exact_list.specs.Loads.{HasListed, HoldsExactly, IsOneWalk, IsOneWayDown, IsNearest}
 use Rattle.exact_list.specs.declared.nearest.Nearest.{Nearest}
-use Rattle.exact_list.specs.Answers.{Paged, IsBetweenFronts}
-use Rattle.exact_list.specs.Loads.{IsOneWalk, IsOneWayDown}
-use Rattle.exact_list.specs.Nearest.{IsNearest}
+use Rattle.exact_list.specs.Tries.{Paged, IsBetweenFronts}
 use Rattle.exact_list.specs.Pairs.{had_at}
 use Rattle.exact_list.specs.Pairs as found
 use Rattle.tree_handles.specs.Callers.{CallerAt, IsSameCaller, MayGoOn}

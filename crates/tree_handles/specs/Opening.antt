@@ -1,7 +1,7 @@
 -- What is answered where handles are opened, shared, opened again and asked what they have left.
 -- Source: docs/EMBEDDING.md, "Statuses".
 use Rattle.std.specs.Prelude.{◌≡◌, ℕ, ◌+◌, ◌-◌, ◌*◌, ◌<◌, ◌≤◌, true, Option, Some, None}
-use Rattle.core_state.specs.memory.Bounds.{most_slots, most_places}
+use Rattle.core_state.specs.Memory.{most_slots, most_places}
 use Rattle.tree_handles.specs.Callers.{CallerAt, IsFresh, IsShared, IsReopened}
 use Rattle.tree_handles.specs.Calls.{StaysInside}
 use Rattle.tree_handles.specs.Lists.{IsLeft}

@@ -7,14 +7,14 @@ use Rattle.prcu_marks.specs.declared.mark.Mark.{Mark}
 use Rattle.core_state.specs.declared.view.View.{View}
 use Rattle.seat_table.specs.Seats.{shape_of}
 use Rattle.node_slots.specs.Reclaiming.{HasReclaimed}
-use Rattle.tree_points.specs.Progress.{HasGone, KeepsAllowance}
-use Rattle.citrus_tree.specs.Gone.{IsOfTry, KeepsWait}
+use Rattle.tree_points.specs.Points.{HasGone, KeepsAllowance}
+use Rattle.citrus_tree.specs.Going.{IsOfTry, KeepsWait}
 use Rattle.tree_lift.specs.declared.lifting.Aim.{Aim}
 use Rattle.tree_lift.specs.declared.lifting.Lifted.{Lifted}
 use Rattle.tree_lift.specs.declared.lifting.Stop.{Stop}
 use Rattle.tree_lift.specs.declared.lifting.Stop.TheVariants as stop
 use Rattle.tree_lift.specs.Lifts.{LeavesNoUpdate, HasLifted, EndsBy}
-use Rattle.exact_list.specs.Answers.{Paged}
+use Rattle.exact_list.specs.Tries.{Paged}
 use Rattle.exact_list.specs.Pairs.{Pair, IsAt}
 use Rattle.tree_handles.specs.Callers.{CallerAt, IsSameCaller, IsFilled, MayGoOn}
 use Rattle.tree_handles.specs.Calls.{IsLost, IsSpent, IsStoppedBy}

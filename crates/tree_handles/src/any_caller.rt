@@ -1,11 +1,10 @@
 //! What a handle leads to, whatever its waiter.
 ghost use Rattle.std.specs.Prelude.{◌≡◌, ◌≤◌, ◌<◌, ◌+◌, false, MatchBool, IfOk, IfErr, IfNone, IfSome};
 ghost use Rattle.prcu_model.specs.declared.operation.Op.TheVariants.{Get, Put, Set};
-ghost use Rattle.core_state.specs.memory.Bounds.{most_places};
-ghost use Rattle.tree_handles.specs.Begun.{HasStarted, Polls};
+ghost use Rattle.core_state.specs.Memory.{most_places};
+ghost use Rattle.tree_handles.specs.Holds.{HasStarted, Polls, HasHeld, HasOutwaited, IsEntered, LeavesSection};
 ghost use Rattle.tree_handles.specs.Callers.{MayGoOn, IsFresh, IsShared, IsReopened};
 ghost use Rattle.tree_handles.specs.Calls.{IsCalled, IsCompared, IsLost, IsRemoved, IsWaitFree, CausedBy, IsHinderedBy, IsStoppedBy};
-ghost use Rattle.tree_handles.specs.Holds.{HasHeld, HasOutwaited, IsEntered, LeavesSection};
 ghost use Rattle.tree_handles.specs.Lanes.{HasLanes};
 ghost use Rattle.tree_handles.specs.Lists.{Lists, Seeks};
 ghost use Rattle.tree_handles.specs.Opening.{FailsToReopen, most_pairs};
@@ -16,9 +15,6 @@ use crate::caller::Caller;
 use crate::spinning::GaveUp;
 use crate::status::Status;
 use citrus_tree::Compared;
-use d_wait::Domain;
-use deer_wait::Deer;
-use eer_wait::Eer;
 use exact_list::{Exact, Nearest, Page};
 use key_interval::Keys;
 use prcu_marks::Side;
@@ -26,6 +22,7 @@ use prcu_model::{NoMemory, Told};
 use std::alloc::Global;
 use std::marker::Model;
 use tree_lift::Lifted;
+use waiters::{Deer, Domain, Eer};
 
 /// A caller, by its waiter.
 #[derive(Drop)]

@@ -5,11 +5,9 @@ ghost use Rattle.tree_handles.specs.Lanes.{GetsMany, HaveLookedUp, MayLookUp};
 use crate::answers::{Answer, write_answers};
 use crate::lane_seats::LaneSeats;
 use crate::status::Status;
-use d_wait::Domain;
-use deer_wait::Deer;
-use eer_wait::Eer;
 use std::alloc::Global;
 use std::marker::Model;
+use waiters::{Deer, Domain, Eer};
 
 /// Lanes, by their waiter.
 #[derive(Drop)]

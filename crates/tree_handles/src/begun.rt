@@ -1,5 +1,5 @@
 //! Waits that a caller begins, with what they tell.
-ghost use Rattle.tree_handles.specs.Begun.{Begins};
+ghost use Rattle.tree_handles.specs.Holds.{Begins};
 
 use crate::any_caller::AnyCaller;
 use crate::status::Status;

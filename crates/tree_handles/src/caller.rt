@@ -3,14 +3,13 @@ ghost use Rattle.std.specs.Prelude.{◌≡◌, ◌≤◌, ◌<◌, ◌+◌, fals
 ghost use Rattle.prcu_model.specs.declared.operation.Op.TheVariants.{Get, Put, Set};
 ghost use Rattle.seat_table.specs.Seats.{IsQuietSeat};
 ghost use Rattle.seat_table.specs.Sections.{IsQuietReader};
-ghost use Rattle.core_state.specs.steps.Seating.{first_of, second_of};
+ghost use Rattle.core_state.specs.Steps.{first_of, second_of};
 ghost use Rattle.seat_table.specs.Gains.{IsInformed};
-ghost use Rattle.core_state.specs.memory.Bounds.{most_places};
-ghost use Rattle.tree_handles.specs.Begun.{HasStarted, Polls};
+ghost use Rattle.core_state.specs.Memory.{most_places};
+ghost use Rattle.tree_handles.specs.Holds.{HasStarted, Polls, EndsOutside, HasHeld, HasOutwaited, IsEntered, LeavesSection};
 ghost use Rattle.tree_handles.specs.Callers.{IsSameCaller, MayGoOn, IsFresh, IsShared, IsReopened};
 ghost use Rattle.tree_handles.specs.Opening.{FailsToReopen, most_pairs};
 ghost use Rattle.tree_handles.specs.Calls.{ComesBehind, IsCalled, IsCompared, IsLost, IsRemoved, IsWaitFree, CausedBy, IsHinderedBy, IsStoppedBy};
-ghost use Rattle.tree_handles.specs.Holds.{EndsOutside, HasHeld, HasOutwaited, IsEntered, LeavesSection};
 ghost use Rattle.tree_handles.specs.Lanes.{HasLanes};
 ghost use Rattle.tree_handles.specs.Lists.{Lists, Seeks};
 ghost use Rattle.tree_handles.specs.Tidying.{GivesBack, HasNoneBack, LiftsWay};
@@ -81,8 +80,8 @@ impl<W: WaitPart> Model for Caller<W> {
     ghost use Rattle.std.specs.Arc.{arc_value};
     ghost use Rattle.seat_table.specs.Seats.{shape_of};
     ghost use Rattle.seat_table.specs.Sections.{IsQuietReader};
-    ghost use Rattle.core_state.specs.memory.Bounds.{most_places};
-    ghost use Rattle.tree_handles.specs.Begun.{HasCookie};
+    ghost use Rattle.core_state.specs.Memory.{most_places};
+    ghost use Rattle.tree_handles.specs.Holds.{HasCookie};
     ghost use Rattle.tree_handles.specs.Callers.{CallerAt};
 
     ghost Value = { CallerAt };

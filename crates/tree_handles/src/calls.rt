@@ -1,10 +1,9 @@
 //! The calls of a handle: each takes the caller out, makes its call, and puts it back.
 ghost use Rattle.std.specs.Prelude.{◌≡◌, None};
 ghost use Rattle.tree_handles.specs.declared.status.Status.TheVariants.{Done};
-ghost use Rattle.tree_handles.specs.Begun.{Begins, Polls};
+ghost use Rattle.tree_handles.specs.Holds.{Begins, Polls, HoldsValue, Enters, LeavesSection, Waits};
 ghost use Rattle.tree_handles.specs.Calls.{ComparesOut, Gets, Inserts, Replaces, Upserts, Removes};
-ghost use Rattle.tree_handles.specs.Holding.{Makes};
-ghost use Rattle.tree_handles.specs.Holds.{HoldsValue, Enters, LeavesSection, Waits};
+ghost use Rattle.tree_handles.specs.Callers.{Makes};
 ghost use Rattle.tree_handles.specs.Lanes.{OpensLanes, lanes_in};
 ghost use Rattle.tree_handles.specs.Lists.{ListsOut, Firsts, Lasts};
 ghost use Rattle.tree_handles.specs.Opening.{Shares, Reopens, HasLeft};

@@ -3,7 +3,7 @@ ghost use Rattle.std.specs.Prelude.{◌≡◌, IfOk, Some, None};
 ghost use Rattle.std.specs.Option.{MatchOption};
 ghost use Rattle.std.specs.declared.option.Option.{Option};
 ghost use Rattle.tree_handles.specs.declared.any_caller.AnyCaller.{AnyCaller};
-ghost use Rattle.tree_handles.specs.Handles.{handle_owns, held_coded};
+ghost use Rattle.tree_handles.specs.Ownership.{handle_owns, held_coded};
 
 use crate::any_caller::AnyCaller;
 use crate::parts::Parts;

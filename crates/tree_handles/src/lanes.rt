@@ -3,7 +3,7 @@ ghost use Rattle.std.specs.Prelude.{◌≡◌, None, Some, is_some};
 ghost use Rattle.std.specs.Option.{MatchOption};
 ghost use Rattle.std.specs.declared.option.Option.{Option};
 ghost use Rattle.tree_handles.specs.declared.lane_room.LaneRoom.{LaneRoom};
-ghost use Rattle.tree_handles.specs.LaneHandles.{lanes_own, room_coded};
+ghost use Rattle.tree_handles.specs.Ownership.{lanes_own, room_coded};
 ghost use Rattle.tree_handles.specs.Lanes.{ManyGets, lanes_in};
 
 use crate::answers::Answer;

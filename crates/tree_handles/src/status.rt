@@ -1,6 +1,6 @@
 //! What a call answers, as a number of C.
 ghost use Rattle.std.specs.Prelude.{◌≡◌};
-ghost use Rattle.tree_handles.specs.Statuses.{code_of};
+ghost use Rattle.tree_handles.specs.Callers.{code_of};
 
 /// What a call came to. `citrus.h` names the numbers.
 #[derive(Clone, Copy, Debug, PartialEq, Eq)]

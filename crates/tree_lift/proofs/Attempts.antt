@@ -16,25 +16,21 @@ use Rattle.seat_table.specs.Seats.{SeatAt, IsQuietSeat, AreListed}
 use Rattle.node_slots.specs.Reclaiming.{HasReclaimed}
 use Rattle.node_slots.specs.Slots.{PutsBack}
 use Rattle.node_slots.proofs.Points.{MayReclaim, gives_all, reclaim_gone, reclaim_retired}
-use Rattle.tree_points.specs.Progress.{HasGone}
-use Rattle.tree_points.proofs.Ends.{none_raised}
-use Rattle.tree_points.proofs.Gone.{gone_on, gone_same}
-use Rattle.citrus_tree.specs.Going.{Goes}
-use Rattle.citrus_tree.specs.Gone.{IsOfTry, KeepsWait, retired_marks}
-use Rattle.core_state.specs.views.Views.{unraised_among}
-use Rattle.citrus_tree.proofs.Leavings.{goes_on}
-use Rattle.citrus_tree.proofs.KeepingSlots.{slots_goes, slots_more, slots_on, slots_reclaimed, slots_self}
-use Rattle.citrus_tree.proofs.KeepingWaits.{none_begun, none_yet, reclaimed_first, wait_on}
-use Rattle.citrus_tree.proofs.deletes.Room.{empty_listed}
+use Rattle.tree_points.specs.Points.{HasGone}
+use Rattle.tree_points.proofs.Passing.{none_raised}
+use Rattle.tree_points.proofs.Locks.{gone_on, gone_same}
+use Rattle.citrus_tree.specs.Going.{Goes, IsOfTry, KeepsWait, retired_marks}
+use Rattle.core_state.specs.Views.{unraised_among}
+use Rattle.citrus_tree.proofs.Leavings.{goes_on, slots_goes, slots_more, slots_on, slots_reclaimed, slots_self, none_begun, none_yet, reclaimed_first, wait_on}
+use Rattle.citrus_tree.proofs.DeleteTries.{empty_listed}
 use Rattle.tree_turn.specs.declared.turn.Turn.{Turn}
 use Rattle.tree_turn.specs.Turns.{HasRecorded, HasTurned, HasTurnedNone, IsQuietButHand, IsReadyToTurn}
 use Rattle.tree_lift.specs.declared.lifting.Aim.{Aim}
 use Rattle.tree_lift.specs.Ways.{HasRead, RecordsTurn, Finds}
-use Rattle.tree_lift.specs.Rooms.{MakesRoom, Reclaims, TakesSlots, WaitsForRoom, waits_none, waits_once}
+use Rattle.tree_lift.specs.Lifts.{MakesRoom, Reclaims, TakesSlots, WaitsForRoom, waits_none, waits_once, LeavesNoUpdate, Proceeds, TurnTried, ComesOf, WasTried, ComesBetween, WereTried, made_among, EndsBy, RestsBehind, WasAttempted, Attempts, HasAttempted, HasLifted}
 use Rattle.tree_lift.specs.declared.lifting.Attempt.TheVariants.{Tried, Ended as EndedBy}
 use Rattle.tree_lift.specs.declared.lifting.Stop.{Stop}
 use Rattle.tree_lift.specs.declared.lifting.Stop.TheVariants.{Level, NoRoom, NoSlot, Spent}
-use Rattle.tree_lift.specs.Lifts.{LeavesNoUpdate, Proceeds, TurnTried, ComesOf, WasTried, ComesBetween, WereTried, made_among, EndsBy, RestsBehind, WasAttempted, Attempts, HasAttempted, HasLifted}
 use Rattle.tree_lift.proofs.Ways.{goes_read, read_quiet}
 use Rattle.tree_lift.proofs.Slots.{goes_back, put_back_quiet}
 

@@ -1,3 +1,4 @@
+pub mod Calls
 pub mod Ways
 pub mod Slots
 pub mod Attempts

@@ -9,23 +9,21 @@ use Rattle.core_state.specs.declared.view.HeldLock.{HeldLock}
 use Rattle.core_state.specs.declared.view.Known.{Known}
 use Rattle.core_state.specs.declared.view.Retired.{Retired}
 use Rattle.core_state.specs.declared.view.View.{View}
-use Rattle.core_state.specs.views.Known.{change_lock, note_lock, note_moving, note_option, note_held}
-use Rattle.core_state.specs.views.Views.{unraised_among}
-use Rattle.core_acts.specs.declared.act.Act.TheVariants as acts
-use Rattle.core_acts.specs.declared.act.Part.TheVariants as part
-use Rattle.core_acts.proofs.Acting.{part_word}
-use Rattle.seat_table.specs.Gains.{IsInformed}
+use Rattle.core_state.specs.Views.{change_lock, note_lock, note_moving, note_option, note_held, unraised_among}
+use Rattle.core_state.specs.declared.act.Act.TheVariants as acts
+use Rattle.core_state.specs.declared.act.Part.TheVariants as part
+use Rattle.core_laws.proofs.Acting.{part_word}
+use Rattle.seat_table.specs.Gains.{IsInformed, IsAsked, Told}
 use Rattle.seat_table.specs.Seats.{SeatAt, IsQuietSeat}
-use Rattle.seat_table.specs.Told.{IsAsked, Told}
 use Rattle.node_slots.specs.Slots.{PutsBack, aged, next_life}
 use Rattle.node_slots.specs.Taking.{FoundNone, HasTaken}
 use Rattle.node_slots.proofs.Points.{back_gone, back_retired, taken_in_hand}
-use Rattle.tree_points.proofs.Staying.{stays}
+use Rattle.tree_points.proofs.Locks.{stays}
 use Rattle.citrus_tree.specs.Going.{Goes}
 use Rattle.citrus_tree.proofs.Leavings.{goes_on, goes_same}
-use Rattle.citrus_tree.proofs.puts.Filling.{goes_none, goes_taken}
+use Rattle.citrus_tree.proofs.Linking.{goes_none, goes_taken}
 use Rattle.tree_turn.specs.Turns.{IsQuietButHand}
-use Rattle.tree_lift.specs.Rooms.{SeesToSpare, TakesSlots}
+use Rattle.tree_lift.specs.Lifts.{SeesToSpare, TakesSlots}
 
 -- Of what makes a seat quiet nothing is other, but for the slot in hand and the spare.
 pub record StaysCalm (v w : View) : Type 0 where

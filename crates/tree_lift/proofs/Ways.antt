@@ -6,7 +6,7 @@ use Rattle.prcu_marks.specs.declared.mark.Mark.TheVariants.{Entered, Left as Lef
 use Rattle.prcu_marks.specs.declared.mark.Side.{Side}
 use Rattle.prcu_marks.specs.declared.mark.Side.TheVariants.{Right}
 use Rattle.prcu_marks.specs.Marks.{own_of}
-use Rattle.prcu_marks.proofs.MarkLists.{own_of-append}
+use Rattle.prcu_marks.proofs.Marks.{own_of-append}
 use Rattle.core_state.specs.declared.shape.Shape.{Shape}
 use Rattle.core_state.specs.declared.words.Field.{Field}
 use Rattle.core_state.specs.declared.words.Field.TheVariants.{Life, Key, Link}
@@ -17,37 +17,33 @@ use Rattle.core_state.specs.declared.view.Section.{Section}
 use Rattle.core_state.specs.declared.view.SearchState.{SearchState}
 use Rattle.core_state.specs.declared.view.SearchState.TheVariants.{At, Unread, Found, Missed}
 use Rattle.core_state.specs.declared.view.View.{View}
-use Rattle.core_state.specs.memory.Words.{step_side}
-use Rattle.core_state.specs.memory.Memory.{same_side}
-use Rattle.core_state.specs.steps.Loads.{key_stand, linked_on, searched, loaded, after_search_load}
-use Rattle.core_state.specs.steps.Sections.{fresh_reading}
-use Rattle.core_state.specs.views.Known.{known_in}
-use Rattle.core_frames.proofs.views.SeatFacts.{works_there}
-use Rattle.core_frames.proofs.views.Fields.{side_self}
-use Rattle.core_acts.specs.declared.act.Act.TheVariants.{SearchLoad}
-use Rattle.core_acts.specs.declared.act.Part.{Part}
-use Rattle.core_acts.specs.Acts.{in_slot, noted}
-use Rattle.core_acts.proofs.Acting.{part_word, section_is as opened}
-use Rattle.core_points.proofs.TargetWords.{part_loadable}
+use Rattle.core_state.specs.Memory.{step_side, same_side}
+use Rattle.core_state.specs.Steps.{key_stand, linked_on, searched, loaded, after_search_load, fresh_reading}
+use Rattle.core_state.specs.Views.{known_in}
+use Rattle.core_frames.proofs.Roles.{works_there}
+use Rattle.core_frames.proofs.Views.{side_self}
+use Rattle.core_state.specs.declared.act.Act.TheVariants.{SearchLoad}
+use Rattle.core_state.specs.declared.act.Part.{Part}
+use Rattle.core_state.specs.Acts.{in_slot, noted}
+use Rattle.core_laws.proofs.Acting.{part_word, section_is as opened}
+use Rattle.core_points.proofs.Locks.{part_loadable}
 use Rattle.list_laws.specs.Counts.{IsIn}
-use Rattle.seat_table.specs.Gains.{IsSlot}
-use Rattle.seat_table.specs.Told.{IsAsked, Told}
+use Rattle.seat_table.specs.Gains.{IsSlot, IsAsked, Told}
 use Rattle.seat_table.specs.Sections.{is_entry, is_exit, HasEntered, HasLeft}
 use Rattle.seat_table.specs.Seats.{SeatAt, IsQuietSeat}
-use Rattle.seat_table.proofs.Sections.{made_none, made_more, made_both}
-use Rattle.seat_table.proofs.Seating.{still_quiet}
-use Rattle.tree_points.proofs.Gone.{allowed, further_by}
+use Rattle.seat_table.proofs.SeveralSteps.{made_none, made_more, made_both}
+use Rattle.seat_table.proofs.Seats.{still_quiet}
+use Rattle.tree_points.proofs.Locks.{allowed, further_by}
 use Rattle.prcu_model.proofs.ListFacts.{prefix_trans}
-use Rattle.citrus_tree.specs.Bounded.{slots_in, slots_met}
+use Rattle.citrus_tree.specs.Hops.{slots_in, slots_met}
 use Rattle.citrus_tree.specs.Going.{Goes}
-use Rattle.tree_laws.proofs.searches.Readings.{in_more}
+use Rattle.core_laws.proofs.Searches.{in_more}
 use Rattle.citrus_tree.specs.Lookups.{is_load, is_of_lookup}
-use Rattle.citrus_tree.proofs.searches.Searching.{load_is, entry_is, exit_is, root_is}
+use Rattle.citrus_tree.proofs.Searching.{load_is, entry_is, exit_is, root_is}
 use Rattle.tree_lift.specs.declared.finding.Child.{Child}
 use Rattle.tree_lift.specs.declared.finding.Stand.{Stand}
 use Rattle.tree_lift.specs.declared.finding.Crossing.{Crossing}
-use Rattle.tree_lift.specs.Rule.{rises}
-use Rattle.tree_lift.specs.Ways.{IsAtEnd, IsReading, HasRead, IsLevel, IsLevelWay, keys_in, went_down, StandsBy, StandsAt, IsCrossing, RecordsTurn, Starts}
+use Rattle.tree_lift.specs.Ways.{rises, IsAtEnd, IsReading, HasRead, IsLevel, IsLevelWay, keys_in, went_down, StandsBy, StandsAt, IsCrossing, RecordsTurn, Starts}
 
 -- one load more
 abbrev pub noted_load : Reading → Field → ℕ → Reading

@@ -1,4 +1,2 @@
-pub mod Rule
 pub mod Ways
-pub mod Rooms
 pub mod Lifts

@@ -1,26 +1,101 @@
--- What a lift leaves, and what it answers.
--- Source: docs/TREE_CALLS.md, "Lifts".
-use Rattle.std.specs.Prelude.{◌≡◌, ◌≢◌, if◌then◌else◌, ℕ, ◌+◌, ◌≤◌, Bool, true, false, List, [], ◌∷◌, length, None}
-use Rattle.std.specs.List.{AllByRecursion}
-use Rattle.prcu_marks.specs.declared.mark.Mark.{Mark}
+-- Lifts: the room that a turn needs, what a lift leaves, and what it answers.
+use Rattle.std.specs.Prelude.{◌≡◌, ◌≢◌, ◌⊎◌, ◌+◌, ◌<◌, ◌≤◌, Bool, true, false, [], length, Some, None, if◌then◌else◌, ℕ, List, ◌∷◌}
 use Rattle.core_state.specs.declared.shape.Shape.{Shape}
-use Rattle.core_state.specs.declared.view.Reading.{Reading}
+use Rattle.core_state.specs.declared.view.Held.{Held}
 use Rattle.core_state.specs.declared.view.View.{View}
-use Rattle.list_laws.specs.Counts.{IsIn}
 use Rattle.seat_table.specs.Gains.{IsFull, IsInformed}
 use Rattle.seat_table.specs.Seats.{SeatAt, IsQuietSeat}
-use Rattle.tree_points.specs.Progress.{HasGone}
-use Rattle.citrus_tree.specs.Gone.{IsOfTry, KeepsSlots, KeepsWait}
+use Rattle.node_slots.specs.Reclaiming.{HasReclaimed}
+use Rattle.citrus_tree.specs.Going.{Goes, IsOfTry, KeepsSlots, KeepsWait}
+use Rattle.tree_turn.specs.Turns.{IsQuietButHand, HasTurned, HasTurnedNone}
+use Rattle.std.specs.List.{AllByRecursion}
+use Rattle.prcu_marks.specs.declared.mark.Mark.{Mark}
+use Rattle.core_state.specs.declared.view.Reading.{Reading}
+use Rattle.list_laws.specs.Counts.{IsIn}
+use Rattle.tree_points.specs.Points.{HasGone, KeepsAllowance}
 use Rattle.tree_turn.specs.declared.turn.Turn.{Turn}
-use Rattle.tree_turn.specs.Turns.{HasTurned, HasTurnedNone}
 use Rattle.tree_lift.specs.declared.lifting.Aim.{Aim}
 use Rattle.tree_lift.specs.declared.lifting.Attempt.{Attempt}
 use Rattle.tree_lift.specs.declared.lifting.Lifted.{Lifted}
 use Rattle.tree_lift.specs.declared.lifting.Attempt.TheVariants.{Tried, Ended}
 use Rattle.tree_lift.specs.declared.lifting.Stop.{Stop}
 use Rattle.tree_lift.specs.declared.lifting.Stop.TheVariants.{Level, NoRoom, NoSlot, Spent}
-use Rattle.tree_lift.specs.Rooms.{WaitsForRoom}
 use Rattle.tree_lift.specs.Ways.{RecordsTurn, Finds}
+use Rattle.prcu_model.specs.declared.operation.Op.{Op}
+use Rattle.prcu_model.specs.declared.operation.Op.TheVariants.{Put}
+use Rattle.prcu_model.specs.declared.operation.Told.{Told}
+use Rattle.citrus_tree.specs.Replies.{IsTold, Puts, ClientAt, room_of}
+use Rattle.prcu_marks.specs.Callers.{MeetsFronts, IsChain}
+use Rattle.prcu_marks.specs.Marks.{updates_of}
+use Rattle.prcu_model.specs.Fronts.{told_lines, own_updates}
+use Rattle.prcu_model.specs.Dictionary.{Explains}
+
+-- What a turn needs of the place, and how it comes by it.
+-- Source: docs/TREE_CALLS.md, "Lifts".
+
+-- All retired slots were given back, by one wait for everybody, where there was no room and the caller would stand still. Now there is
+-- room, since a place may hold back two at least.
+pub record Reclaims (k : Shape) (hard : Bool) (s t : SeatAt) : Type 0 where
+  pub stands_still : hard ≡ true
+  pub many : k.room ≤ length s.view.hands.retired + 1
+  pub roomy : 2 ≤ k.room
+  pub back : HasReclaimed k s.view s.listed t.view
+  pub listed : t.listed ≡ []
+
+-- Whether there is room for two more retired slots: there was, or there is now. Where there isn't nothing was done.
+abbrev pub MakesRoom : Shape → Bool → SeatAt → Bool → SeatAt → Type 0
+MakesRoom k hard s true t = ((t ≡ s) × (length s.view.hands.retired + 1 < k.room)) ⊎ Reclaims k hard s t
+MakesRoom k hard s false t = (t ≡ s) × (hard ≡ false) × (k.room ≤ length s.view.hands.retired + 1)
+
+-- When a lift waits for all readers, between two moments of it: once, where it is to stand still and the place had no room for two more
+-- retired slots, and then it gave all of them back. Else it began no wait, and the same slots are retired.
+pub data WaitsForRoom (k : Shape) (hard : Bool) (v w : View) : Type 0 where
+  waits_none : w.counts.waits ≡ v.counts.waits → w.hands.retired ≡ v.hands.retired → WaitsForRoom k hard v w
+  waits_once : hard ≡ true → k.room ≤ length v.hands.retired + 1 → w.counts.waits ≡ v.counts.waits + 1 → w.hands.retired ≡ []
+      → WaitsForRoom k hard v w
+
+-- Whether the place had retired slots: all were given back, by one wait for everybody. Where it had none nothing was done.
+abbrev pub GivesAllBack : Shape → SeatAt → Bool → SeatAt → Type 0
+GivesAllBack k s true t = HasReclaimed k s.view s.listed t.view × (t.listed ≡ []) × (s.view.hands.retired ≢ [])
+GivesAllBack k s false t = (t ≡ s) × (s.view.hands.retired ≡ [])
+
+-- Whether the place has a spare: it had, or it has one for a ticket. Where it hasn't no slot was free, and the dictionary is as large as
+-- Full asks for. Nothing else changed.
+pub record SeesToSpare (k : Shape) (s : SeatAt) (some : Bool) (t : SeatAt) : Type 0 where
+  pub goes : Goes s.view t.view []
+  pub quiet : IsQuietSeat t
+  pub records : t.view.records ≡ s.view.records
+  pub tickets : s.view.allowance.tickets ≤ t.view.allowance.tickets + 1
+  pub at_once : s.view.hands.spare ≢ None → t.view ≡ s.view
+  pub spare : some ≡ true → (held : Held) × (t.view.hands.spare ≡ Some held)
+  pub full : some ≡ false → IsFull k t.view
+  pub informed : IsInformed s.view → IsInformed t.view
+
+-- A slot is in hand, whose generation wasn't raised, and the place has a spare.
+pub record HasBoth (t : SeatAt) : Type 0 where
+  pub quiet : IsQuietButHand t
+  pub hand : Held
+  pub hand_is : t.view.hands.hand ≡ Some hand
+  pub unraised : hand.raised ≡ false
+  pub spare : Held
+  pub spare_is : t.view.hands.spare ≡ Some spare
+
+pub record HasNone (k : Shape) (t : SeatAt) : Type 0 where
+  pub quiet : IsQuietSeat t
+  pub full : IsFull k t.view
+
+-- Whether the place has both, for a ticket each that it took. Nothing else changed.
+pub record TakesSlots (k : Shape) (s : SeatAt) (some : Bool) (t : SeatAt) : Type 0 where
+  pub goes : Goes s.view t.view []
+  pub records : t.view.records ≡ s.view.records
+  pub tickets : s.view.allowance.tickets ≤ t.view.allowance.tickets + 2
+  pub fewer : s.view.hands.spare ≢ None → s.view.allowance.tickets ≤ t.view.allowance.tickets + 1
+  pub both : some ≡ true → HasBoth t
+  pub none : some ≡ false → HasNone k t
+  pub informed : IsInformed s.view → IsInformed t.view
+
+-- What a lift leaves, and what it answers.
+-- Source: docs/TREE_CALLS.md, "Lifts".
 
 -- Of its place no marks were left but those of sections with the key, and of waits for everybody: so none of an update.
 pub record LeavesNoUpdate (v : View) (key : ℕ) (w : View) : Type 0 where
@@ -116,3 +191,39 @@ pub record HasLifted (k : Shape) (aim : Aim) (lifted : Lifted) (v w : View) : Ty
   pub few : length tried ≤ aim.attempts
   pub turns : made_among tried ≡ lifted.turns
   pub spent : lifted.stop ≡ Spent → length tried ≡ aim.attempts
+
+-- Calls that keep the tree shallow, and clients that make them.
+-- A call that keeps the tree shallow.
+-- Source: docs/ACCOUNTS.md, "Clients".
+
+-- A put was told this when the view was that one. Behind its answer came no update, and sections with its key alone.
+pub record PutsThenLifts (k : Shape) (v : View) (key value : ℕ) (told : Told) (w : View) : Type 0 where
+  pub answered : View
+  pub puts : Puts k v key value told answered
+  pub lift : LeavesNoUpdate answered key w
+
+-- what an operation is told by its call, and what may come behind the answer of a put
+abbrev pub IsToldThenLifts : Shape → View → Op → Told → View → Type 0
+IsToldThenLifts k v (Put key value) told w = PutsThenLifts k v key value told w
+IsToldThenLifts k v op told w = IsTold k v op told w
+
+-- Clients of the tree that keep it shallow.
+-- Source: docs/ACCOUNTS.md, "Clients".
+
+-- A call of a client: what its operation was told, what may come behind the answer, and what holds after each call.
+pub record HasCalled (before : ClientAt) (op : Op) (told : Told) (after : ClientAt) : Type 0 where
+  pub shape : after.shape ≡ before.shape
+  pub table : after.table ≡ before.table
+  pub answer : IsToldThenLifts before.shape before.seat.view op told after.seat.view
+  pub wait : KeepsWait before.seat.view after.seat.view
+  pub tickets : before.seat.view.allowance.tickets ≤ after.seat.view.allowance.tickets + 16
+  pub allowance : KeepsAllowance before.seat.view after.seat.view
+  pub quiet : IsQuietSeat after.seat
+  pub informed : IsInformed after.seat.view
+
+-- Of a client whose place had made no update, the calls so far tell of lines that fit the updates that it has seen.
+abbrev pub ChainsMeetFronts : Type 0
+ChainsMeetFronts = (ops : List Op) (tolds : List Told) (before after : ClientAt)
+    → own_updates before.seat.view.allowance.place (updates_of before.seat.view.seen) ≡ []
+    → IsChain HasCalled before ops tolds after → MeetsFronts (Explains (room_of before.shape))
+    (updates_of after.seat.view.seen) before.seat.view.allowance.place (told_lines ops tolds)

@@ -1,6 +1,5 @@
--- A way down from the root, in a section: what it loads, and what it records.
--- Source: docs/TREE_CALLS.md, "Lifts".
-use Rattle.std.specs.Prelude.{◌≡◌, ◌≢◌, ◌⊎◌, ℕ, ◌+◌, true, false, List, [], ◌∷◌, ◌++◌, Option, Some, None}
+-- By which rule a way is found to need a turn, and what a section finds out on its way down.
+use Rattle.std.specs.Prelude.{◌≡◌, if◌then◌else◌, ℕ, ◌+◌, ◌*◌, ◌/◌, ◌%◌, ◌^◌, ◌<◌, ◌≤◌, Bool, nat_lt, bit_xor, ◌≢◌, ◌⊎◌, true, false, List, [], ◌∷◌, ◌++◌, Option, Some, None}
 use mathlib.Core.List.{IsPrefix}
 use Rattle.prcu_marks.specs.declared.mark.Mark.{Mark}
 use Rattle.prcu_marks.specs.declared.mark.Mark.TheVariants.{Entered, Left}
@@ -14,9 +13,9 @@ use Rattle.core_state.specs.declared.view.Reading.{Reading}
 use Rattle.core_state.specs.declared.view.SearchState.{SearchState}
 use Rattle.core_state.specs.declared.view.SearchState.TheVariants.{At, Found, Missed}
 use Rattle.core_state.specs.declared.view.View.{View}
-use Rattle.core_state.specs.memory.Words.{step_side}
-use Rattle.core_state.specs.steps.Loads.{loaded}
-use Rattle.core_state.specs.views.Known.{known_in, LoadedGeneration}
+use Rattle.core_state.specs.Memory.{step_side}
+use Rattle.core_state.specs.Steps.{loaded}
+use Rattle.core_state.specs.Views.{known_in, LoadedGeneration}
 use Rattle.list_laws.specs.Counts.{IsIn}
 use Rattle.seat_table.specs.Gains.{Sees, IsInformed, IsSlot}
 use Rattle.seat_table.specs.Sections.{Makes, HasEntered}
@@ -26,7 +25,40 @@ use Rattle.tree_turn.specs.Turns.{AreThree}
 use Rattle.tree_lift.specs.declared.finding.Child.{Child}
 use Rattle.tree_lift.specs.declared.finding.Stand.{Stand}
 use Rattle.tree_lift.specs.declared.finding.Crossing.{Crossing}
-use Rattle.tree_lift.specs.Rule.{rises}
+
+-- The rule by which the tree is kept shallow.
+-- Source: docs/TREE.md, "A tree that stays shallow".
+
+-- a number with its high bits folded down by so many places, times a factor
+abbrev pub folded : ℕ → ℕ → ℕ → ℕ
+folded number places factor = bit_xor number (number / 2 ^ places) * factor % 2 ^ 64
+
+-- the finalizer of SplitMix64 (Steele, Lea and Flood 2014)
+unfoldable pub mixed : ℕ → ℕ
+mixed number =
+    let twice = folded (folded number 30 0xbf58476d1ce4e5b9) 27 0x94d049bb133111eb in
+    bit_xor twice (twice / 2 ^ 31)
+
+-- The child is to stand above the node: its key has the greater mix with the salt.
+abbrev pub rises : ℕ → ℕ → ℕ → Bool
+rises salt child_key node_key = nat_lt (mixed (bit_xor node_key salt)) (mixed (bit_xor child_key salt))
+
+-- The size has so many binary digits: none where it is 0.
+pub record HasDigits (size digits : ℕ) : Type 0 where
+  pub below : size < 2 ^ digits
+  pub least : 2 ^ digits ≤ 2 * size + 1
+
+-- how deep a way may be in a tree of this size
+abbrev pub IsMostDepth : ℕ → ℕ → Type 0
+IsMostDepth size most = (digits : ℕ) × HasDigits size digits × (most ≡ 2 * digits + 2)
+
+-- How often a turn is tried behind a put whose way led over so many slots: 24 times where that is deep in a tree of this size, and
+-- else never.
+abbrev pub AreTriedBehind : ℕ → ℕ → ℕ → Type 0
+AreTriedBehind depth size attempts = (most : ℕ) × IsMostDepth size most × (attempts ≡ (if nat_lt most depth then 24 else 0))
+
+-- A way down from the root, in a section: what it loads, and what it records.
+-- Source: docs/TREE_CALLS.md, "Lifts".
 
 -- From the view v a section with the key was entered. Since then there were loads alone, by which it found this out.
 pub record IsReading (v : View) (key : ℕ) (r : Reading) (w : View) : Type 0 where

@@ -2,11 +2,11 @@
 ghost use Rattle.std.specs.Prelude.{◌≡◌, ◌≢◌, ℕ, [], None, ◌+◌, ◌≤◌, IfSome};
 ghost use Rattle.core_state.specs.declared.view.Reading.{Reading};
 ghost use Rattle.core_state.specs.declared.view.View.{View};
-ghost use Rattle.core_state.specs.memory.Memory.{slot_count};
+ghost use Rattle.core_state.specs.Memory.{slot_count};
 ghost use Rattle.seat_table.specs.Gains.{IsSlot};
 ghost use Rattle.seat_table.specs.Seats.{IsQuietSeat, shape_of};
 ghost use Rattle.seat_table.specs.Sections.{HasEntered};
-ghost use Rattle.citrus_tree.specs.Bounded.{slots_met};
+ghost use Rattle.citrus_tree.specs.Hops.{slots_met};
 ghost use Rattle.tree_lift.specs.Ways.{Comes, Finds, IsCrossing, IsFinding, IsReading, StandsBy, Starts, after_step};
 
 use crate::rule::rises_above;

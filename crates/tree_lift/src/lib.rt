@@ -1,12 +1,17 @@
 //! The tree is kept shallow: a call that a caller makes after an update whose way was deep. On the way to a key it lets a node and its child
-//! change places where the child is to stand above. The dictionary stays as it was.
+//! change places where the child is to stand above. The dictionary stays as it was. A client makes its calls so.
 #![tactic(auto)]
 
+mod calling;
+mod client;
 mod finding;
+pub mod laws;
 mod lifting;
 mod room;
 mod rule;
 
+pub use calling::call_and_lift;
+pub use client::TreeClient;
 pub use lifting::{Aim, Lifted, Stop, lift};
 pub use room::give_all_back;
 pub use rule::{attempts_behind, is_deep, is_far_too_deep, most_depth, most_keys, rises_above};

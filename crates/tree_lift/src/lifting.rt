@@ -1,10 +1,10 @@
 //! The call.
 ghost use Rattle.std.specs.Prelude.{◌≡◌, ◌+◌, ◌*◌, ◌≤◌, false, IfOk, IfErr};
 ghost use Rattle.seat_table.specs.Gains.{IsInformed};
-ghost use Rattle.seat_table.specs.Rounds.{HasMade};
+ghost use Rattle.seat_table.specs.Sections.{HasMade};
 ghost use Rattle.seat_table.specs.Seats.{IsQuietSeat, shape_of};
-ghost use Rattle.tree_points.specs.Progress.{KeepsAllowance};
-ghost use Rattle.citrus_tree.specs.Gone.{KeepsSlots, KeepsWait};
+ghost use Rattle.tree_points.specs.Points.{KeepsAllowance};
+ghost use Rattle.citrus_tree.specs.Going.{KeepsSlots, KeepsWait};
 ghost use Rattle.tree_lift.specs.Lifts.{EndsBy, HasAttempted, HasLifted, LeavesNoUpdate};
 
 use crate::finding::find_turn;

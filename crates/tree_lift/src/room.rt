@@ -1,12 +1,11 @@
 //! What a turn needs of the place: room among the retired slots, a spare, and a slot in hand.
 ghost use Rattle.std.specs.Prelude.{◌≡◌, ℕ, ◌≤◌, ◌+◌, IfOk, IfErr};
 ghost use Rattle.seat_table.specs.Gains.{IsInformed};
-ghost use Rattle.seat_table.specs.Rounds.{HasMade};
+ghost use Rattle.seat_table.specs.Sections.{HasMade};
 ghost use Rattle.seat_table.specs.Seats.{IsQuietSeat, shape_of};
-ghost use Rattle.tree_points.specs.Progress.{KeepsAllowance};
-ghost use Rattle.citrus_tree.specs.Gone.{KeepsWait};
-ghost use Rattle.tree_lift.specs.Lifts.{LeavesNoUpdate};
-ghost use Rattle.tree_lift.specs.Rooms.{GivesAllBack, MakesRoom, SeesToSpare, TakesSlots};
+ghost use Rattle.tree_points.specs.Points.{KeepsAllowance};
+ghost use Rattle.citrus_tree.specs.Going.{KeepsWait};
+ghost use Rattle.tree_lift.specs.Lifts.{LeavesNoUpdate, GivesAllBack, MakesRoom, SeesToSpare, TakesSlots};
 
 use node_slots::Taken;
 use node_slots::patient::{reclaim, take};

@@ -1,6 +1,6 @@
 //! The rule by which the tree is kept shallow: which of a node and its child is to stand above the other, and when a way is deep.
 ghost use Rattle.std.specs.Prelude.{◌≡◌, ◌-◌, ◌/◌, ◌≤◌, ℕ, nat_lt};
-ghost use Rattle.tree_lift.specs.Rule.{AreTriedBehind, IsMostDepth, mixed, rises};
+ghost use Rattle.tree_lift.specs.Ways.{AreTriedBehind, IsMostDepth, mixed, rises};
 
 /// How often a turn is tried behind a put whose way was deep.
 const ATTEMPTS: u32 = 24;

@@ -1,3 +1,1 @@
-pub mod At
-pub mod Progress
-pub mod Laws
+pub mod Points

@@ -1,5 +1,5 @@
 //! What is promised of the points over the table. Each function here has no body; its promise is the law.
-ghost use Rattle.tree_points.specs.Laws.{CallsEnd, StepsAreAsked, StepsPass};
+ghost use Rattle.tree_points.specs.Points.{CallsEnd, StepsAreAsked, StepsPass};
 
 /// At each point whose step is none of the waiter's, what the table asks for the step is given.
 pub fn steps_are_asked()

@@ -1,29 +1,207 @@
--- A run of scripts on the tree, from the workers' chains of calls to one explained history.
-use Rattle.std.proofs.Common.{◌≡◌, ℕ, ◌≤◌, Bool, true, false, List, [], ◌∷◌, length, map, get_or, refl, sym, ap, subst, ◌∙◌, arith}
+-- Runs of scripts on the tree: seats are cut and joined, and one history explains what the clients were told.
+-- Seats joined one after another.
+use Rattle.std.proofs.Common.{◌≡◌, ℕ, zero, suc, ◌<◌, ◌≤◌, List, [], ◌∷◌, ◌++◌, length, map, Some, inl, inr, refl, sym, ap, subst, ◌∙◌, arith, length-append, ◌+◌, ◌-◌, Bool, true, false, drop, get_or}
+use Rattle.std.specs.List.{slice_get}
+use Rattle.std.proofs.lemmas.Bool.{cases_lt}
+use Rattle.std.proofs.lemmas.List.{get_or_append_left, get_or_push, length-map}
+use Rattle.std.proofs.lemmas.Option.{slice_get-get_or, slice_get_within, get_or_from_slice_get}
+use mathlib.Core.List.{IsPrefix}
+use Rattle.prcu_model.proofs.ListFacts.{prefix_self, prefix_trans}
+use Rattle.prcu_marks.specs.declared.mark.Mark.{Mark}
+use Rattle.prcu_marks.specs.Marks.{own_of, updates_of}
+use Rattle.prcu_marks.specs.Callers.{Caller, FitsScripts, HasAnswered, IsChain}
+use Rattle.prcu_marks.proofs.Marks.{own_twice}
+use Rattle.client_run.specs.Crews.{HaveMet, Work, AreReadyFor, HaveMade, IsCrew, AreDone}
+use Rattle.list_laws.specs.Counts.{times}
+use Rattle.core_state.specs.declared.view.View.{View}
+use Rattle.core_state.specs.Steps.{after_clock_load, new_view, first_of, second_of}
+use Rattle.core_state.specs.Views.{places_of}
+use Rattle.core_frames.proofs.Roles.{works_there}
+use Rattle.seat_table.specs.Seats.{TableAt, SeatAt, KeepsOwn, region}
+use Rattle.core_state.specs.Acts.{noted}
+use Rattle.core_state.specs.declared.act.Act.TheVariants.{LoadClock}
+use Rattle.tree_run.specs.Runs.{ScriptClientAt, script_caller, IsDone, StandsFor, seat_for, tickets_for, seen_as, HasCalled, left_of, tickets_last, CalledBy, shape_with, client_for, HasRun}
 use Rattle.prcu_model.specs.declared.operation.Op.{Op}
+use Rattle.prcu_model.specs.Scripts.{op_count, Roomy, entries_of}
+use Rattle.client_run.proofs.Crews.{tickets_turn, crew_ready, crew_keeps, crew_has_told, entries_are}
 use Rattle.prcu_model.specs.declared.operation.Told.{Told}
-use Rattle.prcu_model.specs.Lists.{Roomy, entries_of}
-use Rattle.prcu_model.specs.Replies.{Room, Explains}
+use Rattle.citrus_tree.specs.Replies.{ClientAt, room_of}
+use Rattle.tree_run.specs.Clients.{CookieClientAt}
+use Rattle.tree_run.specs.declared.client.EitherClient.{EitherClient}
+use Rattle.tree_run.specs.declared.client.EitherClient.TheVariants.{Waiting, Holding}
+use Rattle.prcu_model.specs.Dictionary.{Room, Explains}
 use Rattle.prcu_model.specs.Fronts.{AreExplainable, AreExplained, all_told_lines}
-use Rattle.prcu_marks.specs.Marks.{updates_of, own_of}
-use Rattle.prcu_marks.specs.Runs.{FitsScripts}
-use Rattle.prcu_marks.specs.Callers.{HasAnswered}
-use Rattle.prcu_marks.specs.Chains.{IsChain}
-use Rattle.prcu_marks.proofs.Callers.{HasTold}
-use Rattle.prcu_marks.proofs.Runs.{newcomer as first_caller, HaveTold, run_updates, run_lengths, run_confirmed, run_fronts, run_fits}
-use Rattle.client_run.specs.Workers.{Work, AreReadyFor, HaveMade}
-use Rattle.client_run.specs.Crews.{IsCrew, AreDone, HaveMet}
-use Rattle.client_run.proofs.Crews.{crew_ready, crew_keeps, crew_has_told, entries_are}
-use Rattle.seat_table.specs.Seats.{TableAt, SeatAt, KeepsOwn}
+use Rattle.prcu_marks.proofs.Callers.{HasTold, newcomer as first_caller, HaveTold, run_updates, run_lengths, run_confirmed, run_fronts, run_fits}
 use Rattle.seat_table.specs.Gains.{IsInformed, StaysIn}
-use Rattle.citrus_tree.specs.Clients.{ClientAt, room_of}
 use Rattle.citrus_tree.proofs.Clients.{sixteen_room, chain_told}
-use Rattle.tree_client.proofs.Calls.{call_answers}
-use Rattle.cookie_client.proofs.Callers.{called_answers}
-use Rattle.tree_run.specs.Callers.{ScriptClientAt, left_of, tickets_last, CalledBy, HasCalled}
+use Rattle.tree_lift.proofs.Calls.{call_answers}
+use Rattle.tree_run.proofs.Calls.{called_answers}
 use Rattle.tree_run.specs.declared.running.RunWith.{RunWith}
-use Rattle.tree_run.specs.Runs.{shape_with, client_for, tickets_for, script_caller, IsDone, HasRun}
-use Rattle.tree_run.proofs.Joined.{joined_other}
+use Rattle.tree_lift.specs.Lifts as waiting
+use Rattle.tree_run.specs.Clients as holding
+
+-- a client whose calls are made has met its own marks
+own_met : (i : ℕ) (c : ScriptClientAt) → c.tree.seat.view.allowance.place ≡ i
+    → own_of i (script_caller c).own ≡ own_of i c.tree.seat.view.seen
+own_met i c at = subst (λ p. own_of i (own_of p c.tree.seat.view.seen) ≡ own_of i c.tree.seat.view.seen) (sym at)
+    (own_twice i c.tree.seat.view.seen)
+
+module _ (table : TableAt) where
+  -- the first seat, at place 0
+  pub joined_first : (c : ScriptClientAt) (seat : SeatAt) → IsDone table 0 c → 1 ≤ seat.view.allowance.places → seat ≡ c.tree.seat
+      → StandsFor (c ∷ []) seat
+  joined_first c seat d works is = subst (StandsFor (c ∷ [])) (sym is) (record {
+    answers = λ p below. (let zero_is : 0 ≡ p = omega arith in let at = d.place in
+        subst (λ q. 1 ≤ times q (places_of c.tree.seat.view)) (at ∙ zero_is)
+        (works_there c.tree.seat.view (subst (λ (s : SeatAt). 1 ≤ s.view.allowance.places) is works)));
+    met = met_one;
+  })
+    where
+      met_one : HaveMet (script_caller c ∷ []) c.tree.seat.view.seen
+      met_one zero x there =
+          let same : script_caller c ≡ x = cc in
+          subst (λ (z : Caller). IsPrefix z.seen c.tree.seat.view.seen × (own_of 0 c.tree.seat.view.seen ≡ own_of 0 z.own)) same
+          (prefix_self c.tree.seat.view.seen, sym (own_met 0 c d.place))
+      met_one (suc i) x there = absurd (cc)
+
+  -- one more, at the next place
+  pub joined_more : (cs : List ScriptClientAt) (c : ScriptClientAt) (seat both : SeatAt) → IsDone table (length cs) c
+      → 1 ≤ c.tree.seat.view.allowance.places → StandsFor cs seat → KeepsOwn seat.view c.tree.seat.view both.view
+      → StandsFor (cs ++ c ∷ []) both
+  joined_more cs c seat both d works so_far keeps = record {
+    answers = λ p below.
+        let count = keeps.places p in
+        let long = length-append cs (c ∷ []) in
+        elim (cases_lt p (length cs)) [
+          | inl earlier ↦ (let has = so_far.answers p earlier in omega arith)
+          | inr late ↦
+              let last : length cs ≡ p = omega arith in
+              let at = d.place in
+              let has : 1 ≤ times p (places_of c.tree.seat.view) =
+              subst (λ q. 1 ≤ times q (places_of c.tree.seat.view)) (at ∙ last) (works_there c.tree.seat.view works) in
+              omega arith
+        ];
+    met = λ i x there.
+        let callers = map script_caller cs in
+        let long = length-map cs script_caller in
+        let is : slice_get (map script_caller cs ++ script_caller c ∷ []) i ≡ Some x =
+        subst (λ xs. slice_get xs i ≡ Some x) (map-push cs) there in
+        let read = get_or_from_slice_get (map script_caller cs ++ script_caller c ∷ []) i x x is in
+        let below = slice_get_within (map script_caller cs ++ script_caller c ∷ []) i x is in
+        let size = length-append (map script_caller cs) (script_caller c ∷ []) in
+        elim (cases_lt i (length (map script_caller cs))) [
+          | inl earlier ↦
+              let met = so_far.met i x (slice_get-get_or (map script_caller cs) i x earlier
+              ∙ ap Some (sym (get_or_append_left (map script_caller cs) (script_caller c ∷ []) x i earlier) ∙ read)) in (
+                prefix_trans x.seen seat.view.seen both.view.seen met.0 keeps.first_seen,
+                keeps.first_own i (so_far.answers i (omega arith)) ∙ met.1,
+              )
+          | inr late ↦
+              let last : length (map script_caller cs) ≡ i = omega arith in
+              let same : script_caller c ≡ x = sym (get_or_push (map script_caller cs) (script_caller c) x i last) ∙ read in
+              let at : c.tree.seat.view.allowance.place ≡ i = d.place ∙ sym long ∙ last in
+              let has : 1 ≤ times i (places_of c.tree.seat.view) =
+              subst (λ q. 1 ≤ times q (places_of c.tree.seat.view)) at (works_there c.tree.seat.view works) in
+              subst (λ (z : Caller). IsPrefix z.seen both.view.seen × (own_of i both.view.seen ≡ own_of i z.own)) same
+              (keeps.second_seen, keeps.second_own i has ∙ sym (own_met i c at))
+        ];
+  }
+    where
+      map-push : (xs : List ScriptClientAt) → map script_caller (xs ++ c ∷ []) ≡ map script_caller xs ++ script_caller c ∷ []
+      map-push [] = refl
+      map-push (x ∷ xs) = ap (λ ys. script_caller x ∷ ys) (map-push xs)
+
+-- another seat, joined with one that stands for clients, leaves it so
+pub joined_other : (clients : List ScriptClientAt) (seat other both : SeatAt) → StandsFor clients seat
+    → KeepsOwn seat.view other.view both.view → StandsFor clients both
+joined_other clients seat other both so_far keeps = record {
+  answers = λ p below. (let count = keeps.places p in let has = so_far.answers p below in omega arith);
+  met = λ i x there.
+      let met = so_far.met i x there in
+      let below : i < length clients = (let n = slice_get_within (map script_caller clients) i x there in
+      let long = length-map clients script_caller in omega arith) in
+      (prefix_trans x.seen seat.view.seen both.view.seen met.0 keeps.first_seen, keeps.first_own i (so_far.answers i below) ∙ met.1);
+}
+
+-- a look at the clock leaves the seat as it was, but for what it knows of the clock
+pub looked_still : (clients : List ScriptClientAt) (seat after : SeatAt) (clock : ℕ) (h : List Mark)
+    → after.view ≡ after_clock_load (noted seat.view LoadClock clock) clock h → StandsFor clients seat → StandsFor clients after
+looked_still clients seat after clock h is so_far = record {
+  answers = λ p below. subst (λ (v : View). 1 ≤ times p (places_of v)) (sym is) (so_far.answers p below);
+  met = subst (λ (v : View). HaveMet (map script_caller clients) v.seen) (sym is) so_far.met;
+}
+
+-- A seat that has done nothing, cut into one for each script.
+
+seat_is : (table : TableAt) (view : View) (looked : ℕ) (s : SeatAt) → s.table ≡ table → s.view ≡ view → s.listed ≡ [] → s.looked ≡ looked
+    → s ≡ record { table = table; view = view; listed = []; looked = looked }
+seat_is table view looked s of_table sees lists looks =
+    λ j. record { table = of_table j; view = sees j; listed = lists j; looked = looks j }
+
+-- a split leaves the first place and gives away the others, or the other way about
+pub idle_first : (table : TableAt) (place places tickets away given : ℕ) (was s : SeatAt) → was ≡ seat_for table place places tickets
+    → s.table ≡ was.table → s.view ≡ first_of away given was.view → s.listed ≡ was.listed → s.looked ≡ was.looked
+    → places ≡ away + 1 → s ≡ seat_for table place 1 (tickets - given)
+idle_first table place places tickets away given was s is of_table sees lists looks all =
+    let one : places - away ≡ 1 = omega arith in
+    seat_is table (new_view place 1 (tickets - given) []) (region table.slots table.places place) s
+    (of_table ∙ ap (λ (x : SeatAt). x.table) is)
+    (sees ∙ ap (λ (x : SeatAt). first_of away given x.view) is ∙ ap (λ n. new_view place n (tickets - given) []) one)
+    (lists ∙ ap (λ (x : SeatAt). x.listed) is) (looks ∙ ap (λ (x : SeatAt). x.looked) is)
+
+pub idle_second : (table : TableAt) (place places tickets away given : ℕ) (was s : SeatAt) → was ≡ seat_for table place places tickets
+    → s.table ≡ was.table → s.view ≡ second_of away given was.view → s.listed ≡ []
+    → s.looked ≡ region was.table.slots was.table.places s.view.allowance.place
+    → places ≡ away + 1 → s ≡ seat_for table (place + 1) away given
+idle_second table place places tickets away given was s is of_table sees lists looks all =
+    let next : place + places - away ≡ place + 1 = omega arith in
+    let new : s.view ≡ new_view (place + 1) away given [] =
+    sees ∙ ap (λ (x : SeatAt). second_of away given x.view) is ∙ ap (λ n. new_view n away given []) next in
+    seat_is table (new_view (place + 1) away given []) (region table.slots table.places (place + 1)) s
+    (of_table ∙ ap (λ (x : SeatAt). x.table) is) new lists
+    (looks ∙ (λ j. region (is j).table.slots (is j).table.places (new j).allowance.place))
+
+-- ---- tickets
+
+tickets_add : (cookies : Bool) (a b : ℕ) → tickets_for cookies (a + b) ≡ tickets_for cookies a + tickets_for cookies b
+tickets_add true a b = omega arith
+tickets_add false a b = omega arith
+
+pub tickets_none : (cookies : Bool) → tickets_for cookies 0 ≡ 0
+tickets_none true = refl
+tickets_none false = refl
+
+-- those for the scripts from number i on are those for this script and for the ones after it
+pub tickets_left : (cookies : Bool) (scripts : List (List Op)) (i : ℕ) (script : List Op) → slice_get scripts i ≡ Some script
+    → tickets_for cookies (op_count (drop i scripts))
+    ≡ tickets_for cookies (length script) + tickets_for cookies (op_count (drop (i + 1) scripts))
+tickets_left cookies scripts i script there = ap (tickets_for cookies) (tickets_turn scripts i script there)
+    ∙ tickets_add cookies (length script) (op_count (drop (i + 1) scripts))
+
+-- A call of the client of a script is that of the client that it is.
+
+module _ {W G : Type 0} (was now : EitherClient W G) (op : Op) (told answer : Told) (same : told ≡ answer) where
+  pub called_waiting : (client after : ClientAt) → was ≡ Waiting client → now ≡ Waiting after → waiting.HasCalled client op answer after
+      → HasCalled (seen_as was) op told (seen_as now)
+  called_waiting client after is is_now made =
+      let call : HasCalled (seen_as {W = W} {G = G} (Waiting client)) op answer (seen_as {W = W} {G = G} (Waiting after)) =
+      record { same = refl; made = made } in
+      subst (λ c. HasCalled (seen_as c) op told (seen_as now)) (sym is)
+      (subst (λ c. HasCalled (seen_as {W = W} {G = G} (Waiting client)) op told (seen_as c)) (sym is_now)
+      (subst (λ t. HasCalled (seen_as {W = W} {G = G} (Waiting client)) op t (seen_as {W = W} {G = G} (Waiting after)))
+      (sym same) call))
+
+  pub called_holding : (client after : CookieClientAt) → was ≡ Holding client → now ≡ Holding after
+      → holding.HasCalled client op answer after → HasCalled (seen_as was) op told (seen_as now)
+  called_holding client after is is_now made =
+      let call : HasCalled (seen_as {W = W} {G = G} (Holding client)) op answer (seen_as {W = W} {G = G} (Holding after)) =
+      record { same = refl; made = made } in
+      subst (λ c. HasCalled (seen_as c) op told (seen_as now)) (sym is)
+      (subst (λ c. HasCalled (seen_as {W = W} {G = G} (Holding client)) op told (seen_as c)) (sym is_now)
+      (subst (λ t. HasCalled (seen_as {W = W} {G = G} (Holding client)) op t (seen_as {W = W} {G = G} (Holding after)))
+      (sym same) call))
+
+-- A run of scripts on the tree, from the workers' chains of calls to one explained history.
 
 -- ---- clients before and after the run
 

@@ -1,4 +1,2 @@
-pub mod Hiring
-pub mod Joined
+pub mod Calls
 pub mod Finished
-pub mod ClientCalls

@@ -1,16 +1,15 @@
 //! The client of a script.
 ghost use Rattle.std.specs.Prelude.{◌≡◌, ◌≤◌};
 ghost use Rattle.seat_table.specs.Seats.{IsQuietSeat, shape_of};
-ghost use Rattle.tree_run.specs.Callers.{newcomer, left_of, HasCalled};
-ghost use Rattle.tree_run.specs.Runs.{tickets_for};
+ghost use Rattle.tree_run.specs.Runs.{newcomer, left_of, HasCalled, tickets_for};
 
-use cookie_client::CookieClient;
+use crate::CookieClient;
 use prcu_marks::{Client, Gate};
 use prcu_model::{Op, Told};
 use seat_table::{CitrusTable, Seat, WaitPart};
 use std::marker::Model;
 use std::sync::Wait;
-use tree_client::TreeClient;
+use tree_lift::TreeClient;
 
 /// How many tickets so many operations may use: sixteen for each, and one more for each where cookies are held.
 pub fn tickets_for(cookies: bool, ops: u64) -> u64
@@ -34,7 +33,7 @@ pub(crate) struct ScriptClient<'a, W: WaitPart, G: Gate> {
 }
 
 impl<'a, W: WaitPart, G: Gate> Model for ScriptClient<'a, W, G> {
-    ghost use Rattle.tree_run.specs.Callers.{ScriptClientAt, seen_as};
+    ghost use Rattle.tree_run.specs.Runs.{ScriptClientAt, seen_as};
 
     ghost Value = { ScriptClientAt };
 
@@ -75,7 +74,7 @@ impl<'a, W: WaitPart, G: Gate> ScriptClient<'a, W, G> {
 }
 
 impl<'a, W: WaitPart, G: Gate> Client for ScriptClient<'a, W, G> {
-    ghost use Rattle.tree_run.specs.Callers.{left_of, HasCalled};
+    ghost use Rattle.tree_run.specs.Runs.{left_of, HasCalled};
 
     /// Sixteen tickets are left for each, or seventeen where cookies are held.
     ghost left = { left_of };

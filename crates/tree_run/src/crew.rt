@@ -1,11 +1,9 @@
 //! Workers for scripts, each with a seat of its own on one tree.
 ghost use Rattle.std.specs.Prelude.{◌≡◌, ℕ, ◌≤◌, [], ◌∷◌, ◌++◌, length, IfOk};
 ghost use Rattle.prcu_model.specs.Scripts.{op_count};
-ghost use Rattle.client_run.specs.Workers.{Work};
-ghost use Rattle.client_run.specs.Crews.{IsHired, IsCrew};
+ghost use Rattle.client_run.specs.Crews.{Work, IsHired, IsCrew};
 ghost use Rattle.seat_table.specs.Seats.{IsQuietSeat};
-ghost use Rattle.tree_run.specs.Callers.{ScriptClientAt};
-ghost use Rattle.tree_run.specs.Runs.{run_with, seat_for, client_for, tickets_for};
+ghost use Rattle.tree_run.specs.Runs.{ScriptClientAt, run_with, seat_for, client_for, tickets_for};
 
 use crate::client::{ScriptClient, tickets_for};
 use client_run::Worker;

@@ -2,10 +2,8 @@
 ghost use Rattle.std.specs.Prelude.{◌≡◌, ◌+◌, ◌≤◌, ◌++◌, ◌∷◌, length, map, vec_len, vec_capacity};
 ghost use Rattle.seat_table.specs.Seats.{IsQuietSeat, shape_of};
 ghost use Rattle.seat_table.specs.Gains.{IsInformed, StaysIn};
-ghost use Rattle.client_run.specs.Workers.{Work};
-ghost use Rattle.client_run.specs.Crews.{AreDone, HasDismissed};
-ghost use Rattle.tree_run.specs.Callers.{ScriptClientAt};
-ghost use Rattle.tree_run.specs.Runs.{IsDone, StandsFor};
+ghost use Rattle.client_run.specs.Crews.{Work, AreDone, HasDismissed};
+ghost use Rattle.tree_run.specs.Runs.{ScriptClientAt, IsDone, StandsFor};
 
 use crate::client::ScriptClient;
 use client_run::Worker;

@@ -1,20 +1,16 @@
 //! Scripts run beside each other.
 ghost use Rattle.std.specs.Prelude.{◌≡◌, ℕ, ◌<◌, ◌≤◌, Bool, IfOk, length};
-ghost use Rattle.prcu_model.specs.Fronts.{AreExplainable};
-ghost use Rattle.prcu_model.specs.History.{IsLegal};
-ghost use Rattle.prcu_model.specs.Slots.{StaysWithin};
-ghost use Rattle.prcu_model.specs.Lists.{entries_of};
-ghost use Rattle.prcu_model.specs.Scripts.{op_count};
+ghost use Rattle.prcu_model.specs.Fronts.{AreExplainable, StaysWithin};
+ghost use Rattle.prcu_model.specs.Dictionary.{IsLegal};
+ghost use Rattle.prcu_model.specs.Scripts.{entries_of, op_count};
 ghost use Rattle.prcu_marks.specs.Marks.{updates_of};
-ghost use Rattle.prcu_marks.specs.Runs.{FitsScripts};
-ghost use Rattle.client_run.specs.Workers.{HaveMade};
-ghost use Rattle.client_run.specs.Crews.{IsCrew};
+ghost use Rattle.prcu_marks.specs.Callers.{FitsScripts};
+ghost use Rattle.client_run.specs.Crews.{HaveMade, IsCrew};
 ghost use Rattle.list_laws.specs.Counts.{times};
-ghost use Rattle.core_state.specs.views.Views.{places_of};
+ghost use Rattle.core_state.specs.Views.{places_of};
 ghost use Rattle.seat_table.specs.Seats.{TableAt, IsQuietSeat, shape_of};
 ghost use Rattle.seat_table.specs.Gains.{IsInformed, StaysIn};
-ghost use Rattle.tree_run.specs.Callers.{HasCalled};
-ghost use Rattle.tree_run.specs.Runs.{run_with, seat_for, client_for, tickets_for, HasRun};
+ghost use Rattle.tree_run.specs.Runs.{HasCalled, run_with, seat_for, client_for, tickets_for, HasRun};
 
 use crate::client::{ScriptClient, tickets_for};
 use crate::crew::hire;

@@ -8,7 +8,7 @@ use prcu_model::{Op, Reply, Told};
 use seat_table::{CitrusTable, Seat, WaitPart};
 use std::process::Abort;
 use std::sync::Wait;
-use tree_client::TreeClient;
+use tree_lift::TreeClient;
 
 // A call as a line of an account tells it, with the number of its update where it is one.
 macro_rules! call {

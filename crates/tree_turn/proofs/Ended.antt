@@ -1,6 +1,9 @@
--- What a turn leaves, whether it is made or not: all its calls one after another.
-use Rattle.std.proofs.Common.{◌≡◌, ◌≢◌, ℕ, suc, ◌+◌, ◌-◌, ◌<◌, ◌≤◌, Bool, false, cond, List, [], ◌∷◌, ◌++◌, length, map, Option, Some, None, refl, sym, ap, subst, ◌∙◌, ⊎_elim, inl, inr, arith, append-nil}
-use Rattle.std.proofs.lemmas.Bool.{cases_eq}
+-- The tests of a turn, and what it leaves.
+use Rattle.std.proofs.Common.{◌≡◌, ◌≢◌, ℕ, ◌*◌, ◌==◌, not, true, false, sym, ap, ◌∙◌, eq-eqb, ne_eqb, suc, ◌+◌, ◌-◌, ◌<◌, ◌≤◌, Bool, cond, List, [], ◌∷◌, ◌++◌, length, map, Option, Some, None, refl, subst, ⊎_elim, inl, inr, arith, append-nil}
+use Rattle.std.proofs.lemmas.Bool.{eqb-true, and_parts, and_from, false≢true, cases_eq}
+use Rattle.tree_turn.specs.declared.turn.Turn.{Turn}
+use Rattle.tree_turn.specs.declared.turn.TurnWords.{TurnWords}
+use Rattle.tree_turn.specs.Turns.{IsAsRecorded, AreAside, agrees, stands_aside, HasRecorded, IsReadyToTurn, IsQuietButHand, HasTurned, HasTurnedNone, FoundOwn, FoundLocked, FoundOther, Finds, lock_steps, load_steps, unlock_steps, replace_steps, turn_steps, is_rotation, three_locks, parent_known, node_known, loaded_locks, adding, ThreeAside, HasLocked, HasGivenUp, HasLoadedAll, HasUnlocked, MayReplace, HasReplaced}
 use Rattle.std.proofs.lemmas.List.{length-append}
 use mathlib.Core.Option.{some}
 use lib.ListN.{get_elem?}
@@ -12,25 +15,76 @@ use Rattle.core_state.specs.declared.view.Retired.{Retired}
 use Rattle.core_state.specs.declared.view.StepMade.{StepMade}
 use Rattle.core_state.specs.declared.view.Trail.{Trail}
 use Rattle.core_state.specs.declared.view.View.{View}
-use Rattle.core_state.specs.steps.Rotations.{rotate_marks}
-use Rattle.core_state.specs.steps.Slots.{IsRetiredAt}
-use Rattle.core_state.specs.views.Known.{HasLock, lock_of}
-use Rattle.core_state.specs.views.Views.{steps_of, steps_made, unraised_among}
-use Rattle.core_frames.proofs.views.RetiredLists.{unraised_append}
-use Rattle.core_frames.proofs.views.Roles.{map_append}
+use Rattle.core_state.specs.Links.{rotate_marks, IsRetiredAt}
+use Rattle.core_state.specs.Views.{HasLock, lock_of, steps_of, steps_made, unraised_among}
+use Rattle.core_frames.proofs.Roles.{unraised_append, map_append}
 use Rattle.list_laws.specs.Counts.{times, IsIn}
 use Rattle.list_laws.proofs.Lists.{times_append, times_here, times_other}
 use Rattle.seat_table.specs.Gains.{Sees, TellsApart}
 use Rattle.seat_table.specs.Seats.{SeatAt, AreListed, IsQuietSeat, IsSlotOf}
-use Rattle.tree_points.specs.Progress.{HasGone}
-use Rattle.tree_points.proofs.Gone.{allowed, gone_none, gone_with}
+use Rattle.tree_points.specs.Points.{HasGone}
+use Rattle.tree_points.proofs.Locks.{allowed, gone_none, gone_with}
 use Rattle.node_slots.specs.Taking.{MakesSteps}
-use Rattle.node_slots.proofs.Listed.{listed_length, not_in}
-use Rattle.tree_turn.specs.declared.turn.Turn.{Turn}
-use Rattle.tree_turn.specs.declared.turn.TurnWords.{TurnWords}
-use Rattle.tree_turn.specs.Turns.{HasRecorded, IsReadyToTurn, IsQuietButHand, IsAsRecorded, AreAside, HasTurned, HasTurnedNone, FoundOwn, FoundLocked, FoundOther, Finds, lock_steps, load_steps, unlock_steps, replace_steps, turn_steps, is_rotation}
-use Rattle.tree_turn.specs.Locked.{three_locks, parent_known, node_known, loaded_locks, adding, ThreeAside, HasLocked, HasGivenUp, HasLoadedAll, HasUnlocked, MayReplace, HasReplaced}
+use Rattle.node_slots.proofs.Returns.{listed_length, not_in}
 use Rattle.tree_turn.proofs.Standing.{steps_both}
+
+-- What the two tests of a turn tell.
+
+pub recorded_by : {t : Turn} {words : TurnWords} → agrees t words ≡ true → IsAsRecorded t words
+recorded_by {t} {words} e =
+    let one = and_parts (words.parent_life == 2 * t.parent_generation) _ e in
+    let two = and_parts (words.node.life == 2 * t.node_generation) _ one.1 in
+    let three = and_parts (words.child.life == 2 * t.child_generation) _ two.1 in
+    let four = and_parts (words.link == t.node) (words.node.content.turn_link == t.child) three.1 in
+    record {
+      parent_life = eqb-true words.parent_life (2 * t.parent_generation) one.0;
+      node_life = eqb-true words.node.life (2 * t.node_generation) two.0;
+      child_life = eqb-true words.child.life (2 * t.child_generation) three.0;
+      link = eqb-true words.link t.node four.0;
+      turn_link = eqb-true words.node.content.turn_link t.child four.1;
+    }
+
+pub not_recorded : {t : Turn} {words : TurnWords} → agrees t words ≡ false → IsAsRecorded t words → ⊥
+not_recorded {t} {words} e is =
+    let all : agrees t words ≡ true = and_from _ _ (eq-eqb words.parent_life (2 * t.parent_generation) is.parent_life)
+    (and_from _ _ (eq-eqb words.node.life (2 * t.node_generation) is.node_life)
+    (and_from _ _ (eq-eqb words.child.life (2 * t.child_generation) is.child_life)
+    (and_from _ _ (eq-eqb words.link t.node is.link) (eq-eqb words.node.content.turn_link t.child is.turn_link)))) in
+    false≢true (sym e ∙ all)
+
+apart : (a b : ℕ) → not (a == b) ≡ true → a ≢ b
+apart a b e same = false≢true (sym (ap not (eq-eqb a b same)) ∙ e)
+
+parted : (a b : ℕ) → a ≢ b → not (a == b) ≡ true
+parted a b ne = ap not (ne_eqb a b ne)
+
+pub aside_by : {t : Turn} {bottom top : ℕ} → stands_aside t bottom top ≡ true → AreAside t bottom top
+aside_by {t} {bottom} {top} e =
+    let one = and_parts (not (bottom == top)) _ e in
+    let two = and_parts (not (bottom == t.parent)) _ one.1 in
+    let three = and_parts (not (bottom == t.node)) _ two.1 in
+    let four = and_parts (not (bottom == t.child)) _ three.1 in
+    let five = and_parts (not (top == t.parent)) _ four.1 in
+    let six = and_parts (not (top == t.node)) (not (top == t.child)) five.1 in
+    record {
+      two = apart bottom top one.0;
+      bottom_parent = apart bottom t.parent two.0;
+      bottom_node = apart bottom t.node three.0;
+      bottom_child = apart bottom t.child four.0;
+      top_parent = apart top t.parent five.0;
+      top_node = apart top t.node six.0;
+      top_child = apart top t.child six.1;
+    }
+
+pub not_aside : {t : Turn} {bottom top : ℕ} → stands_aside t bottom top ≡ false → AreAside t bottom top → ⊥
+not_aside {t} {bottom} {top} e is =
+    let all : stands_aside t bottom top ≡ true = and_from _ _ (parted bottom top is.two)
+    (and_from _ _ (parted bottom t.parent is.bottom_parent) (and_from _ _ (parted bottom t.node is.bottom_node)
+    (and_from _ _ (parted bottom t.child is.bottom_child) (and_from _ _ (parted top t.parent is.top_parent)
+    (and_from _ _ (parted top t.node is.top_node) (parted top t.child is.top_child)))))) in
+    false≢true (sym e ∙ all)
+
+-- What a turn leaves, whether it is made or not: all its calls one after another.
 
 -- the slot that a seat answers for
 pub same_slot : (o : Option Held) (held : Held) (slot : ℕ) → o ≡ Some held → IsSlotOf (Some slot) o → slot ≡ held.slot

@@ -1,10 +1,9 @@
 //! What a turn loads under its locks, and whether it is as recorded.
 ghost use Rattle.std.specs.Prelude.{◌≡◌, ◌*◌, ◌==◌, [], None};
-ghost use Rattle.core_state.specs.memory.Words.{across};
-ghost use Rattle.core_state.specs.views.Known.{HasLock};
+ghost use Rattle.core_state.specs.Memory.{across};
+ghost use Rattle.core_state.specs.Views.{HasLock};
 ghost use Rattle.seat_table.specs.Seats.{shape_of};
-ghost use Rattle.tree_turn.specs.Turns.{AreThree, node_loads};
-ghost use Rattle.tree_turn.specs.Locked.{agrees, HasLoaded, HasLoadedAll, IsAside, ThreeAside, node_known, three_locks};
+ghost use Rattle.tree_turn.specs.Turns.{AreThree, node_loads, agrees, HasLoaded, HasLoadedAll, IsAside, ThreeAside, node_known, three_locks};
 
 use crate::turn::{Content, NodeWords, Turn, TurnWords};
 use core_state::{generation_of, marked};

@@ -3,8 +3,7 @@ ghost use Rattle.std.specs.Prelude.{◌≡◌, List, [], true, false, None};
 ghost use Rattle.core_state.specs.declared.view.Known.{Known};
 ghost use Rattle.seat_table.specs.Gains.{IsInformed};
 ghost use Rattle.seat_table.specs.Seats.{shape_of};
-ghost use Rattle.tree_turn.specs.Turns.{AreThree};
-ghost use Rattle.tree_turn.specs.Locked.{HasLocked, HasGivenUp, HasUnlocked, three_locks};
+ghost use Rattle.tree_turn.specs.Turns.{AreThree, HasLocked, HasGivenUp, HasUnlocked, three_locks};
 
 use crate::turn::Turn;
 use seat_table::{CitrusTable, Seat, WaitWords, steps};

@@ -1,9 +1,8 @@
 //! A node and its child are replaced by two new nodes.
 ghost use Rattle.std.specs.Prelude.{◌≡◌, None};
-ghost use Rattle.core_state.specs.views.Known.{lock_of};
+ghost use Rattle.core_state.specs.Views.{lock_of};
 ghost use Rattle.seat_table.specs.Seats.{shape_of};
-ghost use Rattle.tree_turn.specs.Turns.{HasRecorded, lower_content, upper_content};
-ghost use Rattle.tree_turn.specs.Locked.{HasFilled, HasReplaced, IsHeldSlot, MayReplace};
+ghost use Rattle.tree_turn.specs.Turns.{HasRecorded, lower_content, upper_content, HasFilled, HasReplaced, IsHeldSlot, MayReplace};
 
 use crate::loads::across;
 use crate::turn::{Content, Turn, TurnWords};

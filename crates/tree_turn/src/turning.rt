@@ -1,11 +1,10 @@
 //! The call that makes a turn.
 ghost use Rattle.std.specs.Prelude.{◌≡◌, ◌+◌, Some, true, false, [], ◌∷◌, ◌++◌};
-ghost use Rattle.core_state.specs.views.Views.{steps_made};
+ghost use Rattle.core_state.specs.Views.{steps_made};
 ghost use Rattle.seat_table.specs.Gains.{IsInformed};
 ghost use Rattle.seat_table.specs.Seats.{AreListed, IsQuietSeat, IsSlotOf, shape_of};
-ghost use Rattle.tree_points.specs.Progress.{HasGone};
-ghost use Rattle.tree_turn.specs.Turns.{HasRecorded, IsReadyToTurn, IsQuietButHand, HasTurned, HasTurnedNone, is_rotation};
-ghost use Rattle.tree_turn.specs.Locked.{stands_aside};
+ghost use Rattle.tree_points.specs.Points.{HasGone};
+ghost use Rattle.tree_turn.specs.Turns.{HasRecorded, IsReadyToTurn, IsQuietButHand, HasTurned, HasTurnedNone, is_rotation, stands_aside};
 
 use crate::loads::{is_as_recorded, load_words};
 use crate::locks::{lock_three, unlock_three};

@@ -1,2 +1,1 @@
 pub mod Snapshots
-pub mod WatchText

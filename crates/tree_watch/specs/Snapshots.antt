@@ -1,12 +1,15 @@
+-- Snapshots that are taken beside updates, and texts of them.
 -- Snapshots of a key range, taken one after another beside updates, and what they are snapshots of.
 -- Source: docs/FORMATS.md, "Watch texts".
-use Rattle.std.specs.Prelude.{◌≡◌, ℕ, ◌+◌, ◌*◌, ◌≤◌, List, [], ◌∷◌, ◌++◌, length, Option, Some, None}
+use Rattle.std.specs.Prelude.{◌≡◌, ℕ, ◌+◌, ◌*◌, ◌≤◌, List, [], ◌∷◌, ◌++◌, length, Option, Some, None, codes, decimal, flat_map}
 use mathlib.Core.List.{IsPrefix}
 use Rattle.prcu_model.specs.declared.operation.Update.{Update}
 use Rattle.prcu_marks.specs.Marks.{updates_of, own_of}
 use Rattle.core_state.specs.declared.view.Look.{Look}
 use Rattle.core_state.specs.declared.view.View.{View}
 use Rattle.exact_list.specs.Pairs.{Pair, had_at, ArePairs}
+use Rattle.prcu_model.specs.declared.operation.Op.{Op}
+use Rattle.account_text.specs.Account.{IsAccount, pair_text}
 
 -- a snapshot: after how many updates it was so, its pairs, and the key after them where there are more
 pub record SnapshotAt : Type 0 where
@@ -58,3 +61,30 @@ pub record OnlyLists (v w : View) : Type 0 where
   pub seen : IsPrefix v.seen w.seen
   pub looks : IsPrefix v.looks w.looks
   pub own : updates_of (own_of v.allowance.place w.seen) ≡ updates_of (own_of v.allowance.place v.seen)
+
+-- Which texts are watch texts: an account, and four snapshots of a key range by its history.
+-- Source: docs/FORMATS.md, "Watch texts".
+
+-- the front of a snapshot, and the key after its pairs where there are more
+abbrev pub kind_text : ℕ → Option ℕ → List ℕ
+kind_text front None = codes "whole " ++ decimal front
+kind_text front (Some next) = codes "part " ++ decimal front ++ codes " " ++ decimal next
+
+-- a snapshot: a line with how many pairs it has at its end, and a line for each pair
+abbrev pub block_text : SnapshotAt → List ℕ
+block_text s = kind_text s.front s.next ++ codes " " ++ decimal (length s.pairs) ++ codes "\n" ++ flat_map pair_text s.pairs
+
+-- the range, its snapshots, and `end`
+abbrev pub watch_part : ℕ → ℕ → List SnapshotAt → List ℕ
+watch_part low high snapshots = codes "watch " ++ decimal low ++ codes " " ++ decimal high ++ codes "\n" ++ flat_map block_text snapshots
+    ++ codes "end\n"
+
+-- A text is a watch text of scripts, slots and a key range where it prints their account and, behind it, four snapshots of the range by
+-- the account's history, at fronts that never fall.
+pub record IsWatchText (scripts : List (List Op)) (slots low high : ℕ) (text : List ℕ) : Type 0 where
+  pub account_text : List ℕ
+  pub account : IsAccount scripts slots account_text
+  pub snapshots : List SnapshotAt
+  pub four : length snapshots ≡ 4
+  pub taken : AreSnapshots account.history low high 0 snapshots
+  pub printed : text ≡ account_text ++ watch_part low high snapshots

@@ -1,15 +1,13 @@
 //! Scripts run beside each other, and snapshots taken beside them.
 ghost use Rattle.std.specs.Prelude.{◌≡◌, ℕ, ◌+◌, ◌<◌, ◌≤◌, ◌*◌, false, IfOk, [], length};
 ghost use Rattle.std.specs.Thread.{IsSync};
-ghost use Rattle.prcu_model.specs.Fronts.{AreExplainable};
-ghost use Rattle.prcu_model.specs.History.{IsLegal};
-ghost use Rattle.prcu_model.specs.Slots.{StaysWithin};
-ghost use Rattle.prcu_model.specs.Lists.{entries_of};
-ghost use Rattle.prcu_model.specs.Scripts.{op_count};
+ghost use Rattle.prcu_model.specs.Fronts.{AreExplainable, StaysWithin};
+ghost use Rattle.prcu_model.specs.Dictionary.{IsLegal};
+ghost use Rattle.prcu_model.specs.Scripts.{entries_of, op_count};
 ghost use Rattle.prcu_marks.specs.Marks.{updates_of, own_of};
-ghost use Rattle.prcu_marks.specs.Runs.{FitsScripts};
+ghost use Rattle.prcu_marks.specs.Callers.{FitsScripts};
 ghost use Rattle.list_laws.specs.Counts.{times};
-ghost use Rattle.core_state.specs.views.Views.{places_of};
+ghost use Rattle.core_state.specs.Views.{places_of};
 ghost use Rattle.seat_table.specs.Seats.{IsQuietSeat, shape_of};
 ghost use Rattle.seat_table.specs.Gains.{IsInformed, StaysIn};
 ghost use Rattle.tree_run.specs.Runs.{run_with, seat_for, tickets_for, HasRun};

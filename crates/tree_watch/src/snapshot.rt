@@ -2,8 +2,7 @@
 ghost use Rattle.std.specs.Prelude.{◌≡◌, ◌++◌, [], ◌∷◌, IfOk, OnOk, flat_map, length};
 ghost use Rattle.prcu_marks.specs.Marks.{updates_of};
 ghost use Rattle.seat_table.specs.Seats.{IsQuietSeat};
-ghost use Rattle.tree_watch.specs.Snapshots.{AreSnapshots, OnlyLists, HasLookedAt, none_yet};
-ghost use Rattle.tree_watch.specs.WatchText.{block_text};
+ghost use Rattle.tree_watch.specs.Snapshots.{AreSnapshots, OnlyLists, HasLookedAt, none_yet, block_text};
 
 use crate::pauses::{Pace, pause};
 use crate::writing::push_block;

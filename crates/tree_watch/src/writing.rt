@@ -1,11 +1,10 @@
 //! Watch texts: an account, and snapshots behind it.
 ghost use Rattle.std.specs.Prelude.{◌≡◌, ◌++◌, IfOk, OnOk, length};
 ghost use Rattle.prcu_model.specs.Fronts.{AreExplainable};
-ghost use Rattle.prcu_model.specs.History.{IsLegal};
-ghost use Rattle.prcu_model.specs.Lists.{entries_of};
+ghost use Rattle.prcu_model.specs.Dictionary.{IsLegal};
+ghost use Rattle.prcu_model.specs.Scripts.{entries_of};
 ghost use Rattle.account_text.specs.Account.{HaveReplies};
-ghost use Rattle.tree_watch.specs.Snapshots.{AreSnapshots};
-ghost use Rattle.tree_watch.specs.WatchText.{kind_text, block_text, watch_part, IsWatchText};
+ghost use Rattle.tree_watch.specs.Snapshots.{AreSnapshots, kind_text, block_text, watch_part, IsWatchText};
 
 use crate::snapshot::{Snapshot, Snapshots};
 use account_text::{make_account, push_last_number, push_pairs};

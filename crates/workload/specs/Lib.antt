@@ -1,4 +1,2 @@
 pub mod Draws
 pub mod Summaries
-pub mod SummaryText
-pub mod Counting

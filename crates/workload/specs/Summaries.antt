@@ -1,15 +1,17 @@
--- What a summary of a run counts.
--- Source: docs/FORMATS.md, "The made workload".
-use Rattle.std.specs.Prelude.{ℕ, Bool, true, false, List, length, map as list_map, sum_by, count_by, None}
-use Rattle.std.specs.FinMap as map
+-- Summaries of runs: what they count, how counts grow, and their bytes.
+use Rattle.std.specs.Prelude.{ℕ, Bool, true, false, List, length, map as list_map, sum_by, count_by, None, ◌+◌, ◌^◌, ◌<◌, ◌++◌, codes, decimal}
 use Rattle.prcu_model.specs.declared.operation.Op.{Op}
 use Rattle.prcu_model.specs.declared.operation.Reply.{Reply}
 use Rattle.prcu_model.specs.declared.operation.Reply.TheVariants.{New, Old, Val, Absent, Gone}
 use Rattle.prcu_model.specs.declared.operation.Told.{Told}
-use Rattle.prcu_model.specs.Dictionary.{Dictionary, map_of}
-use Rattle.prcu_model.specs.Plain.{plain_tolds, plain_history}
+use Rattle.prcu_model.specs.Dictionary.{Dictionary, map_of, plain_tolds, plain_history}
 use Rattle.prcu_model.specs.Scripts.{op_count}
 use Rattle.workload.specs.declared.summing.Summary.{Summary}
+use Rattle.workload.specs.declared.summing.Counts.{Counts}
+use Rattle.std.specs.FinMap as map
+
+-- What a summary of a run counts.
+-- Source: docs/FORMATS.md, "The made workload".
 
 -- the replies of each name that a summary counts
 abbrev pub is_new : Reply → Bool
@@ -67,3 +69,55 @@ summary_with scripts tolds m = record {
 -- the summary of scripts that are run one after another on a plain map
 abbrev pub plain_summary : List (List Op) → Summary
 plain_summary scripts = summary_with scripts (plain_tolds None scripts) (map_of (plain_history None scripts))
+
+-- Counts of replies as they grow.
+-- Source: docs/FORMATS.md, "The made workload".
+
+-- how often each reply stands in these lists
+abbrev pub counts_of : List (List Told) → Counts
+counts_of tolds = record {
+  added = reply_count is_new tolds;
+  present = reply_count is_old tolds;
+  valued = reply_count is_val tolds;
+  absent = reply_count is_absent tolds;
+  removed = reply_count is_gone tolds;
+}
+
+-- the counts after these replies
+abbrev pub counts_after : Counts → List Reply → Counts
+counts_after counts replies = record {
+  added = counts.added + count_by is_new replies;
+  present = counts.present + count_by is_old replies;
+  valued = counts.valued + count_by is_val replies;
+  absent = counts.absent + count_by is_absent replies;
+  removed = counts.removed + count_by is_gone replies;
+}
+
+-- no count is too high for so many more
+pub record HasRoom (counts : Counts) (more : ℕ) : Type 0 where
+  pub added : counts.added + more < 2 ^ 64
+  pub present : counts.present + more < 2 ^ 64
+  pub valued : counts.valued + more < 2 ^ 64
+  pub absent : counts.absent + more < 2 ^ 64
+  pub removed : counts.removed + more < 2 ^ 64
+
+-- The bytes of a summary.
+-- Source: docs/FORMATS.md, "The made workload".
+
+-- a word, a space and a number
+abbrev pub count_line : List ℕ → ℕ → List ℕ
+count_line word number = word ++ codes " " ++ decimal number ++ codes "\n"
+
+abbrev pub summary_text : Summary → List ℕ
+summary_text summary =
+    count_line (codes "scripts") summary.scripts
+    ++ count_line (codes "ops") summary.ops
+    ++ count_line (codes "new") summary.new
+    ++ count_line (codes "old") summary.old
+    ++ count_line (codes "val") summary.val
+    ++ count_line (codes "none") summary.none
+    ++ count_line (codes "gone") summary.gone
+    ++ count_line (codes "size") summary.size
+    ++ count_line (codes "keys") summary.keys
+    ++ count_line (codes "values") summary.values
+    ++ codes "end\n"

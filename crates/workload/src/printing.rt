@@ -1,6 +1,6 @@
 //! The bytes of a summary.
 ghost use Rattle.std.specs.Prelude.{◌≡◌, ◌++◌, codes, IfOk, OnOk};
-ghost use Rattle.workload.specs.SummaryText.{count_line, summary_text};
+ghost use Rattle.workload.specs.Summaries.{count_line, summary_text};
 
 use crate::summing::Summary;
 use itoa::Buffer;

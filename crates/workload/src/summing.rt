@@ -1,13 +1,10 @@
 //! The summary of a run.
 ghost use Rattle.std.specs.Prelude.{◌≡◌, ◌^◌, ◌<◌, [], ◌∷◌, length, map as list_map, sum_by, IfOk};
-ghost use Rattle.prcu_model.specs.Dictionary.{map_of};
+ghost use Rattle.prcu_model.specs.Dictionary.{map_of, IsLegal};
 ghost use Rattle.prcu_model.specs.Fronts.{AreExplainable};
-ghost use Rattle.prcu_model.specs.History.{IsLegal};
-ghost use Rattle.prcu_model.specs.Lists.{entries_of};
-ghost use Rattle.prcu_model.specs.Scripts.{default_slots_of};
+ghost use Rattle.prcu_model.specs.Scripts.{entries_of, default_slots_of};
 ghost use Rattle.workload.specs.Draws.{IsMade};
-ghost use Rattle.workload.specs.Summaries.{key_sum, value_sum, summary_with, plain_summary};
-ghost use Rattle.workload.specs.Counting.{counts_of, counts_after, HasRoom};
+ghost use Rattle.workload.specs.Summaries.{key_sum, value_sum, summary_with, plain_summary, counts_of, counts_after, HasRoom};
 
 use prcu_model::{Dict, NoMemory, Reply, Scripts, Told, ToldList, Update};
 use std::alloc::Global;

@@ -55,8 +55,8 @@
 //! # What is proved
 //! The work is done by the static library `citrus` (`citrus.h`), the CITRUS search tree of Arbel and Attiya ("Concurrent updates with RCU:
 //! search tree as an example", PODC 2014) with predicate RCU. Its functions are proved, each to answer as a map of one thread does at a
-//! moment of the call. So is the law on which a [`Map`] rests, `outlives_its_holders` of the crate `held_values`: once a wait for a key is over
-//! that its remover began, who found the removed value has left its section. Nothing checks this crate against those proofs. It is some
+//! moment of the call. So is the law on which a [`Map`] rests, `outlives_its_holders` of the crate `tree_handles`: once a wait for a key is
+//! over that its remover began, who found the removed value has left its section. Nothing checks this crate against those proofs. It is some
 //! hundred lines of Rust that keep what the header asks of a caller, and tests; each `unsafe` says which clause or law carries it.
 //!
 //! # What it costs

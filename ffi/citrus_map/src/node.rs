@@ -57,7 +57,7 @@ impl<V> Found<V> {
     pub(crate) fn node(&self) -> &Node<V> {
         // SAFETY: a node is given up after a wait for its key by who took it out. That wait isn't over before this section is left, or the
         // section found the node at a moment when somebody had put it back, and nobody puts a node in twice: so says the law
-        // `outlives_its_holders` of the crate `held_values`. `HoldsValue` of `tree_handles` says that the section is open and what it found.
+        // `outlives_its_holders` of the crate `tree_handles`. `HoldsValue` there says that the section is open and what it found.
         unsafe { self.0.as_ref() }
     }
 }

@@ -6,11 +6,11 @@ ghost use Rattle.core_points.specs.declared.stage.Stage.TheVariants as at;
 ghost use Rattle.core_points.specs.declared.stage.Update.TheVariants as update;
 ghost use Rattle.core_points.specs.Programs.{deleting, past_even};
 ghost use Rattle.seat_table.specs.Gains.{IsInformed};
-ghost use Rattle.seat_table.specs.Rounds.{HasMade};
+ghost use Rattle.seat_table.specs.Sections.{HasMade};
 ghost use Rattle.seat_table.specs.Seats.{AreListed, shape_of};
-ghost use Rattle.tree_points.specs.At.{HasLocks, IsAt, IsDone};
+ghost use Rattle.tree_points.specs.Points.{HasLocks, IsAt, IsDone};
 ghost use Rattle.citrus_tree.specs.Deletes.{StandsAt, Comes, KeepsAll, KeepsWaits, HasDone, AreLivesSmall, TakesValue, locked_slots, relinked_at, retired_slots};
-ghost use Rattle.citrus_tree.specs.Gone.{KeepsSlots, retired_marks};
+ghost use Rattle.citrus_tree.specs.Going.{KeepsSlots, retired_marks};
 
 use crate::commit::{close_commit, open_commit};
 use core_points::stage::Node;

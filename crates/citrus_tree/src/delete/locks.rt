@@ -3,10 +3,9 @@ ghost use Rattle.std.specs.Prelude.{◌≡◌, ◌*◌, ◌^◌, ◌<◌, ◌≤
 ghost use Rattle.core_points.specs.declared.stage.Last.TheVariants as last;
 ghost use Rattle.core_points.specs.declared.stage.Stage.TheVariants as at;
 ghost use Rattle.core_points.specs.DeleteFacts.{first_locks, two_children};
-ghost use Rattle.core_points.specs.DeletePlan.{target_lock, target_locks, target_holds, successor_holds, last_right, nothing_found};
-ghost use Rattle.core_points.specs.Programs.{deleting, past_target_load, verdict};
+ghost use Rattle.core_points.specs.Programs.{target_lock, target_locks, target_holds, successor_holds, last_right, nothing_found, deleting, past_target_load, verdict};
 ghost use Rattle.seat_table.specs.Seats.{shape_of};
-ghost use Rattle.tree_points.specs.At.{HasLocks};
+ghost use Rattle.tree_points.specs.Points.{HasLocks};
 ghost use Rattle.citrus_tree.specs.Deletes.{StandsAt, Comes, KeepsAll, KeepsRest, giving_up, AreLivesSmall, IsNodeOf};
 
 use crate::lives::is_life;

@@ -1,15 +1,14 @@
 //! The steps on the words of the three waiters: a section is entered and left, and a wait begins and looks for readers.
 ghost use Rattle.std.specs.Prelude.{◌≡◌, ℕ};
-ghost use Rattle.core_acts.specs.declared.act.Act.TheVariants as acts;
-ghost use Rattle.seat_table.specs.Told.{IsAsked, Told};
+ghost use Rattle.core_state.specs.declared.act.Act.TheVariants as acts;
+ghost use Rattle.seat_table.specs.Gains.{IsAsked, Told};
 ghost use Rattle.seat_table.specs.Seats.{shape_of};
 
 use crate::access::touch;
 use crate::seat::Seat;
 use crate::table::CitrusTable;
 use crate::waiter::WaitWords;
-use core_acts::Act;
-use core_state::Field;
+use core_state::{Act, Field};
 use key_interval::{Keys, class_of};
 use prcu_marks::Access;
 

@@ -8,9 +8,6 @@ use crate::crew::Crew;
 use crate::jobs::{Crewed, Worked, time};
 use crate::seated::Seated;
 use crate::words::{Ask, write_line};
-use d_wait::Domain;
-use deer_wait::Deer;
-use eer_wait::Eer;
 use prcu_marks::OpenGate;
 use seat_table::{CitrusTable, WaitPart};
 use std::alloc::Global;
@@ -18,7 +15,8 @@ use std::io;
 use std::rt::Runtime;
 use std::sync::Wait;
 use std::thread::Threads;
-use tree_client::TreeClient;
+use tree_lift::TreeClient;
+use waiters::{Deer, Domain, Eer};
 
 /// So many rounds at most.
 pub const MOST_ROUNDS: u32 = 100_000_000;

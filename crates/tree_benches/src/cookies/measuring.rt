@@ -7,10 +7,6 @@ use crate::cookies::tally::Tally;
 use crate::jobs::side_by_side;
 use crate::seated::Seated;
 use crate::words::{Ask, tenths_of};
-use cookie_client::CookieClient;
-use d_wait::Domain;
-use deer_wait::Deer;
-use eer_wait::Eer;
 use prcu_marks::{Client, OpenGate};
 use seat_table::{CitrusTable, WaitPart};
 use std::alloc::Global;
@@ -18,6 +14,8 @@ use std::io;
 use std::rt::Runtime;
 use std::sync::{Mutex, Wait};
 use std::thread::Threads;
+use tree_run::CookieClient;
+use waiters::{Deer, Domain, Eer};
 
 /// So many rounds at most.
 pub const MOST_ROUNDS: u32 = 1_000_000;

@@ -9,7 +9,6 @@ use crate::shapes::growing::Growing;
 use crate::shapes::order::Order;
 use crate::shapes::ways::{Ways, measure_ways};
 use crate::words::{Ask, tenths_of};
-use eer_wait::Eer;
 use prcu_marks::OpenGate;
 use seat_table::CitrusTable;
 use std::alloc::Global;
@@ -17,7 +16,8 @@ use std::io;
 use std::rt::Runtime;
 use std::sync::Wait;
 use std::thread::Threads;
-use tree_client::TreeClient;
+use tree_lift::TreeClient;
+use waiters::Eer;
 
 /// So many rounds at most.
 pub const MOST_ROUNDS: u32 = 250_000;

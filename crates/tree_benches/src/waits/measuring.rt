@@ -6,15 +6,13 @@ use crate::jobs::{Crewed, Worked, time};
 use crate::seated::Seated;
 use crate::waits::work::{Rounds, Work};
 use crate::words::{Ask, write_line};
-use d_wait::Domain;
-use deer_wait::Deer;
-use eer_wait::Eer;
 use seat_table::{CitrusTable, WaitPart};
 use std::alloc::Global;
 use std::io;
 use std::rt::Runtime;
 use std::sync::Wait;
 use std::thread::Threads;
+use waiters::{Deer, Domain, Eer};
 
 /// So many rounds at most.
 pub const MOST_ROUNDS: u32 = 1_000_000_000;

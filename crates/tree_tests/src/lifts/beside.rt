@@ -5,9 +5,6 @@ ghost use Rattle.seat_table.specs.Seats.{IsQuietSeat};
 use super::{lift_by, put_new, value_of};
 use crate::same::assert_same;
 use crate::scripts::drawn;
-use d_wait::Domain;
-use deer_wait::Deer;
-use eer_wait::Eer;
 use exact_list::{Listed, Page, list};
 use key_interval::Keys;
 use seat_table::{CitrusTable, Seat, WaitPart};
@@ -17,6 +14,7 @@ use std::sync::{Barrier, Wait};
 use std::test::Fail;
 use std::thread::{Threads, join};
 use tree_lift::Aim;
+use waiters::{Deer, Domain, Eer};
 
 // How often one thread lifts, and how many lists another makes meanwhile.
 const LIFTS: u64 = 1500;

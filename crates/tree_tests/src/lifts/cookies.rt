@@ -1,11 +1,10 @@
 //! Cookies beside lifts: a lift that waits for nobody leaves a cookie as good as it was, and one that stands still gives it up.
 ghost use Rattle.std.specs.Prelude.{◌≡◌};
 ghost use Rattle.seat_table.specs.Seats.{IsQuietSeat};
-ghost use Rattle.grace_cookie.specs.Keeping.{KeepsCookies};
+ghost use Rattle.grace_cookie.specs.Cookies.{KeepsCookies};
 
 use super::{NO_SALT, assert_there, put_new};
 use crate::same::assert_same;
-use eer_wait::Eer;
 use grace_cookie::{Ask, ask, give_back, start};
 use key_interval::Keys;
 use patience::Steadfast;
@@ -14,6 +13,7 @@ use std::process::Abort;
 use std::sync::Wait;
 use std::test::Fail;
 use tree_lift::{Aim, Stop, lift};
+use waiters::Eer;
 
 const KEYS: u64 = 60;
 

@@ -4,13 +4,13 @@ ghost use Rattle.seat_table.specs.Seats.{IsQuietSeat};
 
 use super::{NO_SALT, assert_there, lift_by, put_new};
 use crate::same::assert_same;
-use eer_wait::Eer;
 use node_slots::{Lock, try_lock, unlock};
 use seat_table::{CitrusTable, Seat};
 use std::process::Abort;
 use std::sync::Wait;
 use std::test::Fail;
 use tree_lift::{Aim, Stop};
+use waiters::Eer;
 
 // What is asked of a lift to the greatest key, what it comes to, and what the seat has then.
 #[derive(Clone, Copy)]

@@ -4,13 +4,13 @@ ghost use Rattle.seat_table.specs.Seats.{IsQuietSeat};
 
 use super::{NO_SALT, assert_there, depth_of, lift_by, put_new};
 use crate::same::assert_same;
-use eer_wait::Eer;
 use seat_table::{CitrusTable, Seat};
 use std::alloc::Global;
 use std::process::Abort;
 use std::sync::Wait;
 use std::test::Fail;
 use tree_lift::{Aim, Stop, attempts_behind, is_far_too_deep, most_depth};
+use waiters::Eer;
 
 const KEYS: u64 = 300;
 

@@ -3,9 +3,6 @@ ghost use Rattle.std.specs.Prelude.{◌≡◌, ◌≤◌};
 ghost use Rattle.seat_table.specs.Seats.{IsQuietSeat};
 
 use crate::same::assert_same;
-use d_wait::Domain;
-use deer_wait::Deer;
-use eer_wait::Eer;
 use key_interval::Keys;
 use prcu_marks::Why;
 use seat_table::{CitrusTable, Poll, Seat, WaitPart};
@@ -13,6 +10,7 @@ use std::alloc::Global;
 use std::sync::{Barrier, Wait};
 use std::test::Fail;
 use std::thread::{Threads, join};
+use waiters::{Deer, Domain, Eer};
 
 // Enters with the key, and leaves once the other thread has polled.
 fn reads<R: Wait, W: WaitPart>(

@@ -3,15 +3,13 @@ ghost use Rattle.std.specs.Prelude.{◌≡◌, ◌≤◌};
 ghost use Rattle.seat_table.specs.Seats.{IsQuietSeat};
 
 use crate::same::assert_same;
-use d_wait::Domain;
-use deer_wait::Deer;
-use eer_wait::Eer;
 use key_interval::Keys;
 use seat_table::{CitrusTable, Poll, Seat, WaitPart, wait_for_readers};
 use std::alloc::Global;
 use std::process::Abort;
 use std::sync::Wait;
 use std::test::Fail;
+use waiters::{Deer, Domain, Eer};
 
 // One seat reads, the other waits, and they are joined.
 fn joined<R: Wait + Abort, W: WaitPart>(

@@ -2,14 +2,12 @@
 ghost use Rattle.std.specs.Prelude.{◌≤◌};
 
 use crate::same::assert_same;
-use core_acts::Part;
-use d_wait::Domain;
-use deer_wait::Deer;
-use eer_wait::Eer;
+use core_state::Part;
 use prcu_marks::Side;
 use seat_table::{CitrusTable, Seat, WaitPart, steps};
 use std::alloc::Global;
 use std::test::Fail;
+use waiters::{Deer, Domain, Eer};
 
 fn is_send<T: Send>() {}
 

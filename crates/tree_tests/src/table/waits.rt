@@ -1,10 +1,9 @@
 //! Waits by one thread: for whom there is no waiting, and how many gates are turned.
 use crate::same::assert_same;
-use d_wait::Domain;
-use eer_wait::Eer;
 use key_interval::Keys;
 use seat_table::{CitrusTable, Poll, WaitPart, wait_for_readers};
 use std::test::Fail;
+use waiters::{Domain, Eer};
 
 #[test]
 fn a_reader_that_came_later_is_not_waited_for(rt: HostRuntime) -> Result<(), Fail> {

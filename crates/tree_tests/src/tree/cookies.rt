@@ -2,17 +2,17 @@
 //! spares, and slot 3 begins free.
 ghost use Rattle.std.specs.Prelude.{◌≡◌};
 ghost use Rattle.seat_table.specs.Seats.{IsQuietSeat};
-ghost use Rattle.grace_cookie.specs.Keeping.{KeepsCookies};
+ghost use Rattle.grace_cookie.specs.Cookies.{KeepsCookies};
 
 use super::*;
 use citrus_tree::get;
-use eer_wait::Eer;
 use grace_cookie::{Ask, ask, give_back, start};
 use key_interval::Keys;
 use node_slots::{Taken, take};
 use prcu_marks::Why;
 use seat_table::wait_for_readers;
 use std::test::Fail;
+use waiters::Eer;
 
 // Gets the pair, which leaves the seat's cookies as they are.
 fn get_beside(table: &CitrusTable<Eer>, seat: &mut Seat<Eer>) -> Reply

@@ -4,9 +4,6 @@ ghost use Rattle.std.specs.Prelude.{◌≤◌};
 use super::{Call, run};
 use crate::same::assert_same;
 use crate::scripts::{drawn_scripts, key_of};
-use d_wait::Domain;
-use deer_wait::Deer;
-use eer_wait::Eer;
 use prcu_marks::OpenGate;
 use prcu_model::{NoMemory, Op, PlainMap, Reply, Scripts, Told, ToldList, Update};
 use seat_table::WaitPart;
@@ -16,6 +13,7 @@ use std::sync::Wait;
 use std::test::Fail;
 use std::thread::Threads;
 use tree_run::{TreeRun, run_scripts};
+use waiters::{Deer, Domain, Eer};
 
 const CALLERS: u32 = 4;
 

@@ -1,7 +1,7 @@
 //! Callers in threads of their own that lift after each call, on few slots: one history explains what all of them were told.
 ghost use Rattle.std.specs.Prelude.{◌≡◌, ◌/◌, ◌≤◌, length, IfOk, vec_len};
 ghost use Rattle.seat_table.specs.Seats.{IsQuietSeat};
-ghost use Rattle.client_run.specs.Workers.{AreReadyFor};
+ghost use Rattle.client_run.specs.Crews.{AreReadyFor};
 
 use super::histories::{assert_all_explained, gets_of, values_at};
 use super::run;
@@ -9,9 +9,6 @@ use crate::merged::merged;
 use crate::scripts::{drawn_scripts, key_of};
 use citrus_tree::call;
 use client_run::{Worker, run_all};
-use d_wait::Domain;
-use deer_wait::Deer;
-use eer_wait::Eer;
 use patience::Steadfast;
 use prcu_marks::{Client, OpenGate};
 use prcu_model::{NoMemory, Op, Scripts, Told, ToldList, Update};
@@ -23,6 +20,7 @@ use std::sync::Wait;
 use std::test::Fail;
 use std::thread::Threads;
 use tree_lift::{Aim, lift};
+use waiters::{Deer, Domain, Eer};
 
 const CALLERS: u32 = 4;
 

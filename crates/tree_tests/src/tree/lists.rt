@@ -1,10 +1,10 @@
 //! What no clause says: that a list is given up beside an update that stays under way.
 use crate::same::assert_same;
-use eer_wait::Eer;
 use exact_list::{Listed, Page, list};
 use key_interval::Keys;
 use seat_table::{CitrusTable, steps};
 use std::test::Fail;
+use waiters::Eer;
 
 #[test]
 fn a_list_is_given_up_beside_an_update_that_stays_under_way(rt: HostRuntime) -> Result<(), Fail> {

@@ -2,11 +2,9 @@
 ghost use Rattle.std.specs.Prelude.{◌≤◌};
 
 use super::*;
-use d_wait::Domain;
-use deer_wait::Deer;
-use eer_wait::Eer;
 use std::alloc::Global;
 use std::test::Fail;
+use waiters::{Deer, Domain, Eer};
 
 // The spare, how many slots are retired, and how many waits the place has begun.
 type Left = (Option<u32>, usize, u64);

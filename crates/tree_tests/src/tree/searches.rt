@@ -1,9 +1,9 @@
 //! Searches by hand, hop by hop.
 use super::*;
 use citrus_tree::{End, Hop, Search};
-use eer_wait::Eer;
 use prcu_marks::Side;
 use std::test::Fail;
+use waiters::Eer;
 
 #[test]
 fn a_search_comes_to_a_key_below_another(rt: HostRuntime) -> Result<(), Fail> {

@@ -4,8 +4,8 @@ ghost use Rattle.seat_table.specs.Seats.{IsQuietSeat};
 
 use super::*;
 use citrus_tree::call;
-use eer_wait::Eer;
 use std::test::Fail;
+use waiters::Eer;
 
 const KEYS: u64 = 300;
 

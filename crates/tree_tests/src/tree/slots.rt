@@ -1,12 +1,12 @@
 //! What no clause says: what two seats find out of each other's slots and locks. With one slot and two places slots 1 and 2 are the spares,
 //! and slot 3 begins free.
 use crate::same::assert_same;
-use eer_wait::Eer;
 use node_slots::{
     Lock, Reserve, Seize, Taken, put_back, reclaim, reserve, seize, take, try_lock, unlock,
 };
 use seat_table::CitrusTable;
 use std::test::Fail;
+use waiters::Eer;
 
 #[test]
 fn a_reservation_is_lost_and_then_held(rt: HostRuntime) -> Result<(), Fail> {

@@ -3,11 +3,9 @@ use Rattle.std.proofs.lemmas.Bool.{false≢true}
 use Rattle.std.proofs.lemmas.Result.{IfOk-weaker}
 use Rattle.std.specs.FinMap as finite
 use Rattle.prcu_model.specs.Dictionary.{map_of}
-use Rattle.prcu_model.specs.Lists.{entries_of}
-use Rattle.account_text.specs.Account.{IsAccount}
-use Rattle.account_text.specs.Reading.{tolds_of}
-use Rattle.account_text.proofs.FitAccounts.{Fit-account}
-use Rattle.account_text.proofs.Checked.{IsAccount-by_claims}
+use Rattle.prcu_model.specs.Scripts.{entries_of}
+use Rattle.account_text.specs.Account.{IsAccount, tolds_of}
+use Rattle.account_text.proofs.Accounts.{Fit-account, IsAccount-by_claims}
 use Rattle.account_text.proofs.checking.check.Goals as goal
 
 same_some : {X : Type 0} (o : Option X) (x y : X) → o ≡ Some x → o ≡ Some y → x ≡ y

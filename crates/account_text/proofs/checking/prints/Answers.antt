@@ -4,10 +4,10 @@ use Rattle.std.proofs.lemmas.Bool.{false≢true}
 use Rattle.std.proofs.lemmas.Bool.Decides.{Decides-eqb}
 use Rattle.std.proofs.lemmas.Slice.Eq.{slice_eq-Decides}
 use Rattle.prcu_model.specs.Dictionary.{map_of}
-use Rattle.prcu_model.specs.Lists.{entries_of}
-use Rattle.account_text.specs.Course.{Course}
-use Rattle.account_text.specs.Printing.{account_of}
-use Rattle.account_text.proofs.Checked.{IsPrinted-compared}
+use Rattle.prcu_model.specs.Scripts.{entries_of}
+use Rattle.account_text.specs.Judging.{Course}
+use Rattle.account_text.specs.Account.{account_of}
+use Rattle.account_text.proofs.Accounts.{IsPrinted-compared}
 use Rattle.account_text.proofs.checking.prints.Goals as goal
 
 pub returns : goal.returns

@@ -1,8 +1,8 @@
 use Rattle.std.proofs.Common.{◌≡◌, length, refl, ap, sym, ◌∙◌, arith}
 use Rattle.std.proofs.lemmas.Bool.{false≢true}
-use Rattle.account_text.proofs.ScriptNumbers.{SameLengths-turn, SameLengths-end}
+use Rattle.account_text.proofs.JudgedScripts.{SameLengths-turn, SameLengths-end}
 use Rattle.account_text.proofs.judging.are_all_answered.Goals as goal
-use Rattle.prcu_model.proofs.ToldLists.{same_length, same_count, SameLengths-next}
+use Rattle.prcu_model.proofs.ListFacts.{same_length, same_count, SameLengths-next}
 
 pub returns-then-told-count : goal.returns-then-told-count
 returns-then-told-count c = (

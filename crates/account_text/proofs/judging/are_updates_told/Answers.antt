@@ -4,9 +4,8 @@ use Rattle.std.proofs.lemmas.Bool.Decides.{Decides-eqb}
 use Rattle.std.proofs.lemmas.List.{length_push}
 use Rattle.std.proofs.lemmas.Slice.Zip.{zip_turn, zip_end}
 use Rattle.prcu_model.specs.Fronts.{own_updates, told_lines}
-use Rattle.account_text.specs.Lines.{line_of}
-use Rattle.account_text.proofs.LineNumbers.{told_lines-turn, told_lines-past}
-use Rattle.account_text.proofs.OwnUpdates.{own-turn, AreToldFrom-end, AreToldFrom-other, AreToldFrom-next}
+use Rattle.account_text.specs.Judging.{line_of}
+use Rattle.account_text.proofs.JudgedScripts.{told_lines-turn, told_lines-past, own-turn, AreToldFrom-end, AreToldFrom-other, AreToldFrom-next}
 use Rattle.account_text.proofs.judging.are_updates_told.Goals as goal
 use Rattle.account_text.proofs.judging.are_updates_told.Goals.{In-Some}
 

@@ -1,6 +1,6 @@
 use Rattle.std.proofs.Common.{◌≤◌, ◌↔◌, length, drop}
 use Rattle.prcu_model.specs.Fronts.{own_updates, told_lines}
-use Rattle.account_text.specs.Lines.{AreToldFrom}
+use Rattle.account_text.specs.Judging.{AreToldFrom}
 use Rattle.account_text.proofs.judging.are_updates_told.Given as goal
 
 -- all lines tell of the caller's updates exactly where those that are left tell of those that weren't passed

@@ -1,14 +1,13 @@
 use Rattle.std.proofs.Common.{◌≡◌, ◌+◌, ◌∷◌, [], length, ap, sym, subst, ◌∙◌, arith, append_assoc}
 use Rattle.std.proofs.lemmas.Bool.{false≢true}
 use Rattle.std.proofs.lemmas.List.{append-nil, map-append}
-use Rattle.prcu_model.specs.Lists.{entries_of}
+use Rattle.prcu_model.specs.Scripts.{entries_of}
 use Rattle.prcu_model.specs.Fronts.{AreNumbered, AllAreNumbered, told_lines}
 use Rattle.account_text.specs.Judging.{IsScriptExplained}
-use Rattle.account_text.proofs.ScriptNumbers.{lines_left, lines_left-turn, lines_left-end}
-use Rattle.account_text.proofs.Explained.{AreBelow, AreExplainable-by_room, below_from_explainable}
+use Rattle.account_text.proofs.JudgedScripts.{lines_left, lines_left-turn, lines_left-end, AreBelow, AreExplainable-by_room, below_from_explainable}
 use Rattle.account_text.proofs.judging.explain.Goals as goal
 use Rattle.account_text.proofs.judging.explain.Goals.{After-entries-answers, then-not-are_all_answered-via-then-not-are_all_answered, then-not-are_all_answered-via-else-not-are_all_answered+then-not-are_callers_below}
-use Rattle.prcu_model.proofs.ToldLists.{same_count, same_length, SameLengths-next}
+use Rattle.prcu_model.proofs.ListFacts.{same_count, same_length, SameLengths-next}
 
 next_script : (c : After-entries-answers) → lines_left c.args.scripts.now c.args.told.now c.loop-i.i
     ≡ told_lines c.script-script.result.now c.entries-answers.result.now ∷ lines_left c.args.scripts.now c.args.told.now (c.loop-i.i + 1)

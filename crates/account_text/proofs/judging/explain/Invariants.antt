@@ -1,11 +1,10 @@
 use Rattle.std.proofs.Common.{◌++◌, ◌↔◌, List}
 use Rattle.prcu_model.specs.declared.operation.Line.{Line}
-use Rattle.prcu_model.specs.Lists.{entries_of}
+use Rattle.prcu_model.specs.Scripts.{entries_of}
 use Rattle.prcu_model.specs.Fronts.{AllAreNumbered, all_told_lines}
-use Rattle.account_text.proofs.ScriptNumbers.{lines_left}
-use Rattle.account_text.proofs.Explained.{AreAllExplained}
+use Rattle.account_text.proofs.JudgedScripts.{lines_left, AreAllExplained}
 use Rattle.account_text.proofs.judging.explain.Given as goal
-use Rattle.prcu_model.proofs.ToldLists.{SameLengths}
+use Rattle.prcu_model.proofs.ListFacts.{SameLengths}
 
 -- the scripts so far have their numbers, and all are explained exactly where those that are left are
 abbrev pub invariant-loop-i : goal.invariant-loop-i

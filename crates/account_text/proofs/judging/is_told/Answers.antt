@@ -1,5 +1,5 @@
 use Rattle.std.proofs.Common.{length, ap, arith}
-use Rattle.account_text.proofs.OwnUpdates.{own-bounds}
+use Rattle.account_text.proofs.JudgedScripts.{own-bounds}
 use Rattle.account_text.proofs.judging.is_told.Goals as goal
 
 pub overflow_sub-told : goal.overflow_sub-told

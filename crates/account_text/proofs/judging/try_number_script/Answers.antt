@@ -3,8 +3,8 @@ use Rattle.std.proofs.lemmas.List.{length_push, append-nil}
 use Rattle.std.proofs.lemmas.Slice.Zip.{zip_turn, zip_end}
 use Rattle.prcu_model.specs.declared.operation.Line.{Line}
 use Rattle.prcu_model.specs.Fronts.{AreNumbered, told_lines, IsLeastFor}
-use Rattle.account_text.specs.Lines.{line_of}
-use Rattle.account_text.proofs.LineNumbers.{told_lines-turn, told_lines-past, Can-rest, Can-more}
+use Rattle.account_text.specs.Judging.{line_of}
+use Rattle.account_text.proofs.JudgedScripts.{told_lines-turn, told_lines-past, Can-rest, Can-more}
 use Rattle.account_text.proofs.judging.try_number_script.Goals as goal
 use Rattle.account_text.proofs.judging.try_number_script.Goals.{In-Some}
 

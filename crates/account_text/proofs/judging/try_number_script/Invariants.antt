@@ -1,7 +1,7 @@
 use Rattle.std.proofs.Common.{◌+◌, ◌≤◌, List, ◌++◌, ◌↔◌, length, drop}
 use Rattle.prcu_model.specs.declared.operation.Line.{Line}
 use Rattle.prcu_model.specs.Fronts.{CanBeNumbered, AreNumbered, told_lines}
-use Rattle.account_text.proofs.LineNumbers.{Can}
+use Rattle.account_text.proofs.JudgedScripts.{Can}
 use Rattle.account_text.proofs.judging.try_number_script.Given as goal
 
 -- the numbers so far are the least, and all lines can be numbered exactly where those that are left can be, after these

@@ -1,5 +1,5 @@
 use Rattle.std.proofs.Common.{◌*◌, ◌%◌, ◌/◌, ap}
-use Rattle.account_text.specs.Buckets.{bucket_of}
+use Rattle.account_text.specs.Judging.{bucket_of}
 use Rattle.account_text.proofs.key_index.bucket_of.Goals as goal
 
 pub returns-clause-is : goal.returns-clause-is

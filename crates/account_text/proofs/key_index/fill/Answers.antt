@@ -1,6 +1,6 @@
 use Rattle.std.proofs.Common.{◌+◌, length, ap, ◌∙◌, arith}
 use Rattle.std.proofs.lemmas.List.{length_push}
-use Rattle.account_text.proofs.BucketStarts.{push-kept, push-filled}
+use Rattle.account_text.proofs.Changes.{push-kept, push-filled}
 use Rattle.account_text.proofs.key_index.fill.Goals as goal
 
 pub loop-preserved : goal.loop-preserved

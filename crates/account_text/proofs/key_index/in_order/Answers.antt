@@ -1,6 +1,6 @@
 use Rattle.std.proofs.Common.{◌≡◌, rules}
 use Rattle.std.proofs.lemmas.Fn.{always_returns_same}
-use Rattle.account_text.proofs.ChangeOrder.{place_of, IsOrderedByBucket-from_sorted}
+use Rattle.account_text.proofs.Replays.{place_of, IsOrderedByBucket-from_sorted}
 use Rattle.account_text.proofs.key_index.in_order.Goals as goal
 
 pub returns-clause-ordered : goal.returns-clause-ordered

@@ -1,8 +1,7 @@
 use Rattle.std.proofs.Common.{◌+◌, get_or, refl, ap, ◌∙◌, arith}
 use Rattle.std.proofs.lemmas.List.{get_or_default}
-use Rattle.account_text.specs.Buckets.{bucket_of}
-use Rattle.account_text.proofs.KeyChanges.{nothing}
-use Rattle.account_text.proofs.BucketStarts.{starts-more}
+use Rattle.account_text.specs.Judging.{bucket_of}
+use Rattle.account_text.proofs.Changes.{nothing, starts-more}
 use Rattle.account_text.proofs.key_index.starts_of.Goals as goal
 
 pub loop-i-preserved : goal.loop-i-preserved

@@ -1,4 +1,4 @@
-use Rattle.account_text.proofs.BucketStarts.{HaveStarts}
+use Rattle.account_text.proofs.Changes.{HaveStarts}
 use Rattle.account_text.proofs.key_index.starts_of.Given as goal
 
 abbrev pub invariant-loop-i : goal.invariant-loop-i

@@ -1,5 +1,5 @@
 use Rattle.std.proofs.lemmas.Result.{IfOk-weaker}
-use Rattle.prcu_model.specs.Lists.{entries_of}
+use Rattle.prcu_model.specs.Scripts.{entries_of}
 use Rattle.account_text.proofs.Accounts.{IsAccount-with_history}
 use Rattle.account_text.proofs.numbering.fronts.Goals as goal
 

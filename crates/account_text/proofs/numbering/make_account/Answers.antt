@@ -2,10 +2,9 @@ use Rattle.std.proofs.Common.{◌≡◌, sym, ap, subst, ◌∙◌}
 use Rattle.std.specs.FinMap as finite
 use Rattle.std.proofs.lemmas.Result.{IfOk-weaker}
 use Rattle.prcu_model.specs.Dictionary.{map_of}
-use Rattle.prcu_model.specs.Lists.{entries_of}
-use Rattle.account_text.specs.Account.{IsAccount, HaveReplies}
-use Rattle.account_text.specs.Course.{Course}
-use Rattle.account_text.specs.Printing.{account_of}
+use Rattle.prcu_model.specs.Scripts.{entries_of}
+use Rattle.account_text.specs.Account.{IsAccount, HaveReplies, account_of}
+use Rattle.account_text.specs.Judging.{Course}
 use Rattle.account_text.proofs.Accounts.{IsAccount-as_told}
 use Rattle.account_text.proofs.numbering.make_account.Goals as goal
 

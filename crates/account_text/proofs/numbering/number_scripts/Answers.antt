@@ -1,13 +1,12 @@
 use Rattle.std.proofs.Common.{◌≡◌, ◌+◌, ◌∷◌, [], length, sym, ap, subst, ◌∙◌, arith, append_assoc}
 use Rattle.std.specs.List.{AllByRecursion}
 use Rattle.std.proofs.lemmas.List.{append-nil, map-append}
-use Rattle.prcu_model.specs.Lists.{entries_of}
+use Rattle.prcu_model.specs.Scripts.{entries_of}
 use Rattle.prcu_model.specs.Fronts.{CanBeNumbered, AreNumbered, AllAreNumbered, told_lines, all_told_lines}
-use Rattle.account_text.proofs.ScriptNumbers.{lines_left, lines_left-turn, lines_left-end, length-le-op_count}
-use Rattle.account_text.proofs.Explained.{room_of}
+use Rattle.account_text.proofs.JudgedScripts.{lines_left, lines_left-turn, lines_left-end, length-le-op_count, room_of}
 use Rattle.account_text.proofs.numbering.number_scripts.Goals as goal
 use Rattle.account_text.proofs.numbering.number_scripts.Goals.{After-entries}
-use Rattle.prcu_model.proofs.ToldLists.{same_length, SameLengths-next, same_count}
+use Rattle.prcu_model.proofs.ListFacts.{same_length, SameLengths-next, same_count}
 
 next_script : (c : After-entries) → lines_left c.args.scripts.now c.args.told.now c.loop-i.i
     ≡ told_lines c.script-script.result.now c.entries.result.now ∷ lines_left c.args.scripts.now c.args.told.now (c.loop-i.i + 1)

@@ -1,11 +1,11 @@
 use Rattle.std.proofs.Common.{◌++◌, List}
 use Rattle.std.specs.List.{AllByRecursion}
 use Rattle.prcu_model.specs.declared.operation.Line.{Line}
-use Rattle.prcu_model.specs.Lists.{entries_of}
+use Rattle.prcu_model.specs.Scripts.{entries_of}
 use Rattle.prcu_model.specs.Fronts.{CanBeNumbered, AllAreNumbered, all_told_lines}
-use Rattle.account_text.proofs.ScriptNumbers.{lines_left}
+use Rattle.account_text.proofs.JudgedScripts.{lines_left}
 use Rattle.account_text.proofs.numbering.number_scripts.Given as goal
-use Rattle.prcu_model.proofs.ToldLists.{SameLengths}
+use Rattle.prcu_model.proofs.ListFacts.{SameLengths}
 
 -- the scripts so far have their numbers, and the others can be numbered
 abbrev pub invariant-loop-i : goal.invariant-loop-i

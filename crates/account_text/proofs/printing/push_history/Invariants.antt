@@ -1,5 +1,5 @@
 use Rattle.std.proofs.Common.{◌≡◌, ◌+◌, ◌++◌, drop}
-use Rattle.account_text.specs.Printing.{history_from}
+use Rattle.account_text.specs.Account.{history_from}
 use Rattle.account_text.proofs.printing.push_history.Given as goal
 
 -- the text so far and that of the updates that are left

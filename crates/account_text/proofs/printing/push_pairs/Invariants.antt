@@ -1,5 +1,5 @@
 use Rattle.std.proofs.Common.{◌≡◌, ◌++◌, take, flat_map}
-use Rattle.account_text.specs.Printing.{pair_text}
+use Rattle.account_text.specs.Account.{pair_text}
 use Rattle.account_text.proofs.printing.push_pairs.Given as goal
 
 abbrev pub invariant-loop-pair : goal.invariant-loop-pair

@@ -1,5 +1,5 @@
 use Rattle.std.proofs.Common.{◌≡◌, ◌++◌, take, flat_map}
-use Rattle.account_text.specs.Printing.{line_text}
+use Rattle.account_text.specs.Account.{line_text}
 use Rattle.account_text.proofs.printing.push_script.Given as goal
 
 abbrev pub invariant-loop-line : goal.invariant-loop-line

@@ -1,6 +1,6 @@
 use Rattle.std.proofs.Common.{◌≡◌, ◌++◌, drop}
-use Rattle.prcu_model.specs.Lists.{entries_of}
-use Rattle.account_text.specs.Printing.{scripts_from}
+use Rattle.prcu_model.specs.Scripts.{entries_of}
+use Rattle.account_text.specs.Account.{scripts_from}
 use Rattle.account_text.proofs.printing.push_scripts.Given as goal
 
 -- the text so far and that of the scripts that are left

@@ -2,8 +2,8 @@ use Rattle.std.proofs.Common.{◌≡◌, Option, Some, None, MatchOption, ap, sy
 use Rattle.std.proofs.Common.{List, ℕ}
 use Rattle.prcu_model.specs.declared.operation.Op.{Op}
 use Rattle.prcu_model.specs.Scripts.{FitsWords}
-use Rattle.script_text.specs.Lines.{op_text}
-use Rattle.script_text.proofs.OpTexts.{op_text-injective}
+use Rattle.script_text.specs.Grammar.{op_text}
+use Rattle.script_text.proofs.ScriptTexts.{op_text-injective}
 use Rattle.account_text.proofs.reading.last_op.Goals as goal
 
 the_op : (line : List ℕ) (r : Option Op) → MatchOption r ((o : Op) → FitsWords o → line ≡ op_text o → ⊥)

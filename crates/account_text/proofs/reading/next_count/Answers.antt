@@ -1,6 +1,6 @@
 use Rattle.std.proofs.Common.{◌≡◌, List, ℕ, ◌∷◌, codes, sym, ◌∙◌}
 use Rattle.std.specs.Fmt.{decimal}
-use Rattle.account_text.proofs.Words.{Lacks-history}
+use Rattle.account_text.proofs.AccountTexts.{Lacks-history}
 use Rattle.account_text.proofs.reading.next_count.Goals as goal
 
 same_lines : (line line' : List ℕ) (more more' : List (List ℕ)) → line ∷ more ≡ line' ∷ more' → (line ≡ line') × (more ≡ more')

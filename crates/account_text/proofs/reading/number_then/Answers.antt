@@ -1,6 +1,6 @@
 use Rattle.std.proofs.Common.{arith}
-use Rattle.script_text.proofs.OpTexts.{Lacks-decimal}
-use Rattle.account_text.proofs.Words.{no_space, at_space}
+use Rattle.script_text.proofs.ScriptTexts.{Lacks-decimal}
+use Rattle.account_text.proofs.AccountTexts.{no_space, at_space}
 use Rattle.account_text.proofs.reading.number_then.Goals as goal
 use Rattle.std.specs.Fmt.{decimal}
 

@@ -1,6 +1,6 @@
 use Rattle.std.proofs.Common.{◌≤◌, ◌∷◌, ◌++◌, length, refl, arith}
-use Rattle.script_text.specs.Lines.{lines_of}
-use Rattle.account_text.specs.AccountLines.{history_head, history_lines}
+use Rattle.script_text.specs.Grammar.{lines_of}
+use Rattle.account_text.specs.Account.{history_head, history_lines}
 use Rattle.account_text.proofs.AccountTexts.{account_tells, final_part}
 use Rattle.account_text.proofs.reading.read_account.Goals as goal
 

@@ -1,7 +1,7 @@
 use Rattle.std.proofs.Common.{◌+◌, List, drop, subst, arith}
 use Rattle.std.proofs.lemmas.List.{drop_more, drop_all}
 use Rattle.prcu_model.specs.declared.operation.Op.{Op}
-use Rattle.account_text.proofs.ReadParts.{HasRead, first_line, HasRead-end}
+use Rattle.account_text.proofs.AccountTexts.{HasRead, first_line, HasRead-end}
 use Rattle.account_text.proofs.reading.read_lines.Goals as goal
 
 pub returns-in_default : goal.returns-in_default

@@ -1,7 +1,7 @@
 use Rattle.std.proofs.Common.{ℕ, ◌+◌, ◌≤◌, List, length, drop}
 use Rattle.prcu_model.specs.declared.operation.Line.{Line}
-use Rattle.account_text.specs.AccountLines.{TellsScript}
-use Rattle.account_text.proofs.ReadParts.{HasRead}
+use Rattle.account_text.specs.Account.{TellsScript}
+use Rattle.account_text.proofs.AccountTexts.{HasRead}
 use Rattle.account_text.proofs.reading.read_lines.Given as goal
 
 -- whichever lines the text begins with, some are read, and the rest begins with the others

@@ -3,8 +3,8 @@ use Rattle.std.specs.List.{slice_get}
 use Rattle.std.proofs.lemmas.List.{drop_more, drop_all, map-append}
 use Rattle.std.proofs.lemmas.Option.{get_or_from_slice_get, slice_get_within}
 use Rattle.prcu_model.specs.declared.operation.Op.{Op}
-use Rattle.prcu_model.specs.Lists.{entries_of}
-use Rattle.account_text.proofs.ReadParts.{HasReadScripts, first_script, HasReadScripts-end}
+use Rattle.prcu_model.specs.Scripts.{entries_of}
+use Rattle.account_text.proofs.AccountTexts.{HasReadScripts, first_script, HasReadScripts-end}
 use Rattle.account_text.proofs.reading.read_scripts.Goals as goal
 
 drop-there : (scripts : List (List Op)) (i : ℕ) (script : List Op) → slice_get scripts i ≡ Some script

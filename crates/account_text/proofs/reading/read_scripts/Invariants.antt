@@ -1,8 +1,8 @@
 use Rattle.std.proofs.Common.{ℕ, List, drop}
 use Rattle.prcu_model.specs.declared.operation.Line.{Line}
-use Rattle.prcu_model.specs.Lists.{entries_of}
-use Rattle.account_text.specs.AccountLines.{TellsScripts}
-use Rattle.account_text.proofs.ReadParts.{HasReadScripts}
+use Rattle.prcu_model.specs.Scripts.{entries_of}
+use Rattle.account_text.specs.Account.{TellsScripts}
+use Rattle.account_text.proofs.AccountTexts.{HasReadScripts}
 use Rattle.account_text.proofs.reading.read_scripts.Given as goal
 
 -- whichever scripts the text begins with, some are read, and the rest begins with the others

@@ -1,8 +1,8 @@
 use Rattle.std.proofs.Common.{◌≡◌, ◌∷◌, ◌++◌, Some, ap, ◌∙◌, arith}
 use Rattle.std.specs.Fmt.{decimal}
-use Rattle.script_text.specs.Lines.{op_text}
-use Rattle.script_text.proofs.OpTexts.{Lacks-decimal}
-use Rattle.account_text.proofs.Words.{update_words}
+use Rattle.script_text.specs.Grammar.{op_text}
+use Rattle.script_text.proofs.ScriptTexts.{Lacks-decimal}
+use Rattle.account_text.proofs.AccountTexts.{update_words}
 use Rattle.account_text.proofs.reading.read_update.Goals as goal
 
 pub returns-in_err-after_position : goal.returns-in_err-after_position

@@ -1,5 +1,5 @@
 use Rattle.std.proofs.Common.{◌<◌, length, arith}
-use Rattle.account_text.proofs.ReadParts.{first_update}
+use Rattle.account_text.proofs.AccountTexts.{first_update}
 use Rattle.account_text.proofs.reading.read_updates.Goals as goal
 
 pub returns-in_default : goal.returns-in_default

@@ -1,7 +1,7 @@
 use Rattle.std.proofs.Common.{◌≡◌, ℕ, ◌-◌, List, length}
 use Rattle.prcu_model.specs.declared.operation.Update.{Update}
-use Rattle.account_text.specs.AccountLines.{TellsUpdates}
-use Rattle.account_text.proofs.ReadParts.{HasReadUpdates}
+use Rattle.account_text.specs.Account.{TellsUpdates}
+use Rattle.account_text.proofs.AccountTexts.{HasReadUpdates}
 use Rattle.account_text.proofs.reading.read_updates.Given as goal
 
 -- whichever updates the text begins with, some are read, and the rest begins with the others

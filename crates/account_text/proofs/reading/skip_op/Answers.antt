@@ -1,7 +1,7 @@
 use Rattle.std.proofs.Common.{◌∷◌, ◌++◌, ◌∙◌, arith}
 use Rattle.std.specs.Fmt.{decimal}
-use Rattle.script_text.proofs.OpTexts.{word_of, words_of, Lacks-word, Lacks-decimal}
-use Rattle.account_text.proofs.Words.{after_key, key_fits, op_words, key_words, after_key-short, after_key-long}
+use Rattle.script_text.proofs.ScriptTexts.{word_of, words_of, Lacks-word, Lacks-decimal}
+use Rattle.account_text.proofs.AccountTexts.{after_key, key_fits, op_words, key_words, after_key-short, after_key-long}
 use Rattle.account_text.proofs.reading.skip_op.Goals as goal
 use Rattle.prcu_model.specs.Dictionary.{key_of}
 

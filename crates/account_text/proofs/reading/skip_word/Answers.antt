@@ -1,4 +1,4 @@
-use Rattle.account_text.proofs.Words.{no_space, at_space}
+use Rattle.account_text.proofs.AccountTexts.{no_space, at_space}
 use Rattle.account_text.proofs.reading.skip_word.Goals as goal
 
 pub returns-in_err-rest : goal.returns-in_err-rest

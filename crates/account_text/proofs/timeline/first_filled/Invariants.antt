@@ -1,5 +1,5 @@
 use Rattle.std.proofs.Common.{ℕ, ◌<◌, get_or}
-use Rattle.account_text.specs.Changes.{IsFilled}
+use Rattle.account_text.specs.Judging.{IsFilled}
 use Rattle.account_text.proofs.timeline.first_filled.Given as goal
 
 -- none so far fills the slots

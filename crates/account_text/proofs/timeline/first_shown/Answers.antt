@@ -1,7 +1,7 @@
 use Rattle.std.proofs.Common.{inl, inr, ap, arith}
 use Rattle.std.proofs.lemmas.Bool.{cases_lt}
 use Rattle.std.proofs.lemmas.List.{get_or_default}
-use Rattle.account_text.proofs.KeyChanges.{nothing}
+use Rattle.account_text.proofs.Changes.{nothing}
 use Rattle.account_text.proofs.timeline.first_shown.Goals as goal
 
 pub returns-then-change-key-clause-none : goal.returns-then-change-key-clause-none

@@ -1,6 +1,6 @@
 use Rattle.std.proofs.Common.{◌≡◌, ℕ, ◌<◌, get_or}
 use Rattle.account_text.specs.declared.key_index.Change.{Change}
-use Rattle.account_text.specs.Changes.{IsShown}
+use Rattle.account_text.specs.Judging.{IsShown}
 use Rattle.account_text.proofs.timeline.first_shown.Given as goal
 
 -- those so far are at the key, and don't show the reply

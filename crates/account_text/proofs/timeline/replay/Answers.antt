@@ -3,12 +3,9 @@ use Rattle.std.specs.FinMap as map
 use Rattle.std.proofs.lemmas.List.{length_push}
 use Rattle.prcu_model.specs.declared.operation.Op.TheVariants.{Put}
 use Rattle.prcu_model.specs.declared.operation.Update.{Update}
-use Rattle.prcu_model.specs.Dictionary.{updated, map_at}
-use Rattle.prcu_model.proofs.Fronts.{map_at-next}
-use Rattle.prcu_model.specs.History.{IsUpdateAt, IsLegal, AreUpdatesFrom}
-use Rattle.account_text.proofs.LegalUpdates.{AreUpdatesFrom-next, AreUpdatesFrom-none}
-use Rattle.account_text.proofs.Legality.{legal-more}
-use Rattle.account_text.proofs.Replays.{sizes-more, right-more, whole-more}
+use Rattle.prcu_model.specs.Dictionary.{updated, map_at, IsUpdateAt, IsLegal, AreUpdatesFrom}
+use Rattle.prcu_model.proofs.Dictionaries.{map_at-next}
+use Rattle.account_text.proofs.Replays.{AreUpdatesFrom-next, AreUpdatesFrom-none, legal-more, sizes-more, right-more, whole-more}
 use Rattle.account_text.proofs.timeline.replay.Goals as goal
 
 abbrev no_update : Update

@@ -1,9 +1,8 @@
 use Rattle.std.proofs.Common.{◌≡◌, ℕ, ◌+◌, ◌≤◌, ◌↔◌, true, false, length, get_or, drop}
 use Rattle.std.specs.FinMap as map
 use Rattle.std.specs.List.{All}
-use Rattle.prcu_model.specs.Dictionary.{map_at}
-use Rattle.prcu_model.specs.History.{IsLegal, AreUpdatesFrom}
-use Rattle.account_text.specs.Changes.{IsChangeOf, AreAllChanged}
+use Rattle.prcu_model.specs.Dictionary.{map_at, IsLegal, AreUpdatesFrom}
+use Rattle.account_text.specs.Judging.{IsChangeOf, AreAllChanged}
 use Rattle.account_text.proofs.timeline.replay.Given as goal
 
 -- the map is the dictionary at this front, the lists are right so far, and the history is legal exactly where those so far were updates

@@ -1,6 +1,6 @@
 use Rattle.std.proofs.Common.{rules}
 use Rattle.std.proofs.lemmas.List.Sorted.{IsPartitionPoint-from_clause}
-use Rattle.account_text.proofs.ChangeOrder.{is_up_to, parted, until-take, past-drop}
+use Rattle.account_text.proofs.Replays.{is_up_to, parted, until-take, past-drop}
 use Rattle.account_text.proofs.timeline.split_changes.Goals as goal
 
 pub returns-clause-until : goal.returns-clause-until

@@ -1,4 +1,4 @@
-use Rattle.account_text.proofs.Legality.{was-put, was-del, was-set}
+use Rattle.account_text.proofs.Replays.{was-put, was-del, was-set}
 use Rattle.account_text.proofs.timeline.was_update.Goals as goal
 
 pub returns-in-Put : goal.returns-in-Put

@@ -1,8 +1,8 @@
 use Rattle.std.proofs.Common.{◌≡◌, ◌+◌, List, [], ◌∷◌, ◌++◌, length, get_or, refl, sym, ap, subst, ◌∙◌, arith, length-append}
 use Rattle.std.proofs.lemmas.Option.{get_or_from_slice_get}
 use Rattle.prcu_model.specs.declared.operation.Op.{Op}
-use Rattle.client_run.specs.Workers.{IsReadyFor, AreReadyFor}
-use Rattle.client_run.proofs.Ready.{AreReadyFor-nil, AreReadyFor-push}
+use Rattle.client_run.specs.Crews.{IsReadyFor, AreReadyFor}
+use Rattle.client_run.proofs.Crews.{AreReadyFor-nil, AreReadyFor-push}
 use Rattle.base_tests.proofs.workers.crew.Goals as goal
 
 pub loop-i-init : goal.loop-i-init

@@ -1,5 +1,5 @@
 use Rattle.std.proofs.Common.{◌≡◌, length}
-use Rattle.client_run.specs.Workers.{AreReadyFor}
+use Rattle.client_run.specs.Crews.{AreReadyFor}
 use Rattle.base_tests.proofs.workers.crew.Given as goal
 
 abbrev pub invariant-loop-i : goal.invariant-loop-i

@@ -1,4 +1,4 @@
-use Rattle.citrus_tool.proofs.DrawnTexts.{drawn_texts_are_one}
+use Rattle.citrus_tool.proofs.Leavings.{drawn_texts_are_one}
 use Rattle.citrus_tool.proofs.laws.drawn_texts_are_one.Goals as goal
 
 pub returns : goal.returns

@@ -1,8 +1,8 @@
 use Rattle.std.proofs.Common.{sym, subst}
-use Rattle.prcu_model.specs.Lists.{entries_of}
-use Rattle.prcu_model.specs.Slots.{StaysWithin}
+use Rattle.prcu_model.specs.Scripts.{entries_of}
+use Rattle.prcu_model.specs.Fronts.{StaysWithin}
 use Rattle.account_text.specs.Account.{HaveReplies}
-use Rattle.schedule_run.specs.Schedules.{IsOfSchedule}
+use Rattle.core_machine.specs.Laws.{IsOfSchedule}
 use Rattle.citrus_tool.proofs.Leavings.{explained_as, drawn_account}
 use Rattle.std.proofs.lemmas.Result.{IfOk-weaker}
 use Rattle.citrus_tool.proofs.running.account_by_schedule.Goals as goal

@@ -3,8 +3,8 @@ use Rattle.std.proofs.lemmas.Result.{IfOk-weaker}
 use Rattle.command_words.specs.declared.commands.Command.TheVariants.{Check}
 use Rattle.command_words.specs.declared.statuses.Status.{Status}
 use Rattle.citrus_tool.specs.Answers.{Writes}
-use Rattle.command_words.proofs.InputParts.{length-before}
-use Rattle.citrus_tool.proofs.BadLines.{bad_told}
+use Rattle.command_words.proofs.Inputs.{length-before}
+use Rattle.citrus_tool.proofs.AnsweredInputs.{bad_told}
 use Rattle.citrus_tool.proofs.running.check_claim.Goals as goal
 
 pub returns-in-Err-clause-written : goal.returns-in-Err-clause-written

@@ -1,7 +1,7 @@
 use Rattle.std.proofs.Common.{None, refl, arith}
 use Rattle.command_words.specs.declared.commands.Command.TheVariants.{Hash}
-use Rattle.citrus_tool.proofs.BadLines.{refused}
-use Rattle.citrus_tool.proofs.SlotCounts.{never_full, within_default}
+use Rattle.citrus_tool.proofs.AnsweredInputs.{refused}
+use Rattle.citrus_tool.proofs.Leavings.{never_full, within_default}
 use Rattle.citrus_tool.proofs.running.hash.Goals as goal
 
 pub returns-in_ok-text-in-Ok : goal.returns-in_ok-text-in-Ok

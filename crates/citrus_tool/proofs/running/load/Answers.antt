@@ -1,6 +1,5 @@
 use Rattle.std.proofs.Common.{ap, subst, ◌∙◌}
-use Rattle.workload.specs.Summaries.{plain_summary}
-use Rattle.workload.specs.SummaryText.{summary_text}
+use Rattle.workload.specs.Summaries.{plain_summary, summary_text}
 use Rattle.citrus_tool.specs.Leavings.{LeavesMade}
 use Rattle.citrus_tool.proofs.running.load.Goals as goal
 

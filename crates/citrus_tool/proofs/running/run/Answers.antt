@@ -1,6 +1,6 @@
 use Rattle.std.proofs.Common.{refl, arith}
 use Rattle.command_words.specs.declared.commands.Command.TheVariants.{Run}
-use Rattle.citrus_tool.proofs.BadLines.{refused}
+use Rattle.citrus_tool.proofs.AnsweredInputs.{refused}
 use Rattle.citrus_tool.proofs.Leavings.{run_written}
 use Rattle.citrus_tool.proofs.running.run.Goals as goal
 

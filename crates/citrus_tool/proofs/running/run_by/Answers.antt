@@ -1,5 +1,5 @@
 use Rattle.std.proofs.Common.{IfOk, refl, sym, subst, arith}
-use Rattle.prcu_model.specs.Slots.{StaysWithin}
+use Rattle.prcu_model.specs.Fronts.{StaysWithin}
 use Rattle.account_text.specs.Account.{IsAccount}
 use Rattle.command_words.specs.declared.commands.Mode.{Mode}
 use Rattle.citrus_tool.specs.declared.outcome.Ran.TheVariants.{Nothing}

@@ -1,11 +1,11 @@
 use Rattle.std.proofs.Common.{◌+◌, refl, subst, arith}
-use Rattle.prcu_model.specs.Slots.{StaysWithin}
+use Rattle.prcu_model.specs.Fronts.{StaysWithin}
 use Rattle.key_interval.specs.Keys.{Interval}
-use Rattle.tree_watch.specs.WatchText.{IsWatchText}
-use Rattle.citrus_tool.specs.Watching.{LeavesWatched}
+use Rattle.tree_watch.specs.Snapshots.{IsWatchText}
+use Rattle.citrus_tool.specs.Leavings.{LeavesWatched}
 use Rattle.command_words.specs.declared.commands.Command.TheVariants.{Watch}
-use Rattle.citrus_tool.proofs.BadLines.{refused}
-use Rattle.citrus_tool.proofs.WatchedRuns.{watch_written}
+use Rattle.citrus_tool.proofs.AnsweredInputs.{refused}
+use Rattle.citrus_tool.proofs.Leavings.{watch_written}
 use Rattle.citrus_tool.proofs.running.watch.Goals as goal
 
 pub returns-in_ok-text-in-Ok : goal.returns-in_ok-text-in-Ok

@@ -1,4 +1,4 @@
-use Rattle.citrus_tool.proofs.Complete.{answered}
+use Rattle.citrus_tool.proofs.AnsweredInputs.{answered}
 use Rattle.citrus_tool.proofs.top.answer_from.Goals as goal
 
 pub returns-in-Ok-write_all-clause-done : goal.returns-in-Ok-write_all-clause-done

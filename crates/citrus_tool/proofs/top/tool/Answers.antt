@@ -1,10 +1,10 @@
 use Rattle.std.proofs.Common.{◌≡◌, Some, sym, subst}
-use Rattle.io_edge.specs.Whole.{TakesToLimit}
+use Rattle.io_edge.specs.Edge.{TakesToLimit}
 use Rattle.command_words.specs.declared.statuses.Status.TheVariants.{BadScript, TooLong}
 use Rattle.citrus_tool.specs.Answers.{AnsweredBy}
 use Rattle.command_words.specs.Commands.{Reads, limit_of}
 use Rattle.command_words.specs.declared.commands.Command.{Command}
-use Rattle.citrus_tool.proofs.Complete.{not_too_long, not_bad, one_of_three}
+use Rattle.citrus_tool.proofs.AnsweredInputs.{not_too_long, not_bad, one_of_three}
 use Rattle.citrus_tool.proofs.top.tool.Goals as goal
 
 pub returns-in-Some-clause-complete : goal.returns-in-Some-clause-complete

@@ -1,8 +1,7 @@
 use Rattle.std.proofs.Common.{false, length, sym, ap, subst, ◌∙◌}
-use Rattle.prcu_model.specs.Lists.{entries_of}
+use Rattle.prcu_model.specs.Scripts.{entries_of, default_slots_of}
 use Rattle.prcu_model.specs.Dictionary.{map_of}
 use Rattle.prcu_model.specs.Fronts.{AreExplainable}
-use Rattle.prcu_model.specs.Scripts.{default_slots_of}
 use Rattle.workload.specs.Summaries.{summary_with}
 use Rattle.tree_run.specs.Runs.{run_with}
 use Rattle.citrus_tool.specs.Leavings.{IsTreeLeftOf}

@@ -1,6 +1,6 @@
 use Rattle.std.proofs.Common.{arith}
 use Rattle.core_state.specs.declared.shape.Waiter.TheVariants.{Eer, Domain, Deer}
-use Rattle.citrus_tool.proofs.WatchedRuns.{nothing_watched, watched_in}
+use Rattle.citrus_tool.proofs.Leavings.{nothing_watched, watched_in}
 use Rattle.citrus_tool.proofs.watching.watch_in_threads.Goals as goal
 
 pub returns-then-count-eq0 : goal.returns-then-count-eq0

@@ -1,7 +1,7 @@
 use Rattle.std.proofs.Common.{[], sym, subst}
 use Rattle.std.proofs.lemmas.Result.{IfOk-weaker}
 use Rattle.tree_watch.specs.Snapshots.{AreSnapshots}
-use Rattle.citrus_tool.proofs.WatchedRuns.{none_listed}
+use Rattle.citrus_tool.proofs.Leavings.{none_listed}
 use Rattle.citrus_tool.proofs.watching.watch_of_none.Goals as goal
 
 pub make_watch_text-requires-clause-snapshots : goal.make_watch_text-requires-clause-snapshots

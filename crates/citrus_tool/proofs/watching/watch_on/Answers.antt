@@ -1,14 +1,13 @@
 use Rattle.std.proofs.Common.{◌+◌, List, sym, subst}
 use Rattle.prcu_model.specs.declared.operation.Told.{Told}
-use Rattle.prcu_model.specs.Lists.{Roomy, entries_of}
-use Rattle.prcu_model.specs.Slots.{StaysWithin}
+use Rattle.prcu_model.specs.Scripts.{Roomy, entries_of}
+use Rattle.prcu_model.specs.Fronts.{StaysWithin}
 use Rattle.account_text.specs.Account.{HaveReplies}
 use Rattle.seat_table.specs.Seats.{way_of}
-use Rattle.tree_watch.specs.WatchText.{IsWatchText}
+use Rattle.tree_watch.specs.Snapshots.{IsWatchText}
 use Rattle.citrus_tool.specs.declared.tree_runs.Written.{Written}
-use Rattle.citrus_tool.specs.Watching.{IsWatchedTree}
-use Rattle.citrus_tool.proofs.Leavings.{explained_as}
-use Rattle.citrus_tool.proofs.WatchedRuns.{watched_beside}
+use Rattle.citrus_tool.specs.Leavings.{IsWatchedTree}
+use Rattle.citrus_tool.proofs.Leavings.{explained_as, watched_beside}
 use Rattle.citrus_tool.proofs.watching.watch_on.Goals as goal
 
 pub make_watch_text-requires-clause-explained : goal.make_watch_text-requires-clause-explained

@@ -1,5 +1,5 @@
 use Rattle.seat_table.specs.Seats.{shape_of}
-use Rattle.citrus_tree.proofs.Committing.{closes, closes_at}
+use Rattle.citrus_tree.proofs.Leavings.{closes, closes_at}
 use Rattle.citrus_tree.proofs.commit.close_commit.Goals as goal
 
 pub returns-clause-closed : goal.returns-clause-closed

@@ -3,8 +3,8 @@ use Rattle.core_points.specs.declared.stage.Stage.TheVariants as at
 use Rattle.core_points.specs.declared.stage.Update.{Update}
 use Rattle.prcu_model.specs.declared.operation.Op.{Op}
 use Rattle.seat_table.specs.Seats.{shape_of}
-use Rattle.tree_points.specs.At.{IsAt}
-use Rattle.citrus_tree.proofs.Committing.{Tried}
+use Rattle.tree_points.specs.Points.{IsAt}
+use Rattle.citrus_tree.proofs.Leavings.{Tried}
 use Rattle.citrus_tree.proofs.commit.open_commit.Given as goal
 
 abbrev pub invariant-loop-round : goal.invariant-loop-round

@@ -1,10 +1,9 @@
 use Rattle.std.proofs.Common.{◌≡◌, ℕ, ◌≢◌, refl, ◌∙◌, arith}
 use mathlib.Core.Logic.{dite}
 use native.Mathlib.Decide.{ℕ_discrete}
-use Rattle.citrus_tree.proofs.sets.Replacing.{absent_begins, absent_goes, absent_quiet, absent_retired, absent_tickets, absent_wait, outside, unlocked, begins, goes_all, may_store, tries_again, stored_begins, stored_quiet, stored_retired, stored_wait, stored_tickets, listed_on}
-use Rattle.citrus_tree.proofs.sets.Comparing.{absent_value, found_value, absent_compares, differs_compares, stored_compares}
-use Rattle.citrus_tree.proofs.KeepingSlots.{slots_goes}
-use Rattle.seat_table.proofs.Rounding.{prefix_steps}
+use Rattle.citrus_tree.proofs.Replacing.{absent_begins, absent_goes, absent_quiet, absent_retired, absent_tickets, absent_wait, outside, unlocked, begins, goes_all, may_store, tries_again, stored_begins, stored_quiet, stored_retired, stored_wait, stored_tickets, listed_on, absent_value, found_value, absent_compares, differs_compares, stored_compares}
+use Rattle.citrus_tree.proofs.Leavings.{slots_goes}
+use Rattle.seat_table.proofs.SeveralSteps.{prefix_steps}
 use Rattle.citrus_tree.proofs.comparing.compare.Goals as goal
 
 -- what isn't another one is the same

@@ -1,12 +1,12 @@
 use Rattle.std.proofs.Common.{subst, arith}
 use Rattle.seat_table.specs.Gains.{IsSlot}
-use Rattle.core_state.specs.parts.ReaderParts.{state_slot}
+use Rattle.core_state.specs.Parts.{state_slot}
 use Rattle.citrus_tree.specs.Lookups.{IsSearching, state_of}
 use Rattle.citrus_tree.specs.declared.descent.Descent.{Descent}
 use Rattle.seat_table.specs.Seats.{shape_of}
-use Rattle.citrus_tree.proofs.searches.Searching.{needs_value, needs_valued_life, sought_value, looked_missed}
-use Rattle.seat_table.proofs.Rounding.{makes_steps, told_steps}
-use Rattle.citrus_tree.proofs.Rounds.{search_steps}
+use Rattle.citrus_tree.proofs.Searching.{needs_value, needs_valued_life, sought_value, looked_missed}
+use Rattle.seat_table.proofs.SeveralSteps.{makes_steps, told_steps}
+use Rattle.citrus_tree.proofs.Leavings.{search_steps}
 use Rattle.citrus_tree.proofs.comparing.find_value.Goals as goal
 
 pub search_load-value-requires-clause-asks : goal.search_load-value-requires-clause-asks

@@ -4,18 +4,17 @@ use Rattle.std.specs.Option.{IfSome, IfNone}
 use Rattle.seat_table.specs.Gains.{IsInformed}
 use Rattle.citrus_tree.specs.Replies.{RetiresInOrder, WasAnswered}
 use Rattle.citrus_tree.specs.declared.delete.Deleted.{Deleted}
-use Rattle.citrus_tree.specs.Gone.{KeepsWait}
+use Rattle.citrus_tree.specs.Going.{KeepsWait, MayBegin}
 use Rattle.citrus_tree.specs.Deletes.{HasDeleted, KeepsRest, TellsTaken}
 use Rattle.core_points.specs.declared.stage.Target.{Target}
 use Rattle.prcu_model.specs.declared.operation.Op.TheVariants.{Del}
-use Rattle.tree_points.specs.At.{IsAt, IsDone}
-use Rattle.citrus_tree.specs.Going.{MayBegin}
+use Rattle.tree_points.specs.Points.{IsAt, IsDone}
 use Rattle.seat_table.specs.Seats.{shape_of}
 use Rattle.std.specs.declared.option.Option.{Option}
 use Rattle.std.proofs.Common.{refl, ◌∙◌, subst, ℕ, ◌≡◌, true, arith}
-use Rattle.citrus_tree.proofs.deletes.Tries.{absent_begins, absent_dels, absent_wait, gone_begins, gone_dels, gone_wait, listed_still, tried_retires, tries_again, tries_first, tells_gone}
-use Rattle.citrus_tree.proofs.KeepingSlots.{searched_slots, slots_on, slots_self}
-use Rattle.seat_table.proofs.Rounding.{prefix_steps}
+use Rattle.citrus_tree.proofs.DeleteTries.{absent_begins, absent_dels, absent_wait, gone_begins, gone_dels, gone_wait, listed_still, tried_retires, tries_again, tries_first, tells_gone}
+use Rattle.citrus_tree.proofs.Leavings.{searched_slots, slots_on, slots_self}
+use Rattle.seat_table.proofs.SeveralSteps.{prefix_steps}
 use Rattle.citrus_tree.proofs.delete.delete.Goals as goal
 
 pub loop-round-init : goal.loop-round-init

@@ -1,7 +1,7 @@
 use Rattle.std.proofs.Common.{◌≡◌, ◌≤◌, length}
 use Rattle.seat_table.specs.Seats.{AreListed, shape_of}
-use Rattle.citrus_tree.specs.Gone.{KeepsSlots}
-use Rattle.citrus_tree.proofs.deletes.Tries.{TriesToDelete}
+use Rattle.citrus_tree.specs.Going.{KeepsSlots}
+use Rattle.citrus_tree.proofs.DeleteTries.{TriesToDelete}
 use Rattle.citrus_tree.proofs.delete.delete.Given as goal
 
 abbrev pub invariant-loop-round : goal.invariant-loop-round

@@ -5,17 +5,14 @@ use Rattle.core_points.specs.Programs.{deleting}
 use Rattle.core_points.specs.declared.stage.Stage.TheVariants as at
 use Rattle.seat_table.specs.Gains.{IsInformed}
 use Rattle.seat_table.specs.Seats.{shape_of}
-use Rattle.tree_points.specs.At.{IsAt, IsDone}
-use Rattle.tree_points.proofs.Gone.{gone_on}
+use Rattle.tree_points.specs.Points.{IsAt, IsDone}
+use Rattle.tree_points.proofs.Locks.{gone_on}
 use Rattle.citrus_tree.specs.Deletes.{AreLivesSmall, Comes, HasDeleted, KeepsRest, RetiresIf, TakesValue}
-use Rattle.citrus_tree.specs.Gone.{KeepsWait}
-use Rattle.citrus_tree.proofs.deletes.Keeping.{keeps_rest, rest_of}
-use Rattle.citrus_tree.proofs.deletes.Pieces.{deleted_later, bypass_deletes}
-use Rattle.citrus_tree.proofs.deletes.Values.{told_taken}
-use Rattle.citrus_tree.proofs.KeepingSlots.{rest_slots, slots_on, slots_rest}
-use Rattle.citrus_tree.proofs.KeepingWaits.{none_begun, wait_later}
-use Rattle.citrus_tree.proofs.deletes.Retiring.{one_retired, retires_before}
-use Rattle.citrus_tree.proofs.deletes.Tries.{listed_still}
+use Rattle.citrus_tree.specs.Going.{KeepsWait}
+use Rattle.citrus_tree.proofs.DeleteUpdates.{keeps_rest, rest_of, told_taken}
+use Rattle.citrus_tree.proofs.DeleteMoves.{deleted_later, bypass_deletes, one_retired, retires_before}
+use Rattle.citrus_tree.proofs.Leavings.{rest_slots, slots_on, slots_rest, none_begun, wait_later}
+use Rattle.citrus_tree.proofs.DeleteTries.{listed_still}
 use Rattle.citrus_tree.proofs.delete.delete_node.Goals as goal
 
 pub lock_target-requires-clause-at : goal.lock_target-requires-clause-at

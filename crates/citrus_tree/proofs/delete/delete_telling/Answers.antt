@@ -1,8 +1,8 @@
 use Rattle.seat_table.specs.Seats.{shape_of}
-use Rattle.citrus_tree.proofs.deletes.Tries.{dels, dels_allowance, ends_quiet, ends_tickets, keeps_wait}
-use Rattle.citrus_tree.proofs.KeepingSlots.{slots_on}
-use Rattle.citrus_tree.proofs.deletes.Retiring.{retires_before, when_gone}
-use Rattle.citrus_tree.proofs.deletes.Values.{told_since}
+use Rattle.citrus_tree.proofs.DeleteTries.{dels, dels_allowance, ends_quiet, ends_tickets, keeps_wait}
+use Rattle.citrus_tree.proofs.Leavings.{slots_on}
+use Rattle.citrus_tree.proofs.DeleteMoves.{retires_before, when_gone}
+use Rattle.citrus_tree.proofs.DeleteUpdates.{told_since}
 use Rattle.citrus_tree.proofs.delete.delete_telling.Goals as goal
 
 pub returns-clause-dels : goal.returns-clause-dels

@@ -1,9 +1,9 @@
 use Rattle.std.proofs.Common.{◌+◌, ◌<◌, ◌≤◌, length, sym, ap, ◌∙◌, inl, inr, refl, arith}
-use Rattle.node_slots.proofs.Listed.{listed_length}
+use Rattle.node_slots.proofs.Returns.{listed_length}
 use Rattle.node_slots.proofs.Points.{reclaim_retired}
-use Rattle.tree_points.proofs.Ends.{none_raised}
-use Rattle.citrus_tree.proofs.deletes.Room.{empty_listed, given_spare, no_spare, ready_at_once, ready_reclaimed, room_reclaimed, room_same, same_room}
-use Rattle.citrus_tree.proofs.KeepingSlots.{slots_reclaimed, slots_self}
+use Rattle.tree_points.proofs.Passing.{none_raised}
+use Rattle.citrus_tree.proofs.DeleteTries.{empty_listed, given_spare, no_spare, ready_at_once, ready_reclaimed, room_reclaimed, room_same, same_room}
+use Rattle.citrus_tree.proofs.Leavings.{slots_reclaimed, slots_self}
 use Rattle.citrus_tree.proofs.delete.make_room.Goals as goal
 
 pub reclaim-requires-clause-outside : goal.reclaim-requires-clause-outside

@@ -1,6 +1,5 @@
 use Rattle.seat_table.specs.Seats.{shape_of}
-use Rattle.citrus_tree.proofs.deletes.Keeping.{keeps_locked_load, keeps_self}
-use Rattle.citrus_tree.proofs.deletes.Values.{loads_value, value_known, value_loaded_at}
+use Rattle.citrus_tree.proofs.DeleteUpdates.{keeps_locked_load, keeps_self, loads_value, value_known, value_loaded_at}
 use Rattle.citrus_tree.proofs.delete.value_where.Goals as goal
 
 pub locked_load-requires-clause-asks : goal.locked_load-requires-clause-asks

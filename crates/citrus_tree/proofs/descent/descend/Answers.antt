@@ -1,7 +1,6 @@
 use Rattle.std.proofs.Common.{◌∙◌, arith}
 use Rattle.seat_table.specs.Seats.{shape_of}
-use Rattle.citrus_tree.proofs.searches.Bounding.{entered_met, entered_pace}
-use Rattle.citrus_tree.proofs.searches.Searching.{root_is, begun}
+use Rattle.citrus_tree.proofs.Searching.{entered_met, entered_pace, root_is, begun}
 use Rattle.citrus_tree.proofs.descent.descend.Goals as goal
 
 pub load_links-links-requires-clause-slot : goal.load_links-links-requires-clause-slot

@@ -1,11 +1,10 @@
 use Rattle.std.proofs.Common.{◌≡◌, ◌+◌, ◌-◌, ◌<◌}
 use Rattle.core_state.specs.declared.view.SearchState.TheVariants.{At}
 use Rattle.core_state.specs.declared.view.View.{View}
-use Rattle.core_state.specs.memory.Memory.{slot_count}
+use Rattle.core_state.specs.Memory.{slot_count}
 use Rattle.seat_table.specs.Gains.{IsSlot}
 use Rattle.seat_table.specs.Seats.{shape_of}
-use Rattle.citrus_tree.specs.Bounded.{KeepsPace, slots_met}
-use Rattle.citrus_tree.specs.Hops.{LoadsLinks}
+use Rattle.citrus_tree.specs.Hops.{KeepsPace, slots_met, LoadsLinks}
 use Rattle.citrus_tree.specs.Lookups.{IsSearching}
 use Rattle.citrus_tree.proofs.descent.descend.Given as goal
 

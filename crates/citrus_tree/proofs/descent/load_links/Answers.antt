@@ -3,7 +3,7 @@ use Rattle.core_state.specs.declared.shape.Shape.{Shape}
 use Rattle.prcu_marks.specs.declared.mark.Side.{Side}
 use Rattle.citrus_tree.specs.Hops.{link_on}
 use Rattle.seat_table.specs.Seats.{shape_of}
-use Rattle.citrus_tree.proofs.searches.Descending.{both_loaded, half_on, may_load_left, may_load_right}
+use Rattle.citrus_tree.proofs.Searching.{both_loaded, half_on, may_load_left, may_load_right}
 use Rattle.citrus_tree.proofs.descent.load_links.Goals as goal
 
 halves_are : (b : Side) (left right low high : ℕ) → low ≡ left % 4294967296 → high ≡ right % 4294967296

@@ -1,8 +1,7 @@
 use Rattle.std.proofs.Common.{sym, ◌∙◌, arith}
 use Rattle.seat_table.specs.Seats.{shape_of}
-use Rattle.seat_table.proofs.Rounding.{told_steps}
-use Rattle.citrus_tree.proofs.searches.Bounding.{ended_costs, found_costs, moved_costs}
-use Rattle.citrus_tree.proofs.searches.Descending.{ended_at, slot_on, may_read, found_at, moved_on}
+use Rattle.seat_table.proofs.SeveralSteps.{told_steps}
+use Rattle.citrus_tree.proofs.Searching.{ended_costs, found_costs, moved_costs, ended_at, slot_on, may_read, found_at, moved_on}
 use Rattle.citrus_tree.proofs.descent.look_on.Goals as goal
 
 pub returns-then-ahead-eq0-clause-searching : goal.returns-then-ahead-eq0-clause-searching

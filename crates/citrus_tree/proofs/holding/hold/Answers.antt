@@ -1,11 +1,11 @@
 use Rattle.seat_table.specs.Gains.{IsSlot}
-use Rattle.core_state.specs.parts.ReaderParts.{state_slot}
+use Rattle.core_state.specs.Parts.{state_slot}
 use Rattle.std.proofs.Common.{subst, arith, rules}
 use Rattle.citrus_tree.specs.Lookups.{IsSearching, state_of}
 use Rattle.citrus_tree.specs.declared.descent.Descent.{Descent}
 use Rattle.seat_table.specs.Seats.{shape_of}
-use Rattle.citrus_tree.proofs.searches.Searching.{held, looked_missed}
-use Rattle.seat_table.proofs.Rounding.{left_once, told_once}
+use Rattle.citrus_tree.proofs.Searching.{held, looked_missed}
+use Rattle.seat_table.proofs.SeveralSteps.{left_once, told_once}
 use Rattle.citrus_tree.proofs.holding.hold.Goals as goal
 
 pub search_load-value-requires-clause-asks : goal.search_load-value-requires-clause-asks

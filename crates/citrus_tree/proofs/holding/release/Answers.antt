@@ -1,5 +1,5 @@
 use Rattle.seat_table.specs.Seats.{shape_of}
-use Rattle.citrus_tree.proofs.searches.Searching.{looked_found}
+use Rattle.citrus_tree.proofs.Searching.{looked_found}
 use Rattle.citrus_tree.proofs.holding.release.Goals as goal
 
 pub returns-clause-released : goal.returns-clause-released

@@ -1,4 +1,4 @@
-use Rattle.citrus_tree.proofs.puts.Filling.{fills_key, fills_value, fills_left, fills_right, filled_hand, filled_goes, filled_at}
+use Rattle.citrus_tree.proofs.Linking.{fills_key, fills_value, fills_left, fills_right, filled_hand, filled_goes, filled_at}
 use Rattle.citrus_tree.proofs.insert.fill_leaf.Goals as goal
 
 pub fill-requires-clause-asks : goal.fill-requires-clause-asks

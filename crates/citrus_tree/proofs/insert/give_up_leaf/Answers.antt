@@ -1,6 +1,6 @@
 use Rattle.std.proofs.Common.{subst}
 use Rattle.seat_table.specs.Seats.{IsSlotOf}
-use Rattle.citrus_tree.proofs.puts.Filling.{gives_up, gives_up_at}
+use Rattle.citrus_tree.proofs.Linking.{gives_up, gives_up_at}
 use Rattle.citrus_tree.proofs.insert.give_up_leaf.Goals as goal
 
 pub returns-clause-goes : goal.returns-clause-goes

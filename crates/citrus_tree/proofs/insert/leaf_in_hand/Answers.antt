@@ -1,22 +1,17 @@
 use Rattle.prcu_model.specs.declared.operation.Op.TheVariants.{Put}
-use Rattle.tree_points.specs.At.{IsAt}
-use Rattle.citrus_tree.specs.Putting.{taken_stage}
-use Rattle.seat_table.specs.Seats.{shape_of}
+use Rattle.tree_points.specs.Points.{IsAt}
+use Rattle.citrus_tree.specs.Going.{taken_stage, KeepsSlots, MakesRoom, leaf_stage}
+use Rattle.seat_table.specs.Seats.{shape_of, AreListed, IsSlotOf, SeatAt}
 use Rattle.std.specs.declared.option.Option.{Option}
-use Rattle.citrus_tree.proofs.puts.Filling.{leaf_taken, room_goes}
+use Rattle.citrus_tree.proofs.Linking.{leaf_taken, room_goes}
 use Rattle.std.proofs.Common.{◌≡◌, [], None, Some, inl, subst, sym, ℕ}
 use Rattle.core_points.specs.declared.stage.Spot.{Spot}
 use Rattle.core_points.specs.declared.stage.Stage.TheVariants as at
 use Rattle.core_state.specs.declared.shape.Shape.{Shape}
 use Rattle.core_state.specs.declared.view.Held.{Held}
 use Rattle.core_state.specs.declared.view.View.{View}
-use Rattle.seat_table.specs.Seats.{AreListed, IsSlotOf, SeatAt}
-use Rattle.citrus_tree.specs.Gone.{KeepsSlots}
-use Rattle.citrus_tree.specs.Putting.{MakesRoom}
 use Rattle.core_points.specs.declared.stage.Aim.TheVariants.{Leaf}
-use Rattle.citrus_tree.specs.Going.{leaf_stage}
-use Rattle.citrus_tree.proofs.KeepingSlots.{goes_slots, slots_self}
-use Rattle.citrus_tree.proofs.Leavings.{goes_same}
+use Rattle.citrus_tree.proofs.Leavings.{goes_slots, slots_self, goes_same}
 use Rattle.citrus_tree.proofs.insert.leaf_in_hand.Goals as goal
 
 -- a filled slot is in hand

@@ -1,7 +1,7 @@
 use Rattle.std.proofs.Common.{◌≡◌, ℕ, Some, sym, ◌∙◌}
 use Rattle.std.proofs.lemmas.Option.{none-some}
 use Rattle.prcu_model.specs.declared.operation.Op.TheVariants.{Put}
-use Rattle.citrus_tree.proofs.puts.Linking.{busy_at, busy_goes, checking, fails_at, holds_at, settled_leaf, unpaid_leaf, hand_locked, gives_up_lock, again_at, again_goes, is_odd, locks, stores_leaf, evening, lets_go, done_at, links}
+use Rattle.citrus_tree.proofs.Linking.{busy_at, busy_goes, checking, fails_at, holds_at, settled_leaf, unpaid_leaf, hand_locked, gives_up_lock, again_at, again_goes, is_odd, locks, stores_leaf, evening, lets_go, done_at, links}
 use Rattle.citrus_tree.proofs.insert.link_leaf.Goals as goal
 
 one_number : (number known : ℕ) → Some known ≡ Some number → number ≡ known

@@ -1,9 +1,8 @@
 use Rattle.std.proofs.Common.{[], refl, ◌∙◌, arith}
-use Rattle.citrus_tree.proofs.puts.Inserting.{begins, outside, unlocked, may_give_up, old_found, old_looked, old_puts, old_allowance, old_begins, old_wait, old_quiet, old_tickets, may_take_leaf, spot_looked, full_puts, full_allowance, full_begins, full_wait, full_quiet, full_tickets, may_link, tries_again, new_goes, new_puts, new_retired, new_allowance, new_begins, new_wait, new_quiet, new_tickets}
-use Rattle.citrus_tree.proofs.sets.Replacing.{listed_on}
-use Rattle.citrus_tree.proofs.KeepingSlots.{goes_slots, slots_on, slots_self}
-use Rattle.seat_table.proofs.Rounding.{prefix_steps}
-use Rattle.citrus_tree.proofs.Rounds.{room_steps}
+use Rattle.citrus_tree.proofs.Inserting.{begins, outside, unlocked, may_give_up, old_found, old_looked, old_puts, old_allowance, old_begins, old_wait, old_quiet, old_tickets, may_take_leaf, spot_looked, full_puts, full_allowance, full_begins, full_wait, full_quiet, full_tickets, may_link, tries_again, new_goes, new_puts, new_retired, new_allowance, new_begins, new_wait, new_quiet, new_tickets}
+use Rattle.citrus_tree.proofs.Replacing.{listed_on}
+use Rattle.citrus_tree.proofs.Leavings.{goes_slots, slots_on, slots_self, room_steps}
+use Rattle.seat_table.proofs.SeveralSteps.{prefix_steps}
 use Rattle.std.proofs.lemmas.Result.{err_from_is_err_and}
 use Rattle.citrus_tree.proofs.insert.put.Goals as goal
 

@@ -1,4 +1,4 @@
-use Rattle.citrus_tree.proofs.puts.Linking.{checks_life, checks_side, checks_tag, checked_goes, checked_locks, checked_hand, checked_at}
+use Rattle.citrus_tree.proofs.Linking.{checks_life, checks_side, checks_tag, checked_goes, checked_locks, checked_hand, checked_at}
 use Rattle.citrus_tree.proofs.insert.still_holds.Goals as goal
 
 pub locked_load-life-requires-clause-asks : goal.locked_load-life-requires-clause-asks

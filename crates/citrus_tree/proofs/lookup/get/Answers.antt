@@ -1,4 +1,4 @@
-use Rattle.citrus_tree.proofs.Beginning.{looked_first}
+use Rattle.citrus_tree.proofs.Leavings.{looked_first}
 use Rattle.citrus_tree.proofs.lookup.get.Goals as goal
 
 pub returns-in-Some-clause-begins : goal.returns-in-Some-clause-begins

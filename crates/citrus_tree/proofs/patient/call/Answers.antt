@@ -1,8 +1,8 @@
 use Rattle.std.proofs.Common.{IfOk, sym, subst}
 use Rattle.prcu_model.specs.declared.operation.Op.{Op}
 use Rattle.seat_table.specs.Seats.{shape_of}
-use Rattle.citrus_tree.specs.Beginnings.{Begins}
-use Rattle.citrus_tree.specs.Clients.{IsTold}
+use Rattle.citrus_tree.specs.Deletes.{Begins}
+use Rattle.citrus_tree.specs.Replies.{IsTold}
 use Rattle.citrus_tree.specs.declared.answer.Called.{Called}
 use Rattle.citrus_tree.proofs.patient.call.Goals as goal
 

@@ -1,12 +1,12 @@
 use Rattle.std.proofs.Common.{subst, rules, arith}
 use Rattle.seat_table.specs.Gains.{IsSlot}
-use Rattle.core_state.specs.parts.ReaderParts.{state_slot}
+use Rattle.core_state.specs.Parts.{state_slot}
 use Rattle.citrus_tree.specs.Lookups.{IsSearching, state_of}
 use Rattle.citrus_tree.specs.declared.descent.Descent.{Descent}
 use Rattle.seat_table.specs.Seats.{shape_of}
-use Rattle.citrus_tree.proofs.searches.Searching.{sought, looked_missed}
-use Rattle.seat_table.proofs.Rounding.{makes_steps, told_steps}
-use Rattle.citrus_tree.proofs.Rounds.{search_steps}
+use Rattle.citrus_tree.proofs.Searching.{sought, looked_missed}
+use Rattle.seat_table.proofs.SeveralSteps.{makes_steps, told_steps}
+use Rattle.citrus_tree.proofs.Leavings.{search_steps}
 use Rattle.citrus_tree.proofs.replace.find_holder.Goals as goal
 
 pub returns-in-Found-clause-sought : goal.returns-in-Found-clause-sought

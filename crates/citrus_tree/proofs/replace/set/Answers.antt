@@ -4,9 +4,9 @@ use Rattle.core_state.specs.declared.view.View.{View}
 use Rattle.citrus_tree.specs.declared.replace.Holder.{Holder}
 use Rattle.citrus_tree.specs.Going.{Sought}
 use Rattle.citrus_tree.specs.Lookups.{Looked}
-use Rattle.citrus_tree.proofs.sets.Replacing.{absent_begins, absent_goes, absent_quiet, absent_retired, absent_tickets, absent_wait, outside, unlocked, begins, absent_sets, goes_all, may_store, tries_again, stored_begins, stored_sets, stored_quiet, stored_retired, stored_wait, stored_tickets, listed_on}
-use Rattle.citrus_tree.proofs.KeepingSlots.{slots_goes}
-use Rattle.seat_table.proofs.Rounding.{prefix_steps}
+use Rattle.citrus_tree.proofs.Replacing.{absent_begins, absent_goes, absent_quiet, absent_retired, absent_tickets, absent_wait, outside, unlocked, begins, absent_sets, goes_all, may_store, tries_again, stored_begins, stored_sets, stored_quiet, stored_retired, stored_wait, stored_tickets, listed_on}
+use Rattle.citrus_tree.proofs.Leavings.{slots_goes}
+use Rattle.seat_table.proofs.SeveralSteps.{prefix_steps}
 use Rattle.citrus_tree.proofs.replace.set.Goals as goal
 
 -- a search that found no holder found the key absent

@@ -1,7 +1,7 @@
 use Rattle.std.proofs.Common.{◌≡◌, ◌≤◌, length}
 use Rattle.prcu_model.specs.declared.operation.Op.TheVariants.{Set}
 use Rattle.seat_table.specs.Seats.{shape_of}
-use Rattle.citrus_tree.proofs.sets.Replacing.{Trying}
+use Rattle.citrus_tree.proofs.Replacing.{Trying}
 use Rattle.citrus_tree.proofs.replace.set.Given as goal
 
 abbrev pub invariant-loop-round : goal.invariant-loop-round

@@ -2,7 +2,7 @@ use Rattle.std.proofs.Common.{◌≡◌, ◌↔◌, Bool, true, false, IsTrue, S
 use Rattle.std.proofs.lemmas.Option.{none-some}
 use Rattle.citrus_tree.specs.declared.replace.Replaced.{Replaced}
 use Rattle.citrus_tree.specs.Going.{IsOther}
-use Rattle.citrus_tree.proofs.sets.Storing.{again_goes, busy_at, busy_goes, is_alive, is_odd, locks, settled, unpaid, not_alive, loads_life, gives_up, again_at, loads_value, committing, stores, evening, lets_go, done_at, stored, gives_way, gave_way_goes, gave_way_at}
+use Rattle.citrus_tree.proofs.Replacing.{again_goes, busy_at, busy_goes, is_alive, is_odd, locks, settled, unpaid, not_alive, loads_life, gives_up, again_at, loads_value, committing, stores, evening, lets_go, done_at, stored, gives_way, gave_way_goes, gave_way_at}
 use Rattle.citrus_tree.proofs.replace.store_value.Goals as goal
 
 one_done : (done known : Replaced) → Some known ≡ Some done → done ≡ known

@@ -1,7 +1,7 @@
 use Rattle.std.proofs.Common.{arith}
 use Rattle.seat_table.specs.Seats.{shape_of}
-use Rattle.citrus_tree.proofs.searches.Searching.{finished}
-use Rattle.seat_table.proofs.Rounding.{makes_steps, told_steps}
+use Rattle.citrus_tree.proofs.Searching.{finished}
+use Rattle.seat_table.proofs.SeveralSteps.{makes_steps, told_steps}
 use Rattle.citrus_tree.proofs.search.leave_with_spot.Goals as goal
 
 pub returns-clause-looked : goal.returns-clause-looked

@@ -1,6 +1,6 @@
 use Rattle.std.proofs.Common.{rules}
 use Rattle.prcu_marks.specs.declared.access.Access.TheVariants.{Load, Store, Exchange, Add, Subtract, Flip}
-use Rattle.class_hash.proofs.Allowed.{allowed}
+use Rattle.class_hash.proofs.Facts.{allowed}
 use Rattle.class_hash.proofs.access.touches_it.Goals as goal
 
 pub load-requires : goal.load-requires

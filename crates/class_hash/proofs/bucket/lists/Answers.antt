@@ -1,5 +1,5 @@
 use Rattle.class_hash.proofs.Seats.{class_is}
-use Rattle.class_hash.proofs.Calls.{listed, still_holds}
+use Rattle.class_hash.proofs.Walking.{listed, still_holds}
 use Rattle.class_hash.proofs.bucket.lists.Goals as goal
 
 pub locked_load-retired-requires-clause-asks : goal.locked_load-retired-requires-clause-asks

@@ -1,4 +1,4 @@
-use Rattle.class_hash.proofs.Calls.{may_move, may_refill}
+use Rattle.class_hash.proofs.Walking.{may_move, may_refill}
 use Rattle.class_hash.proofs.bucket.poll_class.Goals as goal
 
 pub take_retired-requires-clause-asks : goal.take_retired-requires-clause-asks

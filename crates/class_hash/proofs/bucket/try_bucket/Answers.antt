@@ -1,6 +1,6 @@
 use Rattle.std.proofs.Common.{subst}
 use Rattle.hash_core.specs.declared.act.Act.TheVariants.{Lock}
-use Rattle.class_hash.specs.Told.{Told}
+use Rattle.class_hash.specs.Calls.{Told}
 use Rattle.class_hash.proofs.Updating.{locked_finished}
 use Rattle.class_hash.proofs.bucket.try_bucket.Goals as goal
 

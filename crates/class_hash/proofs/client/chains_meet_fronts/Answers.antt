@@ -1,4 +1,4 @@
-use Rattle.class_hash.proofs.Clients.{chains_meet}
+use Rattle.class_hash.proofs.Trying.{chains_meet}
 use Rattle.class_hash.proofs.client.chains_meet_fronts.Goals as goal
 
 pub returns : goal.returns

@@ -2,9 +2,8 @@ use Rattle.std.proofs.Common.{rules, ◌%◌, inl, inr, refl, sym, subst}
 use Rattle.prcu_model.specs.declared.operation.Told.{Told}
 use Rattle.hash_core.specs.Steps.{fresh_hold}
 use Rattle.class_hash.specs.Replies.{Puts}
-use Rattle.class_hash.proofs.Trails.{adds_none}
-use Rattle.class_hash.proofs.Trying.{nothing_tried, searched_first, given_up_first, added_first, tried_again, tried_on, put_once, found_once, locked_holds}
-use Rattle.class_hash.proofs.Exactly.{full_exactly}
+use Rattle.class_hash.proofs.Walking.{adds_none}
+use Rattle.class_hash.proofs.Trying.{nothing_tried, searched_first, given_up_first, added_first, tried_again, tried_on, put_once, found_once, locked_holds, full_exactly}
 use Rattle.class_hash.proofs.dictionary.put.Goals as goal
 
 pub lacks-requires-clause-held : goal.lacks-requires-clause-held

@@ -1,7 +1,7 @@
 use Rattle.std.proofs.Common.{◌≡◌}
-use Rattle.class_hash.specs.Trails.{AddsNoLists}
+use Rattle.class_hash.specs.Calls.{AddsNoLists}
 use Rattle.class_hash.specs.Replies.{HasTried}
-use Rattle.class_hash.proofs.Trails.{NoneOrLookup}
+use Rattle.class_hash.proofs.Walking.{NoneOrLookup}
 use Rattle.class_hash.proofs.dictionary.put.Given as goal
 
 abbrev pub invariant-loop : goal.invariant-loop

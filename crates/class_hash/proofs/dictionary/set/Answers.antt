@@ -2,7 +2,7 @@ use Rattle.std.proofs.Common.{rules, ◌%◌, inl, inr, refl, sym, subst}
 use Rattle.prcu_model.specs.declared.operation.Told.{Told}
 use Rattle.hash_core.specs.Steps.{fresh_hold}
 use Rattle.class_hash.specs.Replies.{Sets}
-use Rattle.class_hash.proofs.Trails.{begins_on}
+use Rattle.class_hash.proofs.Walking.{begins_on}
 use Rattle.class_hash.proofs.Trying.{nothing_tried, searched_first, walked_first, given_up_first, tried_again, updated_once, has_finished, may_replace, replaced_quiet, locked_holds}
 use Rattle.class_hash.proofs.dictionary.set.Goals as goal
 

@@ -1,6 +1,6 @@
 use Rattle.std.proofs.Common.{◌≡◌}
 use Rattle.class_hash.specs.Replies.{HasTried}
-use Rattle.class_hash.proofs.Trails.{NoneOrLookup}
+use Rattle.class_hash.proofs.Walking.{NoneOrLookup}
 use Rattle.class_hash.proofs.dictionary.set.Given as goal
 
 abbrev pub invariant-loop : goal.invariant-loop

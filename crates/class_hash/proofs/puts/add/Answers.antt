@@ -1,5 +1,4 @@
-use Rattle.class_hash.proofs.Filling.{finished_listed}
-use Rattle.class_hash.proofs.Putting.{added}
+use Rattle.class_hash.proofs.Putting.{finished_listed, added}
 use Rattle.class_hash.proofs.puts.add.Goals as goal
 
 pub free_bucket-requires-clause-finished : goal.free_bucket-requires-clause-finished

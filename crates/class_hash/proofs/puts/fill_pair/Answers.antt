@@ -1,5 +1,5 @@
 use Rattle.class_hash.proofs.Seats.{class_is}
-use Rattle.class_hash.proofs.Filling.{may_load_head, may_take, may_write_key, may_write_value, may_write_next, filled}
+use Rattle.class_hash.proofs.Putting.{may_load_head, may_take, may_write_key, may_write_value, may_write_next, filled}
 use Rattle.class_hash.proofs.puts.fill_pair.Goals as goal
 
 pub locked_load-first-requires-clause-asks : goal.locked_load-first-requires-clause-asks

@@ -1,4 +1,4 @@
-use Rattle.class_hash.proofs.Filling.{may_poll, free_polled}
+use Rattle.class_hash.proofs.Putting.{may_poll, free_polled}
 use Rattle.class_hash.proofs.puts.find_free.Goals as goal
 
 pub refill-requires-clause-lists : goal.refill-requires-clause-lists

@@ -1,4 +1,4 @@
-use Rattle.class_hash.proofs.Searching.{begun, in_section, looked_at}
+use Rattle.class_hash.proofs.Walking.{begun, in_section, looked_at}
 use Rattle.class_hash.proofs.search.search.Goals as goal
 
 pub leave-requires-clause-asks : goal.leave-requires-clause-asks

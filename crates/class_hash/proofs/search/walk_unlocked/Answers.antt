@@ -1,7 +1,7 @@
 use Rattle.std.proofs.Common.{rules, ◌%◌, subst}
 use Rattle.hash_core.specs.declared.view.SearchState.TheVariants.{Found}
-use Rattle.class_hash.specs.Lookups.{IsSearching}
-use Rattle.class_hash.proofs.Searching.{from_head, may_load_head, may_load_key, may_load_value, may_load_next, turn_found, turn_past}
+use Rattle.class_hash.specs.Calls.{IsSearching}
+use Rattle.class_hash.proofs.Walking.{from_head, may_load_head, may_load_key, may_load_value, may_load_next, turn_found, turn_past}
 use Rattle.class_hash.proofs.search.walk_unlocked.Goals as goal
 
 pub search_load-link-requires-clause-asks : goal.search_load-link-requires-clause-asks

@@ -1,4 +1,4 @@
-use Rattle.class_hash.proofs.Calls.{entered_inside}
+use Rattle.class_hash.proofs.Walking.{entered_inside}
 use Rattle.class_hash.proofs.sections.enter.Goals as goal
 
 pub returns-clause-inside : goal.returns-clause-inside

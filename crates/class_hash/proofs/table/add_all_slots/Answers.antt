@@ -1,5 +1,5 @@
 use Rattle.std.proofs.Common.{rules, arith}
-use Rattle.class_hash.proofs.Words.{class_slots_added, base_more}
+use Rattle.class_hash.proofs.Seats.{class_slots_added, base_more}
 use Rattle.class_hash.proofs.table.add_all_slots.Goals as goal
 
 pub loop-room-preserved : goal.loop-room-preserved

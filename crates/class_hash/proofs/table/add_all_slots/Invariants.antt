@@ -1,6 +1,6 @@
 use Rattle.std.proofs.Common.{◌≡◌}
-use Rattle.hash_core.specs.Slots.{base}
-use Rattle.class_hash.specs.Added.{HasClassSlots}
+use Rattle.hash_core.specs.Memory.{base}
+use Rattle.class_hash.specs.Seats.{HasClassSlots}
 use Rattle.class_hash.proofs.table.add_all_slots.Given as goal
 
 abbrev pub invariant-loop-room : goal.invariant-loop-room

@@ -1,5 +1,5 @@
 use Rattle.std.proofs.Common.{rules, arith}
-use Rattle.class_hash.proofs.Words.{class_added, base_more}
+use Rattle.class_hash.proofs.Seats.{class_added, base_more}
 use Rattle.class_hash.proofs.table.add_classes.Goals as goal
 
 pub loop-room-preserved : goal.loop-room-preserved

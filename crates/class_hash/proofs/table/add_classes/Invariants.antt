@@ -1,6 +1,6 @@
 use Rattle.std.proofs.Common.{◌≡◌}
-use Rattle.hash_core.specs.Slots.{base}
-use Rattle.class_hash.specs.Added.{HasClasses}
+use Rattle.hash_core.specs.Memory.{base}
+use Rattle.class_hash.specs.Seats.{HasClasses}
 use Rattle.class_hash.proofs.table.add_classes.Given as goal
 
 abbrev pub invariant-loop-room : goal.invariant-loop-room

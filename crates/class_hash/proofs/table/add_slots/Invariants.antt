@@ -1,4 +1,4 @@
-use Rattle.class_hash.specs.Added.{HasSlots}
+use Rattle.class_hash.specs.Seats.{HasSlots}
 use Rattle.class_hash.proofs.table.add_slots.Given as goal
 
 abbrev pub invariant-loop-i : goal.invariant-loop-i

@@ -1,5 +1,5 @@
 use Rattle.std.proofs.Common.{rules}
-use Rattle.class_hash.proofs.Words.{all_fresh}
+use Rattle.class_hash.proofs.Seats.{all_fresh}
 use Rattle.class_hash.proofs.table.first_words.Goals as goal
 
 pub returns : goal.returns

@@ -1,5 +1,5 @@
 use Rattle.std.proofs.Common.{◌≡◌, ◌+◌, ◌≤◌, ◌%◌}
-use Rattle.prcu_marks.specs.Bounds.{most_front}
+use Rattle.prcu_marks.specs.Marks.{most_front}
 use Rattle.class_hash.specs.Updates.{HasStepped}
 use Rattle.class_hash.proofs.updates.open_commit.Given as goal
 

@@ -1,5 +1,5 @@
 use Rattle.class_hash.proofs.Seats.{class_is}
-use Rattle.class_hash.proofs.Unlinking.{may_load_retired, holds2, may_cut, may_chain, may_push, may_even, may_unlock, removed, removed_trail}
+use Rattle.class_hash.proofs.Updating.{may_load_retired, holds2, may_cut, may_chain, may_push, may_even_unlinked, may_unlock_unlinked, removed, removed_trail}
 use Rattle.class_hash.proofs.updates.unlink.Goals as goal
 
 pub locked_load-first-requires-clause-asks : goal.locked_load-first-requires-clause-asks
@@ -39,14 +39,14 @@ pub close_commit-requires-clause-asks : goal.close_commit-requires-clause-asks
 close_commit-requires-clause-asks g c =
     let may = c.requires.case in
     let of_class = class_is c.args.seat.now.view may.hold c.class_held-class.result may.finished.hold_is c.class_held-class.ensures.class in
-    may_even may c.locked_load-next.ensures.told of_class c.locked_load-first.ensures.told c.open_commit-even.ensures.view
+    may_even_unlinked may c.locked_load-next.ensures.told of_class c.locked_load-first.ensures.told c.open_commit-even.ensures.view
     c.link_from-link.ensures c.unlink_slot.ensures.told c.store_chain.ensures.told c.retire.ensures.told
 
 pub unlock-requires-clause-asks : goal.unlock-requires-clause-asks
 unlock-requires-clause-asks g c =
     let may = c.requires.case in
     let of_class = class_is c.args.seat.now.view may.hold c.class_held-class.result may.finished.hold_is c.class_held-class.ensures.class in
-    may_unlock may c.locked_load-next.ensures.told of_class c.locked_load-first.ensures.told c.open_commit-even.ensures.view
+    may_unlock_unlinked may c.locked_load-next.ensures.told of_class c.locked_load-first.ensures.told c.open_commit-even.ensures.view
     c.link_from-link.ensures c.unlink_slot.ensures.told c.store_chain.ensures.told c.retire.ensures.told c.close_commit.ensures.told
 
 pub returns-clause-view : goal.returns-clause-view

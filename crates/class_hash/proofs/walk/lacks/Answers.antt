@@ -1,9 +1,9 @@
 use Rattle.std.proofs.Common.{◌≡◌, ◌∙◌, ap, ℕ, Bool, true, List, Option, Some, None, IfNone, IfSome, is_some, not}
 use Rattle.hash_core.specs.declared.view.Hold.{Hold}
 use Rattle.hash_core.specs.declared.view.View.{View}
-use Rattle.hash_core.specs.Known.{ShowsAbsent}
+use Rattle.hash_core.specs.Steps.{ShowsAbsent}
 use Rattle.class_hash.specs.declared.walk.Place.{Place}
-use Rattle.class_hash.specs.Walks.{HasLoaded, WalksPast, WalksTo}
+use Rattle.class_hash.specs.Calls.{HasLoaded, WalksPast, WalksTo}
 use Rattle.class_hash.proofs.walk.lacks.Goals as goal
 
 walked : (capacities : List ℕ) (v w : View) (key : ℕ) (hold : Hold) → v.hold ≡ Some hold → (answer : Option Place) (lacks : Bool)

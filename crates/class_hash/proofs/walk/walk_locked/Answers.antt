@@ -1,6 +1,6 @@
 use Rattle.class_hash.proofs.Seats.{class_is}
 use Rattle.std.proofs.Common.{rules}
-use Rattle.class_hash.proofs.Walking.{walk_begins, walk_ends, walk_found, may_load_next, walk_passes}
+use Rattle.class_hash.proofs.Walking.{walk_begins, walk_ends, walk_found, may_walk_on, walk_passes}
 use Rattle.class_hash.proofs.walk.walk_locked.Goals as goal
 
 pub loop-init : goal.loop-init
@@ -22,7 +22,7 @@ pub locked_load-link-requires-in-loop-clause-asks : goal.locked_load-link-requir
 locked_load-link-requires-in-loop-clause-asks g c =
     let e = c.requires.held in
     let i = c.loop.invariant.1 e.0 e.1 in
-    may_load_next i.1 i.2 c.slot_at-slot.ensures c.if-link-eq0.false c.locked_load.ensures.told
+    may_walk_on i.1 i.2 c.slot_at-slot.ensures c.if-link-eq0.false c.locked_load.ensures.told
 
 pub loop-preserved : goal.loop-preserved
 loop-preserved g c = (

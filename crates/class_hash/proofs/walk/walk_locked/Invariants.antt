@@ -1,6 +1,6 @@
 use Rattle.std.proofs.Common.{◌≡◌, Some}
 use Rattle.hash_core.specs.declared.view.Hold.{Hold}
-use Rattle.class_hash.specs.Walks.{HasLoaded, IsWalking}
+use Rattle.class_hash.specs.Calls.{HasLoaded, IsWalking}
 use Rattle.class_hash.proofs.walk.walk_locked.Given as goal
 
 abbrev pub invariant-loop : goal.invariant-loop

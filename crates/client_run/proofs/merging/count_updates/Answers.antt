@@ -1,11 +1,11 @@
 use Rattle.std.proofs.Common.{List, length, ap, arith}
 use Rattle.std.specs.List.{count_by}
 use Rattle.prcu_model.specs.declared.operation.Told.{Told}
-use Rattle.prcu_model.specs.Replies.{tells_update}
-use Rattle.prcu_model.specs.Lists.{entries_of}
-use Rattle.client_run.proofs.Updates.{all_left-end, length-all_left-le, counted_turn}
+use Rattle.prcu_model.specs.Dictionary.{tells_update}
+use Rattle.prcu_model.specs.Scripts.{entries_of}
+use Rattle.client_run.proofs.Histories.{all_left-end, length-all_left-le, counted_turn}
 use Rattle.client_run.proofs.merging.count_updates.Goals as goal
-use Rattle.prcu_model.proofs.ToldLists.{same_count}
+use Rattle.prcu_model.proofs.ListFacts.{same_count}
 
 pub overflow_add-count : goal.overflow_add-count
 overflow_add-count c =

@@ -1,7 +1,7 @@
 use Rattle.std.proofs.Common.{◌≡◌, ◌+◌, length}
-use Rattle.client_run.proofs.Updates.{all_left}
+use Rattle.client_run.proofs.Histories.{all_left}
 use Rattle.client_run.proofs.merging.count_updates.Given as goal
-use Rattle.prcu_model.proofs.ToldLists.{SameLengths}
+use Rattle.prcu_model.proofs.ListFacts.{SameLengths}
 
 -- those counted and those left are all
 abbrev pub invariant-loop-list : goal.invariant-loop-list

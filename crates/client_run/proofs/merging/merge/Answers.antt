@@ -1,11 +1,9 @@
 use Rattle.std.proofs.Common.{◌≡◌, length, drop, sym, ap, subst, ◌∙◌}
 use Rattle.std.proofs.lemmas.List.{take_at}
-use Rattle.prcu_model.specs.Lists.{entries_of}
+use Rattle.prcu_model.specs.Scripts.{entries_of}
 use Rattle.prcu_model.specs.Fronts.{all_told_lines}
-use Rattle.client_run.specs.Merging.{all_numbered_updates, IsHistoryOf}
-use Rattle.client_run.proofs.Stores.{length-stored, IsHistoryOf-stored, inside_from_all}
-use Rattle.client_run.proofs.Histories.{same_history}
-use Rattle.client_run.proofs.OwnUpdates.{IsHistoryOf-own}
+use Rattle.client_run.specs.Crews.{all_numbered_updates, IsHistoryOf}
+use Rattle.client_run.proofs.Histories.{length-stored, IsHistoryOf-stored, inside_from_all, same_history, IsHistoryOf-own}
 use Rattle.client_run.proofs.merging.merge.Goals as goal
 
 pub store_all-requires-clause-inside : goal.store_all-requires-clause-inside

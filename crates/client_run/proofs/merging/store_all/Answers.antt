@@ -1,13 +1,11 @@
 use Rattle.std.proofs.Common.{◌≡◌, ◌+◌, ◌++◌, List, length, ap, sym, subst, ◌∙◌, arith}
 use Rattle.prcu_model.specs.declared.operation.Told.{Told}
 use Rattle.prcu_model.specs.Fronts.{told_lines}
-use Rattle.client_run.specs.Merging.{numbered_updates}
-use Rattle.client_run.specs.Storing.{stored, AreInside}
-use Rattle.client_run.proofs.Updates.{all_left, all_left-turn, all_left-end}
-use Rattle.client_run.proofs.Stores.{length-stored, stored-append, inside-append}
+use Rattle.client_run.specs.Crews.{numbered_updates, stored, AreInside}
+use Rattle.client_run.proofs.Histories.{all_left, all_left-turn, all_left-end, length-stored, stored-append, inside-append}
 use Rattle.client_run.proofs.merging.store_all.Goals as goal
 use Rattle.client_run.proofs.merging.store_all.Goals.{After-entries}
-use Rattle.prcu_model.proofs.ToldLists.{SameLengths-next, same_count}
+use Rattle.prcu_model.proofs.ListFacts.{SameLengths-next, same_count}
 
 -- what is left begins with what this script was told of
 next_left : (c : After-entries) → all_left c.args.scripts.now c.args.told.now c.loop-i.i

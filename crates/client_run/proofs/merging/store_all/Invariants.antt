@@ -1,8 +1,8 @@
 use Rattle.std.proofs.Common.{◌≡◌, length}
-use Rattle.client_run.specs.Storing.{stored, AreInside}
-use Rattle.client_run.proofs.Updates.{all_left}
+use Rattle.client_run.specs.Crews.{stored, AreInside}
+use Rattle.client_run.proofs.Histories.{all_left}
 use Rattle.client_run.proofs.merging.store_all.Given as goal
-use Rattle.prcu_model.proofs.ToldLists.{SameLengths}
+use Rattle.prcu_model.proofs.ListFacts.{SameLengths}
 
 -- storing those that are left gives the whole
 abbrev pub invariant-loop-i : goal.invariant-loop-i

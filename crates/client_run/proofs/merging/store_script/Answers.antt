@@ -1,9 +1,8 @@
 use Rattle.std.proofs.Common.{◌≡◌, ◌+◌, ◌++◌, ◌∷◌, [], length, subst, ◌∙◌}
 use Rattle.std.proofs.lemmas.List.{length_push}
 use Rattle.std.proofs.lemmas.Slice.Zip.{zip_turn, zip_end}
-use Rattle.client_run.specs.Storing.{AreInside}
-use Rattle.client_run.proofs.Updates.{own_left, own_left-turn, own_left-past, with_told}
-use Rattle.client_run.proofs.Stores.{fits_with_told, stored-with_told, length-with_told, inside-with_told}
+use Rattle.client_run.specs.Crews.{AreInside}
+use Rattle.client_run.proofs.Histories.{own_left, own_left-turn, own_left-past, with_told, fits_with_told, stored-with_told, length-with_told, inside-with_told}
 use Rattle.client_run.proofs.merging.store_script.Goals as goal
 use Rattle.client_run.proofs.merging.store_script.Goals.{In-Some}
 

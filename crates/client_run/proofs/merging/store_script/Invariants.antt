@@ -1,8 +1,7 @@
 use Rattle.std.proofs.Common.{◌≡◌, length}
 use Rattle.prcu_model.specs.Fronts.{told_lines}
-use Rattle.client_run.specs.Merging.{numbered_updates}
-use Rattle.client_run.specs.Storing.{stored, AreInside}
-use Rattle.client_run.proofs.Updates.{own_left}
+use Rattle.client_run.specs.Crews.{numbered_updates, stored, AreInside}
+use Rattle.client_run.proofs.Histories.{own_left}
 use Rattle.client_run.proofs.merging.store_script.Given as goal
 
 -- storing those that are left gives the whole

@@ -1,7 +1,7 @@
 use Rattle.std.proofs.Common.{◌≡◌, [], map, length, string_bytes, ap, arith}
 use Rattle.std.proofs.lemmas.Bool.Decides.{nat_tests}
 use Rattle.std.proofs.lemmas.List.{take_rest, drop-map, length-map, nil_from_length}
-use Rattle.command_words.proofs.Joining.{none_found, not_spelled, not_followed, read_others, AreSpelled-more}
+use Rattle.command_words.proofs.Inputs.{none_found, not_spelled, not_followed, read_others, AreSpelled-more}
 use Rattle.command_words.proofs.arguments.+read_arguments.Goals as goal
 
 pub returns-then-is_empty-clause-only : goal.returns-then-is_empty-clause-only

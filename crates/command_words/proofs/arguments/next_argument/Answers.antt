@@ -1,5 +1,5 @@
 use Rattle.std.proofs.Common.{map, string_bytes}
-use Rattle.command_words.proofs.Spellings.{number_left}
+use Rattle.command_words.proofs.Inputs.{number_left}
 use Rattle.command_words.proofs.arguments.next_argument.Goals as goal
 
 pub returns-clause-only : goal.returns-clause-only

@@ -2,7 +2,7 @@ use Rattle.std.proofs.Common.{None, Some, string_bytes, sym}
 use Rattle.std.proofs.lemmas.Bool.Decides.{Decides-eqb}
 use Rattle.std.proofs.lemmas.List.{nil_from_length}
 use Rattle.std.proofs.lemmas.Slice.Eq.{strip_prefix_is}
-use Rattle.command_words.proofs.Spellings.{begins_with_name, separate, joined}
+use Rattle.command_words.proofs.Inputs.{begins_with_name, separate, joined}
 use Rattle.command_words.proofs.arguments.option_at.Goals as goal
 
 pub returns-in_err-after-clause-only : goal.returns-in_err-after-clause-only

@@ -4,8 +4,8 @@ use Rattle.std.proofs.lemmas.Bool.Decides.{Decides-eqb}
 use Rattle.std.proofs.lemmas.List.{take_rest, drop_all}
 use Rattle.std.proofs.lemmas.Slice.Eq.{slice_eq-Decides}
 use Rattle.std.specs.Cmp.Lexicographic.{pointwise}
-use Rattle.script_text.specs.Split.{Lacks, IsParted}
-use Rattle.command_words.proofs.InputParts.{CutAt-next, parts-at_line, parts-none}
+use Rattle.script_text.specs.Grammar.{Lacks, IsParted}
+use Rattle.command_words.proofs.Inputs.{CutAt-next, parts-at_line, parts-none}
 use Rattle.command_words.proofs.parts.parts_of.Goals as goal
 
 take-nil : (n : ℕ) → take n (let none : List ℕ = [] in none) ≡ []

@@ -1,5 +1,5 @@
 use Rattle.std.proofs.Common.{◌-◌, length}
-use Rattle.command_words.proofs.InputParts.{CutAt}
+use Rattle.command_words.proofs.Inputs.{CutAt}
 use Rattle.command_words.proofs.parts.parts_of.Given as goal
 
 abbrev pub invariant-loop-line : goal.invariant-loop-line

@@ -1,4 +1,4 @@
-use Rattle.core_frames.proofs.ListingLaws.{listings_go_on}
+use Rattle.core_frames.proofs.PlainLaws.{listings_go_on}
 use Rattle.core_frames.proofs.laws.listings_go_on.Goals as goal
 
 pub returns : goal.returns

@@ -1,4 +1,4 @@
-use Rattle.core_frames.proofs.chart.Plain.{records_say}
+use Rattle.core_frames.proofs.PlainLaws.{records_say}
 use Rattle.core_frames.proofs.laws.records_say.Goals as goal
 
 pub returns : goal.returns

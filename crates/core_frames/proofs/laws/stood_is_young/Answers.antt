@@ -1,4 +1,4 @@
-use Rattle.core_frames.proofs.chart.Plain.{stood_is_young}
+use Rattle.core_frames.proofs.PlainLaws.{stood_is_young}
 use Rattle.core_frames.proofs.laws.stood_is_young.Goals as goal
 
 pub returns : goal.returns

@@ -1,4 +1,4 @@
-use Rattle.core_machine.proofs.Unfinished.{HasListed}
+use Rattle.core_machine.proofs.Making.{HasListed}
 use Rattle.core_machine.proofs.choosing.list_unfinished.Given as goal
 
 abbrev pub invariant-loop-i : goal.invariant-loop-i

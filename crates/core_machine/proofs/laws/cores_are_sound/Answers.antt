@@ -1,4 +1,4 @@
-use Rattle.core_machine.proofs.Sound.{cores_are_sound}
+use Rattle.core_machine.proofs.Running.{cores_are_sound}
 use Rattle.core_machine.proofs.laws.cores_are_sound.Goals as goal
 
 pub returns : goal.returns

@@ -1,4 +1,4 @@
-use Rattle.core_machine.proofs.Sound.{steps_are_allowed}
+use Rattle.core_machine.proofs.Running.{steps_are_allowed}
 use Rattle.core_machine.proofs.laws.steps_are_allowed.Goals as goal
 
 pub returns : goal.returns

@@ -1,7 +1,7 @@
 use Rattle.std.proofs.Common.{ℕ, length, ap, ◌∙◌}
 use Rattle.core_points.specs.Programs.{begun_with}
 use Rattle.core_machine.specs.Runs.{new_own}
-use Rattle.core_machine.specs.Stepping.{shape_for}
+use Rattle.core_machine.specs.Laws.{shape_for}
 use Rattle.core_machine.proofs.Making.{makes_more}
 use Rattle.core_machine.proofs.machine.make_callers.Goals as goal
 

@@ -1,4 +1,4 @@
-use Rattle.core_points.proofs.Within.{acts_are_within}
+use Rattle.core_points.proofs.AllPoints.{acts_are_within}
 use Rattle.core_points.proofs.laws.acts_are_within.Goals as goal
 
 pub returns : goal.returns

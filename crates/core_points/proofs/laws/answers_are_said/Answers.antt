@@ -1,4 +1,4 @@
-use Rattle.core_points.proofs.Answering.{answers_are_said}
+use Rattle.core_points.proofs.AllPoints.{answers_are_said}
 use Rattle.core_points.proofs.laws.answers_are_said.Goals as goal
 
 pub returns : goal.returns

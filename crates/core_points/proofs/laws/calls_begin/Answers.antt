@@ -1,4 +1,4 @@
-use Rattle.core_points.proofs.Answers.{begins}
+use Rattle.core_points.proofs.Notes.{begins}
 use Rattle.core_points.proofs.laws.calls_begin.Goals as goal
 
 pub returns : goal.returns

@@ -1,4 +1,4 @@
-use Rattle.core_points.proofs.All.{needs_are_given}
+use Rattle.core_points.proofs.AllPoints.{needs_are_given}
 use Rattle.core_points.proofs.laws.needs_are_given.Goals as goal
 
 pub returns : goal.returns

@@ -1,4 +1,4 @@
-use Rattle.core_points.proofs.Answers.{new_views_are_free}
+use Rattle.core_points.proofs.Notes.{new_views_are_free}
 use Rattle.core_points.proofs.laws.new_views_are_free.Goals as goal
 
 pub returns : goal.returns

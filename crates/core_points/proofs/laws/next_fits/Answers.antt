@@ -1,4 +1,4 @@
-use Rattle.core_points.proofs.All.{next_fits}
+use Rattle.core_points.proofs.AllPoints.{next_fits}
 use Rattle.core_points.proofs.laws.next_fits.Goals as goal
 
 pub returns : goal.returns

@@ -1,4 +1,4 @@
-use Rattle.core_points.proofs.All.{trails_are_free}
+use Rattle.core_points.proofs.AllPoints.{trails_are_free}
 use Rattle.core_points.proofs.laws.trails_are_free.Goals as goal
 
 pub returns : goal.returns

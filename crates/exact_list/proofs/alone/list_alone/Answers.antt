@@ -1,11 +1,10 @@
 use Rattle.std.proofs.Common.{rules, [], ◌∷◌, refl, ap, ◌∙◌, arith}
-use Rattle.seat_table.proofs.Rounding.{told_steps, makes_steps}
+use Rattle.seat_table.proofs.SeveralSteps.{told_steps, makes_steps}
 use Rattle.exact_list.proofs.Loading.{loaded_anyway, if_err}
 use Rattle.core_state.specs.declared.view.View.{View}
 use Rattle.seat_table.specs.Seats.{shape_of}
 use Rattle.exact_list.proofs.Counting.{any_walk}
-use Rattle.exact_list.proofs.Trying.{first_try, loaded_try, may_look, begun_listing}
-use Rattle.exact_list.proofs.Holding.{lists_holding, may_give, alone, alone_holds, alone_recent, quiet_alone, alone_tickets, quiet_lost}
+use Rattle.exact_list.proofs.Trying.{first_try, loaded_try, may_look, begun_listing, lists_holding, may_give, alone, alone_holds, alone_recent, quiet_alone, alone_tickets, quiet_lost}
 use Rattle.exact_list.proofs.alone.list_alone.Goals as goal
 
 pub enter-requires-clause-outside : goal.enter-requires-clause-outside

@@ -1,8 +1,8 @@
 use Rattle.std.proofs.Common.{inl, inr, subst, ◌∙◌}
 use Rattle.std.proofs.lemmas.Result.{IfOk-weaker}
-use Rattle.exact_list.specs.Answers.{EndAs, Holds, IsRecent}
+use Rattle.exact_list.specs.Tries.{EndAs, Holds, IsRecent}
 use Rattle.exact_list.specs.declared.listing.Listed.TheVariants.{Whole}
-use Rattle.exact_list.proofs.Standing.{recent_later}
+use Rattle.exact_list.proofs.Trying.{recent_later}
 use Rattle.exact_list.proofs.alone.list_always.Goals as goal
 
 pub returns-in-Whole-clause-came : goal.returns-in-Whole-clause-came

@@ -1,9 +1,8 @@
 use Rattle.std.proofs.Common.{rules, ◌≡◌, sym, ◌∙◌, true, false, arith}
 use Rattle.seat_table.specs.Seats.{shape_of}
-use Rattle.seat_table.proofs.Rounding.{told_steps}
+use Rattle.seat_table.proofs.SeveralSteps.{told_steps}
 use Rattle.exact_list.proofs.Counting.{walked_first, walked_to, walked_down, walked_end}
-use Rattle.exact_list.proofs.Following.{may_begin}
-use Rattle.exact_list.proofs.Seeking.{seeks, sought_fits, sought_end, seeks_at, may_read_key, may_go_down, goes_away, goes_towards}
+use Rattle.exact_list.proofs.Loading.{may_begin, seeks, sought_fits, sought_end, seeks_at, may_read_key, may_go_down, goes_away, goes_towards}
 use Rattle.exact_list.proofs.descent.seek.Goals as goal
 
 pub list_load-link-requires-clause-asks : goal.list_load-link-requires-clause-asks

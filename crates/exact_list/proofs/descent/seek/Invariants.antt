@@ -1,7 +1,7 @@
 use Rattle.std.proofs.Common.{◌≡◌, ◌≤◌, length}
 use Rattle.seat_table.specs.Seats.{shape_of}
 use Rattle.exact_list.specs.Loads.{HasWalked, IsWayDown}
-use Rattle.exact_list.proofs.Seeking.{HasSought}
+use Rattle.exact_list.proofs.Loading.{HasSought}
 use Rattle.exact_list.proofs.descent.seek.Given as goal
 
 abbrev pub invariant-loop-round : goal.invariant-loop-round

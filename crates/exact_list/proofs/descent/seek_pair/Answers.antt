@@ -1,5 +1,5 @@
 use Rattle.exact_list.proofs.Counting.{walked_found}
-use Rattle.exact_list.proofs.Seeking.{finds_none, may_read_value, finds_pair}
+use Rattle.exact_list.proofs.Loading.{finds_none, may_read_value, finds_pair}
 use Rattle.exact_list.proofs.descent.seek_pair.Goals as goal
 
 pub returns-in_default-clause-found : goal.returns-in_default-clause-found

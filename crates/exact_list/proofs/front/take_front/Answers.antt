@@ -1,7 +1,7 @@
 use Rattle.std.proofs.Common.{rules, arith}
 use Rattle.seat_table.specs.Seats.{shape_of}
-use Rattle.seat_table.proofs.Rounding.{told_steps}
-use Rattle.exact_list.proofs.Taking.{loses_none, may_take, takes, loses}
+use Rattle.seat_table.proofs.SeveralSteps.{told_steps}
+use Rattle.exact_list.proofs.Trying.{loses_none, may_take, takes, loses}
 use Rattle.exact_list.proofs.front.take_front.Goals as goal
 
 pub loop-round-init : goal.loop-round-init

@@ -1,5 +1,5 @@
 use Rattle.std.proofs.Common.{◌≡◌, ◌%◌, ◌≤◌, length}
-use Rattle.exact_list.specs.Fronts.{LosesFront}
+use Rattle.exact_list.specs.Tries.{LosesFront}
 use Rattle.exact_list.proofs.front.take_front.Given as goal
 
 abbrev pub invariant-loop-round : goal.invariant-loop-round

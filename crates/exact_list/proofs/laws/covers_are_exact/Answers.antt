@@ -1,4 +1,4 @@
-use Rattle.exact_list.proofs.Covering.{covers_exact}
+use Rattle.exact_list.proofs.Walking.{covers_exact}
 use Rattle.exact_list.proofs.laws.covers_are_exact.Goals as goal
 
 pub returns : goal.returns

@@ -1,4 +1,4 @@
-use Rattle.exact_list.proofs.Covering.{pairs_one}
+use Rattle.exact_list.proofs.Walking.{pairs_one}
 use Rattle.exact_list.proofs.laws.pairs_are_one.Goals as goal
 
 pub returns : goal.returns

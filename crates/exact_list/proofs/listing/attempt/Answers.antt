@@ -1,11 +1,10 @@
 use Rattle.std.proofs.Common.{arith, [], ◌∷◌, Some, None, sym, subst, ◌∙◌}
 use Rattle.std.proofs.lemmas.Bool.{eqb-true}
 use Rattle.seat_table.specs.Seats.{shape_of}
-use Rattle.seat_table.proofs.Rounding.{told_steps, makes_steps}
+use Rattle.seat_table.proofs.SeveralSteps.{told_steps, makes_steps}
 use Rattle.exact_list.proofs.Loading.{loaded_anyway, if_err}
-use Rattle.exact_list.specs.Walked.{Gathers}
-use Rattle.exact_list.proofs.Trying.{first_try, loaded_try, may_look, begun_listing}
-use Rattle.exact_list.proofs.Standing.{looks_twice, tried_once, moved_at_first, tried_twice, moved_between, recent, holds_whole, holds_part, beside_none, stood}
+use Rattle.exact_list.specs.Tries.{Gathers}
+use Rattle.exact_list.proofs.Trying.{first_try, loaded_try, may_look, begun_listing, looks_twice, tried_once, moved_at_first, tried_twice, moved_between, recent, holds_whole, holds_part, beside_none, stood}
 use Rattle.exact_list.proofs.listing.attempt.Goals as goal
 
 pub returns-in-None-clause-holds : goal.returns-in-None-clause-holds

@@ -1,8 +1,7 @@
 use Rattle.std.proofs.Common.{rules, ◌++◌, ◌∷◌, [], ap, subst, ◌∙◌}
 use Rattle.core_state.specs.declared.view.View.{View}
-use Rattle.exact_list.specs.Answers.{EndAs}
-use Rattle.exact_list.proofs.Trying.{tried_both, quiet_tried}
-use Rattle.exact_list.proofs.Standing.{ends_later, recent_later}
+use Rattle.exact_list.specs.Tries.{EndAs}
+use Rattle.exact_list.proofs.Trying.{tried_both, quiet_tried, ends_later, recent_later}
 use Rattle.exact_list.proofs.listing.list.Goals as goal
 
 pub returns-in_err-listed-clause-quiet : goal.returns-in_err-listed-clause-quiet

@@ -1,6 +1,5 @@
 use Rattle.std.proofs.Common.{◌≡◌, ◌≤◌, List}
-use Rattle.exact_list.specs.Answers.{Holds, IsRecent, EndAs}
-use Rattle.exact_list.specs.Tries.{Try, HasTried}
+use Rattle.exact_list.specs.Tries.{Holds, IsRecent, EndAs, Try, HasTried}
 use Rattle.exact_list.proofs.listing.list.Given as goal
 
 abbrev pub invariant-loop-tried : goal.invariant-loop-tried

@@ -1,11 +1,9 @@
 use Rattle.std.proofs.Common.{refl, sym, ◌∙◌, inl, inr, arith, [], ◌∷◌, Some, None}
 use Rattle.std.proofs.lemmas.Bool.{eqb-true}
 use Rattle.seat_table.specs.Seats.{shape_of}
-use Rattle.seat_table.proofs.Rounding.{told_steps, makes_steps}
+use Rattle.seat_table.proofs.SeveralSteps.{told_steps, makes_steps}
 use Rattle.exact_list.proofs.Loading.{loaded_anyway, if_err}
-use Rattle.exact_list.proofs.Trying.{first_try, loaded_try, may_look, begun_listing}
-use Rattle.exact_list.proofs.Standing.{is_even, looks_twice, tried_once, tried_twice, beside_none}
-use Rattle.exact_list.proofs.Nearing.{came_twice, is_told}
+use Rattle.exact_list.proofs.Trying.{first_try, loaded_try, may_look, begun_listing, is_even, looks_twice, tried_once, tried_twice, beside_none, came_twice, is_told}
 use Rattle.exact_list.proofs.nearest.look_for.Goals as goal
 
 pub seek_pair-sought-requires-clause-listing : goal.seek_pair-sought-requires-clause-listing

@@ -1,11 +1,9 @@
 use Rattle.std.proofs.Common.{rules, [], ◌∷◌, ap, subst, ◌∙◌, arith}
 use Rattle.std.proofs.lemmas.Result.{IfOk-weaker}
 use Rattle.core_state.specs.declared.view.View.{View}
-use Rattle.exact_list.specs.Nearest.{IsTold}
+use Rattle.exact_list.specs.Loads.{IsTold}
 use Rattle.exact_list.specs.declared.listing.Listed.TheVariants.{Whole}
-use Rattle.exact_list.proofs.Nearing.{fails_none, fails_again, comes_by_try, comes_alone}
-use Rattle.exact_list.proofs.Standing.{recent_later}
-use Rattle.exact_list.proofs.Trying.{quiet_tried}
+use Rattle.exact_list.proofs.Trying.{fails_none, fails_again, comes_by_try, comes_alone, recent_later, quiet_tried}
 use Rattle.exact_list.proofs.nearest.nearest_always.Goals as goal
 
 pub loop-tried-init : goal.loop-tried-init

@@ -1,5 +1,5 @@
 use Rattle.std.proofs.Common.{◌≡◌, ◌≤◌}
-use Rattle.exact_list.proofs.Nearing.{HasFailed}
+use Rattle.exact_list.proofs.Trying.{HasFailed}
 use Rattle.exact_list.proofs.nearest.nearest_always.Given as goal
 
 abbrev pub invariant-loop-tried : goal.invariant-loop-tried

@@ -3,7 +3,7 @@ use Rattle.prcu_marks.specs.declared.mark.Side.TheVariants.{Left, Right}
 use Rattle.exact_list.proofs.Counting.{walked_none, down_none, walked_hop, passed_one}
 use Rattle.exact_list.proofs.Loading.{loaded_none}
 use Rattle.exact_list.proofs.Walking.{link_fits, comes_to, may_read_next, may_go_next, comes_right, comes_left, comes_none}
-use Rattle.seat_table.proofs.Rounding.{told_steps}
+use Rattle.seat_table.proofs.SeveralSteps.{told_steps}
 use Rattle.exact_list.proofs.walks.descend.Goals as goal
 
 pub loop-round-init : goal.loop-round-init

@@ -1,8 +1,7 @@
 use Rattle.std.proofs.Common.{◌≡◌, ◌≤◌, length}
 use Rattle.seat_table.specs.Seats.{shape_of}
-use Rattle.exact_list.specs.Loads.{HasWalked, GoesDown}
-use Rattle.exact_list.specs.Walked.{HasLoaded}
-use Rattle.exact_list.specs.Ways.{HasCome}
+use Rattle.exact_list.specs.Loads.{HasWalked, GoesDown, HasCome}
+use Rattle.exact_list.specs.Tries.{HasLoaded}
 use Rattle.exact_list.proofs.walks.descend.Given as goal
 
 abbrev pub invariant-loop-round : goal.invariant-loop-round

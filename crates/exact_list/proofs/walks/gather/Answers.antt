@@ -1,10 +1,9 @@
 use Rattle.std.proofs.Common.{◌+◌, refl, sym, ap, subst, ◌∙◌, length, arith}
 use Rattle.seat_table.specs.Seats.{shape_of}
-use Rattle.exact_list.proofs.Loading.{still_listing, loaded_both, if_err}
+use Rattle.exact_list.proofs.Loading.{still_listing, loaded_both, if_err, may_begin}
 use Rattle.exact_list.proofs.Counting.{counts_first, counts_down, counts_at, counts_lost, counts_pair, counts_right, counts_all, counts_full}
-use Rattle.exact_list.proofs.Following.{may_begin}
-use Rattle.exact_list.proofs.Gathering.{Gathered, starts, descends, may_restart, restarts, ends, meets, some_lesser, may_go_past, goes_past, some_met, ends_below, may_value_met, has_value, gathers_pair, may_go_right, walks_on}
-use Rattle.seat_table.proofs.Rounding.{makes_steps, told_steps}
+use Rattle.exact_list.proofs.Walking.{Gathered, starts, descends, may_restart, restarts, ends, meets, some_lesser, may_go_past, goes_past, some_met, ends_below, may_value_met, has_value, gathers_pair, may_go_right, walks_on}
+use Rattle.seat_table.proofs.SeveralSteps.{makes_steps, told_steps}
 use Rattle.exact_list.proofs.walks.gather.Goals as goal
 
 pub list_load-link-requires-clause-asks : goal.list_load-link-requires-clause-asks

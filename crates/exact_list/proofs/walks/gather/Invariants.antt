@@ -2,7 +2,7 @@ use Rattle.std.proofs.Common.{◌≡◌, ◌≤◌, length}
 use Rattle.seat_table.specs.Seats.{shape_of}
 use Rattle.exact_list.specs.Loads.{HasWalked}
 use Rattle.exact_list.proofs.Counting.{HasCounted}
-use Rattle.exact_list.proofs.Gathering.{Walks}
+use Rattle.exact_list.proofs.Walking.{Walks}
 use Rattle.exact_list.proofs.walks.gather.Given as goal
 
 abbrev pub invariant-loop-round : goal.invariant-loop-round

@@ -1,11 +1,9 @@
 use Rattle.std.proofs.Common.{sym, ap, subst, ◌∙◌, refl}
 use Rattle.core_state.specs.declared.shape.Shape.{Shape}
-use Rattle.seat_table.specs.Once.{FindsNone, FindsOnce}
-use Rattle.seat_table.specs.Onward.{LooksAt, IsOnward, IsWithin}
+use Rattle.seat_table.specs.Looks.{FindsNone, FindsOnce, LooksAt, IsOnward, IsWithin}
 use Rattle.seat_table.specs.Seats.{shape_of}
 use Rattle.grace_cookie.specs.Cookies.{CookieAt}
-use Rattle.grace_cookie.proofs.Counting.{is_latest}
-use Rattle.grace_cookie.proofs.Asking.{found_over, found_going, over_of, over_kept, going_kept}
+use Rattle.grace_cookie.proofs.Keeping.{is_latest, found_over, found_going, over_of, over_kept, going_kept}
 use Rattle.grace_cookie.proofs.cookies.ask.Goals as goal
 
 pub returns-in-Over-clause-asked : goal.returns-in-Over-clause-asked

@@ -1,6 +1,6 @@
 use Rattle.std.proofs.Common.{◌+◌, length, ap, arith}
 use Rattle.seat_table.specs.Seats.{TableAt}
-use Rattle.grace_cookie.proofs.Counting.{few_listed}
+use Rattle.grace_cookie.proofs.Keeping.{few_listed}
 use Rattle.grace_cookie.proofs.cookies.count_retired.Goals as goal
 
 pub overflow_cast-result : goal.overflow_cast-result

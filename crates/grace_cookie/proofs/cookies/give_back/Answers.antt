@@ -1,9 +1,7 @@
 use Rattle.std.proofs.Common.{◌≡◌, ◌≤◌, length, sym, ap, subst, inr, arith}
 use Rattle.node_slots.specs.Reclaiming.{AreReady, GivesBack, first_slots, without_slots}
 use Rattle.grace_cookie.specs.Cookies.{CookieAt}
-use Rattle.grace_cookie.proofs.Counting.{is_latest}
-use Rattle.grace_cookie.proofs.Giving.{all_ready, gives_some, some_first}
-use Rattle.grace_cookie.proofs.Quiet.{back_quiet}
+use Rattle.grace_cookie.proofs.Keeping.{is_latest, all_ready, gives_some, some_first, back_quiet}
 use Rattle.grace_cookie.proofs.cookies.give_back.Goals as goal
 
 pub give_back-requires-clause-ready : goal.give_back-requires-clause-ready

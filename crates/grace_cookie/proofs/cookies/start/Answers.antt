@@ -1,9 +1,9 @@
 use Rattle.std.proofs.Common.{◌∙◌, refl, subst, ap, length, ℕ, ◌≤◌, sym, List, ◌≡◌}
-use Rattle.core_frames.proofs.views.RetiredLists.{slots_in}
+use Rattle.core_frames.proofs.Roles.{slots_in}
 use Rattle.list_laws.specs.Counts.{times}
 use Rattle.seat_table.specs.Seats.{shape_of}
-use Rattle.node_slots.proofs.Listed.{listed_length}
-use Rattle.grace_cookie.proofs.Starting.{started_of, started_kept}
+use Rattle.node_slots.proofs.Returns.{listed_length}
+use Rattle.grace_cookie.proofs.Keeping.{started_of, started_kept}
 use Rattle.grace_cookie.proofs.cookies.start.Goals as goal
 
 pub returns-clause-slots : goal.returns-clause-slots

@@ -1,4 +1,4 @@
-use Rattle.hash_core.proofs.Acting.{acts_keep}
+use Rattle.hash_core.proofs.Keeping.{acts_keep}
 use Rattle.hash_core.proofs.laws.acts_keep.Goals as goal
 
 pub returns : goal.returns

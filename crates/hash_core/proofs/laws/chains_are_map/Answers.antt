@@ -1,4 +1,4 @@
-use Rattle.hash_core.proofs.Giving.{chains_are_map}
+use Rattle.hash_core.proofs.Keeping.{chains_are_map}
 use Rattle.hash_core.proofs.laws.chains_are_map.Goals as goal
 
 pub returns : goal.returns

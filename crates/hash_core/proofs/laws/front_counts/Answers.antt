@@ -1,4 +1,4 @@
-use Rattle.hash_core.proofs.Giving.{front_counts}
+use Rattle.hash_core.proofs.Keeping.{front_counts}
 use Rattle.hash_core.proofs.laws.front_counts.Goals as goal
 
 pub returns : goal.returns

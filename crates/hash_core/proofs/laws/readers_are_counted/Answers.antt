@@ -1,4 +1,4 @@
-use Rattle.hash_core.proofs.Giving.{readers_are_counted}
+use Rattle.hash_core.proofs.Keeping.{readers_are_counted}
 use Rattle.hash_core.proofs.laws.readers_are_counted.Goals as goal
 
 pub returns : goal.returns

@@ -1,4 +1,4 @@
-use Rattle.hash_core.proofs.Memories.{one_place, word_inside, lines_are_own}
+use Rattle.hash_core.proofs.Frames.{one_place, word_inside, lines_are_own}
 use Rattle.hash_core.proofs.laws.words_stand_apart.Goals as goal
 
 pub returns-clause-places : goal.returns-clause-places

@@ -3,7 +3,7 @@ use Rattle.std.specs.FinMap as map
 use Rattle.std.proofs.lemmas.List.{get_or-replicate}
 use Rattle.prcu_model.specs.Dictionary.{Dictionary, map_of}
 use Rattle.hash_run.specs.Capacities.{all_puts, class_counts, AreCapacities}
-use Rattle.hash_run.proofs.Counts.{few_keys, sum-class_counts, counted}
+use Rattle.hash_run.proofs.Roomy.{few_keys, sum-class_counts, counted}
 use Rattle.hash_run.proofs.capacities.capacities_for.Goals as goal
 
 pub count_classes-requires-clause-few : goal.count_classes-requires-clause-few

@@ -1,9 +1,9 @@
 use Rattle.std.proofs.Common.{◌+◌, ◌%◌, ◌≤◌, length, get_or, sym, ap, ◌∙◌, arith, length-set}
 use Rattle.std.specs.FinMap as map
 use Rattle.std.proofs.lemmas.List.{drop_all}
-use Rattle.prcu_model.proofs.ToldLists.{drop-there}
+use Rattle.prcu_model.proofs.ListFacts.{drop-there}
 use Rattle.hash_run.specs.Capacities.{class_counts}
-use Rattle.hash_run.proofs.Counts.{sum-more}
+use Rattle.hash_run.proofs.Roomy.{sum-more}
 use Rattle.hash_run.proofs.capacities.count_classes.Goals as goal
 
 pub loop-i-preserved : goal.loop-i-preserved

@@ -1,6 +1,6 @@
 use Rattle.std.proofs.Common.{◌∙◌, ◌++◌, ◌+◌, drop, ap}
 use Rattle.hash_run.specs.Capacities.{all_puts}
-use Rattle.hash_run.proofs.Counts.{scripts_turn}
+use Rattle.hash_run.proofs.Roomy.{scripts_turn}
 use Rattle.hash_run.proofs.capacities.puts_of_scripts.Goals as goal
 
 pub loop-i-preserved : goal.loop-i-preserved

@@ -8,7 +8,7 @@ use Rattle.hash_core.specs.Steps.{first_of, second_of}
 use Rattle.client_run.specs.Crews.{IsHired, AreHired, IsCrew}
 use Rattle.client_run.proofs.Crews.{hired_more, tickets_turn}
 use Rattle.hash_run.specs.Crews.{idle_view, client_for}
-use Rattle.hash_run.proofs.Hiring.{idle_first, idle_second}
+use Rattle.hash_run.proofs.Finished.{idle_first, idle_second}
 use Rattle.hash_run.proofs.crew.hire.Goals as goal
 
 pub overflow_sub-tickets : goal.overflow_sub-tickets

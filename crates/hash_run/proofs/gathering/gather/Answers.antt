@@ -2,9 +2,9 @@ use Rattle.std.proofs.Common.{ap, ◌∙◌, arith}
 use Rattle.std.specs.List.{slice_get}
 use Rattle.client_run.proofs.Crews.{gathered_first, gathered_next, gathered_more}
 use Rattle.hash_core.specs.declared.view.View.{View}
-use Rattle.class_hash.specs.Clients.{ClientAt}
+use Rattle.class_hash.specs.Replies.{ClientAt}
 use Rattle.hash_run.specs.Crews.{IsDone, StandsFor}
-use Rattle.hash_run.proofs.Joining.{stands_first, stands_more}
+use Rattle.hash_run.proofs.Finished.{stands_first, stands_more}
 use Rattle.hash_run.proofs.gathering.gather.Goals as goal
 
 pub loop-seat-init : goal.loop-seat-init

@@ -1,13 +1,13 @@
 use Rattle.std.proofs.Common.{map, refl, sym, subst, ◌∙◌, arith}
 use Rattle.std.proofs.lemmas.List.{length-map}
 use Rattle.prcu_marks.specs.declared.mark.Mark.TheVariants.{Began}
-use Rattle.prcu_model.specs.Lists.{entries_of}
-use Rattle.prcu_model.specs.History.{IsLegal}
+use Rattle.prcu_model.specs.Scripts.{entries_of}
+use Rattle.prcu_model.specs.Dictionary.{IsLegal}
 use Rattle.prcu_marks.specs.Marks.{updates_of}
 use Rattle.prcu_model.specs.Fronts.{all_told_lines, AreExplainable}
-use Rattle.client_run.specs.Workers.{Work}
-use Rattle.client_run.proofs.OwnUpdates.{AreOneToCount-own}
-use Rattle.class_hash.specs.Clients.{ClientAt}
+use Rattle.client_run.specs.Crews.{Work}
+use Rattle.client_run.proofs.Histories.{AreOneToCount-own}
+use Rattle.class_hash.specs.Replies.{ClientAt}
 use Rattle.hash_run.proofs.Finished.{all_done, has_run, told_explained, told_marks}
 use Rattle.hash_run.proofs.running.run_scripts.Goals as goal
 

@@ -1,6 +1,5 @@
 use Rattle.std.proofs.Common.{◌≡◌, ℕ, length, ◌-◌, ◌<◌, ◌≤◌, vec_len}
-use Rattle.io_edge.specs.Edge.{Takes}
-use Rattle.io_edge.specs.Whole.{TookBytes}
+use Rattle.io_edge.specs.Edge.{Takes, TookBytes}
 use Rattle.io_edge.proofs.whole.read_all.Given as goal
 
 abbrev pub invariant-loop-text : goal.invariant-loop-text

@@ -1,8 +1,7 @@
 use Rattle.std.proofs.Common.{arith}
 use Rattle.seat_table.specs.Seats.{shape_of}
-use Rattle.citrus_tree.proofs.searches.Bounding.{entered_pace}
-use Rattle.citrus_tree.proofs.searches.Searching.{root_is, begun}
-use Rattle.many_gets.proofs.Hopping.{stands_outside, entered, enters_and_loads}
+use Rattle.citrus_tree.proofs.Searching.{entered_pace, root_is, begun}
+use Rattle.many_gets.proofs.Lanes.{stands_outside, entered, enters_and_loads}
 use Rattle.many_gets.proofs.lane.enter.Goals as goal
 
 pub returns-then-index-keys-clause-at : goal.returns-then-index-keys-clause-at

@@ -1,6 +1,6 @@
 use Rattle.std.proofs.Common.{Some, None, ◌∙◌}
 use Rattle.seat_table.specs.Seats.{shape_of}
-use Rattle.many_gets.proofs.Hopping.{come_as, may_load, still_inside, inside_missed, got_found, got_none}
+use Rattle.many_gets.proofs.Lanes.{come_as, may_load, still_inside, inside_missed, got_found, got_none}
 use Rattle.many_gets.proofs.lane.leave.Goals as goal
 
 pub search_load-value-requires-clause-asks : goal.search_load-value-requires-clause-asks

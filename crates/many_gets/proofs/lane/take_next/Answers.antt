@@ -1,6 +1,6 @@
 use Rattle.std.proofs.Common.{arith}
 use Rattle.seat_table.specs.Seats.{shape_of}
-use Rattle.many_gets.proofs.Hopping.{quiet_after}
+use Rattle.many_gets.proofs.Lanes.{quiet_after}
 use Rattle.many_gets.proofs.lane.take_next.Goals as goal
 
 pub leave-requires-clause-come : goal.leave-requires-clause-come

@@ -1,8 +1,7 @@
 use Rattle.std.proofs.Common.{refl}
 use Rattle.citrus_tree.specs.declared.descent.Step.TheVariants.{Moved}
 use Rattle.seat_table.specs.Seats.{shape_of}
-use Rattle.many_gets.proofs.Hopping.{sought_is, stands_on, has_come, come_found, come_missed, goes_on}
-use Rattle.many_gets.proofs.Going.{lane_moved, lane_next}
+use Rattle.many_gets.proofs.Lanes.{sought_is, stands_on, has_come, come_found, come_missed, goes_on, lane_moved, lane_next}
 use Rattle.many_gets.proofs.lane.take_turn.Goals as goal
 
 pub load_links-requires-clause-searching : goal.load_links-requires-clause-searching

@@ -1,7 +1,7 @@
 use Rattle.std.proofs.Common.{◌≡◌, slice_index_or, refl, sym, subst, arith}
 use Rattle.list_laws.proofs.Lists.{at_below}
-use Rattle.many_gets.specs.Lanes.{IsAt}
-use Rattle.many_gets.proofs.Turning.{is_there, tables_set, kept_all, kept_set, untouched_set, begun_set}
+use Rattle.many_gets.specs.Many.{IsAt}
+use Rattle.many_gets.proofs.Lanes.{is_there, tables_set, kept_all, kept_set, untouched_set, begun_set}
 use Rattle.many_gets.proofs.many.enter_all.Goals as goal
 
 pub loop-n-init : goal.loop-n-init

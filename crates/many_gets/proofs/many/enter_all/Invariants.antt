@@ -4,8 +4,7 @@ use lib.ListN.{get_elem?}
 use Rattle.list_laws.specs.Counts.{Each}
 use Rattle.seat_table.specs.Seats.{SeatAt}
 use Rattle.many_gets.specs.declared.lane.Lane.{Lane}
-use Rattle.many_gets.specs.Lanes.{IsAt}
-use Rattle.many_gets.specs.Many.{AreKept}
+use Rattle.many_gets.specs.Many.{IsAt, AreKept}
 use Rattle.many_gets.proofs.many.enter_all.Given as goal
 
 -- the first lanes have begun, and the other seats are as they were

@@ -1,6 +1,5 @@
 use Rattle.std.proofs.Common.{arith}
-use Rattle.many_gets.proofs.Budget.{lanes_few}
-use Rattle.many_gets.proofs.Turning.{kept_both, all_looked_up, all_quiet}
+use Rattle.many_gets.proofs.Lanes.{lanes_few, kept_both, all_looked_up, all_quiet}
 use Rattle.many_gets.proofs.many.get_many.Goals as goal
 
 pub returns-clause-kept : goal.returns-clause-kept

@@ -1,9 +1,8 @@
 use Rattle.std.proofs.Common.{◌≡◌, ◌+◌, ◌-◌, ◌*◌, ◌≤◌, length}
 use Rattle.list_laws.specs.Counts.{Each}
 use Rattle.seat_table.specs.Seats.{SeatAt, shape_of}
-use Rattle.many_gets.specs.Lanes.{AreLanes}
-use Rattle.many_gets.specs.Many.{AreKept, steps_of}
-use Rattle.many_gets.proofs.Budget.{budget}
+use Rattle.many_gets.specs.Many.{AreLanes, AreKept, steps_of}
+use Rattle.many_gets.proofs.Lanes.{budget}
 use Rattle.many_gets.proofs.many.get_many.Given as goal
 
 abbrev pub invariant-loop-lanes : goal.invariant-loop-lanes

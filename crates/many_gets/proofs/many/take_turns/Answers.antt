@@ -1,6 +1,6 @@
 use Rattle.std.proofs.Common.{◌≡◌, true, length, slice_index_or, ⊎_elim, arith}
 use Rattle.std.proofs.lemmas.Bool.{or_cases, or_parts}
-use Rattle.many_gets.proofs.Turning.{is_there, tables_set, kept_set, no_fewer_steps, more_steps, over_more, counted, lane_is, lanes_set}
+use Rattle.many_gets.proofs.Lanes.{is_there, tables_set, kept_set, no_fewer_steps, more_steps, over_more, counted, lane_is, lanes_set}
 use Rattle.many_gets.proofs.many.take_turns.Goals as goal
 
 pub take_turn-busy-requires-clause-table : goal.take_turn-busy-requires-clause-table

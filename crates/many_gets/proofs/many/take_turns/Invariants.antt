@@ -1,8 +1,7 @@
 use Rattle.std.proofs.Common.{◌≡◌, ◌<◌, ◌≤◌, List, true, false}
 use Rattle.list_laws.specs.Counts.{Each}
 use Rattle.seat_table.specs.Seats.{SeatAt}
-use Rattle.many_gets.specs.Lanes.{AreLanes, AreOver}
-use Rattle.many_gets.specs.Many.{AreKept, steps_of}
+use Rattle.many_gets.specs.Many.{AreLanes, AreOver, AreKept, steps_of}
 use Rattle.many_gets.proofs.many.take_turns.Given as goal
 
 abbrev pub invariant-loop-n : goal.invariant-loop-n

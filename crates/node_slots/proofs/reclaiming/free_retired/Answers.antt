@@ -2,7 +2,7 @@ use Rattle.std.proofs.Common.{ap, sym, subst}
 use Rattle.core_state.specs.declared.view.View.{View}
 use Rattle.seat_table.specs.Seats.{SeatAt, shape_of}
 use Rattle.node_slots.specs.Reclaiming.{BecomesFree}
-use Rattle.node_slots.proofs.Returning.{needs_life, needs_raised, needs_freed, becomes_free}
+use Rattle.node_slots.proofs.Returns.{needs_life, needs_raised, needs_freed, becomes_free}
 use Rattle.node_slots.proofs.reclaiming.free_retired.Goals as goal
 
 pub load_retired_life-life-requires-clause-asks : goal.load_retired_life-life-requires-clause-asks

@@ -1,7 +1,6 @@
 use Rattle.std.proofs.Common.{◌≡◌, ◌-◌, ◌+◌, arith, inr, sym, ap, subst, ◌∙◌}
 use Rattle.core_state.specs.declared.view.View.{View}
-use Rattle.node_slots.proofs.Listing.{GoesOn, next_ready, goes_end, goes_more, goes_out}
-use Rattle.node_slots.proofs.Informing.{informed_end, informed_out, stays_informed}
+use Rattle.node_slots.proofs.Returns.{GoesOn, next_ready, goes_end, goes_more, goes_out, informed_end, informed_out, stays_informed}
 use Rattle.node_slots.proofs.reclaiming.give_back.Goals as goal
 
 pub return_slot-requires-clause-unlocked : goal.return_slot-requires-clause-unlocked

@@ -1,6 +1,5 @@
 use Rattle.std.proofs.Common.{◌≡◌, ◌-◌, ◌≤◌}
-use Rattle.node_slots.proofs.Listing.{GoesOn}
-use Rattle.node_slots.proofs.Informing.{IsSameOrInformed}
+use Rattle.node_slots.proofs.Returns.{GoesOn, IsSameOrInformed}
 use Rattle.node_slots.proofs.reclaiming.give_back.Given as goal
 
 abbrev pub invariant-loop-i : goal.invariant-loop-i

@@ -1,5 +1,5 @@
 use Rattle.seat_table.specs.Seats.{shape_of}
-use Rattle.node_slots.proofs.Returning.{needs_life, needs_spare, becomes_spare}
+use Rattle.node_slots.proofs.Returns.{needs_life, needs_spare, becomes_spare}
 use Rattle.node_slots.proofs.reclaiming.keep_spare.Goals as goal
 
 pub load_retired_life-life-requires-clause-asks : goal.load_retired_life-life-requires-clause-asks

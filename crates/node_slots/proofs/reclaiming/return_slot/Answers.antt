@@ -1,4 +1,4 @@
-use Rattle.node_slots.proofs.Returning.{none_there, some_there}
+use Rattle.node_slots.proofs.Returns.{none_there, some_there}
 use Rattle.node_slots.proofs.reclaiming.return_slot.Goals as goal
 
 pub keep_spare-requires-clause-none : goal.keep_spare-requires-clause-none

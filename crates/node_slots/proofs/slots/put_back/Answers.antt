@@ -2,9 +2,9 @@ use Rattle.std.proofs.Common.{inl, refl, sym, ap, subst}
 use Rattle.core_state.specs.declared.shape.Shape.{Shape}
 use Rattle.core_state.specs.declared.view.View.{View}
 use Rattle.seat_table.specs.Seats.{SeatAt, shape_of}
-use Rattle.seat_table.proofs.Seized.{needs_raise}
+use Rattle.seat_table.proofs.SeveralSteps.{needs_raise}
 use Rattle.node_slots.specs.Slots.{PutsBack}
-use Rattle.node_slots.proofs.PuttingBack.{slot_is, hand_inside, unraised_there, frees, puts_back}
+use Rattle.node_slots.proofs.Takes.{slot_is, hand_inside, unraised_there, frees, puts_back}
 use Rattle.node_slots.proofs.slots.put_back.Goals as goal
 
 pub load_own_life-life-requires-clause-asks : goal.load_own_life-life-requires-clause-asks

@@ -1,7 +1,7 @@
 use Rattle.std.proofs.Common.{arith}
 use Rattle.seat_table.specs.Seats.{shape_of}
-use Rattle.seat_table.proofs.Seized.{needs_life}
-use Rattle.node_slots.proofs.Seizing.{has_seized}
+use Rattle.seat_table.proofs.SeveralSteps.{needs_life}
+use Rattle.node_slots.proofs.Takes.{has_seized}
 use Rattle.node_slots.proofs.slots.seize.Goals as goal
 
 pub load_own_life-life-requires-clause-asks : goal.load_own_life-life-requires-clause-asks

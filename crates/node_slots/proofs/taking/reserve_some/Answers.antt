@@ -1,8 +1,7 @@
 use Rattle.std.proofs.Common.{◌∙◌, ap, refl, rules, arith}
 use Rattle.core_state.specs.declared.view.View.{View}
-use Rattle.node_slots.proofs.Takes.{then_none, then_reserved, tried_again, tried_none}
-use Rattle.node_slots.proofs.Trying.{loses_more, loses_none, reserves_at_last, tries_in_vain}
-use Rattle.seat_table.proofs.Rounding.{step_more}
+use Rattle.node_slots.proofs.Takes.{then_none, then_reserved, tried_again, tried_none, loses_more, loses_none, reserves_at_last, tries_in_vain}
+use Rattle.seat_table.proofs.SeveralSteps.{step_more}
 use Rattle.node_slots.proofs.taking.reserve_some.Goals as goal
 
 pub reserve-requires-clause-unreserved : goal.reserve-requires-clause-unreserved

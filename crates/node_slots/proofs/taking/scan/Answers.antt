@@ -1,8 +1,8 @@
 use Rattle.std.proofs.Common.{rules, ◌+◌, ◌∙◌, arith, ap}
-use Rattle.seat_table.specs.Scans.{next_slot}
-use Rattle.node_slots.proofs.Trying.{round_none, round_missed, round_found}
+use Rattle.seat_table.specs.Seats.{next_slot}
+use Rattle.node_slots.proofs.Takes.{round_none, round_missed, round_found}
 use Rattle.core_state.specs.declared.view.View.{View}
-use Rattle.seat_table.proofs.Rounding.{step_more}
+use Rattle.seat_table.proofs.SeveralSteps.{step_more}
 use Rattle.node_slots.proofs.taking.scan.Goals as goal
 
 pub loop-round-init : goal.loop-round-init

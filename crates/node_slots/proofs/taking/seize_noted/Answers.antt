@@ -1,7 +1,7 @@
 use Rattle.std.proofs.Common.{rules, ◌+◌, sym, subst, arith}
 use Rattle.seat_table.specs.Seats.{SeatAt}
 use Rattle.node_slots.specs.Taking.{MissesNoted}
-use Rattle.node_slots.proofs.Trying.{noted_none, noted_more, noted_most, finds_noted}
+use Rattle.node_slots.proofs.Takes.{noted_none, noted_more, noted_most, finds_noted}
 use Rattle.node_slots.proofs.taking.seize_noted.Goals as goal
 
 pub loop-i-init : goal.loop-i-init

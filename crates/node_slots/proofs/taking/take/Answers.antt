@@ -3,8 +3,7 @@ use Rattle.core_state.specs.declared.view.View.{View}
 use Rattle.seat_table.specs.Seats.{shape_of}
 use Rattle.node_slots.specs.Taking.{TriesFor}
 use Rattle.node_slots.specs.declared.answers.Taken.TheVariants.{Empty, Slot}
-use Rattle.node_slots.proofs.Takes.{got_later, taken}
-use Rattle.node_slots.proofs.Trying.{tries_noted, tries_round}
+use Rattle.node_slots.proofs.Takes.{got_later, taken, tries_noted, tries_round}
 use Rattle.node_slots.proofs.taking.take.Goals as goal
 
 -- the slot that was taken is the one that was seized

@@ -1,6 +1,6 @@
 use Rattle.std.proofs.Common.{arith}
 use Rattle.std.proofs.lemmas.Result.{err_from_is_err_and}
-use Rattle.prcu_model.proofs.AddedOps.{items_of-set, items_of-set_same}
+use Rattle.prcu_model.proofs.ListFacts.{items_of-set, items_of-set_same}
 use Rattle.prcu_model.proofs.scripts.push_to_last.Goals as goal
 
 pub returns-in_err-push-clause-err : goal.returns-in_err-push-clause-err

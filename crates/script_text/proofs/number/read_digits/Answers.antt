@@ -1,6 +1,6 @@
 use Rattle.std.proofs.Common.{arith}
 use Rattle.std.proofs.lemmas.List.{take_all}
-use Rattle.script_text.proofs.Decimals.{no_digit, read_more, too_large}
+use Rattle.script_text.proofs.ScriptTexts.{no_digit, read_more, too_large}
 use Rattle.script_text.proofs.number.read_digits.Goals as goal
 
 pub returns-then-not-is_ascii_digit : goal.returns-then-not-is_ascii_digit

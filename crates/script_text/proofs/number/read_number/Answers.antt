@@ -1,6 +1,6 @@
 use Rattle.std.proofs.Common.{◌<◌, length, arith}
 use Rattle.std.proofs.lemmas.Bool.Decides.{nat_tests}
-use Rattle.script_text.proofs.Decimals.{empty_no_decimal, zero_no_decimal, decimal_from_digits}
+use Rattle.script_text.proofs.ScriptTexts.{empty_no_decimal, zero_no_decimal, decimal_from_digits}
 use Rattle.script_text.proofs.number.read_number.Goals as goal
 use Rattle.script_text.proofs.number.read_number.Goals.{else-bytes-gt1-via-then-bytes-gt1+else-bytes-eq48, else-bytes-gt1-via-else-bytes-gt1}
 

@@ -1,4 +1,4 @@
-use Rattle.script_text.proofs.OpTexts.{pair_parts}
+use Rattle.script_text.proofs.ScriptTexts.{pair_parts}
 use Rattle.script_text.proofs.operation.read_pair.Goals as goal
 
 pub returns-in_err-read_number : goal.returns-in_err-read_number

@@ -1,6 +1,6 @@
 use Rattle.std.proofs.Common.{arith}
 use Rattle.std.proofs.lemmas.List.{take_all}
-use Rattle.script_text.proofs.Printed.{scripts_text-more, scripts_text-again}
+use Rattle.script_text.proofs.ScriptTexts.{scripts_text-more, scripts_text-again}
 use Rattle.script_text.proofs.printing.print.Goals as goal
 
 pub loop-i-preserved : goal.loop-i-preserved

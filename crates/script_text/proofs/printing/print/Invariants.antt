@@ -1,6 +1,6 @@
 use Rattle.std.proofs.Common.{◌≡◌, All, take}
 use Rattle.prcu_model.specs.Scripts.{FitsWords}
-use Rattle.script_text.specs.Lines.{scripts_text}
+use Rattle.script_text.specs.Grammar.{scripts_text}
 use Rattle.script_text.proofs.printing.print.Given as goal
 
 abbrev pub invariant-loop-i : goal.invariant-loop-i

@@ -1,4 +1,4 @@
-use Rattle.script_text.proofs.Printed.{script_text-more}
+use Rattle.script_text.proofs.ScriptTexts.{script_text-more}
 use Rattle.script_text.proofs.printing.push_script.Goals as goal
 
 pub loop-op-preserved : goal.loop-op-preserved

@@ -1,6 +1,6 @@
 use Rattle.std.proofs.Common.{◌≡◌, ◌++◌, All, take}
 use Rattle.prcu_model.specs.Scripts.{FitsWords}
-use Rattle.script_text.specs.Lines.{script_text}
+use Rattle.script_text.specs.Grammar.{script_text}
 use Rattle.script_text.proofs.printing.push_script.Given as goal
 
 abbrev pub invariant-loop-op : goal.invariant-loop-op

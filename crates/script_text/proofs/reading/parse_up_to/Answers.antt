@@ -1,7 +1,7 @@
 use Rattle.std.proofs.Common.{◌≡◌, [], Err, ap, ◌∙◌, arith}
 use Rattle.std.proofs.lemmas.Result.{err_from_is_err_and}
 use Rattle.script_text.specs.declared.error.ScriptError.TheVariants.{Line}
-use Rattle.script_text.proofs.OneReading.{HasRead-more, reads_few, is_read, is_read_once, is_first_bad, is_not_read}
+use Rattle.script_text.proofs.ScriptTexts.{HasRead-more, reads_few, is_read, is_read_once, is_first_bad, is_not_read}
 use Rattle.script_text.proofs.reading.parse_up_to.Goals as goal
 
 pub returns-in_err-read_line-clause-line : goal.returns-in_err-read_line-clause-line

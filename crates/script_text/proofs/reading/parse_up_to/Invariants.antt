@@ -1,5 +1,5 @@
 use Rattle.std.proofs.Common.{length}
-use Rattle.script_text.proofs.OneReading.{HasRead}
+use Rattle.script_text.proofs.ScriptTexts.{HasRead}
 use Rattle.script_text.proofs.reading.parse_up_to.Given as goal
 
 abbrev pub invariant-loop-line : goal.invariant-loop-line

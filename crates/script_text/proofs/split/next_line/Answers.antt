@@ -1,7 +1,7 @@
 use Rattle.std.proofs.Common.{◌≡◌, ◌<◌, ◌-◌, [], length, take, drop, arith}
 use Rattle.std.proofs.lemmas.Bool.Decides.{nat_tests}
 use Rattle.std.proofs.lemmas.List.{nil_from_length, length-take, length-drop}
-use Rattle.script_text.proofs.CutLines.{lines_of-IsParted, lines_of-last}
+use Rattle.script_text.proofs.ScriptTexts.{lines_of-IsParted, lines_of-last}
 use Rattle.script_text.proofs.split.next_line.Goals as goal
 
 pub returns-in-Some-clause-cut : goal.returns-in-Some-clause-cut

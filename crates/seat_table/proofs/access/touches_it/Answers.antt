@@ -1,6 +1,6 @@
 use Rattle.std.proofs.Common.{rules}
 use Rattle.prcu_marks.specs.declared.access.Access.TheVariants.{Load, Store, Exchange, Add, Subtract, Flip}
-use Rattle.seat_table.proofs.Allowed.{allowed}
+use Rattle.seat_table.proofs.Gains.{allowed}
 use Rattle.seat_table.proofs.access.touches_it.Goals as goal
 
 pub load-requires : goal.load-requires

@@ -1,6 +1,6 @@
 use Rattle.std.proofs.Common.{rules, arith}
 use Rattle.seat_table.specs.Seats.{shape_of}
-use Rattle.seat_table.proofs.Rounding.{poll_steps}
+use Rattle.seat_table.proofs.SeveralSteps.{poll_steps}
 use Rattle.seat_table.proofs.Waiting.{begins_on, latest_on, polls_on, polls_end}
 use Rattle.seat_table.proofs.wait.wait_in_grace.Goals as goal
 

@@ -1,4 +1,4 @@
-use Rattle.tree_handles.proofs.Chains.{calls_meet}
+use Rattle.tree_handles.proofs.Callers.{calls_meet}
 use Rattle.tree_handles.proofs.laws.calls_meet_fronts.Goals as goal
 
 pub returns : goal.returns

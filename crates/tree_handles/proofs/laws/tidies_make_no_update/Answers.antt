@@ -1,4 +1,4 @@
-use Rattle.tree_handles.proofs.TidyMarks.{tidies_plain}
+use Rattle.tree_handles.proofs.Callers.{tidies_plain}
 use Rattle.tree_handles.proofs.laws.tidies_make_no_update.Goals as goal
 
 pub returns : goal.returns

@@ -1,6 +1,6 @@
 use Rattle.std.proofs.Common.{rules, ◌≡◌, suc, ◌+◌, ◌++◌, map, take, drop, slice_set, subst, ap, ◌∙◌, arith}
 use Rattle.tree_handles.specs.Lists.{pair_of}
-use Rattle.tree_handles.proofs.Writing.{write_next}
+use Rattle.tree_handles.proofs.LaneLists.{write_next}
 use Rattle.tree_handles.proofs.lists.write_out.Goals as goal
 
 pub loop-i-preserved : goal.loop-i-preserved

@@ -1,9 +1,9 @@
 use Rattle.std.proofs.Common.{◌≡◌, ◌-◌, Some}
 use Rattle.core_state.specs.declared.view.View.{View}
-use Rattle.core_state.specs.memory.Memory.{slot_count}
+use Rattle.core_state.specs.Memory.{slot_count}
 use Rattle.seat_table.specs.Seats.{shape_of}
 use Rattle.seat_table.specs.Sections.{HasEntered}
-use Rattle.citrus_tree.specs.Bounded.{slots_met}
+use Rattle.citrus_tree.specs.Hops.{slots_met}
 use Rattle.tree_lift.specs.Ways.{Starts}
 use Rattle.tree_lift.proofs.finding.find_crossing.Given as goal
 

@@ -1,8 +1,8 @@
 use Rattle.std.proofs.Common.{sym, subst}
-use Rattle.core_state.specs.steps.Sections.{fresh_reading}
+use Rattle.core_state.specs.Steps.{fresh_reading}
 use Rattle.seat_table.specs.Seats.{shape_of}
 use Rattle.tree_lift.specs.Ways.{Starts}
-use Rattle.citrus_tree.proofs.searches.Searching.{root_is}
+use Rattle.citrus_tree.proofs.Searching.{root_is}
 use Rattle.tree_lift.proofs.Ways.{at_root, begun, starts_at, starts_empty, starts_found}
 use Rattle.tree_lift.proofs.finding.first_stand.Goals as goal
 

@@ -1,9 +1,9 @@
 use Rattle.std.proofs.Common.{rules, ap, subst, arith}
-use Rattle.core_acts.specs.declared.act.Part.TheVariants as part
+use Rattle.core_state.specs.declared.act.Part.TheVariants as part
 use Rattle.core_state.specs.declared.words.Field.TheVariants.{Link}
-use Rattle.core_state.specs.steps.Loads.{loaded}
+use Rattle.core_state.specs.Steps.{loaded}
 use Rattle.seat_table.specs.Seats.{shape_of}
-use Rattle.citrus_tree.specs.Bounded.{slots_in}
+use Rattle.citrus_tree.specs.Hops.{slots_in}
 use Rattle.tree_lift.specs.Ways.{IsReading}
 use Rattle.tree_lift.proofs.Ways.{asks, loads_on, slot_at, stood_below, went_met}
 use Rattle.tree_lift.proofs.finding.go_down.Goals as goal

@@ -1,6 +1,6 @@
-use Rattle.core_acts.specs.declared.act.Part.TheVariants as part
+use Rattle.core_state.specs.declared.act.Part.TheVariants as part
 use Rattle.core_state.specs.declared.words.Field.TheVariants.{Life}
-use Rattle.core_state.specs.steps.Loads.{loaded}
+use Rattle.core_state.specs.Steps.{loaded}
 use Rattle.seat_table.specs.Seats.{shape_of}
 use Rattle.tree_lift.proofs.Ways.{asks, loads_on, parent_stood, node_stood, child_stood, records_turn}
 use Rattle.tree_lift.proofs.finding.record_turn.Goals as goal

@@ -1,7 +1,7 @@
 use Rattle.std.proofs.Common.{refl, subst, arith}
 use Rattle.seat_table.specs.Seats.{shape_of}
 use Rattle.tree_lift.specs.Ways.{Finds}
-use Rattle.tree_lift.specs.Rooms.{MakesRoom, TakesSlots}
+use Rattle.tree_lift.specs.Lifts.{MakesRoom, TakesSlots}
 use Rattle.tree_lift.proofs.Attempts.{has_room, held_there, level_attempt, listed_there, lost_attempt, none_attempt, quiet_found, ready_there, recorded_there, room_lacking, turned_attempt, two_found}
 use Rattle.tree_lift.proofs.lifting.make_attempt.Goals as goal
 

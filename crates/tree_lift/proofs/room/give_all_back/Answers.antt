@@ -1,7 +1,7 @@
 use Rattle.std.proofs.Common.{refl, sym, ◌∙◌}
 use Rattle.seat_table.specs.Seats.{shape_of}
-use Rattle.node_slots.proofs.Listed.{listed_length}
-use Rattle.citrus_tree.proofs.puts.Filling.{empty_is, empty_not}
+use Rattle.node_slots.proofs.Returns.{listed_length}
+use Rattle.citrus_tree.proofs.Linking.{empty_is, empty_not}
 use Rattle.tree_lift.proofs.Attempts.{back_left, back_tickets, back_wait, may_reclaim_room, none_listed, none_retired, reclaimed_quiet, same_left, same_wait}
 use Rattle.tree_lift.proofs.room.give_all_back.Goals as goal
 

@@ -3,7 +3,7 @@ use Rattle.seat_table.specs.Seats.{shape_of}
 use Rattle.node_slots.specs.Taking.{Takes}
 use Rattle.node_slots.specs.declared.answers.Taken.{Taken}
 use Rattle.node_slots.proofs.Points.{tries_further}
-use Rattle.citrus_tree.proofs.deletes.Room.{given_spare, no_spare}
+use Rattle.citrus_tree.proofs.DeleteTries.{given_spare, no_spare}
 use Rattle.tree_lift.proofs.Slots.{needs_kept, spare_at_once, spare_kept, spare_none}
 use Rattle.tree_lift.proofs.room.have_spare.Goals as goal
 

@@ -1,6 +1,6 @@
 use Rattle.std.proofs.Common.{length, inl, inr, refl, ap, arith}
-use Rattle.node_slots.proofs.Listed.{listed_length}
-use Rattle.citrus_tree.proofs.deletes.Room.{same_room}
+use Rattle.node_slots.proofs.Returns.{listed_length}
+use Rattle.citrus_tree.proofs.DeleteTries.{same_room}
 use Rattle.tree_lift.proofs.Attempts.{may_reclaim_room}
 use Rattle.tree_lift.proofs.room.make_room.Goals as goal
 

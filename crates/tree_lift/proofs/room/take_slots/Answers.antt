@@ -3,7 +3,7 @@ use Rattle.seat_table.specs.Seats.{shape_of}
 use Rattle.node_slots.specs.Taking.{Takes}
 use Rattle.node_slots.specs.declared.answers.Taken.{Taken}
 use Rattle.node_slots.proofs.Points.{tries_further}
-use Rattle.tree_lift.specs.Rooms.{SeesToSpare}
+use Rattle.tree_lift.specs.Lifts.{SeesToSpare}
 use Rattle.tree_lift.proofs.Slots.{one_left, takes_both, takes_none, takes_no_spare}
 use Rattle.tree_lift.proofs.room.take_slots.Goals as goal
 

@@ -1,5 +1,5 @@
 use Rattle.std.proofs.Common.{refl}
-use Rattle.tree_lift.specs.Rule.{mixed}
+use Rattle.tree_lift.specs.Ways.{mixed}
 use Rattle.tree_lift.proofs.rule.mix.Goals as goal
 
 pub returns : goal.returns

@@ -1,4 +1,4 @@
-use Rattle.tree_points.proofs.Ends.{has_kept, is_quiet}
+use Rattle.tree_points.proofs.Passing.{has_kept, is_quiet}
 use Rattle.tree_points.proofs.laws.calls_end.Goals as goal
 
 pub returns : goal.returns

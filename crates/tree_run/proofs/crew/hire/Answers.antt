@@ -8,7 +8,7 @@ use Rattle.client_run.specs.Crews.{IsHired, AreHired, IsCrew}
 use Rattle.client_run.proofs.Crews.{hired_more}
 use Rattle.seat_table.specs.Seats.{SeatAt}
 use Rattle.tree_run.specs.Runs.{run_with, seat_for, client_for, tickets_for}
-use Rattle.tree_run.proofs.Hiring.{idle_first, idle_second, tickets_none, tickets_left}
+use Rattle.tree_run.proofs.Finished.{idle_first, idle_second, tickets_none, tickets_left}
 use Rattle.tree_run.proofs.crew.hire.Goals as goal
 
 pub overflow_sub-left : goal.overflow_sub-left

@@ -1,6 +1,6 @@
 use Rattle.std.proofs.Common.{◌∙◌, ap, arith}
 use Rattle.seat_table.specs.Seats.{SeatAt, shape_of}
-use Rattle.tree_run.specs.Callers.{newcomer}
+use Rattle.tree_run.specs.Runs.{newcomer}
 use Rattle.tree_run.proofs.crew.hire_one.Goals as goal
 
 pub returns : goal.returns

@@ -1,13 +1,11 @@
 use Rattle.std.proofs.Common.{◌≡◌, ◌≤◌, [], map, vec_len, sym, ap, subst, ◌∙◌, arith}
 use Rattle.std.proofs.lemmas.Bool.{eqb-true}
 use Rattle.std.proofs.lemmas.List.{nil_from_length}
-use Rattle.client_run.specs.Workers.{Work}
-use Rattle.client_run.specs.Crews.{IsGathered}
+use Rattle.client_run.specs.Crews.{Work, IsGathered}
 use Rattle.client_run.proofs.Crews.{gathered_first, gathered_next, gathered_more, gathered_all}
 use Rattle.seat_table.specs.Seats.{SeatAt, KeepsOwn}
-use Rattle.tree_run.specs.Callers.{ScriptClientAt}
-use Rattle.tree_run.specs.Runs.{IsDone, StandsFor}
-use Rattle.tree_run.proofs.Joined.{joined_first, joined_more, looked_still}
+use Rattle.tree_run.specs.Runs.{ScriptClientAt, IsDone, StandsFor}
+use Rattle.tree_run.proofs.Finished.{joined_first, joined_more, looked_still}
 use Rattle.tree_run.proofs.gathering.gather.Goals as goal
 
 pub loop-seat-init : goal.loop-seat-init

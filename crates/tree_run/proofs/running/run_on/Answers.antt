@@ -1,7 +1,6 @@
 use Rattle.std.proofs.Common.{◌++◌, map, ap, ◌∙◌}
-use Rattle.client_run.specs.Workers.{Work}
-use Rattle.tree_run.specs.Callers.{ScriptClientAt}
-use Rattle.tree_run.specs.Runs.{run_with}
+use Rattle.client_run.specs.Crews.{Work}
+use Rattle.tree_run.specs.Runs.{ScriptClientAt, run_with}
 use Rattle.tree_run.proofs.Finished.{all_done}
 use Rattle.tree_run.proofs.running.run_on.Goals as goal
 

@@ -1,13 +1,12 @@
 use Rattle.std.proofs.Common.{refl, sym, subst, ◌∙◌, arith}
 use Rattle.std.proofs.lemmas.List.{length-map}
-use Rattle.prcu_model.specs.Lists.{entries_of}
-use Rattle.prcu_model.specs.History.{IsLegal}
-use Rattle.prcu_model.specs.Slots.{StaysWithin}
-use Rattle.prcu_model.specs.Fronts.{all_told_lines, AreExplainable}
+use Rattle.prcu_model.specs.Scripts.{entries_of}
+use Rattle.prcu_model.specs.Dictionary.{IsLegal}
+use Rattle.prcu_model.specs.Fronts.{StaysWithin, all_told_lines, AreExplainable}
 use Rattle.prcu_marks.specs.Marks.{updates_of}
-use Rattle.client_run.specs.Workers.{Work}
-use Rattle.client_run.proofs.OwnUpdates.{AreOneToCount-own}
-use Rattle.tree_run.specs.Callers.{ScriptClientAt}
+use Rattle.client_run.specs.Crews.{Work}
+use Rattle.client_run.proofs.Histories.{AreOneToCount-own}
+use Rattle.tree_run.specs.Runs.{ScriptClientAt}
 use Rattle.tree_run.proofs.Finished.{alone_explained, alone_marks}
 use Rattle.tree_run.proofs.running.run_scripts.Goals as goal
 

@@ -1,7 +1,6 @@
 use Rattle.std.proofs.Common.{refl}
-use Rattle.core_acts.specs.declared.act.Part.TheVariants as part
-use Rattle.tree_turn.proofs.Asked.{asks_load}
-use Rattle.tree_turn.proofs.Filled.{reads_first, reads_more, asks_next, node_loaded}
+use Rattle.core_state.specs.declared.act.Part.TheVariants as part
+use Rattle.tree_turn.proofs.Standing.{asks_load, reads_first, reads_more, asks_next, node_loaded}
 use Rattle.tree_turn.proofs.loads.load_node.Goals as goal
 
 pub locked_load-life-requires-clause-asks : goal.locked_load-life-requires-clause-asks

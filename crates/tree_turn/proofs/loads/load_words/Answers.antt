@@ -1,8 +1,7 @@
 use Rattle.std.proofs.Common.{refl}
-use Rattle.core_acts.specs.declared.act.Part.TheVariants as part
-use Rattle.tree_turn.proofs.Asked.{asks_load}
-use Rattle.tree_turn.proofs.Filled.{reads_first, reads_more, asks_next}
-use Rattle.tree_turn.proofs.Gotten.{parent_locked, node_locked, node_stays, node_settled, child_locked, child_stays, child_settled, all_loaded}
+use Rattle.core_state.specs.declared.act.Part.TheVariants as part
+use Rattle.tree_turn.proofs.Standing.{asks_load, reads_first, reads_more, asks_next}
+use Rattle.tree_turn.proofs.Replaced.{parent_locked, node_locked, node_stays, node_settled, child_locked, child_stays, child_settled, all_loaded}
 use Rattle.tree_turn.proofs.loads.load_words.Goals as goal
 
 pub locked_load-parent_life-requires-clause-asks : goal.locked_load-parent_life-requires-clause-asks

@@ -1,4 +1,4 @@
-use Rattle.tree_turn.proofs.Gotten.{asks_first, parent_busy, asks_second, asks_back, node_busy, asks_third, all_got, asks_node_back, asks_parent_back, child_busy}
+use Rattle.tree_turn.proofs.Replaced.{asks_first, parent_busy, asks_second, asks_back, node_busy, asks_third, all_got, asks_node_back, asks_parent_back, child_busy}
 use Rattle.tree_turn.proofs.locks.lock_three.Goals as goal
 
 pub lock-requires-clause-asks : goal.lock-requires-clause-asks

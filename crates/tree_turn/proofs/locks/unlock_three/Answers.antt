@@ -1,4 +1,4 @@
-use Rattle.tree_turn.proofs.Gotten.{asks_unlock_child, asks_unlock_node, asks_unlock_parent, all_given_up}
+use Rattle.tree_turn.proofs.Replaced.{asks_unlock_child, asks_unlock_node, asks_unlock_parent, all_given_up}
 use Rattle.tree_turn.proofs.locks.unlock_three.Goals as goal
 
 pub unlock-requires-clause-asks : goal.unlock-requires-clause-asks

@@ -1,7 +1,6 @@
 use Rattle.std.proofs.Common.{refl}
-use Rattle.core_acts.specs.declared.act.Part.TheVariants as part
-use Rattle.tree_turn.proofs.Asked.{asks_fill}
-use Rattle.tree_turn.proofs.Filled.{fills_first, fills_more, asks_fill_next, all_filled}
+use Rattle.core_state.specs.declared.act.Part.TheVariants as part
+use Rattle.tree_turn.proofs.Standing.{asks_fill, fills_first, fills_more, asks_fill_next, all_filled}
 use Rattle.tree_turn.proofs.replacing.fill.Goals as goal
 
 pub fill-requires-clause-asks : goal.fill-requires-clause-asks

@@ -1,5 +1,5 @@
 use Rattle.std.proofs.Common.{subst}
-use Rattle.tree_turn.specs.Locked.{HasFilled}
+use Rattle.tree_turn.specs.Turns.{HasFilled}
 use Rattle.tree_turn.proofs.Replaced.{bottom_held, bottom_free, settled_1, top_held, top_free, asks_mark_node, asks_mark_child, asks_rotate, replaced}
 use Rattle.tree_turn.proofs.replacing.replace.Goals as goal
 

@@ -1,7 +1,6 @@
 use Rattle.std.proofs.Common.{sym, ◌∙◌}
 use Rattle.std.proofs.lemmas.Bool.{false≢true}
-use Rattle.tree_turn.proofs.Tested.{recorded_by, not_recorded, aside_by, not_aside}
-use Rattle.tree_turn.proofs.Ended.{same_slot, own_found, lock_found, locks_got, settled_then, three_aside, three_loaded, settled_loaded, other_found, still_recorded, may_replace, three_replaced, settled_replaced, turned}
+use Rattle.tree_turn.proofs.Ended.{recorded_by, not_recorded, aside_by, not_aside, same_slot, own_found, lock_found, locks_got, settled_then, three_aside, three_loaded, settled_loaded, other_found, still_recorded, may_replace, three_replaced, settled_replaced, turned}
 use Rattle.tree_turn.proofs.turning.attempt.Goals as goal
 
 pub lock_three-requires-clause-three : goal.lock_three-requires-clause-three

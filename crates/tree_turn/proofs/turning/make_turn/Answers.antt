@@ -3,7 +3,7 @@ use Rattle.std.proofs.lemmas.Bool.{false≢true}
 use Rattle.std.proofs.lemmas.List.{length-append}
 use Rattle.core_state.specs.declared.view.Retired.{Retired}
 use Rattle.core_state.specs.declared.view.View.{View}
-use Rattle.core_state.specs.steps.Slots.{IsRetiredAt}
+use Rattle.core_state.specs.Links.{IsRetiredAt}
 use Rattle.list_laws.specs.Counts.{times, IsIn}
 use Rattle.seat_table.specs.Gains.{TellsApart, IsInformed}
 use Rattle.seat_table.specs.Seats.{TableAt}

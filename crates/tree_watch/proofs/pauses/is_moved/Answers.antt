@@ -1,5 +1,5 @@
 use Rattle.std.proofs.Common.{◌∙◌}
-use Rattle.tree_watch.proofs.Taking.{only_trans}
+use Rattle.tree_watch.proofs.Watched.{only_trans}
 use Rattle.tree_watch.proofs.pauses.is_moved.Goals as goal
 
 pub returns-then-look_once-last-clause-only : goal.returns-then-look_once-last-clause-only

@@ -1,5 +1,5 @@
 use Rattle.seat_table.specs.Seats.{shape_of}
-use Rattle.tree_watch.proofs.Pausing.{may_look_first, only_looked}
+use Rattle.tree_watch.proofs.Watched.{may_look_first, only_looked}
 use Rattle.tree_watch.proofs.pauses.look_once.Goals as goal
 
 pub look_at_front-front-requires-clause-asks : goal.look_at_front-front-requires-clause-asks

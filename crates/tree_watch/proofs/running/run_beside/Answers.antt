@@ -3,9 +3,7 @@ use Rattle.std.proofs.lemmas.Result.{IfOk-at_ok}
 use Rattle.seat_table.specs.Seats.{shape_of}
 use Rattle.tree_run.specs.Runs.{run_with, HasRun}
 use Rattle.tree_run.proofs.Finished.{run_beside}
-use Rattle.tree_watch.proofs.Taking.{snapshots_seen}
-use Rattle.tree_watch.proofs.Watched.{joined_idle, joined_answers}
-use Rattle.tree_watch.proofs.Looks.{joined_looked}
+use Rattle.tree_watch.proofs.Watched.{snapshots_seen, joined_idle, joined_answers, joined_looked}
 use Rattle.tree_watch.proofs.running.run_beside.Goals as goal
 
 pub returns-clause-run : goal.returns-clause-run

@@ -1,8 +1,8 @@
 use Rattle.std.proofs.Common.{sym, subst}
-use Rattle.prcu_model.specs.Lists.{entries_of}
+use Rattle.prcu_model.specs.Scripts.{entries_of}
 use Rattle.prcu_model.specs.Fronts.{all_told_lines}
 use Rattle.prcu_marks.specs.Marks.{updates_of}
-use Rattle.client_run.proofs.OwnUpdates.{AreOneToCount-own}
+use Rattle.client_run.proofs.Histories.{AreOneToCount-own}
 use Rattle.tree_watch.specs.Snapshots.{AreSnapshots}
 use Rattle.tree_watch.proofs.Watched.{watched_explained, watched_merged}
 use Rattle.tree_watch.proofs.running.run_watched.Goals as goal

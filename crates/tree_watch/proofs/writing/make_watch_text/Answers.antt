@@ -1,5 +1,5 @@
-use Rattle.prcu_model.specs.Lists.{entries_of}
-use Rattle.tree_watch.proofs.Texts.{watch_made}
+use Rattle.prcu_model.specs.Scripts.{entries_of}
+use Rattle.tree_watch.proofs.Watched.{watch_made}
 use Rattle.tree_watch.proofs.writing.make_watch_text.Goals as goal
 
 pub returns : goal.returns

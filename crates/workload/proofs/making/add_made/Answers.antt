@@ -1,6 +1,6 @@
 use Rattle.std.proofs.Common.{arith}
 use Rattle.workload.specs.Draws.{made_script}
-use Rattle.workload.proofs.MadeScripts.{HasBegun-more}
+use Rattle.workload.proofs.MadeRuns.{HasBegun-more}
 use Rattle.workload.proofs.making.add_made.Goals as goal
 
 pub loop-preserved : goal.loop-preserved

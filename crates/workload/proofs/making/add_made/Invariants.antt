@@ -1,5 +1,5 @@
 use Rattle.workload.specs.Draws.{made_script}
-use Rattle.workload.proofs.MadeScripts.{HasBegun}
+use Rattle.workload.proofs.MadeRuns.{HasBegun}
 use Rattle.workload.proofs.making.add_made.Given as goal
 
 abbrev pub invariant-loop : goal.invariant-loop

@@ -2,7 +2,7 @@ use Rattle.std.proofs.Common.{◌+◌, ◌≤◌, [], ◌∷◌, ◌++◌, lengt
 use Rattle.std.proofs.Math.Nat.{mul-le-mul_left}
 use Rattle.prcu_model.specs.Scripts.{op_count}
 use Rattle.workload.specs.Draws.{made_script}
-use Rattle.workload.proofs.MadeScripts.{length-made_scripts, op_count-made_scripts, made_scripts-more}
+use Rattle.workload.proofs.MadeRuns.{length-made_scripts, op_count-made_scripts, made_scripts-more}
 use Rattle.workload.proofs.making.make.Goals as goal
 
 pub add_made-requires-clause-few : goal.add_made-requires-clause-few

@@ -1,5 +1,5 @@
 use Rattle.std.proofs.Common.{arith}
-use Rattle.workload.proofs.ReplyCounts.{HasRoom-list}
+use Rattle.workload.proofs.MadeRuns.{HasRoom-list}
 use Rattle.workload.proofs.summing.count_replies.Goals as goal
 
 pub count_list-requires : goal.count_list-requires

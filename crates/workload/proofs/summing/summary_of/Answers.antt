@@ -1,10 +1,8 @@
 use Rattle.std.proofs.Common.{◌^◌, ◌<◌, ◌≤◌, length, sym, ap, subst, ◌∙◌, arith}
 use Rattle.std.specs.FinMap as map
-use Rattle.prcu_model.specs.Lists.{entries_of}
-use Rattle.prcu_model.specs.Scripts.{op_count}
+use Rattle.prcu_model.specs.Scripts.{entries_of, op_count}
 use Rattle.workload.specs.Summaries.{key_sum, value_sum}
-use Rattle.workload.proofs.ReplyCounts.{entry_count}
-use Rattle.workload.proofs.MadeRuns.{summary-is-plain, key_sum-fits, value_sum-fits}
+use Rattle.workload.proofs.MadeRuns.{entry_count, summary-is-plain, key_sum-fits, value_sum-fits}
 use Rattle.workload.proofs.summing.summary_of.Goals as goal
 
 pub count_replies-counts-requires : goal.count_replies-counts-requires

@@ -1,5 +1,5 @@
 use Rattle.std.proofs.Common.{◌≤◌, length, sym, arith}
-use Rattle.account_text.proofs.BucketStarts.{read-rising, read-within, read-cut, read-ordered}
+use Rattle.account_text.proofs.Changes.{read-rising, read-within, read-cut, read-ordered}
 use Rattle.account_text.proofs.key_index.KeyIndex.near.Goals as goal
 
 pub slice_bounds-result-count : goal.slice_bounds-result-count

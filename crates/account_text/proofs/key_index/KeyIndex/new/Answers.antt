@@ -1,5 +1,5 @@
 use Rattle.std.proofs.Common.{sym, subst}
-use Rattle.account_text.specs.Buckets.{IsOrderedByBucket}
+use Rattle.account_text.specs.Judging.{IsOrderedByBucket}
 use Rattle.account_text.proofs.key_index.KeyIndex.new.Goals as goal
 
 pub starts_of-requires-clause-ordered : goal.starts_of-requires-clause-ordered

@@ -1,5 +1,5 @@
 use Rattle.std.proofs.Common.{◌≤◌, length}
-use Rattle.prcu_model.specs.Replies.{Room}
+use Rattle.prcu_model.specs.Dictionary.{Room}
 use Rattle.account_text.proofs.Replays.{none-filled, least-filled}
 use Rattle.account_text.proofs.timeline.Timeline.least_filled.Goals as goal
 

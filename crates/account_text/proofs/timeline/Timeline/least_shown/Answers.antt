@@ -3,8 +3,8 @@ use Rattle.std.specs.FinMap as map
 use Rattle.std.proofs.lemmas.Bool.{false≢true}
 use Rattle.std.proofs.lemmas.Option.{IfSome_then}
 use Rattle.prcu_model.specs.Dictionary.{map_at}
-use Rattle.account_text.specs.Changes.{IsShown}
-use Rattle.account_text.proofs.KeyChanges.{AreSplit, are_split, IsOrdered-later, value-until, none_shown, first-above, first-within, first-shown, first-least}
+use Rattle.account_text.specs.Judging.{IsShown}
+use Rattle.account_text.proofs.Changes.{AreSplit, are_split, IsOrdered-later, value-until, none_shown, first-above, first-within, first-shown, first-least}
 use Rattle.account_text.proofs.timeline.Timeline.least_shown.Goals as goal
 use Rattle.account_text.proofs.timeline.Timeline.least_shown.Goals.{After-last_value, Else-is_shown}
 

@@ -1,5 +1,5 @@
 use Rattle.std.proofs.Common.{◌≤◌, length, ◌∙◌}
-use Rattle.account_text.proofs.KeyChanges.{are_split, value-until}
+use Rattle.account_text.proofs.Changes.{are_split, value-until}
 use Rattle.account_text.proofs.timeline.Timeline.value_at.Goals as goal
 
 pub returns : goal.returns

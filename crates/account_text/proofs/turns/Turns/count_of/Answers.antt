@@ -1,6 +1,6 @@
 use Rattle.std.proofs.Common.{◌<◌, length, sym, ◌∙◌}
 use Rattle.std.proofs.lemmas.Grind.{get_or_default_zero}
-use Rattle.account_text.proofs.OwnUpdates.{length-own}
+use Rattle.account_text.proofs.JudgedScripts.{length-own}
 use Rattle.account_text.proofs.turns.Turns.count_of.Goals as goal
 
 pub returns : goal.returns

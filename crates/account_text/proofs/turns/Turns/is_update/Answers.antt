@@ -5,9 +5,8 @@ use Rattle.std.proofs.lemmas.Bool.Decides.{Decides-eqb}
 use Rattle.std.proofs.lemmas.Grind.{get_or_default_zero}
 use Rattle.prcu_model.specs.declared.operation.Update.{Update}
 use Rattle.prcu_model.specs.Fronts.{own_updates}
-use Rattle.account_text.specs.Turns.{own_count}
-use Rattle.account_text.proofs.Counts.{no_update}
-use Rattle.account_text.proofs.OwnUpdates.{own-is, own-bounds}
+use Rattle.account_text.specs.Judging.{own_count}
+use Rattle.account_text.proofs.JudgedScripts.{no_update, own-is, own-bounds}
 use Rattle.account_text.proofs.turns.Turns.is_update.Goals as goal
 use Rattle.account_text.proofs.turns.Turns.is_update.Goals.{After-eq, then-position-eq0-via-then-position-eq0, then-position-eq0-via-else-position-eq0+then-position-self}
 

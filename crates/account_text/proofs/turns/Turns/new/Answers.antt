@@ -1,8 +1,8 @@
 use Rattle.std.proofs.Common.{◌≡◌, ◌+◌, ◌<◌, length, length-set, length-take, take, ap, ◌∙◌, arith}
 use Rattle.std.proofs.lemmas.Grind.{get_or_default_zero}
 use Rattle.std.proofs.lemmas.List.{length_push, take_all}
-use Rattle.account_text.specs.Turns.{own_count}
-use Rattle.account_text.proofs.Counts.{no_update, owner, counts-more, turns-more, own_count-le}
+use Rattle.account_text.specs.Judging.{own_count}
+use Rattle.account_text.proofs.JudgedScripts.{no_update, owner, counts-more, turns-more, own_count-le}
 use Rattle.account_text.proofs.turns.Turns.new.Goals as goal
 use Rattle.account_text.proofs.turns.Turns.new.Goals.{After-index_mut-count}
 

@@ -1,6 +1,6 @@
 use Rattle.std.proofs.Common.{◌≡◌, ℕ, ◌<◌, length, get_or, take}
 use Rattle.prcu_model.specs.declared.operation.Update.{Update}
-use Rattle.account_text.specs.Turns.{own_count}
+use Rattle.account_text.specs.Judging.{own_count}
 use Rattle.account_text.proofs.turns.Turns.new.Given as goal
 
 -- the updates so far are counted

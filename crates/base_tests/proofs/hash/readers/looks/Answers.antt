@@ -7,7 +7,7 @@ use Rattle.class_hash.specs.declared.bucket.Poll.TheVariants.{Over, NotYet}
 use Rattle.class_hash.specs.Calls.{HasFinished, MayPoll, Polls, polled}
 use Rattle.class_hash.specs.Updates.{HasStepped}
 use Rattle.class_hash.proofs.Updating.{not_stepped}
-use Rattle.class_hash.proofs.Filling.{may_poll_still, waited_on}
+use Rattle.class_hash.proofs.Putting.{may_poll_still, waited_on}
 use Rattle.base_tests.proofs.hash.readers.looks.Goals as goal
 
 waited : (v w : View) (why : Why) → Polls v (NotYet why) w → HasStepped v w

@@ -1,5 +1,5 @@
 use Rattle.std.proofs.Common.{◌≡◌, ◌≢◌, refl, arith}
-use Rattle.class_hash.proofs.Filling.{may_poll}
+use Rattle.class_hash.proofs.Putting.{may_poll}
 use Rattle.base_tests.proofs.hash.readers.waits.Goals as goal
 
 pub looks-first-requires-clause-lists : goal.looks-first-requires-clause-lists

@@ -3,16 +3,14 @@ use Rattle.list_laws.specs.Counts.{times}
 use Rattle.prcu_model.specs.declared.operation.Op.TheVariants.{Del}
 use Rattle.core_state.specs.declared.view.View.{View}
 use Rattle.seat_table.specs.Seats.{shape_of}
-use Rattle.tree_points.specs.At.{IsDone}
-use Rattle.tree_points.proofs.Locking.{needs_unlock, passes_unlock, passes_unlock_gone}
+use Rattle.tree_points.specs.Points.{IsDone}
+use Rattle.tree_points.proofs.Locks.{needs_unlock, passes_unlock, passes_unlock_gone}
 use Rattle.citrus_tree.specs.Deletes.{HasDone, TakesValue, retired_slots}
-use Rattle.citrus_tree.proofs.deletes.Keeping.{keeps_rest, rest_unlock, same_locks, no_lock}
-use Rattle.citrus_tree.proofs.deletes.Lists.{in_slots, now_retired, yet_unlisted, listed_more, few_listed}
-use Rattle.citrus_tree.proofs.deletes.Updates.{done_still}
-use Rattle.citrus_tree.proofs.deletes.Values.{takes_more}
-use Rattle.citrus_tree.proofs.KeepingSlots.{slots_more}
-use Rattle.citrus_tree.specs.Gone.{retired_marks}
-use Rattle.citrus_tree.proofs.deletes.Room.{same_room}
+use Rattle.citrus_tree.proofs.DeleteUpdates.{keeps_rest, rest_unlock, same_locks, no_lock, done_still, takes_more}
+use Rattle.citrus_tree.proofs.DeleteMoves.{in_slots, now_retired, yet_unlisted, listed_more, few_listed}
+use Rattle.citrus_tree.proofs.Leavings.{slots_more}
+use Rattle.citrus_tree.specs.Going.{retired_marks}
+use Rattle.citrus_tree.proofs.DeleteTries.{same_room}
 use Rattle.citrus_tree.proofs.delete.bypass.bypass.Goals as goal
 
 pub unlock-requires-clause-asks : goal.unlock-requires-clause-asks

@@ -4,15 +4,12 @@ use Rattle.core_points.specs.declared.stage.Last.TheVariants as last
 use Rattle.core_points.specs.declared.stage.Stage.TheVariants as at
 use Rattle.core_points.specs.declared.stage.Update.TheVariants as update
 use Rattle.seat_table.specs.Seats.{shape_of}
-use Rattle.tree_points.specs.At.{IsAt}
-use Rattle.tree_points.proofs.Marking.{needs_mark}
-use Rattle.tree_points.proofs.Updating.{needs_store_bypass, passes_store_bypass}
+use Rattle.tree_points.specs.Points.{IsAt}
+use Rattle.tree_points.proofs.Updates.{needs_mark, needs_store_bypass, passes_store_bypass}
 use Rattle.citrus_tree.specs.Deletes.{HasDone, TakesValue}
-use Rattle.citrus_tree.proofs.deletes.Bypasses.{bypass_odd, bypass_paid, child_is, marked, opened_keeps, closed_keeps, half_two}
-use Rattle.citrus_tree.proofs.deletes.Keeping.{keeps_on, keeps_mark}
-use Rattle.citrus_tree.proofs.deletes.Updates.{bypass_stay, bypass_done, bypass_locked, bypass_retired, bypass_takes, bypass_waits, done_later, done_still}
-use Rattle.citrus_tree.proofs.deletes.Values.{takes_more, takes_since, value_mark, value_on, value_opened}
-use Rattle.citrus_tree.proofs.deletes.Tries.{waits_on}
+use Rattle.citrus_tree.proofs.DeleteMoves.{bypass_odd, bypass_paid, child_is, marked, opened_keeps, closed_keeps, half_two}
+use Rattle.citrus_tree.proofs.DeleteUpdates.{keeps_on, keeps_mark, bypass_stay, bypass_done, bypass_locked, bypass_retired, bypass_takes, bypass_waits, done_later, done_still, takes_more, takes_since, value_mark, value_on, value_opened}
+use Rattle.citrus_tree.proofs.DeleteTries.{waits_on}
 use Rattle.citrus_tree.proofs.delete.bypass.link_past.Goals as goal
 
 pub mark-requires-clause-asks : goal.mark-requires-clause-asks

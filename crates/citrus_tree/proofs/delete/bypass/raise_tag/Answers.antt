@@ -1,6 +1,6 @@
 use Rattle.seat_table.specs.Seats.{shape_of}
-use Rattle.tree_points.proofs.Deleting.{needs_empty_tag, passes_empty_tag, needs_empty_raise, passes_empty_raise}
-use Rattle.citrus_tree.proofs.deletes.Keeping.{keeps_on, keeps_locked_load, keeps_raise_tag}
+use Rattle.tree_points.proofs.Updates.{needs_empty_tag, passes_empty_tag, needs_empty_raise, passes_empty_raise}
+use Rattle.citrus_tree.proofs.DeleteUpdates.{keeps_on, keeps_locked_load, keeps_raise_tag}
 use Rattle.citrus_tree.proofs.delete.bypass.raise_tag.Goals as goal
 
 pub locked_load-tag-requires-clause-asks : goal.locked_load-tag-requires-clause-asks

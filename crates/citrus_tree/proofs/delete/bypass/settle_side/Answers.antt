@@ -1,5 +1,5 @@
-use Rattle.citrus_tree.proofs.deletes.Bypasses.{settled, emptied}
-use Rattle.citrus_tree.proofs.deletes.Keeping.{keeps_self}
+use Rattle.citrus_tree.proofs.DeleteMoves.{settled, emptied}
+use Rattle.citrus_tree.proofs.DeleteUpdates.{keeps_self}
 use Rattle.citrus_tree.proofs.delete.bypass.settle_side.Goals as goal
 
 pub returns-then-child-ne0-clause-at : goal.returns-then-child-ne0-clause-at

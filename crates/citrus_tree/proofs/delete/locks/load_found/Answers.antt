@@ -9,9 +9,9 @@ use Rattle.core_state.specs.declared.view.View.{View}
 use Rattle.prcu_model.specs.declared.operation.Op.{Op}
 use Rattle.core_points.specs.Programs.{past_target_load, verdict}
 use Rattle.seat_table.specs.Seats.{shape_of}
-use Rattle.tree_points.specs.At.{IsAt}
-use Rattle.citrus_tree.proofs.deletes.Keeping.{keeps_on}
-use Rattle.citrus_tree.proofs.deletes.Loads.{as_two}
+use Rattle.tree_points.specs.Points.{IsAt}
+use Rattle.citrus_tree.proofs.DeleteUpdates.{keeps_on}
+use Rattle.citrus_tree.proofs.DeleteSearches.{as_two}
 use Rattle.citrus_tree.proofs.delete.locks.load_found.Goals as goal
 
 -- with no successor all is loaded

@@ -1,8 +1,8 @@
 use Rattle.seat_table.specs.Seats.{shape_of}
-use Rattle.core_points.specs.DeletePlan.{with_found}
-use Rattle.tree_points.proofs.Deleting.{needs_target_load, passes_target_load}
-use Rattle.citrus_tree.proofs.deletes.Keeping.{keeps_on, keeps_locked_load}
-use Rattle.citrus_tree.proofs.deletes.Loads.{to_link, to_parent, needs_link_right, load_link_right, needs_link_left, load_link_left}
+use Rattle.core_points.specs.Programs.{with_found}
+use Rattle.tree_points.proofs.Updates.{needs_target_load, passes_target_load}
+use Rattle.citrus_tree.proofs.DeleteUpdates.{keeps_on, keeps_locked_load}
+use Rattle.citrus_tree.proofs.DeleteSearches.{to_link, to_parent, needs_link_right, load_link_right, needs_link_left, load_link_left}
 use Rattle.citrus_tree.proofs.delete.locks.load_link.Goals as goal
 
 pub locked_load-successor_link-requires-clause-asks : goal.locked_load-successor_link-requires-clause-asks

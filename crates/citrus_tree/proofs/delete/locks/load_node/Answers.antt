@@ -1,8 +1,8 @@
-use Rattle.core_points.specs.DeletePlan.{nothing_found, with_found}
+use Rattle.core_points.specs.Programs.{nothing_found, with_found}
 use Rattle.seat_table.specs.Seats.{shape_of}
-use Rattle.tree_points.proofs.Deleting.{needs_target_load, passes_target_load}
-use Rattle.citrus_tree.proofs.deletes.Keeping.{keeps_on, keeps_locked_load}
-use Rattle.citrus_tree.proofs.deletes.Loads.{load_0, load_1, load_2, load_3}
+use Rattle.tree_points.proofs.Updates.{needs_target_load, passes_target_load}
+use Rattle.citrus_tree.proofs.DeleteUpdates.{keeps_on, keeps_locked_load}
+use Rattle.citrus_tree.proofs.DeleteSearches.{load_0, load_1, load_2, load_3}
 use Rattle.citrus_tree.proofs.delete.locks.load_node.Goals as goal
 
 pub locked_load-parent_life-requires-clause-asks : goal.locked_load-parent_life-requires-clause-asks

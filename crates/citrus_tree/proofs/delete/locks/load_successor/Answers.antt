@@ -1,6 +1,6 @@
 use Rattle.seat_table.specs.Seats.{shape_of}
-use Rattle.tree_points.proofs.Deleting.{needs_target_load, passes_target_load}
-use Rattle.citrus_tree.proofs.deletes.Keeping.{keeps_on, keeps_locked_load}
+use Rattle.tree_points.proofs.Updates.{needs_target_load, passes_target_load}
+use Rattle.citrus_tree.proofs.DeleteUpdates.{keeps_on, keeps_locked_load}
 use Rattle.citrus_tree.proofs.delete.locks.load_successor.Goals as goal
 
 pub locked_load-successor_life-requires-clause-asks : goal.locked_load-successor_life-requires-clause-asks

@@ -1,10 +1,10 @@
 use Rattle.std.proofs.Common.{refl, sym, subst, ◌∙◌, arith}
-use Rattle.core_acts.specs.declared.act.Act.TheVariants as acts
+use Rattle.core_state.specs.declared.act.Act.TheVariants as acts
 use Rattle.seat_table.specs.Seats.{shape_of}
-use Rattle.seat_table.specs.Told.{IsAsked, Told}
-use Rattle.citrus_tree.proofs.deletes.Locks.{gets_none, needs_get, gets_on, gets_busy, busy_locks, all_got, below_end, at_end}
+use Rattle.seat_table.specs.Gains.{IsAsked, Told}
+use Rattle.citrus_tree.proofs.DeleteSearches.{gets_none, needs_get, gets_on, gets_busy, busy_locks, all_got, below_end, at_last_lock}
 use Rattle.std.proofs.lemmas.Bool.{false≢true}
-use Rattle.citrus_tree.proofs.deletes.Keeping.{keeps_rest, rest_lock}
+use Rattle.citrus_tree.proofs.DeleteUpdates.{keeps_rest, rest_lock}
 use Rattle.citrus_tree.proofs.delete.locks.lock_target.Goals as goal
 
 pub loop-at-init : goal.loop-at-init
@@ -77,7 +77,7 @@ loop-at-preserved g c =
 
 pub returns-clause-got : goal.returns-clause-got
 returns-clause-got g c = λ _ op kept a. all_got c.args.target.now c.loop-at.at
-    (at_end c.loop-at.at _ _ c.loop-at-test.false c.lock_count-at-end.ensures.count c.loop-at.invariant.few)
+    (at_last_lock c.loop-at.at _ _ c.loop-at-test.false c.lock_count-at-end.ensures.count c.loop-at.invariant.few)
     (c.loop-at.invariant.gets.at op kept a)
 
 pub returns-clause-busy : goal.returns-clause-busy

@@ -1,7 +1,7 @@
 use Rattle.std.proofs.Common.{◌≡◌, ◌≤◌}
-use Rattle.core_points.specs.DeletePlan.{target_locks}
+use Rattle.core_points.specs.Programs.{target_locks}
 use Rattle.seat_table.specs.Seats.{shape_of}
-use Rattle.citrus_tree.proofs.deletes.Locks.{Gets}
+use Rattle.citrus_tree.proofs.DeleteSearches.{Gets}
 use Rattle.citrus_tree.proofs.delete.locks.lock_target.Given as goal
 
 abbrev pub invariant-loop-at : goal.invariant-loop-at

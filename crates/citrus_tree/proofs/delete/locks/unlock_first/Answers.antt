@@ -1,8 +1,8 @@
 use Rattle.std.proofs.Common.{◌≡◌, ◌+◌, ◌-◌, sym, subst, ◌∙◌, arith}
-use Rattle.core_acts.specs.declared.act.Act.TheVariants as acts
+use Rattle.core_state.specs.declared.act.Act.TheVariants as acts
 use Rattle.seat_table.specs.Seats.{shape_of}
-use Rattle.seat_table.specs.Told.{IsAsked, Told}
-use Rattle.citrus_tree.proofs.deletes.Locks.{GivesUp, needs_give, gives_on, one_left}
+use Rattle.seat_table.specs.Gains.{IsAsked, Told}
+use Rattle.citrus_tree.proofs.DeleteSearches.{GivesUp, needs_give, gives_on, one_left}
 use Rattle.citrus_tree.proofs.delete.locks.unlock_first.Goals as goal
 
 pub unlock-requires-clause-asks : goal.unlock-requires-clause-asks

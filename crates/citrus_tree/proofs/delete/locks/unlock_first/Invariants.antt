@@ -1,6 +1,6 @@
 use Rattle.std.proofs.Common.{◌≡◌, ◌-◌, ◌≤◌}
 use Rattle.seat_table.specs.Seats.{shape_of}
-use Rattle.citrus_tree.proofs.deletes.Locks.{GivesUp}
+use Rattle.citrus_tree.proofs.DeleteSearches.{GivesUp}
 use Rattle.citrus_tree.proofs.delete.locks.unlock_first.Given as goal
 
 abbrev pub invariant-loop-done : goal.invariant-loop-done

@@ -1,5 +1,5 @@
 use Rattle.std.proofs.Common.{refl, sym, ◌∙◌}
-use Rattle.citrus_tree.proofs.deletes.Loads.{small_lives}
+use Rattle.citrus_tree.proofs.DeleteSearches.{small_lives}
 use Rattle.citrus_tree.proofs.delete.locks.validate.Goals as goal
 
 pub returns-clause-node : goal.returns-clause-node

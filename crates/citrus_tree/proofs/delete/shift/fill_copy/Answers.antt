@@ -1,4 +1,4 @@
-use Rattle.citrus_tree.proofs.deletes.Copies.{loads_key, loads_value, copies_key, copies_value, copies_left, copies_right, loads_age, copied_at, copied_spare, copied_same, copied_value}
+use Rattle.citrus_tree.proofs.DeleteMoves.{loads_key, loads_value, copies_key, copies_value, copies_left, copies_right, loads_age, copied_at, copied_spare, copied_same, copied_value}
 use Rattle.citrus_tree.proofs.delete.shift.fill_copy.Goals as goal
 
 pub locked_load-next_key-requires-clause-asks : goal.locked_load-next_key-requires-clause-asks

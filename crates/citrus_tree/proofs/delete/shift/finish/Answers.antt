@@ -6,19 +6,15 @@ use Rattle.list_laws.specs.Counts.{times, IsIn}
 use Rattle.core_state.specs.declared.view.View.{View}
 use Rattle.seat_table.specs.Gains.{TellsApart}
 use Rattle.seat_table.specs.Seats.{shape_of}
-use Rattle.tree_points.specs.At.{IsDone}
-use Rattle.tree_points.specs.Progress.{HasGone}
-use Rattle.tree_points.proofs.Gone.{gone_on, gone_waited}
-use Rattle.tree_points.proofs.Waiting.{waits_move}
+use Rattle.tree_points.specs.Points.{IsDone, HasGone}
+use Rattle.tree_points.proofs.Locks.{gone_on, gone_waited}
+use Rattle.tree_points.proofs.Waits.{waits_move}
 use Rattle.citrus_tree.specs.Deletes.{retired_slots}
-use Rattle.citrus_tree.proofs.deletes.Keeping.{no_lock}
-use Rattle.citrus_tree.proofs.deletes.Lists.{in_slots}
-use Rattle.citrus_tree.proofs.deletes.Moves.{move_outside, move_paid, waited_for, waited_keeps, node_retired, old_retired, node_unlisted, old_unlisted, two_listed, length_more}
-use Rattle.citrus_tree.proofs.KeepingSlots.{waited_later}
-use Rattle.citrus_tree.proofs.KeepingWaits.{first_stays, waited_first}
+use Rattle.citrus_tree.proofs.DeleteUpdates.{no_lock}
+use Rattle.citrus_tree.proofs.DeleteMoves.{in_slots, move_outside, move_paid, waited_for, waited_keeps, node_retired, old_retired, node_unlisted, old_unlisted, two_listed, length_more, unlinked_on}
+use Rattle.citrus_tree.proofs.Leavings.{waited_later, first_stays, waited_first}
 use Rattle.citrus_tree.specs.Replies.{IsUnlinkedSince}
-use Rattle.citrus_tree.proofs.deletes.Retiring.{unlinked_on}
-use Rattle.citrus_tree.proofs.deletes.Room.{same_room}
+use Rattle.citrus_tree.proofs.DeleteTries.{same_room}
 use Rattle.citrus_tree.proofs.delete.shift.finish.Goals as goal
 
 pub between-requires : goal.between-requires

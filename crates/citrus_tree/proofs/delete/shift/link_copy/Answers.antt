@@ -4,16 +4,12 @@ use Rattle.core_points.specs.declared.stage.Stage.TheVariants as at
 use Rattle.core_points.specs.declared.stage.Update.TheVariants as update
 use Rattle.core_points.specs.declared.stage.Waits.TheVariants as waits
 use Rattle.seat_table.specs.Seats.{shape_of}
-use Rattle.tree_points.specs.At.{IsAt}
-use Rattle.tree_points.proofs.Marking.{needs_copy_mark, passes_copy_mark}
-use Rattle.tree_points.proofs.Updating.{needs_store_copy, passes_store_copy}
+use Rattle.tree_points.specs.Points.{IsAt}
+use Rattle.tree_points.proofs.Updates.{needs_copy_mark, passes_copy_mark, needs_store_copy, passes_store_copy}
 use Rattle.citrus_tree.specs.Deletes.{HasCopied, TakesValue}
-use Rattle.citrus_tree.proofs.deletes.Bypasses.{opened_keeps, closed_keeps, half_two}
-use Rattle.citrus_tree.proofs.deletes.Keeping.{keeps_on, keeps_mark}
-use Rattle.citrus_tree.proofs.deletes.Shifts.{copy_paid, copy_odd}
-use Rattle.citrus_tree.proofs.deletes.Updates.{copy_made, copy_locked, copy_retired, copy_takes, copy_waits, copied_later, copied_still}
-use Rattle.citrus_tree.proofs.deletes.Values.{takes_more, takes_since, value_mark, value_on, value_opened}
-use Rattle.citrus_tree.proofs.deletes.Tries.{waits_on}
+use Rattle.citrus_tree.proofs.DeleteMoves.{opened_keeps, closed_keeps, half_two, copy_paid, copy_odd}
+use Rattle.citrus_tree.proofs.DeleteUpdates.{keeps_on, keeps_mark, copy_made, copy_locked, copy_retired, copy_takes, copy_waits, copied_later, copied_still, takes_more, takes_since, value_mark, value_on, value_opened}
+use Rattle.citrus_tree.proofs.DeleteTries.{waits_on}
 use Rattle.citrus_tree.proofs.delete.shift.link_copy.Goals as goal
 
 pub mark-requires-clause-asks : goal.mark-requires-clause-asks

@@ -4,16 +4,11 @@ use Rattle.list_laws.specs.Counts.{times}
 use Rattle.core_points.specs.DeleteFacts.{all_locks}
 use Rattle.core_points.specs.Facts.{SameLocks}
 use Rattle.seat_table.specs.Seats.{shape_of}
-use Rattle.tree_points.proofs.Holding.{needs_copy_lock, passes_copy_lock_free, passes_copy_lock_busy}
-use Rattle.tree_points.proofs.Locking.{locks_copy_lock}
-use Rattle.tree_points.proofs.Gone.{gone_on}
-use Rattle.citrus_tree.proofs.deletes.Keeping.{keeps_rest, locks_busy, rest_lock, rest_of, spare_lock}
-use Rattle.citrus_tree.proofs.deletes.Pieces.{few_moved, has_spare, one_listed, move_deletes}
-use Rattle.citrus_tree.proofs.KeepingSlots.{slots_later, slots_rest}
-use Rattle.citrus_tree.proofs.KeepingWaits.{none_begun, wait_later}
-use Rattle.citrus_tree.proofs.deletes.Retiring.{retires_before, two_retired}
-use Rattle.citrus_tree.proofs.deletes.Values.{copy_aside, takes_more, takes_since, value_lock, value_on}
-use Rattle.citrus_tree.proofs.deletes.Tries.{listed_still}
+use Rattle.tree_points.proofs.Locks.{needs_copy_lock, passes_copy_lock_free, passes_copy_lock_busy, locks_copy_lock, gone_on}
+use Rattle.citrus_tree.proofs.DeleteUpdates.{keeps_rest, locks_busy, rest_lock, rest_of, spare_lock, copy_aside, takes_more, takes_since, value_lock, value_on}
+use Rattle.citrus_tree.proofs.DeleteMoves.{few_moved, has_spare, one_listed, move_deletes, retires_before, two_retired}
+use Rattle.citrus_tree.proofs.Leavings.{slots_later, slots_rest, none_begun, wait_later}
+use Rattle.citrus_tree.proofs.DeleteTries.{listed_still}
 use Rattle.citrus_tree.proofs.delete.shift.shift.Goals as goal
 
 pub unreachable-requires : goal.unreachable-requires

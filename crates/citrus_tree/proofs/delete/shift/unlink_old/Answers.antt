@@ -1,12 +1,9 @@
 use Rattle.std.proofs.Common.{[], ◌∷◌, ◌++◌, ap, ◌∙◌, eq-eqb, ne_eqb}
 use Rattle.seat_table.specs.Seats.{shape_of}
-use Rattle.tree_points.proofs.Deleting.{needs_old_right, passes_old_right}
-use Rattle.tree_points.proofs.Holding.{needs_unlink_copy, needs_unlink_parent, passes_unlink_copy, passes_unlink_parent}
-use Rattle.tree_points.proofs.Marking.{needs_old_mark, passes_old_mark}
-use Rattle.tree_points.proofs.Gone.{gone_on}
-use Rattle.citrus_tree.proofs.deletes.Keeping.{keeps_on, keeps_locked_load, keeps_mark, same_locks}
-use Rattle.citrus_tree.proofs.deletes.Shifts.{unlinking, copy_unlinks, parent_unlinks}
-use Rattle.citrus_tree.proofs.deletes.Retiring.{unlinked_on}
+use Rattle.tree_points.proofs.Updates.{needs_old_right, passes_old_right, needs_old_mark, passes_old_mark}
+use Rattle.tree_points.proofs.Locks.{needs_unlink_copy, needs_unlink_parent, passes_unlink_copy, passes_unlink_parent, gone_on}
+use Rattle.citrus_tree.proofs.DeleteUpdates.{keeps_on, keeps_locked_load, keeps_mark, same_locks}
+use Rattle.citrus_tree.proofs.DeleteMoves.{unlinking, copy_unlinks, parent_unlinks, unlinked_on}
 use Rattle.citrus_tree.proofs.delete.shift.unlink_old.Goals as goal
 
 pub mark-requires-clause-asks : goal.mark-requires-clause-asks

@@ -1,7 +1,7 @@
 use Rattle.seat_table.specs.Seats.{shape_of}
-use Rattle.tree_points.proofs.Locking.{needs_unlock, passes_unlock}
-use Rattle.citrus_tree.proofs.deletes.Keeping.{keeps_rest, rest_unlock}
-use Rattle.citrus_tree.proofs.deletes.Shifts.{below_same, below_other}
+use Rattle.tree_points.proofs.Locks.{needs_unlock, passes_unlock}
+use Rattle.citrus_tree.proofs.DeleteUpdates.{keeps_rest, rest_unlock}
+use Rattle.citrus_tree.proofs.DeleteMoves.{below_same, below_other}
 use Rattle.citrus_tree.proofs.delete.shift.unlock_below.Goals as goal
 
 pub unlock-requires-clause-asks : goal.unlock-requires-clause-asks

@@ -3,11 +3,11 @@ use Rattle.citrus_tree.specs.Lookups.{IsSearching, state_of}
 use Rattle.citrus_tree.specs.declared.descent.Descent.{Descent}
 use Rattle.prcu_model.specs.declared.operation.Op.TheVariants.{Del}
 use Rattle.seat_table.specs.Seats.{shape_of}
-use Rattle.tree_points.proofs.Standing.{inside_leave}
-use Rattle.citrus_tree.proofs.deletes.Sections.{answered_now, at_end, at_parent, at_target, searched_found, searched_missed, seated_by}
-use Rattle.citrus_tree.proofs.searches.Searching.{looked_missed}
-use Rattle.seat_table.proofs.Rounding.{makes_steps}
-use Rattle.citrus_tree.proofs.Rounds.{search_steps}
+use Rattle.tree_points.proofs.Passing.{inside_leave}
+use Rattle.citrus_tree.proofs.DeleteSearches.{answered_now, at_end, at_parent, at_target, searched_found, searched_missed, seated_by}
+use Rattle.citrus_tree.proofs.Searching.{looked_missed}
+use Rattle.seat_table.proofs.SeveralSteps.{makes_steps}
+use Rattle.citrus_tree.proofs.Leavings.{search_steps}
 use Rattle.citrus_tree.proofs.delete.target.find_target.Goals as goal
 
 pub descend-requires-clause-outside : goal.descend-requires-clause-outside

@@ -1,7 +1,7 @@
 use Rattle.seat_table.specs.Seats.{shape_of}
-use Rattle.tree_points.proofs.Deleting.{needs_successor_parent_life}
-use Rattle.citrus_tree.proofs.deletes.Finds.{at_node, at_other, above_loaded}
-use Rattle.citrus_tree.proofs.deletes.Keeping.{loads_self, loads_search_load}
+use Rattle.tree_points.proofs.Updates.{needs_successor_parent_life}
+use Rattle.citrus_tree.proofs.DeleteSearches.{at_node, at_other, above_loaded}
+use Rattle.citrus_tree.proofs.DeleteUpdates.{loads_self, loads_search_load}
 use Rattle.citrus_tree.proofs.delete.target.load_above.Goals as goal
 
 pub returns-then-parent-node-clause-at : goal.returns-then-parent-node-clause-at

@@ -1,7 +1,7 @@
 use Rattle.seat_table.specs.Seats.{shape_of}
-use Rattle.tree_points.proofs.Deleting.{needs_parent_life, needs_node_life, needs_node_left, needs_node_right, passes_parent_life, passes_node_life, passes_node_left}
-use Rattle.citrus_tree.proofs.deletes.Finds.{node_loaded}
-use Rattle.citrus_tree.proofs.deletes.Keeping.{loads_on, loads_search_load}
+use Rattle.tree_points.proofs.Updates.{needs_parent_life, needs_node_life, needs_node_left, needs_node_right, passes_parent_life, passes_node_life, passes_node_left}
+use Rattle.citrus_tree.proofs.DeleteSearches.{node_loaded}
+use Rattle.citrus_tree.proofs.DeleteUpdates.{loads_on, loads_search_load}
 use Rattle.citrus_tree.proofs.delete.target.load_node.Goals as goal
 
 pub search_load-parent_life-requires-clause-asks : goal.search_load-parent_life-requires-clause-asks

@@ -1,7 +1,7 @@
 use Rattle.seat_table.specs.Seats.{shape_of}
-use Rattle.tree_points.proofs.Deleting.{needs_successor_life}
-use Rattle.citrus_tree.proofs.deletes.Finds.{successor_loaded}
-use Rattle.citrus_tree.proofs.deletes.Keeping.{loads_on, loads_search_load}
+use Rattle.tree_points.proofs.Updates.{needs_successor_life}
+use Rattle.citrus_tree.proofs.DeleteSearches.{successor_loaded}
+use Rattle.citrus_tree.proofs.DeleteUpdates.{loads_on, loads_search_load}
 use Rattle.citrus_tree.proofs.delete.target.load_successor.Goals as goal
 
 pub search_load-life-requires-clause-asks : goal.search_load-life-requires-clause-asks

@@ -1,5 +1,5 @@
-use Rattle.citrus_tree.proofs.deletes.Keeping.{loads_on}
-use Rattle.citrus_tree.proofs.deletes.Finds.{first_walk}
+use Rattle.citrus_tree.proofs.DeleteUpdates.{loads_on}
+use Rattle.citrus_tree.proofs.DeleteSearches.{first_walk}
 use Rattle.citrus_tree.proofs.delete.target.load_target.Goals as goal
 
 pub walk-parent-requires-clause-at : goal.walk-parent-requires-clause-at

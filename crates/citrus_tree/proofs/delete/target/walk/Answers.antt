@@ -1,7 +1,7 @@
 use Rattle.std.proofs.Common.{rules, refl, ◌∙◌, arith}
 use Rattle.seat_table.specs.Seats.{shape_of}
 use Rattle.citrus_tree.specs.Deletes.{walked_to}
-use Rattle.citrus_tree.proofs.deletes.Finds.{slot_fits, walks_first, needs_walk, walks_on, walk_fits, walk_further, walk_ends}
+use Rattle.citrus_tree.proofs.DeleteSearches.{slot_fits, walks_first, needs_walk, walks_on, walk_fits, walk_further, walk_ends}
 use Rattle.citrus_tree.proofs.delete.target.walk.Goals as goal
 
 pub overflow_cast-slot : goal.overflow_cast-slot

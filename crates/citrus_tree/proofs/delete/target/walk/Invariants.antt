@@ -1,8 +1,8 @@
 use Rattle.std.proofs.Common.{◌≡◌, ◌-◌}
-use Rattle.core_state.specs.memory.Memory.{slot_count}
+use Rattle.core_state.specs.Memory.{slot_count}
 use Rattle.seat_table.specs.Seats.{shape_of}
-use Rattle.citrus_tree.specs.Bounded.{slots_met}
-use Rattle.citrus_tree.proofs.deletes.Finds.{Walks}
+use Rattle.citrus_tree.specs.Hops.{slots_met}
+use Rattle.citrus_tree.proofs.DeleteSearches.{Walks}
 use Rattle.citrus_tree.proofs.delete.target.walk.Given as goal
 
 abbrev pub invariant-loop-parent : goal.invariant-loop-parent

@@ -2,7 +2,7 @@ use Rattle.std.proofs.Common.{sym, subst}
 use Rattle.seat_table.specs.Seats.{SeatAt, shape_of}
 use Rattle.citrus_tree.specs.declared.search.End.{End}
 use Rattle.citrus_tree.specs.Hops.{Finishes}
-use Rattle.citrus_tree.proofs.searches.Hopping.{found_finished, at_ended}
+use Rattle.citrus_tree.proofs.Searching.{found_finished, at_ended}
 use Rattle.citrus_tree.proofs.search.Search.finish.Goals as goal
 use Rattle.citrus_tree.proofs.search.Search.finish.Goals.{in-Found, in-Ended}
 

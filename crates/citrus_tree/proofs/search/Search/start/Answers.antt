@@ -1,5 +1,5 @@
 use Rattle.seat_table.specs.Seats.{shape_of}
-use Rattle.citrus_tree.proofs.searches.Searching.{root_is, begun}
+use Rattle.citrus_tree.proofs.Searching.{root_is, begun}
 use Rattle.citrus_tree.proofs.search.Search.start.Goals as goal
 
 pub returns-clause-stands : goal.returns-clause-stands

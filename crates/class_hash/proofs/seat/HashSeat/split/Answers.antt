@@ -1,6 +1,6 @@
 use Rattle.std.proofs.Common.{sym, subst}
 use Rattle.class_hash.specs.Answers.{IsInformed}
-use Rattle.class_hash.proofs.Informed.{split_informed}
+use Rattle.class_hash.proofs.Seats.{split_informed}
 use Rattle.class_hash.proofs.seat.HashSeat.split.Goals as goal
 
 pub returns-clause-informed : goal.returns-clause-informed

@@ -1,5 +1,5 @@
 use Rattle.std.proofs.Common.{rules}
-use Rattle.class_hash.proofs.Words.{rule_starts}
+use Rattle.class_hash.proofs.Seats.{rule_starts}
 use Rattle.class_hash.proofs.table.HashTable.new.Goals as goal
 
 pub of_words-requires : goal.of_words-requires

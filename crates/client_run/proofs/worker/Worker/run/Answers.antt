@@ -1,6 +1,6 @@
 use Rattle.std.proofs.Common.{arith}
 use Rattle.std.proofs.lemmas.List.{get_or_default}
-use Rattle.client_run.proofs.Calls.{made_none, made_more, made_all}
+use Rattle.client_run.proofs.Crews.{made_none, made_more, made_all}
 use Rattle.client_run.proofs.worker.Worker.run.Goals as goal
 
 pub loop-op-init : goal.loop-op-init

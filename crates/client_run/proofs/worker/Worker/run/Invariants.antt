@@ -1,4 +1,4 @@
-use Rattle.client_run.proofs.Calls.{HasMade}
+use Rattle.client_run.proofs.Crews.{HasMade}
 use Rattle.client_run.proofs.worker.Worker.run.Given as goal
 
 abbrev pub invariant-loop-op : goal.invariant-loop-op

@@ -1,6 +1,6 @@
 use Rattle.std.proofs.Common.{◌++◌, ap, ◌∙◌}
-use Rattle.core_machine.specs.Stepping.{shape_for}
-use Rattle.core_machine.proofs.Fresh.{fresh_begins}
+use Rattle.core_machine.specs.Laws.{shape_for}
+use Rattle.core_machine.proofs.Making.{fresh_begins}
 use Rattle.core_machine.proofs.caller.Caller.new.Goals as goal
 
 pub returns-clause-own : goal.returns-clause-own

@@ -1,7 +1,7 @@
 use Rattle.std.proofs.Common.{length, ℕ, ◌*◌, ◌<◌, ◌≤◌, vec_capacity, subst, ap, ◌∙◌, arith}
 use Rattle.prcu_model.specs.Scripts.{op_count}
-use Rattle.seat_table.specs.Fresh.{first_words}
-use Rattle.core_machine.specs.Stepping.{shape_for}
+use Rattle.seat_table.specs.Seats.{first_words}
+use Rattle.core_machine.specs.Laws.{shape_for}
 use Rattle.core_machine.proofs.Accounts.{owns_count}
 use Rattle.core_machine.proofs.Making.{made_reached, made_stored}
 use Rattle.core_machine.proofs.machine.Machine.new.Goals as goal

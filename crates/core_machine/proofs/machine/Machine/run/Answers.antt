@@ -1,9 +1,8 @@
 use Rattle.std.proofs.Common.{◌≡◌, ◌<◌, ◌≤◌, ◌%◌, ◌++◌, length, slice_index_or, subst, sym, ap, ◌∙◌}
 use Rattle.std.proofs.lemmas.Bool.{eqb-true}
 use Rattle.workload.specs.Draws.{drawn as drawn_at, next_state}
-use Rattle.core_machine.specs.Draws.{unfinished_from}
-use Rattle.core_machine.proofs.Drawing.{IsDrawing, ends_drawing, goes_drawing, run_ends}
-use Rattle.core_machine.proofs.Unfinished.{going_below, kept_after, picked_going, picked_is, some_left}
+use Rattle.core_machine.specs.Runs.{unfinished_from}
+use Rattle.core_machine.proofs.Making.{IsDrawing, ends_drawing, goes_drawing, run_ends, going_below, kept_after, picked_going, picked_is, some_left}
 use Rattle.core_machine.proofs.machine.Machine.run.Goals as goal
 
 pub returns-then-is_empty-clause-ran : goal.returns-then-is_empty-clause-ran

@@ -1,4 +1,4 @@
-use Rattle.core_machine.proofs.Drawing.{IsRunning}
+use Rattle.core_machine.proofs.Making.{IsRunning}
 use Rattle.core_machine.proofs.machine.Machine.run.Given as goal
 
 abbrev pub invariant-loop : goal.invariant-loop

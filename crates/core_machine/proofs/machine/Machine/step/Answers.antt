@@ -1,13 +1,12 @@
 use Rattle.std.proofs.Common.{◌≡◌, ℕ, ◌<◌, List, [], ◌∷◌, ◌++◌, length, map, set, take, drop, slice_get, Some, refl, ◌∙◌, sym, ap, subst, vec_capacity}
 use Rattle.prcu_model.specs.declared.operation.Op.{Op}
-use Rattle.core_points.specs.Callers.{Own}
+use Rattle.core_points.specs.Programs.{Own}
 use Rattle.core_points.specs.Laws.{is_finished}
 use Rattle.core_machine.specs.declared.caller.Caller.{Caller}
 use Rattle.core_machine.specs.Runs.{core}
 use Rattle.core_machine.specs.Stored.{own_of}
 use Rattle.core_machine.specs.Machines.{HasStored, IsReached, MachineAt}
-use Rattle.core_machine.proofs.Owning.{at_of, below_by, got, has_room, lengths_by, next_answers, next_stored, one_changed, reached_by, reached_next, steppable, stored_by, whole}
-use Rattle.core_machine.proofs.Unmoved.{unmoved, words_stay}
+use Rattle.core_machine.proofs.Owning.{at_of, below_by, got, has_room, lengths_by, next_answers, next_stored, one_changed, reached_by, reached_next, steppable, stored_by, whole, unmoved, words_stay}
 use Rattle.core_machine.proofs.machine.Machine.step.Goals as goal
 
 pub step_at-requires-clause-caller : goal.step_at-requires-clause-caller

@@ -1,6 +1,6 @@
 use Rattle.std.proofs.Common.{◌≡◌, ◌<◌, List, length, sym, subst}
 use Rattle.exact_list.specs.Pairs.{Pair, IsAt}
-use Rattle.exact_list.proofs.Covering.{at_index}
+use Rattle.exact_list.proofs.Walking.{at_index}
 use Rattle.exact_list.proofs.page.Page.pair.Goals as goal
 
 pub returns : goal.returns

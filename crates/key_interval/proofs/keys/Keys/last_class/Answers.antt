@@ -1,5 +1,5 @@
 use Rattle.std.proofs.Common.{arith, subst}
-use Rattle.key_interval.specs.LastClass.{IsLastClass}
+use Rattle.key_interval.specs.Keys.{IsLastClass}
 use Rattle.key_interval.proofs.Classes.{last_across}
 use Rattle.key_interval.proofs.keys.Keys.last_class.Goals as goal
 

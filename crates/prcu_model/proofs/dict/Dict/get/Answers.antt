@@ -1,8 +1,7 @@
 use Rattle.std.proofs.Common.{ap, sym, ◌∙◌, rules}
 use Rattle.std.specs.FinMap as map
 use Rattle.std.proofs.lemmas.List.Sorted.{answers_always}
-use Rattle.prcu_model.proofs.MapViews.{get-dictionary, is_sorted-from_ordered}
-use Rattle.prcu_model.proofs.Searches.{comparisons_rise, lookup_found, lookup_missing}
+use Rattle.prcu_model.proofs.Dictionaries.{get-dictionary, is_sorted-from_ordered, comparisons_rise, lookup_found, lookup_missing}
 use Rattle.prcu_model.proofs.dict.Dict.get.Goals as goal
 
 pub returns-in-Ok : goal.returns-in-Ok

@@ -1,7 +1,7 @@
 use Rattle.std.proofs.Common.{◌≡◌, ap, sym, ◌∙◌, vec_len, arith}
 use Rattle.std.specs.FinMap as map
 use Rattle.std.proofs.lemmas.Bool.Decides.{nat_tests}
-use Rattle.prcu_model.proofs.MapViews.{len-dictionary, is_sorted-from_ordered}
+use Rattle.prcu_model.proofs.Dictionaries.{len-dictionary, is_sorted-from_ordered}
 use Rattle.prcu_model.proofs.dict.Dict.is_empty.Goals as goal
 
 pub returns : goal.returns

@@ -1,6 +1,6 @@
 use Rattle.std.proofs.Common.{ap, sym, ◌∙◌}
 use Rattle.std.specs.FinMap as map
-use Rattle.prcu_model.proofs.MapViews.{len-dictionary, is_sorted-from_ordered}
+use Rattle.prcu_model.proofs.Dictionaries.{len-dictionary, is_sorted-from_ordered}
 use Rattle.prcu_model.proofs.dict.Dict.len.Goals as goal
 
 pub returns : goal.returns

@@ -2,7 +2,7 @@ use Rattle.std.proofs.Common.{◌≡◌, ◌<◌, length, Some, ap, sym, ◌∙�
 use Rattle.std.specs.FinMap as map
 use Rattle.std.specs.List.{slice_get}
 use Rattle.std.proofs.lemmas.Option.{slice_get-get_or}
-use Rattle.prcu_model.proofs.MapViews.{len-dictionary, entries-dictionary, is_sorted-from_ordered}
+use Rattle.prcu_model.proofs.Dictionaries.{len-dictionary, entries-dictionary, is_sorted-from_ordered}
 use Rattle.prcu_model.proofs.dict.Dict.pair.Goals as goal
 
 pub index-requires : goal.index-requires

@@ -4,7 +4,7 @@ use Rattle.std.proofs.lemmas.List.{take_all}
 use Rattle.prcu_model.specs.declared.operation.Op.TheVariants.{Put}
 use Rattle.prcu_model.specs.declared.operation.Update.{Update}
 use Rattle.prcu_model.specs.Dictionary.{updated, map_of}
-use Rattle.prcu_model.proofs.Fronts.{map_at-next, from_sorted-entries}
+use Rattle.prcu_model.proofs.Dictionaries.{map_at-next, from_sorted-entries}
 use Rattle.prcu_model.proofs.dict.Dict.replay.Goals as goal
 
 pub loop-update-preserved : goal.loop-update-preserved

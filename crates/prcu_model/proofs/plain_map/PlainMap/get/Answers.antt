@@ -1,6 +1,6 @@
 use Rattle.std.proofs.Common.{ap, sym, ◌∙◌}
 use Rattle.std.specs.FinMap as map
-use Rattle.prcu_model.proofs.MapViews.{get-dictionary}
+use Rattle.prcu_model.proofs.Dictionaries.{get-dictionary}
 use Rattle.prcu_model.proofs.plain_map.PlainMap.get.Goals as goal
 
 pub returns : goal.returns

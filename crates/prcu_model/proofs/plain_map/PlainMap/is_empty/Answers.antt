@@ -1,7 +1,7 @@
 use Rattle.std.proofs.Common.{ap, sym, ◌∙◌, ◌≡◌, ◌↔◌, IsTrue, subst}
 use Rattle.std.specs.FinMap as map
 use Rattle.std.specs.BTreeMap.{btree_map_len}
-use Rattle.prcu_model.proofs.MapViews.{len-dictionary}
+use Rattle.prcu_model.proofs.Dictionaries.{len-dictionary}
 use Rattle.prcu_model.proofs.plain_map.PlainMap.is_empty.Goals as goal
 
 pub returns : goal.returns

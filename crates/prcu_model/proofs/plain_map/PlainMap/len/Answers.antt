@@ -1,6 +1,6 @@
 use Rattle.std.proofs.Common.{ap, sym, ◌∙◌}
 use Rattle.std.specs.FinMap as map
-use Rattle.prcu_model.proofs.MapViews.{len-dictionary}
+use Rattle.prcu_model.proofs.Dictionaries.{len-dictionary}
 use Rattle.prcu_model.proofs.plain_map.PlainMap.len.Goals as goal
 
 pub returns : goal.returns

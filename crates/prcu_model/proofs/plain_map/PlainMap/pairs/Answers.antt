@@ -1,7 +1,7 @@
 use Rattle.std.proofs.Common.{◌≡◌, ◌++◌, sym, ap, ◌∙◌}
 use Rattle.std.specs.FinMap as map
 use Rattle.std.proofs.lemmas.List.{append-nil}
-use Rattle.prcu_model.proofs.MapViews.{entries-dictionary}
+use Rattle.prcu_model.proofs.Dictionaries.{entries-dictionary}
 use Rattle.prcu_model.proofs.plain_map.PlainMap.pairs.Goals as goal
 
 pub returns : goal.returns

@@ -1,8 +1,7 @@
 use Rattle.std.proofs.Common.{true, false, sym, ap, ◌∙◌}
 use Rattle.std.specs.FinMap as map
 use Rattle.prcu_model.specs.Dictionary.{updated}
-use Rattle.prcu_model.proofs.MapViews.{contains_key-seen, is_sorted-from_ordered, dictionary-inserted, dictionary-removed}
-use Rattle.prcu_model.proofs.Updates.{updated-put_absent, updated-put_present, updated-set_absent, updated-set_present}
+use Rattle.prcu_model.proofs.Dictionaries.{contains_key-seen, is_sorted-from_ordered, dictionary-inserted, dictionary-removed, updated-put_absent, updated-put_present, updated-set_absent, updated-set_present}
 use Rattle.prcu_model.proofs.plain_map.PlainMap.update.Goals as goal
 
 pub invariant_of-self : goal.invariant_of-self

@@ -1,7 +1,7 @@
 use Rattle.std.proofs.Common.{◌≡◌, true, false, sym, ◌∙◌, arith}
 use Rattle.prcu_model.specs.Held.{op_lists}
 use Rattle.prcu_model.specs.Scripts.{is_put}
-use Rattle.prcu_model.proofs.AddedOps.{counts-with_op, put_count-le-op_count}
+use Rattle.prcu_model.proofs.ListFacts.{counts-with_op, put_count-le-op_count}
 use Rattle.prcu_model.proofs.scripts.Scripts.add_op.Goals as goal
 
 pub overflow_add-self-then-is_put : goal.overflow_add-self-then-is_put

@@ -1,6 +1,6 @@
 use Rattle.std.proofs.Common.{length, ap, arith}
 use Rattle.std.proofs.lemmas.List.{length-map}
-use Rattle.prcu_model.proofs.AddedOps.{length-le-op_count}
+use Rattle.prcu_model.proofs.ListFacts.{length-le-op_count}
 use Rattle.prcu_model.proofs.scripts.Scripts.script.Goals as goal
 
 pub returns-clause-limit : goal.returns-clause-limit

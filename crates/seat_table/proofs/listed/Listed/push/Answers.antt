@@ -1,6 +1,6 @@
 use Rattle.std.proofs.Common.{rules, sym, subst}
 use Rattle.list_laws.specs.Counts.{IsIn}
-use Rattle.seat_table.proofs.Unlisting.{listed_more, moved_more}
+use Rattle.seat_table.proofs.Seats.{listed_more, moved_more}
 use Rattle.seat_table.proofs.listed.Listed.push.Goals as goal
 
 pub invariant_of-self : goal.invariant_of-self

@@ -2,7 +2,7 @@ use Rattle.std.proofs.Common.{rules, ◌≡◌, ◌∙◌, ap, sym, subst, arith
 use lib.ListN.{get_or}
 use Rattle.arrayvec.proofs.ArrayVecLemmas.{filter-from_retain}
 use Rattle.seat_table.specs.Seats.{AreApart, unlisted}
-use Rattle.seat_table.proofs.Unlisting.{still_apart, next_leaves, apart_unlisted}
+use Rattle.seat_table.proofs.Seats.{still_apart, next_leaves, apart_unlisted}
 use Rattle.seat_table.proofs.listed.Listed.take_off.Goals as goal
 
 pub invariant_of-self : goal.invariant_of-self

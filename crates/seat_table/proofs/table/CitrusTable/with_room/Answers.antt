@@ -1,7 +1,7 @@
 use Rattle.std.proofs.Common.{rules, ◌≡◌, length, sym, ◌∙◌}
 use Rattle.core_state.specs.declared.shape.Shape.{Shape}
-use Rattle.core_state.specs.memory.Memory.{word_count}
-use Rattle.seat_table.proofs.Words.{rule_starts, first_long, first_room, first_table}
+use Rattle.core_state.specs.Memory.{word_count}
+use Rattle.seat_table.proofs.Facts.{rule_starts, first_long, first_room, first_table}
 use Rattle.seat_table.proofs.table.CitrusTable.with_room.Goals as goal
 
 pub of_words-requires : goal.of_words-requires

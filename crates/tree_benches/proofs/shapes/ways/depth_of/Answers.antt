@@ -1,7 +1,7 @@
 use Rattle.std.proofs.Common.{rules, ◌≡◌, ℕ, Option, sym, ap, subst, ◌∙◌}
 use Rattle.core_state.specs.declared.view.View.{View}
 use Rattle.seat_table.specs.Seats.{SeatAt, IsQuietSeat}
-use Rattle.seat_table.proofs.Seating.{still_quiet}
+use Rattle.seat_table.proofs.Seats.{still_quiet}
 use Rattle.citrus_tree.specs.declared.search.End.{End}
 use Rattle.citrus_tree.specs.declared.search.End.TheVariants.{Hit, Missing}
 use Rattle.citrus_tree.specs.Hops.{Finishes}

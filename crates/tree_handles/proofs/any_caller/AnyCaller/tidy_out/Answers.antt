@@ -1,7 +1,7 @@
 use Rattle.std.proofs.Common.{rules}
 use Rattle.key_interval.specs.Keys.{Interval}
 use Rattle.tree_handles.specs.Tidying.{Output}
-use Rattle.tree_handles.proofs.Tidied.{tidies_listed}
+use Rattle.tree_handles.proofs.Callers.{tidies_listed}
 use Rattle.tree_handles.proofs.any_caller.AnyCaller.tidy_out.Goals as goal
 
 pub returns-in-Ok-list : goal.returns-in-Ok-list

@@ -1,7 +1,6 @@
 use Rattle.std.proofs.Common.{rules, ap, arith}
 use Rattle.tree_handles.specs.Callers.{CallerAt}
-use Rattle.tree_handles.proofs.Answered.{nothing_behind}
-use Rattle.tree_handles.proofs.Cookies.{cookie_called}
+use Rattle.tree_handles.proofs.Callers.{nothing_behind, cookie_called}
 use Rattle.tree_handles.proofs.caller.Caller.get.Goals as goal
 
 pub returns-clause-called : goal.returns-clause-called

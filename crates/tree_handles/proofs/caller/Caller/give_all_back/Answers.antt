@@ -1,5 +1,5 @@
 use Rattle.std.proofs.Common.{rules}
-use Rattle.tree_handles.proofs.Cookies.{cookie_gives_back}
+use Rattle.tree_handles.proofs.Callers.{cookie_gives_back}
 use Rattle.tree_handles.proofs.caller.Caller.give_all_back.Goals as goal
 
 -- the cookie is good still

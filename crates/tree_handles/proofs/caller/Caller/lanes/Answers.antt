@@ -1,6 +1,6 @@
 use Rattle.std.proofs.Common.{rules, ◌≡◌, List, sym, subst, ◌∙◌}
 use Rattle.core_state.specs.declared.view.View.{View}
-use Rattle.core_state.specs.steps.Seating.{first_of}
+use Rattle.core_state.specs.Steps.{first_of}
 use Rattle.list_laws.specs.Counts.{Each}
 use Rattle.seat_table.specs.Seats.{SeatAt, IsQuietSeat}
 use Rattle.tree_handles.specs.Lanes.{AreSplitOff}

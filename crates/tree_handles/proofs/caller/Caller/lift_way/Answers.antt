@@ -1,5 +1,5 @@
 use Rattle.std.proofs.Common.{rules, true, refl}
-use Rattle.tree_handles.proofs.Cookies.{cookie_called}
+use Rattle.tree_handles.proofs.Callers.{cookie_called}
 use Rattle.tree_handles.proofs.caller.Caller.lift_way.Goals as goal
 
 -- what the lift says, of the aim that it was given

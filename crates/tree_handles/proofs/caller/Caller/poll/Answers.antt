@@ -1,12 +1,12 @@
 use Rattle.std.proofs.Common.{sym, ap, subst, ◌∙◌, Some, rules}
 use Rattle.std_alloc.specs.Arc.{arc_value}
-use Rattle.seat_table.specs.Onward.{LooksAt, IsOnward, IsWithin}
+use Rattle.seat_table.specs.Looks.{LooksAt, IsOnward, IsWithin}
 use Rattle.seat_table.specs.Seats.{shape_of}
 use Rattle.grace_cookie.specs.Cookies.{IsOf}
-use Rattle.tree_handles.specs.Begun.{CannotAsk}
+use Rattle.tree_handles.specs.Holds.{CannotAsk}
 use Rattle.tree_handles.specs.Callers.{CallerAt, MayGoOn}
 use Rattle.tree_handles.specs.Lists.{IsLeft}
-use Rattle.tree_handles.proofs.Cookies.{given_up}
+use Rattle.tree_handles.proofs.Callers.{given_up}
 use Rattle.tree_handles.proofs.caller.Caller.poll.Goals as goal
 
 pub ask-requires-clause-of : goal.ask-requires-clause-of

@@ -1,5 +1,5 @@
 use Rattle.std.proofs.Common.{rules}
-use Rattle.tree_handles.proofs.Cookies.{cookie_called}
+use Rattle.tree_handles.proofs.Callers.{cookie_called}
 use Rattle.tree_handles.proofs.caller.Caller.put.Goals as goal
 
 -- the seat as the put left it, and what came behind

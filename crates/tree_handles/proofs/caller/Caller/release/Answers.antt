@@ -1,5 +1,5 @@
 use Rattle.std.proofs.Common.{rules}
-use Rattle.tree_handles.proofs.Cookies.{cookie_left}
+use Rattle.tree_handles.proofs.Callers.{cookie_left}
 use Rattle.tree_handles.proofs.caller.Caller.release.Goals as goal
 
 -- the cookie is good still

@@ -1,6 +1,5 @@
 use Rattle.std.proofs.Common.{rules}
-use Rattle.tree_handles.proofs.Answered.{nothing_behind}
-use Rattle.tree_handles.proofs.Cookies.{cookie_called}
+use Rattle.tree_handles.proofs.Callers.{nothing_behind, cookie_called}
 use Rattle.tree_handles.proofs.caller.Caller.remove.Goals as goal
 
 pub returns-in-Ok-clause-taken : goal.returns-in-Ok-clause-taken

@@ -1,5 +1,5 @@
 use Rattle.std.proofs.Common.{rules}
-use Rattle.tree_handles.proofs.Cookies.{cookie_shared}
+use Rattle.tree_handles.proofs.Callers.{cookie_shared}
 use Rattle.tree_handles.proofs.caller.Caller.split_off.Goals as goal
 
 -- the cookie is good still

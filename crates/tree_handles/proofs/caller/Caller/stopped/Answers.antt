@@ -1,7 +1,7 @@
 use Rattle.std.proofs.Common.{sym, subst, ◌∙◌}
 use Rattle.tree_handles.specs.Callers.{CallerAt}
 use Rattle.tree_handles.specs.Calls.{StaysInside}
-use Rattle.tree_handles.proofs.Inside.{stays_inside}
+use Rattle.tree_handles.proofs.Callers.{stays_inside}
 use Rattle.tree_handles.proofs.caller.Caller.stopped.Goals as goal
 
 pub returns-then-is_some-clause-some : goal.returns-then-is_some-clause-some

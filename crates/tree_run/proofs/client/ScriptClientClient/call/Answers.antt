@@ -1,6 +1,6 @@
 use Rattle.std.proofs.Common.{ap, subst}
-use Rattle.tree_run.specs.Callers.{seen_as, HasCalled}
-use Rattle.tree_run.proofs.ClientCalls.{called_waiting, called_holding}
+use Rattle.tree_run.specs.Runs.{seen_as, HasCalled}
+use Rattle.tree_run.proofs.Finished.{called_waiting, called_holding}
 use Rattle.tree_run.proofs.client.ScriptClientClient.call.Goals as goal
 use Rattle.tree_run.proofs.client.ScriptClientClient.call.Goals.{in-Waiting, in-Holding}
 

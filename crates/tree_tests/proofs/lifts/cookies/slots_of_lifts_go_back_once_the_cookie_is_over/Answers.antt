@@ -1,7 +1,6 @@
 use Rattle.std.proofs.Common.{◌∙◌}
 use Rattle.seat_table.specs.Seats.{shape_of}
-use Rattle.grace_cookie.proofs.Keeping.{cookies_stay, same_keys}
-use Rattle.grace_cookie.proofs.Quiet.{quiet_unraised}
+use Rattle.grace_cookie.proofs.Keeping.{cookies_stay, same_keys, quiet_unraised}
 use Rattle.tree_tests.proofs.lifts.cookies.slots_of_lifts_go_back_once_the_cookie_is_over.Goals as goal
 
 pub ask-requires-clause-of : goal.ask-requires-clause-of

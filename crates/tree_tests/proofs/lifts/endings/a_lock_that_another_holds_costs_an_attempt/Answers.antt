@@ -1,4 +1,4 @@
-use Rattle.node_slots.proofs.Locked.{may_unlock}
+use Rattle.node_slots.proofs.Takes.{may_unlock}
 use Rattle.tree_tests.proofs.lifts.endings.a_lock_that_another_holds_costs_an_attempt.Goals as goal
 
 pub unlock-requires-clause-held : goal.unlock-requires-clause-held

@@ -2,8 +2,8 @@ use Rattle.std.proofs.Common.{◌≡◌, ℕ, ◌+◌, ◌/◌, List, [], ◌∷
 use Rattle.std.proofs.lemmas.Option.{get_or_from_slice_get}
 use Rattle.prcu_model.specs.declared.operation.Op.{Op}
 use Rattle.core_state.specs.declared.view.View.{View}
-use Rattle.client_run.specs.Workers.{IsReadyFor, AreReadyFor}
-use Rattle.client_run.proofs.Ready.{AreReadyFor-nil, AreReadyFor-push}
+use Rattle.client_run.specs.Crews.{IsReadyFor, AreReadyFor}
+use Rattle.client_run.proofs.Crews.{AreReadyFor-nil, AreReadyFor-push}
 use Rattle.tree_tests.proofs.tree.lifted.crew.Goals as goal
 
 pub loop-i-init : goal.loop-i-init

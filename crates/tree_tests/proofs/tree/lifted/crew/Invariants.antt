@@ -1,6 +1,6 @@
 use Rattle.std.proofs.Common.{◌≡◌, ℕ, length}
 use Rattle.seat_table.specs.Seats.{IsQuietSeat}
-use Rattle.client_run.specs.Workers.{AreReadyFor}
+use Rattle.client_run.specs.Crews.{AreReadyFor}
 use Rattle.tree_tests.proofs.tree.lifted.crew.Given as goal
 
 abbrev pub invariant-loop-i : goal.invariant-loop-i

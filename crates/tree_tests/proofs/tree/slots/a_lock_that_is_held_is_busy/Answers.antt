@@ -1,4 +1,4 @@
-use Rattle.node_slots.proofs.Locked.{may_unlock}
+use Rattle.node_slots.proofs.Takes.{may_unlock}
 use Rattle.tree_tests.proofs.tree.slots.a_lock_that_is_held_is_busy.Goals as goal
 
 pub unlock-requires-clause-held : goal.unlock-requires-clause-held

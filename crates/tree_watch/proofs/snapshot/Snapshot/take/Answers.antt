@@ -1,7 +1,7 @@
 use Rattle.std.proofs.Common.{subst, ◌∙◌, Some, None}
-use Rattle.exact_list.specs.Answers.{Holds, IsRecent, EndAs}
-use Rattle.exact_list.proofs.Standing.{recent_later}
-use Rattle.tree_watch.proofs.Taking.{only_trans, only_tried, whole_taken, part_taken, looked_stood}
+use Rattle.exact_list.specs.Tries.{Holds, IsRecent, EndAs}
+use Rattle.exact_list.proofs.Trying.{recent_later}
+use Rattle.tree_watch.proofs.Watched.{only_trans, only_tried, whole_taken, part_taken, looked_stood}
 use Rattle.tree_watch.proofs.snapshot.Snapshot.take.Goals as goal
 
 pub loop-init : goal.loop-init

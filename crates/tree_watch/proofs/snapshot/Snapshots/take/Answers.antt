@@ -1,7 +1,7 @@
 use Rattle.std.proofs.Common.{[], ◌∷◌, length}
 use Rattle.prcu_model.proofs.ListFacts.{prefix_trans}
 use Rattle.prcu_marks.specs.Marks.{updates_of}
-use Rattle.tree_watch.proofs.Taking.{snapshots_next, looked_next}
+use Rattle.tree_watch.proofs.Watched.{snapshots_next, looked_next}
 use Rattle.tree_watch.proofs.snapshot.Snapshots.take.Goals as goal
 
 -- from the last one to the first: what one saw is a beginning of what the next one saw

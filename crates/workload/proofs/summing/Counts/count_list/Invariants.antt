@@ -1,5 +1,5 @@
 use Rattle.std.proofs.Common.{◌≡◌, map as list_map, take}
-use Rattle.workload.specs.Counting.{counts_after}
+use Rattle.workload.specs.Summaries.{counts_after}
 use Rattle.workload.proofs.summing.Counts.count_list.Given as goal
 
 abbrev pub invariant-loop-entry : goal.invariant-loop-entry

@@ -1,3 +1,0 @@
-pub mod Filling
-pub mod Linking
-pub mod Inserting

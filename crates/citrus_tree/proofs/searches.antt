@@ -1,4 +1,0 @@
-pub mod Searching
-pub mod Bounding
-pub mod Descending
-pub mod Hopping

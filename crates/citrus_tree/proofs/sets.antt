@@ -1,4 +1,0 @@
-pub mod GivingUp
-pub mod Storing
-pub mod Replacing
-pub mod Comparing

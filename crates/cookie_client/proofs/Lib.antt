@@ -1,3 +1,0 @@
-pub mod Leaving
-pub mod Callers
-pub mod Calls

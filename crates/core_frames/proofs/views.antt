@@ -1,9 +1,0 @@
-pub mod Same
-pub mod Fields
-pub mod Sums
-pub mod SeatFacts
-pub mod Roles
-pub mod Owners
-pub mod RetiredLists
-pub mod Leaving
-pub mod Readings

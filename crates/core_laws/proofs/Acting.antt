@@ -1,0 +1,391 @@
+-- What is shown of all acts, by cases: which marks an act leaves, what the view has seen after it, which acts leave an open section alone,
+-- what none of them changes, and that an act may be noted in the trail before it or after it.
+use Rattle.std.proofs.Common.{inl, inr, ◌⊎◌, ◌≡◌, ◌≢◌, ◌<◌, ◌&&◌, true, false, Option, Some, None, sym, ap, subst, ◌∙◌, ℕ, ◌+◌, ◌-◌, ◌==◌, cond, Bool, List, [], ◌∷◌, ◌++◌, refl, ne_eqb, append-nil, unwrap_or}
+use Rattle.std.proofs.lemmas.Bool.{lt-ltb, and_from}
+use Rattle.prcu_marks.specs.declared.mark.Mark.{Mark}
+use Rattle.prcu_marks.specs.declared.mark.Mark.TheVariants.{Entered, Left as LeftMark, Began, Ended, Given, Unlinked}
+use Rattle.prcu_marks.specs.Marks.{is_of, own_of, updates_of}
+use Rattle.prcu_marks.specs.declared.commit.Commit.{Commit}
+use Rattle.prcu_model.specs.declared.operation.Op.{Op}
+use Rattle.prcu_model.specs.declared.operation.Op.TheVariants.{Put, Del, Set}
+use Rattle.prcu_model.specs.declared.operation.Update.{Update}
+use Rattle.core_state.specs.declared.shape.Shape.{Shape}
+use Rattle.core_state.specs.declared.shape.Waiter.TheVariants.{Eer, Domain, Deer}
+use Rattle.core_state.specs.declared.words.Field.{Field}
+use Rattle.core_state.specs.declared.words.Field.TheVariants as word
+use Rattle.core_state.specs.declared.words.Kind.{Kind}
+use Rattle.core_state.specs.declared.view.Clocked.{Clocked}
+use Rattle.core_state.specs.declared.view.Held.{Held}
+use Rattle.core_state.specs.declared.view.Section.{Section}
+use Rattle.core_state.specs.declared.view.View.{View}
+use Rattle.core_state.specs.declared.view.Waiting.{Waiting}
+use Rattle.core_state.specs.Memory.{same_waiter, is_field, slot_count}
+use Rattle.core_state.specs.Steps.{stepped, unknown_slot, gated, excuses, ending, with_excused, after_look, look_marks, done_by, after_lock, with_front}
+use Rattle.core_state.specs.declared.act.Part.{Part}
+use Rattle.core_state.specs.declared.act.Part.TheVariants as part
+use Rattle.core_state.specs.declared.act.Act.{Act}
+use Rattle.core_state.specs.declared.act.Act.TheVariants.{EnterByStamp, LeaveByStamp, BeginWait, LookKey, LookStamp, Reserve, Seize, RaiseToSpare, Lock, FreeInHand, FreeRetired, SearchLoad, ListLoad, OpenCommit, LinkLeaf, Bypass, LinkCopy, UnlinkLeft, UnlinkRight, LoadGate, EnterByCount, LeaveByCount, LookCount, EnterByRow, LeaveByRow, LookRow, ReplaceValue, LookAtFront, Rotate}
+use Rattle.core_state.specs.Acts.{in_slot, IsWord, clocked_at, some_section, section_of, some_wait, wait_of, commit_of, spare_of, after, marks_of}
+use Rattle.core_state.specs.Links.{after_reserve, reserving, with_free, after_seize}
+
+-- The table has the words of which a law says so by a test.
+pub has_word : (k : Shape) (field : Field) → IsWord k field → is_field k field ≡ true
+has_word k word.Clock is = refl
+has_word k word.Front is = refl
+has_word k word.Free is = refl
+has_word k (word.Announced p) is = and_from _ _ (ap (λ w. same_waiter w Eer) is.0) (lt-ltb p k.places is.1)
+has_word k (word.Stamp p) is = and_from _ _ (ap (λ w. same_waiter w Eer) is.0) (lt-ltb p k.places is.1)
+has_word k (word.Gate c) is = and_from _ _ (ap (λ w. same_waiter w Domain) is.0) (lt-ltb c 64 is.1)
+has_word k (word.Count c side) is = and_from _ _ (ap (λ w. same_waiter w Domain) is.0)
+    (and_from _ _ (lt-ltb c 64 is.1) (lt-ltb side 2 is.2))
+has_word k (word.Row p c) is = and_from _ _ (ap (λ w. same_waiter w Deer) is.0) (and_from _ _ (lt-ltb p k.places is.1) (lt-ltb c 64 is.2))
+has_word k (word.State s) is = lt-ltb s (slot_count k) is
+has_word k (word.Lock s) is = lt-ltb s (slot_count k) is
+has_word k (word.Life s) is = lt-ltb s (slot_count k) is
+has_word k (word.Key s) is = lt-ltb s (slot_count k) is
+has_word k (word.Value s) is = lt-ltb s (slot_count k) is
+has_word k (word.Link s b) is = lt-ltb s (slot_count k) is
+has_word k (word.Tag s b) is = lt-ltb s (slot_count k) is
+
+-- What a view has open, where it has it open.
+pub section_is : (v : View) (section : Section) → v.section ≡ Some section → section_of v ≡ section
+section_is v section is = ap (λ o. unwrap_or o some_section) is
+
+pub wait_is : (v : View) (wait : Waiting) → v.wait ≡ Some wait → wait_of v ≡ wait
+wait_is v wait is = ap (λ o. unwrap_or o some_wait) is
+
+pub commit_is : (v : View) (commit : Commit) → v.commit ≡ Some commit → commit_of v ≡ commit
+commit_is v commit is = ap (λ o. unwrap_or o (record { found = 0; stored = false })) is
+
+pub spare_is : (v : View) (held : Held) → v.hands.spare ≡ Some held → spare_of v ≡ held
+spare_is v held is = ap (λ o. unwrap_or o (unknown_slot 0)) is
+
+pub clocked_is : (v : View) (clocked : Clocked) → v.enter.clock ≡ Some clocked → clocked_at v ≡ clocked.at
+clocked_is v clocked is = ap (λ (o : Option Clocked). (unwrap_or o (record { number = 0; at = 0 })).at) is
+
+-- ---- words
+
+-- the table has each part of its slots
+pub part_word : (k : Shape) (s : ℕ) (p : Part) → s < slot_count k → IsWord k (in_slot s p)
+part_word k s part.Life below = below
+part_word k s part.Key below = below
+part_word k s part.Value below = below
+part_word k s (part.Link b) below = below
+part_word k s (part.Tag b) below = below
+
+-- ---- what is left, where what it finds decides
+
+module _ (v : View) (n : ℕ) where
+  look_updates : (wait : Waiting) (field : Field) (last : Bool) → updates_of (look_marks v wait field last n) ≡ []
+  look_updates wait field last = by (excuses wait field n && last)
+    where
+      by : (b : Bool) → updates_of (cond b (Ended v.allowance.place wait.count ∷ []) []) ≡ []
+      by true = refl
+      by false = refl
+
+  seize_updates : (slot : ℕ) (b : Bool) → updates_of (cond b (Given slot ∷ []) []) ≡ []
+  seize_updates slot true = refl
+  seize_updates slot false = refl
+
+-- a slot that is found free is given, which is no place's mark
+pub seized_none : (slot p : ℕ) (b : Bool) → own_of p (cond b (Given slot ∷ []) []) ≡ []
+seized_none slot p true = refl
+seized_none slot p false = refl
+
+-- ---- the update of an act
+
+-- its operation, if it makes an update
+abbrev pub op_of : Act → Option Op
+op_of (LinkLeaf slot b leaf key value) = Some (Put key value)
+op_of (Bypass parent b node child key) = Some (Del key)
+op_of (LinkCopy parent b node copy old old_parent key next_key) = Some (Del key)
+op_of (ReplaceValue slot key value) = Some (Set key value)
+op_of _ = None
+
+abbrev pub updates_by : ℕ → Option Op → List Update
+updates_by place None = []
+updates_by place (Some op) = record { caller = place; op = op } ∷ []
+
+updates_at : (v : View) (n : ℕ) (a : Act) (ms : List Mark) (us : List Update) → ms ≡ marks_of v a n
+    → us ≡ updates_by v.allowance.place (op_of a) → updates_of ms ≡ us
+updates_at v n (LookKey p last) ms us is e = ap updates_of is ∙ look_updates v n (wait_of v) (word.Announced p) last ∙ sym e
+updates_at v n (LookStamp p last) ms us is e = ap updates_of is ∙ look_updates v n (wait_of v) (word.Stamp p) last ∙ sym e
+updates_at v n (LookCount class side last) ms us is e = ap updates_of is ∙ look_updates v n (wait_of v) (word.Count class side) last ∙ sym e
+updates_at v n (LookRow p class last) ms us is e = ap updates_of is ∙ look_updates v n (wait_of v) (word.Row p class) last ∙ sym e
+updates_at v n (Seize slot) ms us is e = ap updates_of is ∙ seize_updates v n slot (n == 0) ∙ sym e
+updates_at v n _ ms us is e = ap updates_of is ∙ sym e
+
+-- it leaves this update, and no other
+pub updates_made : (v : View) (n : ℕ) (a : Act) → updates_of (marks_of v a n) ≡ updates_by v.allowance.place (op_of a)
+updates_made v n a = updates_at v n a (marks_of v a n) (updates_by v.allowance.place (op_of a)) refl refl
+
+-- ---- the marks of an act are of the place that makes it, or of none
+
+module _ (v : View) (n p : ℕ) (other : v.allowance.place ≢ p) where
+  one_none : (m : Mark) (rest : List Mark) → is_of p m ≡ (v.allowance.place == p) → own_of p rest ≡ [] → own_of p (m ∷ rest) ≡ []
+  one_none m rest is none = ap (λ b. cond b (m ∷ own_of p rest) (own_of p rest)) (is ∙ ne_eqb v.allowance.place p other) ∙ none
+
+  look_none : (wait : Waiting) (field : Field) (last : Bool) → own_of p (look_marks v wait field last n) ≡ []
+  look_none wait field last = by (excuses wait field n && last)
+    where
+      by : (b : Bool) → own_of p (cond b (Ended v.allowance.place wait.count ∷ []) []) ≡ []
+      by true = one_none (Ended v.allowance.place wait.count) [] refl refl
+      by false = refl
+
+  entered_none : (key : ℕ) → own_of p (Entered v.allowance.place v.counts.sections key ∷ []) ≡ []
+  entered_none key = one_none (Entered v.allowance.place v.counts.sections key) [] refl refl
+
+  left_none : own_of p (LeftMark v.allowance.place (section_of v).count ∷ []) ≡ []
+  left_none = one_none (LeftMark v.allowance.place (section_of v).count) [] refl refl
+
+  done_none : (op : Op) (rest : List Mark) → own_of p rest ≡ [] → own_of p (done_by v op ∷ rest) ≡ []
+  done_none op rest none = one_none (done_by v op) rest refl none
+
+  none_at : (a : Act) (ms : List Mark) → ms ≡ marks_of v a n → own_of p ms ≡ []
+  none_at (EnterByStamp key stamp) ms is = ap (own_of p) is ∙ entered_none key
+  none_at LeaveByStamp ms is = ap (own_of p) is ∙ left_none
+  none_at (BeginWait low high) ms is = ap (own_of p) is ∙ one_none (Began v.allowance.place v.counts.waits low high) [] refl refl
+  none_at (LookKey q last) ms is = ap (own_of p) is ∙ look_none (wait_of v) (word.Announced q) last
+  none_at (LookStamp q last) ms is = ap (own_of p) is ∙ look_none (wait_of v) (word.Stamp q) last
+  none_at (Seize slot) ms is = ap (own_of p) is ∙ seized_none slot p (n == 0)
+  none_at (LinkLeaf slot b leaf key value) ms is = ap (own_of p) is ∙ done_none (Put key value) [] refl
+  none_at (Bypass parent b node child key) ms is = ap (own_of p) is ∙ done_none (Del key) (Unlinked node ∷ []) refl
+  none_at (LinkCopy parent b node copy old old_parent key next_key) ms is = ap (own_of p) is ∙ done_none (Del key) (Unlinked node ∷ []) refl
+  none_at (EnterByCount key side) ms is = ap (own_of p) is ∙ entered_none key
+  none_at (LeaveByCount class side) ms is = ap (own_of p) is ∙ left_none
+  none_at (LookCount class side last) ms is = ap (own_of p) is ∙ look_none (wait_of v) (word.Count class side) last
+  none_at (EnterByRow key stamp) ms is = ap (own_of p) is ∙ entered_none key
+  none_at (LeaveByRow class) ms is = ap (own_of p) is ∙ left_none
+  none_at (LookRow q class last) ms is = ap (own_of p) is ∙ look_none (wait_of v) (word.Row q class) last
+  none_at (ReplaceValue slot key value) ms is = ap (own_of p) is ∙ done_none (Set key value) [] refl
+  none_at _ ms is = ap (own_of p) is
+
+  pub others_none : (a : Act) → own_of p (marks_of v a n) ≡ []
+  others_none a = none_at a (marks_of v a n) refl
+
+-- ---- the place, and what the view has seen after it
+
+-- Either the act left no mark and the view has seen what it had, or it has seen all marks with those of the act.
+abbrev pub HasSeen : List Mark → List Mark → List Mark → List Mark → Type 0
+HasSeen before h made seen = ((made ≡ []) × (seen ≡ before)) ⊎ (seen ≡ h ++ made)
+
+-- the acts that enter a section, leave one or load in one
+abbrev pub moves_search : Act → Bool
+moves_search (EnterByStamp key stamp) = true
+moves_search LeaveByStamp = true
+moves_search (SearchLoad slot p) = true
+moves_search (ListLoad slot p) = true
+moves_search (EnterByCount key side) = true
+moves_search (LeaveByCount class side) = true
+moves_search (EnterByRow key stamp) = true
+moves_search (LeaveByRow class) = true
+moves_search LookAtFront = true
+moves_search _ = false
+
+-- What an act changes neither of: all of the allowance but the tickets, and the trail in which it was noted.
+pub record StaysAtWork (v w : View) : Type 0 where
+  pub allowance : w.allowance ≡ record v.allowance { tickets = w.allowance.tickets }
+  pub steps : w.trail.steps ≡ v.trail.steps
+
+abbrev works_on : {v w : View} → w.allowance ≡ record v.allowance { tickets = w.allowance.tickets } → w.trail.steps ≡ v.trail.steps
+    → StaysAtWork v w
+works_on allowance steps = record { allowance = allowance; steps = steps }
+
+module _ (v : View) (h : List Mark) (n : ℕ) where
+  either_is : (b : Bool) (x y : View) (section : Option Section) → x.section ≡ section → y.section ≡ section
+      → (cond b x y).section ≡ section
+  either_is true x y section ix iy = ix
+  either_is false x y section ix iy = iy
+
+  either_works : (b : Bool) (x y : View) → StaysAtWork v x → StaysAtWork v y → StaysAtWork v (cond b x y)
+  either_works true x y kx ky = kx
+  either_works false x y kx ky = ky
+
+  by_both : {ms ms' seen seen' : List Mark} → ms ≡ ms' → seen ≡ seen' → HasSeen v.seen h ms' seen' → HasSeen v.seen h ms seen
+  by_both is e has = subst (λ (z : List Mark × List Mark). HasSeen v.seen h z.0 z.1) (λ i. (sym is i, sym e i)) has
+
+  either_seen : (b : Bool) (x y : View) (ms : List Mark) → HasSeen v.seen h ms x.seen → HasSeen v.seen h ms y.seen
+      → HasSeen v.seen h ms (cond b x y).seen
+  either_seen true x y ms sx sy = sx
+  either_seen false x y ms sx sy = sy
+
+  all_seen : {ms : List Mark} → ms ≡ [] → HasSeen v.seen h ms h
+  all_seen none = inr (sym (append-nil h) ∙ ap (λ z. h ++ z) (sym none))
+
+  all_with : {ms ms' seen : List Mark} → ms ≡ ms' → seen ≡ h ++ ms' → HasSeen v.seen h ms seen
+  all_with is e = inr (e ∙ ap (λ z. h ++ z) (sym is))
+
+  no_mark : {ms : List Mark} → ms ≡ [] → HasSeen v.seen h ms v.seen
+  no_mark none = inl (none, refl)
+
+  given_seen : (slot : ℕ) (b : Bool) (x y : View) → x.seen ≡ h ++ Given slot ∷ [] → y.seen ≡ v.seen
+      → HasSeen v.seen h (cond b (Given slot ∷ []) []) (cond b x y).seen
+  given_seen slot true x y sx sy = inr sx
+  given_seen slot false x y sx sy = inl (refl, sy)
+
+  look_seen : (wait : Waiting) (field : Field) (last : Bool)
+      → HasSeen v.seen h (look_marks v wait field last n) (after_look v wait field last n h).seen
+  look_seen wait field last = by (excuses wait field n) last
+    where
+      by : (b l : Bool) → HasSeen v.seen h (cond (b && l) (Ended v.allowance.place wait.count ∷ []) [])
+          (cond b (cond l (ending v (with_excused wait field) h) (record v { wait = Some (with_excused wait field) })) v).seen
+      by true true = inr refl
+      by true false = inl (refl, refl)
+      by false l = inl (refl, refl)
+
+  gate_seen : (class : ℕ) (section : Option Section) → (gated v class n section).seen ≡ v.seen
+  gate_seen class None = refl
+  gate_seen class (Some section) = refl
+
+  seen_at : (a : Act) (ms seen : List Mark) → ms ≡ marks_of v a n → seen ≡ (after v a h n).seen → HasSeen v.seen h ms seen
+  seen_at (EnterByStamp key stamp) ms seen is e = all_with is e
+  seen_at LeaveByStamp ms seen is e = all_with is e
+  seen_at (BeginWait low high) ms seen is e = all_with is e
+  seen_at (LookKey p last) ms seen is e = by_both is e (look_seen (wait_of v) (word.Announced p) last)
+  seen_at (LookStamp p last) ms seen is e = by_both is e (look_seen (wait_of v) (word.Stamp p) last)
+  seen_at (Reserve expected) ms seen is e = by_both refl e
+      (either_seen (n == expected) _ _ ms (no_mark is) (either_seen (n == 0) _ _ ms (all_seen is) (no_mark is)))
+  seen_at (Seize slot) ms seen is e = by_both is e (given_seen slot (n == 0) _ _ refl refl)
+  seen_at (RaiseToSpare slot number) ms seen is e = all_with is e
+  seen_at (Lock slot) ms seen is e = by_both refl e (either_seen (n == 0) _ _ ms (no_mark is) (no_mark is))
+  seen_at (FreeInHand slot) ms seen is e = all_with is e
+  seen_at (FreeRetired slot) ms seen is e = all_with is e
+  seen_at (OpenCommit expected) ms seen is e = by_both refl e (either_seen (n == expected) _ _ ms (no_mark is) (no_mark is))
+  seen_at (LinkLeaf slot b leaf key value) ms seen is e = all_with is e
+  seen_at (Bypass parent b node child key) ms seen is e = all_with is e
+  seen_at (LinkCopy parent b node copy old old_parent key next_key) ms seen is e = all_with is e
+  seen_at (UnlinkLeft parent old child) ms seen is e = all_with is e
+  seen_at (UnlinkRight copy old child) ms seen is e = all_with is e
+  seen_at (LoadGate class) ms seen is e = inl (is, e ∙ gate_seen class v.section)
+  seen_at (EnterByCount key side) ms seen is e = all_with is e
+  seen_at (LeaveByCount class side) ms seen is e = all_with is e
+  seen_at (LookCount class side last) ms seen is e = by_both is e (look_seen (wait_of v) (word.Count class side) last)
+  seen_at (EnterByRow key stamp) ms seen is e = all_with is e
+  seen_at (LeaveByRow class) ms seen is e = all_with is e
+  seen_at (LookRow p class last) ms seen is e = by_both is e (look_seen (wait_of v) (word.Row p class) last)
+  seen_at (ReplaceValue slot key value) ms seen is e = all_with is e
+  seen_at (Rotate parent b node child top) ms seen is e = all_with is e
+  seen_at LookAtFront ms seen is e = subst (HasSeen v.seen h ms) (sym e) (all_seen is)
+  seen_at _ ms seen is e = inl (is, e)
+
+  pub has_seen : (a : Act) → HasSeen v.seen h (marks_of v a n) (after v a h n).seen
+  has_seen a = seen_at a (marks_of v a n) (after v a h n).seen refl refl
+
+  gate_stays : (class : ℕ) (section : Option Section) → (gated v class n section).section ≡ v.section
+  gate_stays class None = refl
+  gate_stays class (Some section) = refl
+
+  gate_works : (class : ℕ) (section : Option Section) → StaysAtWork v (gated v class n section)
+  gate_works class None = works_on refl refl
+  gate_works class (Some section) = works_on refl refl
+
+  look_works : (wait : Waiting) (field : Field) (last : Bool) → StaysAtWork v (after_look v wait field last n h)
+  look_works wait field last = either_works (excuses wait field n) _ _
+      (either_works last _ _ (works_on refl refl) (works_on refl refl)) (works_on refl refl)
+
+  look_stays : (wait : Waiting) (field : Field) (last : Bool) → (after_look v wait field last n h).section ≡ v.section
+  look_stays wait field last = either_is (excuses wait field n) _ _ v.section (either_is last _ _ v.section refl refl) refl
+
+  stays_at : (a : Act) (section : Option Section) → moves_search a ≡ false → section ≡ (after v a h n).section → section ≡ v.section
+  stays_at (EnterByStamp key stamp) section quiet e = absurd (cc)
+  stays_at LeaveByStamp section quiet e = absurd (cc)
+  stays_at (LookKey p last) section quiet e = e ∙ look_stays (wait_of v) (word.Announced p) last
+  stays_at (LookStamp p last) section quiet e = e ∙ look_stays (wait_of v) (word.Stamp p) last
+  stays_at (Reserve expected) section quiet e = e
+      ∙ either_is (n == expected) _ _ v.section refl (either_is (n == 0) _ _ v.section refl refl)
+  stays_at (Seize slot) section quiet e = e ∙ either_is (n == 0) _ _ v.section refl refl
+  stays_at (Lock slot) section quiet e = e ∙ either_is (n == 0) _ _ v.section refl refl
+  stays_at (SearchLoad slot p) section quiet e = absurd (cc)
+  stays_at (ListLoad slot p) section quiet e = absurd (cc)
+  stays_at (OpenCommit expected) section quiet e = e ∙ either_is (n == expected) _ _ v.section refl refl
+  stays_at (LoadGate class) section quiet e = e ∙ gate_stays class v.section
+  stays_at (EnterByCount key side) section quiet e = absurd (cc)
+  stays_at (LeaveByCount class side) section quiet e = absurd (cc)
+  stays_at (LookCount class side last) section quiet e = e ∙ look_stays (wait_of v) (word.Count class side) last
+  stays_at (EnterByRow key stamp) section quiet e = absurd (cc)
+  stays_at (LeaveByRow class) section quiet e = absurd (cc)
+  stays_at (LookRow p class last) section quiet e = e ∙ look_stays (wait_of v) (word.Row p class) last
+  stays_at LookAtFront section quiet e = absurd (cc)
+  stays_at _ section quiet e = e
+
+  pub section_stays : (a : Act) → moves_search a ≡ false → (after v a h n).section ≡ v.section
+  section_stays a quiet = stays_at a (after v a h n).section quiet refl
+
+  -- who makes it stays where it is, with all but its tickets
+  placed_at : (a : Act) (w : View) → w ≡ after v a h n → StaysAtWork v w
+  placed_at (LookKey p last) w e = subst (StaysAtWork v) (sym e) (look_works (wait_of v) (word.Announced p) last)
+  placed_at (LookStamp p last) w e = subst (StaysAtWork v) (sym e) (look_works (wait_of v) (word.Stamp p) last)
+  placed_at (Reserve expected) w e = subst (StaysAtWork v) (sym e) (either_works (n == expected) _ _ (works_on refl refl)
+      (either_works (n == 0) _ _ (works_on refl refl) (works_on refl refl)))
+  placed_at (Seize slot) w e = subst (StaysAtWork v) (sym e) (either_works (n == 0) _ _ (works_on refl refl) (works_on refl refl))
+  placed_at (Lock slot) w e = subst (StaysAtWork v) (sym e) (either_works (n == 0) _ _ (works_on refl refl) (works_on refl refl))
+  placed_at (OpenCommit expected) w e = subst (StaysAtWork v) (sym e)
+      (either_works (n == expected) _ _ (works_on refl refl) (works_on refl refl))
+  placed_at (LoadGate class) w e = subst (StaysAtWork v) (sym e) (gate_works class v.section)
+  placed_at (LookCount class side last) w e = subst (StaysAtWork v) (sym e) (look_works (wait_of v) (word.Count class side) last)
+  placed_at (LookRow p class last) w e = subst (StaysAtWork v) (sym e) (look_works (wait_of v) (word.Row p class) last)
+  placed_at _ w e = subst (StaysAtWork v) (sym e) (works_on refl refl)
+
+  pub stays_at_work : (a : Act) → StaysAtWork v (after v a h n)
+  stays_at_work a = placed_at a (after v a h n) refl
+
+-- ---- noted before it or after it
+
+module _ (v : View) (kind : Kind) (on : Field) (number : ℕ) where
+  -- a view with this step in its trail
+  abbrev note : View → View
+  note x = stepped x kind on number
+
+  either_noted : (b : Bool) (x y : View) → cond b (note x) (note y) ≡ note (cond b x y)
+  either_noted true x y = refl
+  either_noted false x y = refl
+
+  -- no trail is read
+  marks_at : (a : Act) (n : ℕ) (ms : List Mark) → ms ≡ marks_of v a n → marks_of (note v) a n ≡ ms
+  marks_at _ n ms is = sym is
+
+  pub marks_noted : (a : Act) (n : ℕ) → marks_of (note v) a n ≡ marks_of v a n
+  marks_noted a n = marks_at a n (marks_of v a n) refl
+
+  gate_noted : (class n : ℕ) (section : Option Section) → gated (note v) class n section ≡ note (gated v class n section)
+  gate_noted class n None = refl
+  gate_noted class n (Some section) = refl
+
+  module _ (h : List Mark) (n : ℕ) where
+    look_noted : (wait : Waiting) (field : Field) (last : Bool)
+        → after_look (note v) wait field last n h ≡ note (after_look v wait field last n h)
+    look_noted wait field last = by (excuses wait field n) last
+      where
+        by : (b l : Bool) → cond b (cond l (ending (note v) (with_excused wait field) h)
+            (record (note v) { wait = Some (with_excused wait field) })) (note v)
+            ≡ note (cond b (cond l (ending v (with_excused wait field) h) (record v { wait = Some (with_excused wait field) })) v)
+        by true true = refl
+        by true false = refl
+        by false l = refl
+
+    reserve_noted : (expected : ℕ) → after_reserve (note v) expected n h ≡ note (after_reserve v expected n h)
+    reserve_noted expected = by (n == expected) (n == 0)
+      where
+        by : (b c : Bool) → cond b (reserving (with_free (note v) (expected - 1)))
+            (cond c (record (with_free (note v) 0) { seen = h }) (with_free (note v) n))
+            ≡ note (cond b (reserving (with_free v (expected - 1))) (cond c (record (with_free v 0) { seen = h }) (with_free v n)))
+        by true c = refl
+        by false true = refl
+        by false false = refl
+
+    noted_at : (a : Act) (w : View) → w ≡ after v a h n → after (note v) a h n ≡ note w
+    noted_at (LookKey p last) w e = look_noted (wait_of v) (word.Announced p) last ∙ ap note (sym e)
+    noted_at (LookStamp p last) w e = look_noted (wait_of v) (word.Stamp p) last ∙ ap note (sym e)
+    noted_at (Reserve expected) w e = reserve_noted expected ∙ ap note (sym e)
+    noted_at (Seize slot) w e = either_noted (n == 0) (after_seize v slot 0 h) v ∙ ap note (sym e)
+    noted_at (Lock slot) w e = either_noted (n == 0) (after_lock v slot 0) v ∙ ap note (sym e)
+    noted_at (OpenCommit expected) w e = either_noted (n == expected)
+        (record (with_front v (expected + 1)) { commit = Some (record { found = expected; stored = false }) }) (with_front v n)
+        ∙ ap note (sym e)
+    noted_at (LoadGate class) w e = gate_noted class n v.section ∙ ap note (sym e)
+    noted_at (LookCount class side last) w e = look_noted (wait_of v) (word.Count class side) last ∙ ap note (sym e)
+    noted_at (LookRow p class last) w e = look_noted (wait_of v) (word.Row p class) last ∙ ap note (sym e)
+    noted_at _ w e = ap note (sym e)
+
+    pub noted_after : (a : Act) → after (note v) a h n ≡ note (after v a h n)
+    noted_after a = noted_at a (after v a h n) refl

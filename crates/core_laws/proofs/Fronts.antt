@@ -1,0 +1,232 @@
+-- Steps on the free count and on the front: what they keep, where they change no more of a view than its tickets, what it has reserved
+-- or owes, its commit, its latest numbers, or what it has seen.
+use Rattle.std.proofs.Common.{◌≡◌, ℕ, ◌⊎◌, Bool, true, List, set, Option, None, refl, ⊎_elim, inl, inr, ◌+◌, ◌*◌, ◌==◌, false, cond, length, Some, sym, ◌∙◌, arith, eqb-true, ◌-◌, ap, []}
+use mathlib.Core.Option.{some}
+use lib.ListN.{get_elem?}
+use Rattle.prcu_marks.specs.declared.mark.Mark.{Mark}
+use Rattle.core_state.specs.declared.shape.Shape.{Shape}
+use Rattle.core_state.specs.declared.words.Field.TheVariants.{Clock, Front, Free}
+use Rattle.core_state.specs.declared.view.Latest.{Latest}
+use Rattle.prcu_marks.specs.declared.commit.Commit.{Commit}
+use Rattle.core_state.specs.declared.view.View.{View}
+use Rattle.core_state.specs.Memory.{Memory, slot_count, stored, flag}
+use Rattle.core_state.specs.Views.{Works}
+use Rattle.core_state.specs.Parts.{FrontParts, IsOddBy}
+use Rattle.core_state.specs.Invariant.{HoldsNow}
+use Rattle.core_frames.proofs.Marks.{quiet_same}
+use Rattle.core_frames.proofs.Views.{SameSlots, same_slots, reader_words, slots_stay}
+use Rattle.core_frames.proofs.PlaceFrames.{NumbersStep, numbers_of, counts_still, sums_same, numbers_stay, front_frame, odd_by}
+use Rattle.core_frames.proofs.TreeFrames.{listing_frame_still}
+use Rattle.core_frames.proofs.WholeFrames.{whole, slot_half, seat_half, wait_still, waiters_stay, Stepper, StepKeeps, by_quiet_store, only_loaded, no_mark, kept}
+use Rattle.prcu_marks.specs.Marks.{updates_of, updates_by}
+use Rattle.list_laws.specs.Counts.{Each}
+use Rattle.core_state.specs.Steps.{NeedsOpenCommit, with_front, NeedsCloseCommit, after_close_commit, after_open_commit, NeedsGiveFrontBack}
+use Rattle.list_laws.proofs.Lists.{each_set, only_here}
+use Rattle.core_frames.specs.Laws.{IsKept}
+use Rattle.core_state.specs.declared.words.Kind.TheVariants.{K19, K24, K39, K10, K16}
+use Rattle.core_state.specs.Links.{NeedsReserve, NeedsCountFree, after_count_free, after_reserve, reserving, with_free}
+
+module _ (k : Shape) (m m' : Memory) (vs : List View) (h : List Mark) (id : ℕ) (v : View) (i : HoldsNow k m vs h)
+    (there : get_elem? vs id ≡ some v) (works : Works v)
+    (tickets : ℕ) (reserved owes : Bool) (commit : Option Commit) (latest : Latest) (seen : List Mark) where
+  abbrev w : View
+  w = record v {
+    allowance = record v.allowance { tickets = tickets };
+    hands = record v.hands { reserved = reserved; owes = owes };
+    commit = commit;
+    latest = latest;
+    seen = seen;
+  }
+
+  -- Where counts and front are right, the invariant is kept.
+  pub number_law : SameSlots m m' → m' Clock ≡ m Clock → reader_words m' ≡ reader_words m → (seen ≡ h) ⊎ (seen ≡ v.seen)
+      → (reserved ≡ true → v.hands.hand ≡ None)
+      → NumbersStep m m' (numbers_of v) (numbers_of w) → FrontParts m' (set vs id w) h → HoldsNow k m' (set vs id w) h
+  number_law slots clock words known one numbers front =
+      whole k m' i.chart (set vs id w) h i.table (slot_half k m vs h id v w i there m' h slots (quiet_same h) refl (λ _. one))
+      (seat_half k m vs h id v w i there works refl (⊎_elim (λ e. inl e) (λ e. inr (refl, e)) known)
+      (wait_still k m vs h id v w i there refl refl))
+      (waiters_stay k m m' vs h id v w i there clock words refl)
+      (counts_still k.tickets m m' (slot_count k) i.chart vs id v w h h there
+      (sums_same m m' (slot_count k) slots.nodes slots.state) refl numbers i.counts) front
+      (listing_frame_still m m' slots.nodes i.chart h h (quiet_same h) vs id v w there refl i.listings)
+
+  -- Where the front and the commit are as they were, only the counts have to be right.
+  pub free_law : SameSlots m m' → m' Clock ≡ m Clock → m' Front ≡ m Front → reader_words m' ≡ reader_words m → commit ≡ v.commit
+      → (seen ≡ h) ⊎ (seen ≡ v.seen) → (reserved ≡ true → v.hands.hand ≡ None) → NumbersStep m m' (numbers_of v) (numbers_of w)
+      → HoldsNow k m' (set vs id w) h
+  free_law slots clock front words same known one numbers =
+      number_law slots clock words known one numbers (front_frame m m' vs id v w h h there front same (λ e. e) (quiet_same h) i.front)
+
+-- only the latest numbers and what was seen change, and no word
+pub seen_law : (k : Shape) (m : Memory) (vs : List View) (h : List Mark) (id : ℕ) (v : View) (i : HoldsNow k m vs h)
+    → get_elem? vs id ≡ some v → Works v → (latest : Latest) (seen : List Mark) → (seen ≡ h) ⊎ (seen ≡ v.seen)
+    → HoldsNow k m (set vs id (record v { latest = latest; seen = seen })) h
+seen_law k m vs h id v i there works latest seen known =
+    free_law k m m vs h id v i there works v.allowance.tickets v.hands.reserved v.hands.owes v.commit latest seen
+    (same_slots m) refl refl refl refl known (i.slots.few id v there).one
+    (numbers_stay m m (numbers_of v) (numbers_of v) refl refl refl)
+
+-- The steps on the front keep the invariant: K19, K24 and K39.
+
+module _ (k : Shape) (m : Memory) (vs : List View) (h : List Mark) (id : ℕ) (v : View) (i : HoldsNow k m vs h)
+    (there : get_elem? vs id ≡ some v) (works : Works v) where
+  -- K19: the front is made odd
+  abbrev odd_view : ℕ → View
+  odd_view expected = record (with_front v (expected + 1)) { commit = Some (record { found = expected; stored = false }) }
+
+  turned19 : (expected : ℕ) → NeedsOpenCommit v expected → m Front ≡ expected
+      → FrontParts (stored m Front (expected + 1)) (set vs id (odd_view expected)) h
+  turned19 expected needs is =
+      let w : View = odd_view expected in
+      record {
+        turned = ⊎_elim
+            (λ (t : (m Front ≡ 2 * length (updates_of h)) × Each vs (λ (u : View). u.commit ≡ None)).
+            let even = t.0 in
+            inr (only_here vs id v w there
+            (record { commit = record { found = expected; stored = false }; has = refl; word = refl; updates = omega arith })
+            (λ j u _ e. t.1 j u e)))
+            (λ (t : IsOddBy m vs (length (updates_of h))). absurd
+            (let a = t.has.word in let b = t.has.updates in let e = needs.even in let c = made_even t.has.commit in omega arith))
+            i.front.turned;
+        settled = each_set (λ j u. (x : Commit) → u.commit ≡ Some x → x.stored ≡ false → u.moving ≡ None) vs id w
+            (λ x is unmade. needs.settled) (λ j u ne e. i.front.settled j u e);
+        legal = i.front.legal;
+      }
+    where
+      made_even : (commit : Commit) → (updates_by commit ≡ commit.found) ⊎ (updates_by commit ≡ commit.found + 2)
+      made_even commit = elim commit.stored as (λ b. (commit.found + cond b 2 0 ≡ commit.found)
+          ⊎ (commit.found + cond b 2 0 ≡ commit.found + 2)) [ true ↦ inr refl | false ↦ inl (omega arith) ]
+
+  law19 : (expected : ℕ) → NeedsOpenCommit v expected → m Front ≡ expected
+      → HoldsNow k (stored m Front (expected + 1)) (set vs id (odd_view expected)) h
+  law19 expected needs is =
+      let m' : Memory = stored m Front (expected + 1) in
+      let w : View = odd_view expected in
+      number_law k m m' vs h id v i there works v.allowance.tickets v.hands.reserved v.hands.owes w.commit w.latest v.seen
+      (slots_stay m m' refl) refl refl (inr refl) (i.slots.few id v there).one
+      (numbers_stay m m' (numbers_of v) (numbers_of v) refl refl refl)
+      (turned19 expected needs is)
+
+  -- the front is made even again, as twice the number of updates
+  even_again : (front : ℕ) (commit : Commit) → v.commit ≡ Some commit → updates_by commit ≡ front
+      → HoldsNow k (stored m Front front) (set vs id (after_close_commit v front)) h
+  even_again front commit mine is =
+      let m' : Memory = stored m Front front in
+      let w : View = after_close_commit v front in
+      let odd = odd_by m vs h id v there i.front commit mine in
+      number_law k m m' vs h id v i there works v.allowance.tickets v.hands.reserved v.hands.owes None w.latest v.seen
+      (slots_stay m m' refl) refl refl (inr refl) (i.slots.few id v there).one
+      (numbers_stay m m' (numbers_of v) (numbers_of v) refl refl refl)
+      (record {
+        turned = inl (sym is ∙ odd.1, each_set (λ j u. u.commit ≡ None) vs id w refl (λ j u ne e. odd.2 j u ne e));
+        settled = each_set (λ j u. (x : Commit) → u.commit ≡ Some x → x.stored ≡ false → u.moving ≡ None) vs id w
+            (λ x none unmade. absurd (let q : None ≡ Some x = none in cc)) (λ j u ne e. i.front.settled j u e);
+        legal = i.front.legal;
+      })
+
+  -- K24: after the update
+  law24 : (front : ℕ) → NeedsCloseCommit v front → HoldsNow k (stored m Front front) (set vs id (after_close_commit v front)) h
+  law24 front needs = even_again front (record { found = needs.0; stored = true }) needs.1 (sym needs.2)
+
+  -- K39: without an update
+  law39 : (front : ℕ) → NeedsGiveFrontBack v front → HoldsNow k (stored m Front front) (set vs id (after_close_commit v front)) h
+  law39 front needs = even_again front (record { found = front; stored = false }) needs (omega arith)
+
+  -- an exchange of the front, by its test
+  turns_odd : (expected : ℕ) (hit : Bool) → NeedsOpenCommit v expected → (m Front == expected) ≡ hit
+      → IsKept k m h (stored m Front (cond hit (expected + 1) (m Front)))
+      (set vs id (cond hit (odd_view expected) (with_front v (m Front)))) h
+  turns_odd expected true needs hit =
+      let m' : Memory = stored m Front (expected + 1) in
+      kept k m m' h (set vs id (odd_view expected)) h (slots_stay m m' refl) (law19 expected needs (eqb-true (m Front) expected hit))
+  turns_odd expected false needs hit = only_loaded k m h Front (set vs id (with_front v (m Front))) h
+      (seen_law k m vs h id v i there works (record v.latest { front = Some (m Front) }) v.seen (inr refl))
+
+module _ (z : Stepper) where
+  open z use {k, m, vs, h, id, v, inv, there, works}
+
+  pub keeps_open_commit : (expected : ℕ) → NeedsOpenCommit v expected
+      → StepKeeps z Front (cond (m Front == expected) (expected + 1) (m Front)) (after_open_commit v expected (m Front)) []
+  keeps_open_commit expected needs = no_mark k m (stored m Front (cond (m Front == expected) (expected + 1) (m Front))) h
+      (set vs id (after_open_commit v expected (m Front)))
+      (turns_odd k m vs h id v inv there works expected (m Front == expected) needs refl)
+
+  pub keeps_close_commit : (front : ℕ) → NeedsCloseCommit v front → StepKeeps z Front front (after_close_commit v front) []
+  keeps_close_commit front needs = by_quiet_store z Front front (after_close_commit v front) (slots_stay m (stored m Front front) refl)
+      (law24 k m vs h id v inv there works front needs)
+
+  pub keeps_give_front_back : (front : ℕ) → NeedsGiveFrontBack v front → StepKeeps z Front front (after_close_commit v front) []
+  keeps_give_front_back front needs = by_quiet_store z Front front (after_close_commit v front) (slots_stay m (stored m Front front) refl)
+      (law39 k m vs h id v inv there works front needs)
+
+-- The steps on the free count keep the invariant: K10 and K16.
+
+module _ (k : Shape) (m : Memory) (vs : List View) (h : List Mark) (id : ℕ) (v : View) (i : HoldsNow k m vs h)
+    (there : get_elem? vs id ≡ some v) (works : Works v) where
+  -- K10: a slot is reserved
+  law10 : (expected : ℕ) (latest : Latest) → NeedsReserve v expected → m Free ≡ expected
+      → HoldsNow k (stored m Free (expected - 1)) (set vs id
+      (record v {
+        allowance = record v.allowance { tickets = v.allowance.tickets - 1 };
+        hands = record v.hands { reserved = true };
+        latest = latest;
+      })) h
+  law10 expected latest needs is =
+      let m' : Memory = stored m Free (expected - 1) in
+      let some = needs.some in
+      let ticket = needs.ticket in
+      let was_not = ap flag needs.unreserved in
+      free_law k m m' vs h id v i there works (v.allowance.tickets - 1) true v.hands.owes v.commit latest v.seen
+      (slots_stay m m' refl) refl refl refl refl (inr refl) (λ x. needs.empty)
+      (record {
+        free = omega arith;
+        clock = omega arith;
+        generations = omega arith;
+        tags = omega arith;
+        turns = omega arith;
+        pending = refl;
+      })
+
+  -- K16: a slot that was freed is counted
+  law16 : (n : ℕ) → m Free ≡ n → NeedsCountFree v → HoldsNow k (stored m Free (n + 1)) (set vs id (after_count_free v n)) h
+  law16 n is needs =
+      let m' : Memory = stored m Free (n + 1) in
+      let owed = ap flag needs in
+      free_law k m m' vs h id v i there works v.allowance.tickets v.hands.reserved false v.commit (after_count_free v n).latest v.seen
+      (slots_stay m m' refl) refl refl refl refl (inr refl) (i.slots.few id v there).one
+      (record {
+        free = omega arith;
+        clock = omega arith;
+        generations = omega arith;
+        tags = omega arith;
+        turns = omega arith;
+        pending = refl;
+      })
+
+  -- the exchange, by the two tests
+  reserves : (expected : ℕ) (hit none : Bool) → NeedsReserve v expected → (m Free == expected) ≡ hit
+      → IsKept k m h (stored m Free (cond hit (expected - 1) (m Free)))
+      (set vs id (cond hit (reserving (with_free v (expected - 1)))
+      (cond none (record (with_free v 0) { seen = h }) (with_free v (m Free))))) h
+  reserves expected true none needs hit =
+      let m' : Memory = stored m Free (expected - 1) in
+      kept k m m' h (set vs id (reserving (with_free v (expected - 1)))) h (slots_stay m m' refl)
+      (law10 expected (record v.latest { free = Some (expected - 1) }) needs (eqb-true (m Free) expected hit))
+  reserves expected false true needs hit = only_loaded k m h Free (set vs id (record (with_free v 0) { seen = h })) h
+      (seen_law k m vs h id v i there works (record v.latest { free = Some 0 }) h (inl refl))
+  reserves expected false false needs hit = only_loaded k m h Free (set vs id (with_free v (m Free))) h
+      (seen_law k m vs h id v i there works (record v.latest { free = Some (m Free) }) v.seen (inr refl))
+
+module _ (z : Stepper) where
+  open z use {k, m, vs, h, id, v, inv, there, works}
+
+  pub keeps_reserve : (expected : ℕ) → NeedsReserve v expected
+      → StepKeeps z Free (cond (m Free == expected) (expected - 1) (m Free)) (after_reserve v expected (m Free) h) []
+  keeps_reserve expected needs = no_mark k m (stored m Free (cond (m Free == expected) (expected - 1) (m Free))) h
+      (set vs id (after_reserve v expected (m Free) h))
+      (reserves k m vs h id v inv there works expected (m Free == expected) (m Free == 0) needs refl)
+
+  pub keeps_count_free : NeedsCountFree v → StepKeeps z Free (m Free + 1) (after_count_free v (m Free)) []
+  keeps_count_free needs = by_quiet_store z Free (m Free + 1) (after_count_free v (m Free))
+      (slots_stay m (stored m Free (m Free + 1)) refl) (law16 k m vs h id v inv there works (m Free) refl needs)

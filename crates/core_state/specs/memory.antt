@@ -1,4 +1,0 @@
-pub mod Bounds
-pub mod Memory
-pub mod Words
-pub mod Lists

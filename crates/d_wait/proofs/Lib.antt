@@ -1,3 +1,0 @@
-pub mod Sides
-pub mod Turning
-pub mod Onward

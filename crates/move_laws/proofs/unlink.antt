@@ -1,4 +1,0 @@
-pub mod Unlinking
-pub mod UnlinkListings
-pub mod OldUnlinked
-pub mod KeepingOld

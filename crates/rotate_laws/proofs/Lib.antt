@@ -1,2 +1,0 @@
-pub mod chart
-pub mod rotate

@@ -1,5 +1,0 @@
-use Rattle.tree_client.proofs.Calls.{chains_meet}
-use Rattle.tree_client.proofs.laws.chains_meet_fronts.Goals as goal
-
-pub returns : goal.returns
-returns c = chains_meet

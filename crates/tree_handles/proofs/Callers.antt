@@ -1,0 +1,517 @@
+-- What the calls of a caller come to: its answers, its cookie, its sections and its tidies.
+-- A caller whose call was answered by the tree's, with nothing behind that.
+use Rattle.std.proofs.Common.{◌≤◌, refl, inl, ◌≡◌, ℕ, ◌+◌, ◌-◌, ◌*◌, inr, arith, subst, sym, ◌∙◌, true, false, Bool, List, [], Option, Some, None, ap, ⊎_elim, append-nil, ◌⊎◌, zero, suc, is_some, length, ◌∷◌, ◌++◌}
+use Rattle.prcu_model.specs.declared.operation.Op.{Op}
+use Rattle.prcu_model.specs.declared.operation.Told.{Told}
+use Rattle.tree_handles.specs.Callers.{CallerAt, IsSameCaller, MayGoOn, pairs_that_fit, IsFilled, IsInside, AreOfOneIndex}
+use Rattle.tree_handles.specs.Calls.{TreeTells, IsCalled, ComesBehind, IsAnswered, IsCalledAndKept, CallsMeetFronts, HasLifted, IsLostBehind, IsHinderedBy, IsStoppedBy, Misses, StaysInside, IsLost}
+use Rattle.prcu_marks.specs.Marks.{updates_of, own_of}
+use Rattle.prcu_model.specs.Dictionary.{map_of, Explains}
+use Rattle.prcu_model.specs.declared.operation.Op.TheVariants.{Put}
+use Rattle.prcu_model.specs.declared.operation.Reply.{Reply}
+use Rattle.prcu_model.specs.declared.operation.Reply.TheVariants.{Full as FullReply, New as NewReply}
+use Rattle.core_state.specs.declared.view.View.{View}
+use Rattle.seat_table.specs.Seats.{SeatAt, TableAt, shape_of, IsInside as IsInsideOf}
+use Rattle.citrus_tree.specs.Replies.{Puts, PutsBy, ClientAt, caller_of, room_of}
+use Rattle.prcu_marks.proofs.Callers.{told_meets}
+use Rattle.prcu_marks.specs.Callers.{HasAnswered}
+use Rattle.core_state.specs.declared.shape.Shape.{Shape}
+use Rattle.citrus_tree.proofs.Clients.{chain_told}
+use Rattle.tree_lift.specs.Lifts.{IsToldThenLifts, GivesAllBack, LeavesNoUpdate}
+use Rattle.tree_lift.proofs.Calls.{told_alone, told_lifted, told_answers}
+use mathlib.Core.List.{IsPrefix}
+use Rattle.prcu_model.proofs.ListFacts.{prefix_trans, all_append}
+use Rattle.core_state.specs.declared.view.StepMade.{StepMade}
+use Rattle.core_state.specs.Steps.{first_of}
+use Rattle.seat_table.specs.Sections.{HasEntered, HasLeft, IsQuietReader}
+use Rattle.seat_table.specs.Waits.{HasWaited}
+use Rattle.seat_table.proofs.SeveralSteps.{seen_more}
+use Rattle.node_slots.specs.Reclaiming.{HasReclaimed}
+use Rattle.tree_points.specs.Points.{KeepsAllowance}
+use Rattle.citrus_tree.specs.Going.{HasBegunNone, HasBegunFirst, KeepsSlots, KeepsWait, IsOfTry}
+use Rattle.citrus_tree.specs.Lookups.{HoldsOrNot, IsHolding, Looked}
+use Rattle.citrus_tree.proofs.Leavings.{goes_looked}
+use Rattle.exact_list.specs.Loads.{HasListed, HasListedAfterTries, HasListedAlone, HasListedByTry, IsOneWalk}
+use Rattle.exact_list.specs.Tries.{Try, HasTried, Paged, marks_from}
+use Rattle.grace_cookie.specs.Cookies.{CookieAt, IsOf, IsGivenUp, KeepsLatest}
+use Rattle.grace_cookie.proofs.Keeping.{waits_stay, keeps_latest, begins_later, waits_later}
+use Rattle.tree_handles.specs.Holds.{HasCookie, CannotAsk, Waits}
+use Rattle.tree_handles.specs.Lists.{IsLeft, Lists}
+use Rattle.key_interval.specs.Keys.{Interval}
+use Rattle.core_state.specs.declared.view.Section.{Section}
+use Rattle.tree_handles.specs.declared.status.Status.{Status}
+use Rattle.tree_handles.specs.declared.status.Status.TheVariants.{Done, Unchanged, Full, More, Moved, New, Different, Closed, BadArgument, NoMemory, Spent, Lost, Holds}
+use Rattle.core_state.specs.declared.view.Retired.{Retired}
+use Rattle.seat_table.specs.Gains.{IsFull}
+use Rattle.exact_list.specs.declared.alone.Exact.{Exact}
+use Rattle.tree_handles.specs.Tidying.{Finishes, IsUnwritten, MayTidy, Output, Tidies, LiftsNext, LevelledTo, StopsAt, MakesSlots, Levels, IsOfTidy, LeavesNoUpdates, TidiesMakeNoUpdate}
+use Rattle.std.specs.List.{AllByRecursion}
+use Rattle.prcu_marks.specs.declared.mark.Mark.{Mark}
+use Rattle.tree_points.proofs.Locks.{gone_on, gone_same}
+use Rattle.exact_list.specs.Pairs.{Pair}
+use Rattle.tree_lift.specs.declared.lifting.Stop.{Stop}
+use Rattle.tree_handles.specs.declared.tidying.Tally.{Tally}
+use Rattle.std.specs.FinMap as finite
+use Rattle.tree_lift.specs.declared.lifting.Stop.TheVariants as stop
+use Rattle.tree_handles.specs.declared.tidying.Ending.TheVariants as ending
+
+pub nothing_behind : {c d : CallerAt} {op : Op} {told : Told} → IsSameCaller c d → MayGoOn c → 4 ≤ c.seat.view.allowance.tickets
+    → TreeTells c op told d.seat → MayGoOn d → IsCalled c op told d
+nothing_behind {d = d} index before enough tells may = record {
+  index = index;
+  before = before;
+  enough = enough;
+  answered = d.seat;
+  tells = tells;
+  behind = inl (record { seat = refl; may = may });
+}
+
+-- A put that is told Full fills the index: as many pairs are there as always fit.
+
+fitting : (way : ℕ) (table : TableAt) (v w : View) (key value : ℕ) (told : Told) → told.reply ≡ FullReply
+    → Puts (shape_of way table) v key value told w → pairs_that_fit table ≤ finite.len (map_of (updates_of w.seen))
+fitting way table v w key value told full puts =
+    let by = subst (λ (r : Reply). PutsBy (shape_of way table) v key value puts.0 r told.number w) full puts.1 in
+    let fills = by.3.fills in
+    let kept = (table.room + 4) * (table.places - 1) in
+    omega (arith, fills)
+
+-- nothing comes behind a put that is told Full
+full_ends : (key value : ℕ) (told : Told) (s : SeatAt) (d : CallerAt) → told.reply ≡ FullReply → ComesBehind (Put key value) told s d → d.seat ≡ s
+full_ends key value told s d full (inl goes) = goes.seat
+full_ends key value told s d full (inr (at, added, lifted)) = absurd (let e : FullReply ≡ NewReply = sym full ∙ added.new in cc)
+
+pub filled : (c : CallerAt) (key value : ℕ) (d : CallerAt) → IsAnswered c (Put key value) FullReply d → IsFilled d
+filled c key value d (told, full, called) =
+    let fits = fitting c.way c.table c.seat.view called.answered.view key value told full called.tells.answer in record {
+      pairs = subst (λ (t : TableAt). pairs_that_fit t ≤ finite.len (map_of (updates_of d.seat.view.seen))) (sym called.index.table)
+          (subst (λ (s : SeatAt). pairs_that_fit c.table ≤ finite.len (map_of (updates_of s.view.seen)))
+          (sym (full_ends key value told called.answered d full called.behind)) fits);
+    }
+
+-- A call of a caller that isn't lost is one of a client that lifts, and so are calls one after another.
+
+-- the client that a caller is
+abbrev client_of : CallerAt → ClientAt
+client_of c = record { shape = shape_of c.way c.table; table = c.table; seat = c.seat }
+
+told_then : (k : Shape) (c : CallerAt) (op : Op) (told : Told) (s : SeatAt) (d : CallerAt) → IsToldThenLifts k c.seat.view op told s.view
+    → d.seat ≡ s → IsToldThenLifts k c.seat.view op told d.seat.view
+told_then k c op told s d is same = subst (λ (t : SeatAt). IsToldThenLifts k c.seat.view op told t.view) (sym same) is
+
+comes_behind : (c : CallerAt) (op : Op) (told : Told) (d : CallerAt) (called : IsCalled c op told d) → d.lost ≡ false
+    → ComesBehind op told called.answered d → IsToldThenLifts (shape_of c.way c.table) c.seat.view op told d.seat.view
+comes_behind c op told d called kept (inl goes) =
+    told_then (shape_of c.way c.table) c op told called.answered d
+    (told_alone (shape_of c.way c.table) c.seat.view op told called.answered.view called.tells.answer) goes.seat
+comes_behind c op told d called kept (inr (key, added, inl lifted)) = told_lifted
+    (shape_of c.way c.table) c.seat.view op key added.value told called.answered.view d.seat.view added.put called.tells.answer lifted.updates
+comes_behind c op told d called kept (inr (key, added, inr lost)) = absurd (let e : true ≡ false = sym lost.lost ∙ kept in cc)
+
+same_shape : (c : CallerAt) (op : Op) (told : Told) (d : CallerAt) → IsCalled c op told d → shape_of d.way d.table ≡ shape_of c.way c.table
+same_shape c op told d called = λ i. shape_of (called.index.way i) (called.index.table i)
+
+answers : (c : CallerAt) (op : Op) (told : Told) (d : CallerAt) → IsCalledAndKept c op told d
+    → ((client_of d).shape ≡ (client_of c).shape)
+    × HasAnswered (Explains (room_of (client_of c).shape)) (caller_of (client_of c)) op told (caller_of (client_of d))
+answers c op told d (called, kept) = (
+  same_shape c op told d called,
+  told_answers (shape_of c.way c.table) c.seat.view d.seat.view op told (comes_behind c op told d called kept called.behind),
+)
+
+pub calls_meet : CallsMeetFronts
+calls_meet ops tolds before after none chain =
+    told_meets (Explains (room_of (shape_of before.way before.table))) (caller_of (client_of before)) ops tolds (caller_of (client_of after))
+    (chain_told IsCalledAndKept client_of answers (shape_of before.way before.table) ops tolds before after refl none chain)
+
+-- A caller's cookie stays good over its calls.
+
+pub no_cookie : {k : Shape} {v : View} → HasCookie k None v
+no_cookie = record { each = λ c e. absurd (cc) }
+
+pub one_cookie : {k : Shape} {v : View} (c : CookieAt) → c.over ≡ false → IsOf k c v → HasCookie k (Some c) v
+one_cookie {k} {v} c going of = record {
+  each = λ d e. (let same : c ≡ d = cc in subst (λ (z : CookieAt). (z.over ≡ false) × IsOf k z v) same (going, of));
+}
+
+-- what the seat had seen it has seen still
+seen_first : {v w : View} → HasBegunFirst v w → IsPrefix v.seen w.seen
+seen_first {v} {w} first = prefix_trans v.seen (first.before).seen w.seen (first.none).seen
+    (prefix_trans (first.before).seen (first.after).seen w.seen (seen_more first.before first.after _ (first.begun).leaves) first.seen)
+
+seen_on : {v w : View} → KeepsWait v w → IsPrefix v.seen w.seen
+seen_on {v} {w} wait = ⊎_elim (λ (none : HasBegunNone v w). none.seen) (λ (first : HasBegunFirst v w). seen_first first) wait
+
+module _ {k : Shape} {cookie : Option CookieAt} where
+  stays_good : {v w : View} → KeepsLatest v w → HasCookie k cookie v → HasCookie k cookie w
+  stays_good {v} {w} keeps has = record { each = λ c e. (let was = has.each c e in (was.0, waits_stay k c v w keeps was.1)) }
+
+  -- ---- calls of the tree
+
+  pub cookie_called : {s t : SeatAt} → KeepsSlots s t → KeepsWait s.view t.view → KeepsAllowance s.view t.view → HasCookie k cookie s.view
+      → HasCookie k cookie t.view
+  cookie_called {s} {t} slots wait allowance has = stays_good (record {
+    place = ap (λ a. a.place) allowance.rest;
+    seen = seen_on wait;
+    waits = slots.waits;
+    wait = slots.wait;
+  }) has
+
+  -- ---- sections
+
+  pub cookie_entered : {v w : View} {key : ℕ} → HasEntered v key w → HasCookie k cookie v → HasCookie k cookie w
+  cookie_entered {v} {w} e has = stays_good (keeps_latest v w (ap (λ (z : View). z.allowance.place) e.others)
+      (seen_more v w _ e.leaves) (ap (λ (z : View). z.counts.waits) e.others) (ap (λ (z : View). z.wait) e.others)) has
+
+  pub cookie_left : {v w : View} → HasLeft v w → HasCookie k cookie v → HasCookie k cookie w
+  cookie_left {v} {w} e has = stays_good (keeps_latest v w (ap (λ (z : View). z.allowance.place) e.others)
+      (seen_more v w _ e.leaves) (ap (λ (z : View). z.counts.waits) e.others) (ap (λ (z : View). z.wait) e.others)) has
+
+  cookie_holding : {v w : View} {key value : ℕ} → IsHolding v key value w → HasCookie k cookie v → HasCookie k cookie w
+  cookie_holding {v} {w} holding has =
+      let found = holding.found in
+      let e = found.others in
+      stays_good (keeps_latest found.entry w (ap (λ (z : View). z.allowance.place) e)
+      ([], append-nil (found.entry).seen ∙ sym (ap (λ (z : View). z.seen) e)) (ap (λ (z : View). z.counts.waits) e)
+      (ap (λ (z : View). z.wait) e)) (cookie_entered found.entered has)
+
+  cookie_looked : {v w : View} {key : ℕ} {answer : Option ℕ} → Looked v key answer w → HasCookie k cookie v → HasCookie k cookie w
+  cookie_looked {v} {w} looked has =
+      let goes = goes_looked looked in
+      stays_good (keeps_latest v w goes.gone.same goes.gone.begins goes.waits goes.wait) has
+
+  pub cookie_held : {v w : View} (key : ℕ) (answer : Option ℕ) → HoldsOrNot v key answer w → HasCookie k cookie v → HasCookie k cookie w
+  cookie_held key (Some value) holding has = cookie_holding holding has
+  cookie_held key None looked has = cookie_looked looked has
+
+  -- ---- lists, waits and shares
+
+  pub cookie_tried : {v w : View} {key : ℕ} {tries : List Try} → HasTried v key tries w → HasCookie k cookie v → HasCookie k cookie w
+  cookie_tried {v} {w} e has = stays_good (keeps_latest v w (ap (λ (z : View). z.allowance.place) e.others) e.seen
+      (ap (λ (z : View). z.counts.waits) e.others) (ap (λ (z : View). z.wait) e.others)) has
+
+  -- the front was taken, or given back
+  cookie_front : {v w : View} → w.allowance ≡ v.allowance → w.seen ≡ v.seen → w.counts ≡ v.counts → w.wait ≡ v.wait → HasCookie k cookie v
+      → HasCookie k cookie w
+  cookie_front {v} {w} allowance seen counts wait has = stays_good (keeps_latest v w (ap (λ a. a.place) allowance)
+      ([], append-nil v.seen ∙ sym seen) (ap (λ c. c.waits) counts) wait) has
+
+  cookie_alone : {v w : View} {key front : ℕ} {walk : List StepMade → Type 0} → HasListedAlone v key front walk w → HasCookie k cookie v
+      → HasCookie k cookie w
+  cookie_alone {v} {w} a has =
+      let takes = a.takes.others in
+      let gives = a.gives.others in
+      cookie_front (ap (λ (z : View). z.allowance) gives) (ap (λ (z : View). z.seen) gives) (ap (λ (z : View). z.counts) gives)
+      (ap (λ (z : View). z.wait) gives) (cookie_tried a.tried
+      (cookie_front (ap (λ (z : View). z.allowance) takes) (ap (λ (z : View). z.seen) takes) (ap (λ (z : View). z.counts) takes)
+      (ap (λ (z : View). z.wait) takes) has))
+
+  pub cookie_listed : {v w : View} {key front most : ℕ} {walk : List StepMade → Type 0} → HasListed v key front most walk w
+      → HasCookie k cookie v → HasCookie k cookie w
+  cookie_listed {v} {w} {key} {front} {most} {walk} came has = ⊎_elim
+      (λ (x : HasListedByTry v key front most w). cookie_tried x.tried has)
+      (λ (x : HasListedAfterTries v key front most walk w). cookie_alone x.alone (cookie_tried x.tried has)) came
+
+  pub cookie_waited : {other : Shape} {v w : View} {low high : ℕ} → HasWaited other v low high w → HasCookie k cookie v
+      → HasCookie k cookie w
+  cookie_waited {other} {v} {w} {low} {high} waited has = stays_good (waits_later other v w low high waited) has
+
+  pub cookie_shared : {v w : View} (handles tickets : ℕ) → w ≡ first_of handles tickets v → HasCookie k cookie v → HasCookie k cookie w
+  cookie_shared {v} {w} handles tickets e has = stays_good (keeps_latest v w (ap (λ (z : View). z.allowance.place) e)
+      ([], append-nil v.seen ∙ sym (ap (λ (z : View). z.seen) e)) (ap (λ (z : View). z.counts.waits) e) (ap (λ (z : View). z.wait) e)) has
+
+  -- ---- slots given back
+
+  cookie_reclaimed : {other : Shape} {v w : View} {listed : List ℕ} → HasReclaimed other v listed w → HasCookie k cookie v
+      → HasCookie k cookie w
+  cookie_reclaimed {other} {v} {w} {listed} back has = stays_good (begins_later v w (ap (λ (z : View). z.allowance.place) back.rest) back.seen
+      (let more : w.counts.waits ≡ v.counts.waits + 1 = ap (λ (z : View). z.counts.waits) back.rest in omega arith)) has
+
+  pub cookie_gives_back : (other : Shape) (s t : SeatAt) (some : Bool) → GivesAllBack other s some t → HasCookie k cookie s.view
+      → HasCookie k cookie t.view
+  cookie_gives_back other s t true back has = cookie_reclaimed back.0 has
+  cookie_gives_back other s t false none has = subst (λ (z : SeatAt). HasCookie k cookie z.view) (sym none.0) has
+
+-- A question about a cookie that was given up leaves all as it was.
+pub given_up : (c : CallerAt) (number latest : ℕ) (cookie now : CookieAt) (t : SeatAt) → MayGoOn c → c.cookie ≡ Some cookie
+    → cookie.count ≡ number → IsGivenUp cookie c.seat.view latest now t.view → t ≡ c.seat
+    → CannotAsk c number × IsLeft c (record c { seat = t; cookie = Some now })
+given_up c number latest cookie now t may was number_is gave same = (
+  inr (let a = gave.later in let b = gave.latest_is in omega arith),
+  record {
+    same = λ i. record c { seat = same i; cookie = (ap (λ z. Some z) gave.cookie ∙ sym was) i };
+    may = may;
+  },
+)
+
+-- Callers that are in a section.
+
+inside_some : (o : Option ℕ) (s : Option Section) → IsInsideOf o s → is_some o ≡ true → (section : Section) × (s ≡ Some section)
+inside_some None s inside e = absurd (cc)
+inside_some (Some key) None inside e = absurd inside
+inside_some (Some key) (Some section) inside e = (section, refl)
+
+-- a caller whose seat tells a key is in a section
+pub stays_inside : (c : CallerAt) (o : Option ℕ) → c.lost ≡ false → c.seat.table ≡ c.table → IsQuietReader c.seat
+    → IsInsideOf o c.seat.view.section → is_some o ≡ true → StaysInside c c
+stays_inside c o kept seat quiet inside e = record {
+  same = refl;
+  inside = record { kept = kept; seat = seat; quiet = quiet; inside = inside_some o c.seat.view.section inside e };
+}
+
+-- what stops a call hinders it, however many tickets it needs
+pub stops_call : (needed : ℕ) (status : Status) (c d : CallerAt) → IsStoppedBy status c d → IsHinderedBy needed status c d
+stops_call needed Lost c d s = s
+stops_call needed Holds c d s = s
+stops_call needed Done c d s = absurd s
+stops_call needed Unchanged c d s = absurd s
+stops_call needed Full c d s = absurd s
+stops_call needed More c d s = absurd s
+stops_call needed Moved c d s = absurd s
+stops_call needed New c d s = absurd s
+stops_call needed Different c d s = absurd s
+stops_call needed Closed c d s = absurd s
+stops_call needed BadArgument c d s = absurd s
+stops_call needed NoMemory c d s = absurd s
+stops_call needed Spent c d s = absurd s
+
+-- where the keys are some, what hinders a call with one ticket is what a wait answers
+pub hinders_wait : (keys : Interval) (status : Status) (c d : CallerAt) → keys.low ≤ keys.high → IsHinderedBy 1 status c d
+    → Waits c keys status d
+hinders_wait keys Spent c d some h = (some, h)
+hinders_wait keys Lost c d some h = h
+hinders_wait keys Holds c d some h = h
+hinders_wait keys Done c d some h = absurd h
+hinders_wait keys Unchanged c d some h = absurd h
+hinders_wait keys Full c d some h = absurd h
+hinders_wait keys More c d some h = absurd h
+hinders_wait keys Moved c d some h = absurd h
+hinders_wait keys New c d some h = absurd h
+hinders_wait keys Different c d some h = absurd h
+hinders_wait keys Closed c d some h = absurd h
+hinders_wait keys BadArgument c d some h = absurd h
+hinders_wait keys NoMemory c d some h = absurd h
+
+-- a caller that may go on is in no section
+may_outside : (c : CallerAt) → MayGoOn c → IsInside c → ⊥
+may_outside c may inside =
+    let none : c.seat.view.section ≡ None = may.quiet.view.section in
+    let some : c.seat.view.section ≡ Some inside.inside.0 = inside.inside.1 in absurd (cc)
+
+lifted_outside : (key : ℕ) (s : SeatAt) (d : CallerAt) → HasLifted key s d ⊎ IsLostBehind d → IsInside d → ⊥
+lifted_outside key s d (inl lifted) inside = may_outside d lifted.may inside
+lifted_outside key s d (inr lost) inside =
+    let gone : d.lost ≡ true = lost.lost in
+    let kept : d.lost ≡ false = inside.kept in absurd (cc)
+
+behind_outside : (op : Op) (told : Told) (s : SeatAt) (d : CallerAt) → ComesBehind op told s d → IsInside d → ⊥
+behind_outside op told s d (inl goes) inside = may_outside d goes.may inside
+behind_outside op told s d (inr b) inside = lifted_outside b.0 s d b.2 inside
+
+-- and so is one that was just called
+pub answered_outside : (c : CallerAt) (op : Op) (reply : Reply) (d : CallerAt) → IsAnswered c op reply d → IsInside d → ⊥
+answered_outside c op reply d a inside = behind_outside op a.0 a.2.answered d a.2.behind inside
+
+-- a caller that is in a section has made no round of an upsert
+pub none_missed : (rounds : ℕ) (key value : ℕ) (c a d : CallerAt) → Misses c key value rounds a → StaysInside a d → StaysInside c d
+none_missed zero key value c a d misses stays = subst (λ z. StaysInside z d) misses stays
+none_missed (suc rounds) key value c a d misses stays =
+    absurd (answered_outside misses.1 _ _ a misses.4 stays.inside)
+
+-- Lifts of ways one after another.
+
+pub index_on : (c b d : CallerAt) → AreOfOneIndex c b → AreOfOneIndex b d → AreOfOneIndex c d
+index_on c b d one two = record { way = two.way ∙ one.way; table = two.table ∙ one.table; salt = two.salt ∙ one.salt }
+
+-- the same caller is of the same index
+pub of_one_index : (c d : CallerAt) → IsSameCaller c d → AreOfOneIndex c d
+of_one_index c d same = record { way = same.way; table = same.table; salt = same.salt }
+
+-- A caller that could go on came to another that could, which is lost now.
+pub lost_on : (c b d : CallerAt) → MayGoOn c → AreOfOneIndex c b → MayGoOn b → IsLost b d → IsLost c d
+lost_on c b d before index may lost = record {
+  index = index_on c b d index lost.index;
+  lost = lost.lost;
+  tired = λ _. lost.tired may.kept;
+  earlier = λ e. absurd (let other : true ≡ false = sym e ∙ before.kept in cc);
+}
+
+-- No slot was free for a place that has none to give back: as many pairs are there as always fit.
+pub filled_here : (c d : CallerAt) → d.table ≡ c.table → IsFull (shape_of c.way c.table) d.seat.view → d.seat.view.hands.retired ≡ [] → IsFilled d
+filled_here c d same full none =
+    let k = shape_of c.way c.table in
+    let kept = (c.table.room + 4) * (c.table.places - 1) in
+    let empty = ap (length {A = Retired}) none in record {
+      pairs = subst (λ (t : TableAt). pairs_that_fit t ≤ finite.len (map_of (updates_of d.seat.view.seen))) (sym same) (omega (arith, full, empty));
+    }
+
+-- Listed keys whose ways were lifted are what a tidy answers.
+listed_on : (c : CallerAt) (keys : Interval) (page : Paged) (exact : Exact) (b d : CallerAt) → Lists c keys page exact b → IsLost b d
+    → IsLost c d
+listed_on c keys page exact b d listed lost =
+    lost_on c b d listed.looks.before (of_one_index c b listed.looks.index) listed.looks.after lost
+
+pub tidies_listed : (c : CallerAt) (keys : Interval) (turns was : ℕ) (status : Status) (out : Output) (d : CallerAt) (page : Paged)
+    (after : Option ℕ) (front : ℕ) (b : CallerAt) → MayTidy c keys turns → page.capacity ≡ 256 → Lists c keys page (record { front = front; next = after }) b
+    → Finishes page.pairs turns after b was status out d → Tidies c keys turns was status out d
+tidies_listed c keys turns was Done out d page after front b may capacity listed finished =
+    record { may = may; page = page; capacity = capacity; after = after; front = front; before = b; listed = listed; finished = finished }
+tidies_listed c keys turns was More out d page after front b may capacity listed finished =
+    record { may = may; page = page; capacity = capacity; after = after; front = front; before = b; listed = listed; finished = finished }
+tidies_listed c keys turns was Full out d page after front b may capacity listed finished =
+    record { may = may; page = page; capacity = capacity; after = after; front = front; before = b; listed = listed; finished = finished }
+tidies_listed c keys turns was Lost out d page after front b may capacity listed finished =
+    (listed_on c keys page (record { front = front; next = after }) b d listed finished.0, finished.1)
+tidies_listed c keys turns was Unchanged out d page after front b may capacity listed finished = absurd finished
+tidies_listed c keys turns was Moved out d page after front b may capacity listed finished = absurd finished
+tidies_listed c keys turns was New out d page after front b may capacity listed finished = absurd finished
+tidies_listed c keys turns was Different out d page after front b may capacity listed finished = absurd finished
+tidies_listed c keys turns was Closed out d page after front b may capacity listed finished = absurd finished
+tidies_listed c keys turns was BadArgument out d page after front b may capacity listed finished = absurd finished
+tidies_listed c keys turns was NoMemory out d page after front b may capacity listed finished = absurd finished
+tidies_listed c keys turns was Spent out d page after front b may capacity listed finished = absurd finished
+tidies_listed c keys turns was Holds out d page after front b may capacity listed finished = absurd finished
+
+-- what stops a call is what a tidy answers
+pub tidies_stopped : (c : CallerAt) (keys : Interval) (turns was : ℕ) (status : Status) (out : Output) (d : CallerAt) → IsStoppedBy status c d
+    → IsUnwritten was out → Tidies c keys turns was status out d
+tidies_stopped c keys turns was Lost out d stops unwritten = (stops, unwritten)
+tidies_stopped c keys turns was Holds out d stops unwritten = (stops, unwritten)
+tidies_stopped c keys turns was Done out d stops unwritten = absurd stops
+tidies_stopped c keys turns was Unchanged out d stops unwritten = absurd stops
+tidies_stopped c keys turns was Full out d stops unwritten = absurd stops
+tidies_stopped c keys turns was More out d stops unwritten = absurd stops
+tidies_stopped c keys turns was Moved out d stops unwritten = absurd stops
+tidies_stopped c keys turns was New out d stops unwritten = absurd stops
+tidies_stopped c keys turns was Different out d stops unwritten = absurd stops
+tidies_stopped c keys turns was Closed out d stops unwritten = absurd stops
+tidies_stopped c keys turns was BadArgument out d stops unwritten = absurd stops
+tidies_stopped c keys turns was NoMemory out d stops unwritten = absurd stops
+tidies_stopped c keys turns was Spent out d stops unwritten = absurd stops
+
+-- A tidy leaves no mark of an update.
+
+of_key : (place key : ℕ) (marks : List Mark) → AllByRecursion (IsOfTry place key) marks → AllByRecursion (IsOfTidy place) marks
+of_key place key [] each = tt
+of_key place key (m ∷ marks) each = ((key, each.0), of_key place key marks each.1)
+
+plain_none : (v w : View) → w ≡ v → LeavesNoUpdates v w
+plain_none v w same = subst (LeavesNoUpdates v) (sym same) (record { marks = []; gone = gone_same; each = tt })
+
+plain_one : (key : ℕ) (v w : View) → LeavesNoUpdate v key w → LeavesNoUpdates v w
+plain_one key v w left = record { marks = left.marks; gone = left.gone; each = of_key v.allowance.place key left.marks left.each }
+
+plain_on : (u v w : View) → LeavesNoUpdates u v → LeavesNoUpdates v w → LeavesNoUpdates u w
+plain_on u v w a b = record {
+  marks = a.marks ++ b.marks;
+  gone = gone_on a.gone b.gone;
+  each = all_append (IsOfTidy u.allowance.place) a.marks b.marks a.each
+      (subst (λ p. AllByRecursion (IsOfTidy p) b.marks) a.gone.same b.each);
+}
+
+-- the marks of a list's tries
+of_tries : (place section key : ℕ) (tries : List Try) → AllByRecursion (IsOfTidy place) (marks_from place section key tries)
+of_tries place section key [] = tt
+of_tries place section key (t ∷ tries) = ((key, (refl, refl)), ((key, refl), of_tries place (section + 1) key tries))
+
+plain_tried : (v : View) (key : ℕ) (tries : List Try) (w : View) → HasTried v key tries w → LeavesNoUpdates v w
+plain_tried v key tries w tried = record {
+  marks = marks_from v.allowance.place v.counts.sections key tries;
+  gone = record {
+    steps = (tried.made.steps, sym (ap (λ t. t.steps) tried.made.trail));
+    same = ap (λ (z : View). z.allowance.place) tried.others;
+    allowance = record { rest = allowance_same };
+    begins = tried.seen;
+    own = tried.own;
+  };
+  each = of_tries v.allowance.place v.counts.sections key tries;
+}
+  where
+    allowance_same : w.allowance ≡ record v.allowance { tickets = w.allowance.tickets }
+    allowance_same =
+        let same = ap (λ (z : View). z.allowance) tried.others in
+        subst (λ a. a ≡ record v.allowance { tickets = a.tickets }) (sym same) refl
+
+-- the front was taken, or given back
+plain_front : (v w : View) → w.allowance ≡ v.allowance → w.seen ≡ v.seen → IsPrefix v.trail.steps w.trail.steps → LeavesNoUpdates v w
+plain_front v w allowance seen steps = record {
+  marks = [];
+  gone = record {
+    steps = steps;
+    same = ap (λ a. a.place) allowance;
+    allowance = record { rest = subst (λ a. a ≡ record v.allowance { tickets = a.tickets }) (sym allowance) refl };
+    begins = ([], append-nil v.seen ∙ sym seen);
+    own = ap (own_of v.allowance.place) seen ∙ sym (append-nil (own_of v.allowance.place v.seen));
+  };
+  each = tt;
+}
+
+plain_alone : (v : View) (key front : ℕ) (walk : List StepMade → Type 0) (w : View) → HasListedAlone v key front walk w
+    → LeavesNoUpdates v w
+plain_alone v key front walk w a =
+    let takes = a.takes.others in
+    let gives = a.gives.others in
+    plain_on v a.listed w (plain_on v a.holding a.listed
+    (plain_front v a.holding (ap (λ (z : View). z.allowance) takes) (ap (λ (z : View). z.seen) takes)
+    (a.takes.made.steps, sym (ap (λ t. t.steps) a.takes.made.trail)))
+    (plain_tried a.holding key _ a.listed a.tried))
+    (plain_front a.listed w (ap (λ (z : View). z.allowance) gives) (ap (λ (z : View). z.seen) gives)
+    (_, sym (ap (λ t. t.steps) a.gives.trail)))
+
+plain_listed : (c : CallerAt) (keys : Interval) (page : Paged) (exact : Exact) (d : CallerAt) → Lists c keys page exact d
+    → LeavesNoUpdates c.seat.view d.seat.view
+plain_listed c keys page exact d listed = ⊎_elim
+    (λ (x : HasListedByTry c.seat.view keys.low exact.front 4 d.seat.view). plain_tried c.seat.view keys.low x.tries d.seat.view x.tried)
+    (λ (x : HasListedAfterTries c.seat.view keys.low exact.front 4 (IsOneWalk page.pairs exact.next) d.seat.view).
+    plain_on c.seat.view x.failed d.seat.view (plain_tried c.seat.view keys.low x.tries x.failed x.tried)
+    (plain_alone x.failed keys.low exact.front (IsOneWalk page.pairs exact.next) d.seat.view x.alone))
+    listed.looks.came
+
+plain_next : (key turns : ℕ) (ended : Stop) (c : CallerAt) (before : Tally) (d : CallerAt) (after : Tally)
+    → LiftsNext key turns ended c before d after → LeavesNoUpdates c.seat.view d.seat.view
+plain_next key turns ended c before d after lifts = plain_one key c.seat.view d.seat.view lifts.way.updates
+
+plain_levelled : (pairs : List Pair) (turns : ℕ) (c : CallerAt) (i : ℕ) (n : Tally) (d : CallerAt) → LevelledTo pairs turns c i n d
+    → LeavesNoUpdates c.seat.view d.seat.view
+plain_levelled pairs turns c zero n d levelled = plain_none c.seat.view d.seat.view (ap (λ (z : CallerAt). z.seat.view) levelled.0)
+plain_levelled pairs turns c (suc i) n d (b, m, p, levelled, at, lifts) = plain_on c.seat.view b.seat.view d.seat.view
+    (plain_levelled pairs turns c i m b levelled) (plain_next p.0 turns stop.Level b m d n lifts)
+
+plain_stops : (pairs : List Pair) (turns : ℕ) (c : CallerAt) (key : ℕ) (ended : Stop) (n : Tally) (d : CallerAt)
+    → StopsAt pairs turns c key ended n d → LeavesNoUpdates c.seat.view d.seat.view
+plain_stops pairs turns c key ended n d stops = plain_on c.seat.view stops.before.seat.view d.seat.view
+    (plain_levelled pairs turns c stops.i stops.tally stops.before stops.levelled)
+    (plain_next stops.pair.0 turns ended stops.before stops.tally d n stops.lifted)
+
+plain_slots : (c d : CallerAt) → MakesSlots c d → LeavesNoUpdates c.seat.view d.seat.view
+plain_slots c d (inl none) = plain_none c.seat.view d.seat.view (ap (λ (z : CallerAt). z.seat.view) none.1)
+plain_slots c d (inr back) = plain_one 0 c.seat.view d.seat.view (back.updates 0)
+
+plain_short : (pairs : List Pair) (turns : ℕ) (c : CallerAt) (key : ℕ) (n : Tally) (d : CallerAt) → Levels pairs turns c (ending.Short key) n d
+    → LeavesNoUpdates c.seat.view d.seat.view
+plain_short pairs turns c key n d (inl before) = plain_levelled pairs turns c before.i n d before.levelled
+plain_short pairs turns c key n d (inr (inl stops)) = plain_stops pairs turns c key stop.Spent n d stops
+plain_short pairs turns c key n d (inr (inr (b, stops, slots))) = plain_on c.seat.view b.seat.view d.seat.view
+    (plain_stops pairs turns c key stop.NoSlot n b stops) (plain_slots b d slots)
+
+plain_finished : (pairs : List Pair) (turns : ℕ) (after : Option ℕ) (c : CallerAt) (was : ℕ) (status : Status) (out : Output) (d : CallerAt)
+    → d.lost ≡ false → Finishes pairs turns after c was status out d → LeavesNoUpdates c.seat.view d.seat.view
+plain_finished pairs turns after c was Done out d kept (n, made, none, same, levels) = plain_levelled pairs turns c (length pairs) n d levels
+plain_finished pairs turns after c was More out d kept (n, made, inl (some, levels)) = plain_levelled pairs turns c (length pairs) n d levels
+plain_finished pairs turns after c was More out d kept (n, made, inr levels) = plain_short pairs turns c out.next n d levels
+plain_finished pairs turns after c was Full out d kept (n, made, levels) = plain_stops pairs turns c out.next stop.NoSlot n d levels.0
+plain_finished pairs turns after c was Lost out d kept finished = absurd (let e : true ≡ false = sym finished.0.lost ∙ kept in cc)
+plain_finished pairs turns after c was Unchanged out d kept finished = absurd finished
+plain_finished pairs turns after c was Moved out d kept finished = absurd finished
+plain_finished pairs turns after c was New out d kept finished = absurd finished
+plain_finished pairs turns after c was Different out d kept finished = absurd finished
+plain_finished pairs turns after c was Closed out d kept finished = absurd finished
+plain_finished pairs turns after c was BadArgument out d kept finished = absurd finished
+plain_finished pairs turns after c was NoMemory out d kept finished = absurd finished
+plain_finished pairs turns after c was Spent out d kept finished = absurd finished
+plain_finished pairs turns after c was Holds out d kept finished = absurd finished
+
+pub tidies_plain : TidiesMakeNoUpdate
+tidies_plain c keys turns was status out d kept tidied = plain_on c.seat.view tidied.before.seat.view d.seat.view
+    (plain_listed c keys tidied.page (record { front = tidied.front; next = tidied.after }) tidied.before tidied.listed)
+    (plain_finished tidied.page.pairs turns tidied.after tidied.before was status out d kept tidied.finished)

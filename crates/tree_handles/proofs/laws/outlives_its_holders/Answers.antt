@@ -1,0 +1,5 @@
+use Rattle.tree_handles.proofs.HeldValues.{outlives_its_holders}
+use Rattle.tree_handles.proofs.laws.outlives_its_holders.Goals as goal
+
+pub returns : goal.returns
+returns c = outlives_its_holders

@@ -1,4 +1,0 @@
-pub mod LeafNeeds
-pub mod LeafLocks
-pub mod LeafTree
-pub mod LeafLinked

@@ -1,9 +1,0 @@
-pub mod Stores
-pub mod StoreLocks
-pub mod StoreSlots
-pub mod StoreReaders
-pub mod StoreMoves
-pub mod StoreCounts
-pub mod StoreFront
-pub mod StoreListings
-pub mod ValueStored

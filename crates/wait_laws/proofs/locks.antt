@@ -1,3 +1,0 @@
-pub mod LockWords
-pub mod OtherLocks
-pub mod Locking

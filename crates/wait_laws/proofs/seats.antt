@@ -1,4 +1,0 @@
-pub mod Regroup
-pub mod Splitting
-pub mod Joining
-pub mod NotedSeats

@@ -1,0 +1,3 @@
+pub mod DeerRows
+pub mod DomainPolls
+pub mod EerPlaces
