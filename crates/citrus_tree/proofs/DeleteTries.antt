@@ -28,7 +28,7 @@ use Rattle.citrus_tree.specs.Going.{IsSeated, NeededRoom, NeededSlots, MayBegin,
 use Rattle.citrus_tree.specs.Deletes.{HasMadeRoom, HasWaitedForRoom, IsReadyToDelete, KeepsWaits, BeginsByLookup, DelsAtOnce, HasDeleted, HasSearched, KeepsRest, retired_slots, TellsTaken}
 use Rattle.citrus_tree.proofs.Linking.{at_least_one, needed_on}
 use Rattle.citrus_tree.proofs.Replacing.{may_begin, waits_in-append}
-use Rattle.citrus_tree.proofs.Leavings.{none_begun, none_yet, reclaimed_first, wait_later, MayHaveBegun, begins_later, begins_searched, wait_on}
+use Rattle.citrus_tree.proofs.Leavings.{none_begun, none_yet, reclaimed_first, wait_later, MayHaveBegun, begins_later, begins_searched, wait_on, KeepsView}
 use Rattle.std.specs.List.{AllByRecursion}
 use Rattle.prcu_marks.specs.declared.mark.Mark.{Mark}
 use Rattle.prcu_marks.specs.Callers.{entered_for}
@@ -446,10 +446,11 @@ dels_allowance k v w key told d = (dels_gone v w key told.number d.0 told.reply 
 -- What a call that is ready and comes to its end leaves: the seat is quiet, and it used four tickets at most.
 module _ {k : Shape} (v : View) {u w : View} {key : ℕ} (ready : IsReadyToDelete k v u) (fits : key < 2 ^ 64)
     (paid : 4 ≤ v.allowance.tickets) where
-  module _ (done : (kept : ℕ) → MayBegin k (Del key) kept u → IsDone k (Del key) kept w) where
-    pub ends_quiet : IsQuiet w
-    ends_quiet = is_quiet (done 0 (ready key 0 fits paid))
-
-    pub ends_tickets : v.allowance.tickets ≤ w.allowance.tickets + 4
-    ends_tickets = (let left = has_kept (done (v.allowance.tickets - 4) (ready key (v.allowance.tickets - 4) fits (omega arith))) in
-        omega arith)
+  pub ends_keeps : ((kept : ℕ) → MayBegin k (Del key) kept u → IsDone k (Del key) kept w) → KeepsWait v w → KeepsAllowance v w
+      → KeepsView 4 v w
+  ends_keeps done wait allowance = record {
+    quiet = is_quiet (done 0 (ready key 0 fits paid));
+    wait = wait;
+    tickets = (let left = has_kept (done (v.allowance.tickets - 4) (ready key (v.allowance.tickets - 4) fits (omega arith))) in omega arith);
+    allowance = allowance;
+  }

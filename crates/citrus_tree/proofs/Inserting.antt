@@ -24,11 +24,11 @@ use Rattle.core_points.specs.Programs.{key_now}
 use Rattle.core_points.specs.Facts.{HasSpot, is_put, table_of}
 use Rattle.core_points.specs.Fits.{owed_op}
 use Rattle.core_points.specs.declared.stage.Spot.{Spot}
-use Rattle.tree_points.specs.Points.{IsAt, HasGone, KeepsAllowance}
+use Rattle.tree_points.specs.Points.{IsAt, HasGone}
 use Rattle.tree_points.proofs.Passing.{begins_put, has_kept, is_quiet, moves_on}
 use Rattle.tree_points.proofs.Locks.{gone_on, gone_same, slot_in_hand}
 use Rattle.citrus_tree.specs.Deletes.{BeginsByLookup, Comes, StandsAt}
-use Rattle.citrus_tree.proofs.Leavings.{MayHaveBegun, begins_later, begins_looked, first_later, first_stays, none_begun, none_on, none_yet, answered_on, goes_looked, was_answered}
+use Rattle.citrus_tree.proofs.Leavings.{MayHaveBegun, begins_later, begins_looked, first_later, first_stays, none_begun, none_on, none_yet, answered_on, goes_looked, was_answered, KeepsView}
 use Rattle.citrus_tree.specs.declared.insert.Reached.{Reached}
 use Rattle.citrus_tree.specs.Going.{Goes, MayBegin, Searched, Since, Unwaited, Waited, leaf_stage, AreTries, HasBegunNone, IsOfTry, KeepsWait, NeededRoom, waits_in, Links, MakesRoom, Reused, filled_stage, linked_stage, old_stage}
 use Rattle.citrus_tree.specs.Hops.{Records}
@@ -283,19 +283,14 @@ module _ {k : Shape} {key value : ℕ} {v : View} where
         pub old_begins : BeginsByLookup v key y
         old_begins = begins_later (begins_looked t.first old_found.1) g.gone
 
-        pub old_allowance : KeepsAllowance v y
-        old_allowance = (since_stays (since_looked t.since old_found.1) g).gone.allowance
-
-        pub old_wait : KeepsWait v y
-        old_wait = keeps_wait (since_stays (since_looked t.since old_found.1) g) y (none_yet y)
-
-        module _ (ends : Comes k (old_stage x.hands.hand) x at.Finished y) where
-          pub old_quiet : IsQuiet y
-          old_quiet = is_quiet (ends (Put key value) 0 (old_ready 0 few))
-
-          pub old_tickets : v.allowance.tickets ≤ y.allowance.tickets + 4
-          old_tickets = (let left = has_kept (ends (Put key value) (v.allowance.tickets - 4)
-              (old_ready (v.allowance.tickets - 4) (omega arith))) in omega arith)
+        pub old_keeps : Comes k (old_stage x.hands.hand) x at.Finished y → KeepsView 4 v y
+        old_keeps ends = let since = since_stays (since_looked t.since old_found.1) g in record {
+          quiet = is_quiet (ends (Put key value) 0 (old_ready 0 few));
+          wait = keeps_wait since y (none_yet y);
+          tickets = (let left = has_kept (ends (Put key value) (v.allowance.tickets - 4)
+              (old_ready (v.allowance.tickets - 4) (omega arith))) in omega arith);
+          allowance = since.gone.allowance;
+        }
 
     -- it isn't
     module _ {answer : Option Reached} {reached : Reached} (some_place : 1 ≤ k.places) (x : View) (is : answer ≡ Some reached)
@@ -349,23 +344,19 @@ module _ {k : Shape} {key value : ℕ} {v : View} where
         pub full_begins : BeginsByLookup v key y
         full_begins = begins_later (begins_looked t.first spot_found.0) left.1
 
-        pub full_allowance : KeepsAllowance v y
-        full_allowance = since.gone.allowance
-
-        pub full_wait : KeepsWait v y
-        full_wait = keeps_wait since y (none_yet y)
-
         module _ {leaf : Option ℕ} (none : leaf ≡ None) (comes : (c : ℕ) (s : Spot)
             → IsAt k (Put key value) c (leaf_stage x.hands.hand s) x → IsAt k (Put key value) c (filled_stage leaf s) y) where
           full_done : (kept : ℕ) → kept + 4 ≤ v.allowance.tickets → IsAt k (Put key value) kept at.Finished y
           full_done kept enough = subst (λ r. IsAt k (Put key value) kept (filled_stage r spot) y) none
               (comes kept spot (spot_ready kept enough))
 
-          pub full_quiet : IsQuiet y
-          full_quiet = is_quiet (full_done 0 few)
-
-          pub full_tickets : v.allowance.tickets ≤ y.allowance.tickets + 4
-          full_tickets = (let left = has_kept (full_done (v.allowance.tickets - 4) (omega arith)) in omega arith)
+          pub full_keeps : KeepsView 4 v y
+          full_keeps = record {
+            quiet = is_quiet (full_done 0 few);
+            wait = keeps_wait since y (none_yet y);
+            tickets = (let left = has_kept (full_done (v.allowance.tickets - 4) (omega arith)) in omega arith);
+            allowance = since.gone.allowance;
+          }
 
         -- a filled slot is in hand
         module _ {leaf : Option ℕ} {slot : ℕ} (some : leaf ≡ Some slot) (comes : (c : ℕ) (s : Spot)
@@ -438,25 +429,18 @@ module _ {k : Shape} {key value : ℕ} {v : View} where
             pub new_begins : BeginsByLookup v key z
             new_begins = begins_later full_begins linked.1.goes.gone
 
-            pub new_allowance : KeepsAllowance v z
-            new_allowance = all_gone.allowance
-
             pub new_goes : Goes y z (Done (record { caller = y.allowance.place; op = Put key value }) ∷ [])
             new_goes = linked.1.goes
-
-            pub new_retired : z.hands.retired ≡ y.hands.retired
-            new_retired = linked.1.goes.retired
-
-            pub new_wait : KeepsWait v z
-            new_wait = keeps_wait since z (none_begun linked.1.goes.gone linked.1.goes.waits linked.1.goes.wait)
 
             module _ (last : (c : ℕ) → IsAt k (Put key value) c (at.LeafLock spot) y
                 → IsAt k (Put key value) c (linked_stage answered) z) where
               new_done : (kept : ℕ) → kept + 4 ≤ v.allowance.tickets → IsAt k (Put key value) kept at.Finished z
               new_done kept enough = subst (λ r. IsAt k (Put key value) kept (linked_stage r) z) one (last kept (locking kept enough))
 
-              pub new_quiet : IsQuiet z
-              new_quiet = is_quiet (new_done 0 few)
-
-              pub new_tickets : v.allowance.tickets ≤ z.allowance.tickets + 4
-              new_tickets = (let left = has_kept (new_done (v.allowance.tickets - 4) (omega arith)) in omega arith)
+              pub new_keeps : KeepsView 4 v z
+              new_keeps = record {
+                quiet = is_quiet (new_done 0 few);
+                wait = keeps_wait since z (none_begun linked.1.goes.gone linked.1.goes.waits linked.1.goes.wait);
+                tickets = (let left = has_kept (new_done (v.allowance.tickets - 4) (omega arith)) in omega arith);
+                allowance = all_gone.allowance;
+              }

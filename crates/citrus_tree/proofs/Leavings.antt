@@ -16,9 +16,9 @@ use Rattle.core_frames.proofs.Roles.{works_there}
 use Rattle.core_state.specs.declared.act.Part.{Part}
 use Rattle.seat_table.specs.Gains.{Sees, Told, IsAsked}
 use Rattle.seat_table.specs.Sections.{Makes, HasStepped}
-use Rattle.tree_points.specs.Points.{HasGone, IsAt}
-use Rattle.tree_points.proofs.Locks.{allowed, further_by, gone_none, gone_on, gone_stays, gone_same, stays, further, no_further}
-use Rattle.citrus_tree.specs.Going.{Goes, Opened, Closed, KeepsSlots, retired_marks, HasBegunFirst, HasBegunNone, KeepsWait, MakesRoom, Reused}
+use Rattle.tree_points.specs.Points.{HasGone, IsAt, KeepsAllowance}
+use Rattle.tree_points.proofs.Locks.{allowed, further_by, gone_none, gone_on, gone_stays, gone_same, stays, further, no_further, allowed_on}
+use Rattle.citrus_tree.specs.Going.{Goes, Opened, Closed, KeepsSlots, retired_marks, HasBegunFirst, HasBegunNone, KeepsWait, MakesRoom, Reused, KeepsSeat}
 use Rattle.citrus_tree.specs.Lookups.{Looked, Gets, IsSearching}
 use Rattle.citrus_tree.specs.Replies.{WasAnswered}
 use Rattle.prcu_model.specs.declared.operation.Op.{Op}
@@ -29,7 +29,7 @@ use Rattle.core_state.specs.Acts.{noted}
 use Rattle.tree_points.proofs.Passing.{commits_any}
 use Rattle.tree_points.proofs.Updates.{passes_commit_made, passes_commit_again, passes_even}
 use Rattle.core_state.specs.declared.view.Retired.{Retired}
-use Rattle.seat_table.specs.Seats.{SeatAt}
+use Rattle.seat_table.specs.Seats.{SeatAt, AreListed, IsQuietSeat}
 use Rattle.seat_table.specs.Waits.{HasWaited}
 use Rattle.node_slots.specs.Reclaiming.{HasReclaimed}
 use Rattle.citrus_tree.specs.Deletes.{HasSearched, KeepsRest, BeginsByLookup}
@@ -42,6 +42,9 @@ use Rattle.core_state.specs.declared.view.SearchState.{SearchState}
 use Rattle.citrus_tree.specs.Hops.{LoadsLinks}
 use Rattle.core_state.specs.declared.act.Act.TheVariants as acts
 use Rattle.core_points.specs.declared.stage.Stage.TheVariants as at
+use Rattle.core_state.specs.Views.{IsQuiet}
+use Rattle.core_state.specs.declared.view.Allowance.{Allowance}
+use Rattle.list_laws.specs.Counts.{times}
 
 -- What steps and searches leave of marks, and what they leave alone.
 
@@ -438,6 +441,86 @@ wait_on {u} {v} {w} more early late = ⊎_elim
     (λ (second : HasBegunFirst v w). first_twice first more second)
     late))
     early
+
+-- What calls leave of their seat, one after another.
+
+-- what a call leaves of its seat's view
+pub record KeepsView (n : ℕ) (v w : View) : Type 0 where
+  pub quiet : IsQuiet w
+  pub wait : KeepsWait v w
+  pub tickets : v.allowance.tickets ≤ w.allowance.tickets + n
+  pub allowance : KeepsAllowance v w
+
+pub keeps_seat : {n : ℕ} {s t : SeatAt} → KeepsView n s.view t.view → AreListed t → KeepsSlots s t → KeepsSeat n s t
+keeps_seat view listed slots = record {
+  quiet = record { view = view.quiet; listed = listed };
+  wait = view.wait;
+  slots = slots;
+  tickets = view.tickets;
+  allowance = view.allowance;
+}
+
+pub listed_on : (s t : SeatAt) → t.listed ≡ s.listed → t.view.hands.retired ≡ s.view.hands.retired → AreListed s → AreListed t
+listed_on s t listed retired are = record {
+  each =
+      λ slot. ap (times slot) listed ∙ are.each slot
+      ∙ ap (λ (rs : List Retired). times slot (map (λ (r : Retired). r.slot) rs)) (sym retired);
+}
+
+-- it begins no wait, and retires nothing
+pub keeps_goes : {n : ℕ} {s t : SeatAt} {marks : List Mark} → KeepsView n s.view t.view → Goes s.view t.view marks → t.listed ≡ s.listed
+    → AreListed s → KeepsSeat n s t
+keeps_goes {s = s} {t = t} view goes listed are =
+    keeps_seat view (listed_on s t listed goes.retired are) (slots_goes s t _ goes listed)
+
+-- a lookup uses no ticket
+pub keeps_looked : {s t : SeatAt} {key : ℕ} {answer : Option ℕ} → IsQuietSeat s → Looked s.view key answer t.view → t.listed ≡ s.listed
+    → KeepsSeat 0 s t
+keeps_looked {s = s} {t = t} q l listed =
+    let goes = goes_looked l in
+    let same : t.view.allowance ≡ s.view.allowance = ap (λ (z : View). z.allowance) l.others in
+    keeps_goes (record {
+      quiet = subst IsQuiet (sym l.others) (record {
+        section = refl;
+        locks = q.view.locks;
+        reserved = q.view.reserved;
+        hand = q.view.hand;
+        moving = q.view.moving;
+        owes = q.view.owes;
+        commit = q.view.commit;
+        raised = q.view.raised;
+      });
+      wait = inl (none_begun goes.gone goes.waits goes.wait);
+      tickets = (let e = ap (λ (a : Allowance). a.tickets) same in omega arith);
+      allowance = goes.gone.allowance;
+    }) goes listed q.listed
+
+-- nothing was done
+pub keeps_same : {n : ℕ} {s : SeatAt} → IsQuietSeat s → KeepsSeat n s s
+keeps_same {s = s} quiet = record {
+  quiet = quiet;
+  wait = inl (none_yet s.view);
+  slots = slots_self s;
+  tickets = omega arith;
+  allowance = record { rest = refl };
+}
+
+-- another number of tickets bounds what it used
+pub keeps_by : {n m : ℕ} {s t : SeatAt} → s.view.allowance.tickets ≤ t.view.allowance.tickets + m → KeepsSeat n s t → KeepsSeat m s t
+keeps_by tickets k =
+    record { quiet = k.quiet; wait = k.wait; slots = k.slots; tickets = tickets; allowance = k.allowance }
+
+pub keeps_more : {n m : ℕ} {s t : SeatAt} → n ≤ m → KeepsSeat n s t → KeepsSeat m s t
+keeps_more more k = keeps_by (let few = k.tickets in omega (arith, more)) k
+
+pub keeps_on : {n m : ℕ} {r s t : SeatAt} → KeepsSeat n r s → KeepsSeat m s t → KeepsSeat (n + m) r t
+keeps_on {r = r} {s = s} {t = t} j k = record {
+  quiet = k.quiet;
+  wait = wait_on j.slots.waits j.wait k.wait;
+  slots = slots_on r s t j.slots k.slots;
+  tickets = (let first = j.tickets in let second = k.tickets in omega arith);
+  allowance = allowed_on j.allowance k.allowance;
+}
 
 -- An update begins by a lookup: the first of its tries does.
 

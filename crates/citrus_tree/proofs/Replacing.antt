@@ -28,16 +28,13 @@ use Rattle.tree_points.proofs.Updates.{gone_store_value, locks_replace, the_valu
 use Rattle.tree_points.proofs.Locks.{needs_set_lock, passes_set_lock_free, passes_set_lock_busy, locks_set_check, needs_unlock, passes_unlock_again, passes_unlock_was, locks_store_value, keeps_locks, locks_from, same_locked}
 use Rattle.citrus_tree.specs.declared.replace.Holder.{Holder}
 use Rattle.citrus_tree.specs.declared.replace.Replaced.{Replaced}
-use Rattle.citrus_tree.specs.Going.{Goes, Opened, Closed, Stores, MayBegin, Sought, set_stage, AreTries, IsOfTry, KeepsWait, waits_in}
+use Rattle.citrus_tree.specs.Going.{Goes, Opened, Closed, Stores, MayBegin, Sought, set_stage, AreTries, IsOfTry, waits_in}
 use Rattle.citrus_tree.specs.Lookups.{Looked}
-use Rattle.citrus_tree.proofs.Leavings.{goes_on, goes_stays, goes_lock, goes_load, goes_unlock, goes_opened, goes_closed, MayHaveBegun, begins_later, begins_looked, none_begun, goes_looked, goes_same, was_answered}
+use Rattle.citrus_tree.proofs.Leavings.{goes_on, goes_stays, goes_lock, goes_load, goes_unlock, goes_opened, goes_closed, MayHaveBegun, begins_later, begins_looked, none_begun, goes_looked, goes_same, was_answered, KeepsView}
 use Rattle.std.specs.List.{AllByRecursion}
 use Rattle.prcu_marks.specs.Callers.{entered_for}
 use Rattle.prcu_model.specs.declared.operation.Reply.TheVariants.{Absent, Was}
 use Rattle.prcu_model.specs.declared.operation.Told.{Told as Reply}
-use Rattle.core_state.specs.declared.view.Retired.{Retired}
-use Rattle.list_laws.specs.Counts.{times}
-use Rattle.seat_table.specs.Seats.{AreListed, SeatAt}
 use Rattle.citrus_tree.specs.Deletes.{BeginsByLookup}
 use Rattle.citrus_tree.specs.Replies.{HasTried, Sets, WasAnswered, Compares, SoughtValue}
 use Rattle.citrus_tree.specs.declared.comparing.Compared.TheVariants.{Replaced as Exchanged, Differs, Absent as Missing}
@@ -294,13 +291,6 @@ waits_in-append (Given s ∷ a) b = waits_in-append a b
 waits_in-append (Unlinked s ∷ a) b = waits_in-append a b
 waits_in-append (Freed s ∷ a) b = waits_in-append a b
 
-pub listed_on : (s t : SeatAt) → t.listed ≡ s.listed → t.view.hands.retired ≡ s.view.hands.retired → AreListed s → AreListed t
-listed_on s t listed retired are = record {
-  each =
-      λ slot. ap (times slot) listed ∙ are.each slot
-      ∙ ap (λ (rs : List Retired). times slot (map (λ (r : Retired). r.slot) rs)) (sym retired);
-}
-
 -- A call that stands at its first point may begin.
 pub may_begin : {k : Shape} {op : Op} {kept : ℕ} {v : View} → IsAt k op kept at.EnterClock v → MayBegin k op kept v
 may_begin a = record { outside = outside_enter a; unlocked = unlocked_enter a; at = λ seated. a }
@@ -399,11 +389,13 @@ module _ {k : Shape} {key value : ℕ} {v : View} where
         done : (kept : ℕ) → kept + 4 ≤ v.allowance.tickets → IsDone k (Set key value) kept x
         done kept enough = at_end ((t.ready kept enough).at (record { works = l.sees.works; some_place = some_place })) l
 
-        pub absent_quiet : IsQuiet x
-        absent_quiet = is_quiet (done 0 few)
-
-        pub absent_tickets : v.allowance.tickets ≤ x.allowance.tickets + 4
-        absent_tickets = (let left = has_kept (done (v.allowance.tickets - 4) (omega arith)) in omega arith)
+        pub absent_keeps : KeepsView 4 v x
+        absent_keeps = record {
+          quiet = is_quiet (done 0 few);
+          wait = inl (none_begun goes.gone goes.waits goes.wait);
+          tickets = (let left = has_kept (done (v.allowance.tickets - 4) (omega arith)) in omega arith);
+          allowance = goes.gone.allowance;
+        }
 
       pub absent_goes : Goes v x (t.marks ++ (Entered w.allowance.place w.counts.sections key
           ∷ (LeftMark w.allowance.place w.counts.sections ∷ [])))
@@ -411,12 +403,6 @@ module _ {k : Shape} {key value : ℕ} {v : View} where
 
       pub absent_begins : BeginsByLookup v key x
       absent_begins = begins_looked t.first l
-
-      pub absent_retired : x.hands.retired ≡ v.hands.retired
-      absent_retired = goes.retired
-
-      pub absent_wait : KeepsWait v x
-      absent_wait = inl (none_begun goes.gone goes.waits goes.wait)
 
     -- the key is there
     module _ {answer : Option Holder} {holder : Holder} (some_place : 1 ≤ k.places) (x : View) (is : answer ≡ Some holder)
@@ -495,17 +481,13 @@ module _ {k : Shape} {key value : ℕ} {v : View} where
         finished : (kept : ℕ) → kept + 4 ≤ v.allowance.tickets → IsDone k (Set key value) kept y
         finished kept enough = subst (λ r. IsAt k (Set key value) kept (set_stage r) y) one (at_done kept (locking kept enough))
 
-        pub stored_quiet : IsQuiet y
-        stored_quiet = is_quiet (finished 0 few)
-
-        pub stored_tickets : v.allowance.tickets ≤ y.allowance.tickets + 4
-        stored_tickets = (let left = has_kept (finished (v.allowance.tickets - 4) (omega arith)) in omega arith)
-
-        pub stored_retired : y.hands.retired ≡ v.hands.retired
-        stored_retired = goes_all.retired
-
-        pub stored_wait : KeepsWait v y
-        stored_wait = inl (none_begun goes_all.gone goes_all.waits goes_all.wait)
+        pub stored_keeps : KeepsView 4 v y
+        stored_keeps = record {
+          quiet = is_quiet (finished 0 few);
+          wait = inl (none_begun goes_all.gone goes_all.waits goes_all.wait);
+          tickets = (let left = has_kept (finished (v.allowance.tickets - 4) (omega arith)) in omega arith);
+          allowance = goes_all.gone.allowance;
+        }
 
 -- What a compare is told, by its tries.
 

@@ -23,11 +23,12 @@ use Rattle.core_points.specs.declared.stage.Successor.{Successor}
 use Rattle.core_points.specs.declared.stage.Target.{Target}
 use Rattle.core_points.specs.declared.stage.Stage.{Stage}
 use Rattle.tree_points.specs.Points.{IsAt, HasGone}
-use Rattle.citrus_tree.specs.Going.{MayBegin, KeepsWait, NeededSlots, retired_marks, waits_in}
+use Rattle.citrus_tree.specs.Going.{MayBegin, KeepsSeat, KeepsWait, NeededSlots, retired_marks, waits_in}
+use Rattle.seat_table.specs.Gains.{IsInformed}
 use Rattle.seat_table.specs.Seats.{SeatAt}
 use Rattle.seat_table.specs.Sections.{Makes}
 use Rattle.citrus_tree.specs.Lookups.{is_load, is_of_lookup}
-use Rattle.citrus_tree.specs.Replies.{DelsBy, IsMoveWait, RetiresInOrder, TookOut}
+use Rattle.citrus_tree.specs.Replies.{Dels, DelsBy, IsMoveWait, RetiresInOrder, TookOut}
 use Rattle.core_points.specs.declared.stage.Last.TheVariants as last
 use Rattle.core_points.specs.declared.stage.Stage.TheVariants as at
 
@@ -191,6 +192,14 @@ pub record BeginsOnceReady (k : Shape) (v : View) (key : ℕ) (w : View) : Type 
   pub room : HasMadeRoom k v ready
   pub at_once : length v.hands.retired + 1 < k.room → v.hands.spare ≢ None → ready ≡ v
   pub lookup : BeginsByLookup ready key w
+
+-- A del was told this: with what it began, what it has retired, and what it leaves of the seat.
+pub record DelTells (k : Shape) (s : SeatAt) (key : ℕ) (told : Told) (t : SeatAt) : Type 0 where
+  pub dels : Dels k s.view key told t.view
+  pub begins : BeginsOnceReady k s.view key t.view
+  pub retires : told.reply ≡ Gone → RetiresInOrder s key told.number t
+  pub keeps : KeepsSeat 4 s t
+  pub informed : IsInformed t.view
 
 -- with what the call of an operation begins; a get is a lookup and nothing else
 abbrev pub Begins : Shape → View → Op → View → Type 0

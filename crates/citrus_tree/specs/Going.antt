@@ -11,7 +11,7 @@ use Rattle.core_state.specs.declared.shape.Shape.{Shape}
 use Rattle.core_state.specs.declared.view.Retired.{Retired}
 use Rattle.core_state.specs.declared.view.View.{View}
 use Rattle.core_state.specs.declared.view.Waiting.{Waiting}
-use Rattle.seat_table.specs.Seats.{SeatAt}
+use Rattle.seat_table.specs.Seats.{SeatAt, IsQuietSeat}
 use Rattle.seat_table.specs.Sections.{HasBegun}
 use Rattle.prcu_marks.specs.declared.mark.Side.{Side}
 use Rattle.prcu_model.specs.declared.operation.Op.{Op}
@@ -23,7 +23,7 @@ use Rattle.core_points.specs.declared.stage.Spot.{Spot}
 use Rattle.core_points.specs.declared.stage.Stage.{Stage}
 use Rattle.core_points.specs.declared.stage.Aim.TheVariants.{Leaf}
 use Rattle.seat_table.specs.Gains.{IsSlot}
-use Rattle.tree_points.specs.Points.{IsAt, HasGone}
+use Rattle.tree_points.specs.Points.{IsAt, HasGone, KeepsAllowance}
 use Rattle.citrus_tree.specs.declared.insert.Reached.{Reached}
 use Rattle.citrus_tree.specs.declared.replace.Holder.{Holder}
 use Rattle.citrus_tree.specs.declared.replace.Replaced.{Replaced}
@@ -108,6 +108,15 @@ pub record KeepsSlots (s t : SeatAt) : Type 0 where
   pub retired : t.view.counts.waits ≡ s.view.counts.waits
       → (later : List (ℕ × ℕ × Bool)) × (retired_marks t.view ≡ retired_marks s.view ++ later)
   pub listed : t.view.counts.waits ≡ s.view.counts.waits → (later : List ℕ) × (t.listed ≡ s.listed ++ later)
+
+-- What a call leaves of all that isn't its answer: the seat is quiet again. No gate was turned of a wait that was begun before, and what was
+-- retired and listed stays, as long as no wait is begun. At most so many tickets were used, and nothing else of the allowance.
+pub record KeepsSeat (n : ℕ) (s t : SeatAt) : Type 0 where
+  pub quiet : IsQuietSeat t
+  pub wait : KeepsWait s.view t.view
+  pub slots : KeepsSlots s t
+  pub tickets : s.view.allowance.tickets ≤ t.view.allowance.tickets + n
+  pub allowance : KeepsAllowance s.view t.view
 
 -- What the parts of the calls leave.
 -- Source: docs/TREE_CALLS.md, "The calls".

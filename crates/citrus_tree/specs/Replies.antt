@@ -17,15 +17,14 @@ use Rattle.core_state.specs.declared.shape.Shape.{Shape}
 use Rattle.core_state.specs.declared.words.Field.TheVariants.{Free}
 use Rattle.core_state.specs.declared.words.Kind.TheVariants.{K10}
 use Rattle.core_state.specs.declared.view.View.{View}
-use Rattle.seat_table.specs.Seats.{SeatAt, TableAt, IsQuietSeat}
+use Rattle.seat_table.specs.Seats.{SeatAt, TableAt}
 use Rattle.seat_table.specs.Waits.{EndWith}
-use Rattle.tree_points.specs.Points.{HasGone, KeepsAllowance}
-use Rattle.citrus_tree.specs.Going.{AreTries, NeededRoom, NeededSlots, waits_in, FoundHolder, KeepsWait}
+use Rattle.tree_points.specs.Points.{HasGone}
+use Rattle.citrus_tree.specs.Going.{AreTries, NeededRoom, NeededSlots, waits_in, FoundHolder}
 use Rattle.citrus_tree.specs.declared.comparing.Compared.{Compared}
 use Rattle.citrus_tree.specs.declared.comparing.Compared.TheVariants.{Replaced, Differs, Absent as Missing}
 use Rattle.citrus_tree.specs.declared.comparing.Seen.{Seen}
 use Rattle.citrus_tree.specs.Lookups.{Looked, Gets}
-use Rattle.seat_table.specs.Gains.{IsInformed}
 use Rattle.std.specs.FinMap as finite
 
 -- A section with the key was entered at the place after all that was seen at the call, and left before what is seen now. It is the last
@@ -75,6 +74,7 @@ PutsBy k v key value tries Old number w = (number ≡ 0) × HasTried v key tries
 PutsBy k v key value tries Full number w = (number ≡ 0) × HasTried v key tries w × WasAnswered v key None w × IsFullNow k w
 PutsBy k v key value tries _ number w = ⊥
 
+-- what a put is told, and that it began a wait only where one was needed
 abbrev pub Puts : Shape → View → ℕ → ℕ → Told → View → Type 0
 Puts k v key value told w = (tries : List Mark) × PutsBy k v key value tries told.reply told.number w
     × (1 ≤ waits_in tries → NeededRoom k v w)
@@ -181,23 +181,12 @@ caller_of client = record {
   seen = client.seat.view.seen;
 }
 
--- what an operation is told, by its call
+-- What an operation is told, by its call: it adds to `Puts` and its like which of them is an operation's.
 abbrev pub IsTold : Shape → View → Op → Told → View → Type 0
 IsTold k v (Put key value) told w = Puts k v key value told w
 IsTold k v (Get key) told w = Gets v key told w
 IsTold k v (Del key) told w = Dels k v key told w
 IsTold k v (Set key value) told w = Sets v key value told w
-
--- A call: what its operation was told, and what holds after each call.
-pub record HasCalled (before : ClientAt) (op : Op) (told : Told) (after : ClientAt) : Type 0 where
-  pub shape : after.shape ≡ before.shape
-  pub table : after.table ≡ before.table
-  pub answer : IsTold before.shape before.seat.view op told after.seat.view
-  pub wait : KeepsWait before.seat.view after.seat.view
-  pub tickets : before.seat.view.allowance.tickets ≤ after.seat.view.allowance.tickets + 4
-  pub allowance : KeepsAllowance before.seat.view after.seat.view
-  pub quiet : IsQuietSeat after.seat
-  pub informed : IsInformed after.seat.view
 
 -- How many places and slots count where a put is told that nothing is free. An account has 20 slots for each other place, where it may hold
 -- back 16 retired ones; what it may hold back beyond them are slots that the account's table hasn't.

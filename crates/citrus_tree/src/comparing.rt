@@ -1,12 +1,11 @@
 //! A value is replaced where it is an expected one.
-ghost use Rattle.std.specs.Prelude.{◌≡◌, ◌+◌, ◌≤◌, [], None, IfOk, IfErr};
+ghost use Rattle.std.specs.Prelude.{◌≡◌, ◌≤◌, [], None, IfOk, IfErr};
 ghost use Rattle.seat_table.specs.Gains.{IsInformed};
 ghost use Rattle.seat_table.specs.Sections.{HasMade, HasStepped};
 ghost use Rattle.seat_table.specs.Seats.{IsQuietSeat, shape_of};
-ghost use Rattle.tree_points.specs.Points.{KeepsAllowance};
 ghost use Rattle.citrus_tree.specs.Deletes.{BeginsByLookup};
 ghost use Rattle.citrus_tree.specs.Replies.{Compares, SoughtValue};
-ghost use Rattle.citrus_tree.specs.Going.{KeepsSlots, KeepsWait};
+ghost use Rattle.citrus_tree.specs.Going.{KeepsSeat};
 
 use crate::descent::{Descent, descend};
 use crate::replace::{Holder, store_value};
@@ -54,11 +53,7 @@ pub fn compare<P: Patience, W: WaitPart, G: Gate>(
     ensures table { seat.new.table ≡ seat.old.table }
     ensures compares { IfOk result (λ answer. Compares seat.old.view key expected value answer seat.new.view) }
     ensures begins { IfOk result (λ _. BeginsByLookup seat.old.view key seat.new.view) }
-    ensures quiet { IfOk result (λ _. IsQuietSeat seat.new) }
-    ensures wait { IfOk result (λ _. KeepsWait seat.old.view seat.new.view) }
-    ensures slots { IfOk result (λ _. KeepsSlots seat.old seat.new) }
-    ensures tickets { IfOk result (λ _. seat.old.view.allowance.tickets ≤ seat.new.view.allowance.tickets + 4) }
-    ensures allowance { IfOk result (λ _. KeepsAllowance seat.old.view seat.new.view) }
+    ensures keeps { IfOk result (λ _. KeepsSeat 4 seat.old seat.new) }
     ensures informed { IfOk result (λ _. IsInformed seat.new.view) }
     ensures tired { IfErr result (λ _. HasMade (P.least patience.now) seat.new.view) }
 {

@@ -2,7 +2,6 @@
 
 ghost use Rattle.std.specs.Prelude.{◌≡◌, ◌≢◌, ◌⊎◌, ◌+◌, ◌<◌, ◌≤◌, ℕ, [], length, None, IfSome, IfNone, IfOk, true, is_some, Some, IfErr};
 ghost use Rattle.prcu_model.specs.declared.operation.Op.TheVariants.{Del};
-ghost use Rattle.prcu_model.specs.declared.operation.Reply.TheVariants.{Gone};
 ghost use Rattle.core_points.specs.declared.stage.Stage.TheVariants as at;
 ghost use Rattle.core_points.specs.Programs.{deleting};
 ghost use Rattle.core_state.specs.declared.words.Field.TheVariants.{Value};
@@ -10,10 +9,10 @@ ghost use Rattle.core_state.specs.Views.{known_in, known_under};
 ghost use Rattle.seat_table.specs.Gains.{IsInformed};
 ghost use Rattle.seat_table.specs.Sections.{HasMade};
 ghost use Rattle.seat_table.specs.Seats.{AreListed, IsQuietSeat, shape_of};
-ghost use Rattle.tree_points.specs.Points.{IsAt, IsDone, KeepsAllowance};
-ghost use Rattle.citrus_tree.specs.Deletes.{BeginsByLookup, BeginsOnceReady, KeepsRest, HasDeleted, HasMadeRoom, IsReadyToDelete, DelsAtOnce, RetiresBy, RetiresIf, StandsAt, Comes, KeepsAll, TellsTaken};
+ghost use Rattle.tree_points.specs.Points.{IsAt, IsDone};
+ghost use Rattle.citrus_tree.specs.Deletes.{BeginsByLookup, KeepsRest, HasDeleted, HasMadeRoom, IsReadyToDelete, DelsAtOnce, RetiresBy, StandsAt, Comes, KeepsAll, TellsTaken, DelTells};
 ghost use Rattle.citrus_tree.specs.Going.{MayBegin, KeepsSlots, KeepsWait};
-ghost use Rattle.citrus_tree.specs.Replies.{Dels, RetiresInOrder, TellsValue};
+ghost use Rattle.citrus_tree.specs.Replies.{RetiresInOrder, TellsValue};
 
 mod bypass;
 mod locks;
@@ -64,15 +63,7 @@ pub fn del<P: Patience, W: WaitPart, G: Gate>(
     requires quiet { IsQuietSeat seat.old }
     requires tickets { 4 ≤ seat.old.view.allowance.tickets }
     ensures table { seat.new.table ≡ seat.old.table }
-    ensures dels { IfOk result (λ answer. Dels (shape_of W.WAY table.now) seat.old.view key answer seat.new.view) }
-    ensures begins { IfOk result (λ _. BeginsOnceReady (shape_of W.WAY table.now) seat.old.view key seat.new.view) }
-    ensures wait { IfOk result (λ _. KeepsWait seat.old.view seat.new.view) }
-    ensures slots { IfOk result (λ _. KeepsSlots seat.old seat.new) }
-    ensures retires { IfOk result (λ answer. answer.reply ≡ Gone → RetiresInOrder seat.old key answer.number seat.new) }
-    ensures tickets { IfOk result (λ _. seat.old.view.allowance.tickets ≤ seat.new.view.allowance.tickets + 4) }
-    ensures allowance { IfOk result (λ _. KeepsAllowance seat.old.view seat.new.view) }
-    ensures quiet { IfOk result (λ _. IsQuietSeat seat.new) }
-    ensures informed { IfOk result (λ _. IsInformed seat.new.view) }
+    ensures tells { IfOk result (λ answer. DelTells (shape_of W.WAY table.now) seat.old key answer seat.new) }
     ensures tired { IfErr result (λ _. HasMade (P.least patience.now) seat.new.view) }
 {
     Ok(delete_telling(patience, table, seat, gate, key, false)?.told)
@@ -91,16 +82,8 @@ pub fn remove<P: Patience, W: WaitPart, G: Gate>(
     requires quiet { IsQuietSeat seat.old }
     requires tickets { 4 ≤ seat.old.view.allowance.tickets }
     ensures table { seat.new.table ≡ seat.old.table }
-    ensures dels { IfOk result (λ answer. Dels (shape_of W.WAY table.now) seat.old.view key answer.told seat.new.view) }
+    ensures tells { IfOk result (λ answer. DelTells (shape_of W.WAY table.now) seat.old key answer.told seat.new) }
     ensures value { IfOk result (λ answer. TellsValue seat.old.view key answer.told answer.value seat.new.view) }
-    ensures begins { IfOk result (λ _. BeginsOnceReady (shape_of W.WAY table.now) seat.old.view key seat.new.view) }
-    ensures wait { IfOk result (λ _. KeepsWait seat.old.view seat.new.view) }
-    ensures slots { IfOk result (λ _. KeepsSlots seat.old seat.new) }
-    ensures retires { IfOk result (λ answer. answer.told.reply ≡ Gone → RetiresInOrder seat.old key answer.told.number seat.new) }
-    ensures tickets { IfOk result (λ _. seat.old.view.allowance.tickets ≤ seat.new.view.allowance.tickets + 4) }
-    ensures allowance { IfOk result (λ _. KeepsAllowance seat.old.view seat.new.view) }
-    ensures quiet { IfOk result (λ _. IsQuietSeat seat.new) }
-    ensures informed { IfOk result (λ _. IsInformed seat.new.view) }
     ensures tired { IfErr result (λ _. HasMade (P.least patience.now) seat.new.view) }
 {
     delete_telling(patience, table, seat, gate, key, true)
@@ -119,16 +102,8 @@ fn delete_telling<P: Patience, W: WaitPart, G: Gate>(
     requires quiet { IsQuietSeat seat.old }
     requires tickets { 4 ≤ seat.old.view.allowance.tickets }
     ensures table { seat.new.table ≡ seat.old.table }
-    ensures dels { IfOk result (λ answer. Dels (shape_of W.WAY table.now) seat.old.view key answer.told seat.new.view) }
+    ensures tells { IfOk result (λ answer. DelTells (shape_of W.WAY table.now) seat.old key answer.told seat.new) }
     ensures value { IfOk result (λ answer. tells_value ≡ true → TellsValue seat.old.view key answer.told answer.value seat.new.view) }
-    ensures begins { IfOk result (λ _. BeginsOnceReady (shape_of W.WAY table.now) seat.old.view key seat.new.view) }
-    ensures wait { IfOk result (λ _. KeepsWait seat.old.view seat.new.view) }
-    ensures slots { IfOk result (λ _. KeepsSlots seat.old seat.new) }
-    ensures retires { IfOk result (λ answer. answer.told.reply ≡ Gone → RetiresInOrder seat.old key answer.told.number seat.new) }
-    ensures tickets { IfOk result (λ _. seat.old.view.allowance.tickets ≤ seat.new.view.allowance.tickets + 4) }
-    ensures allowance { IfOk result (λ _. KeepsAllowance seat.old.view seat.new.view) }
-    ensures quiet { IfOk result (λ _. IsQuietSeat seat.new) }
-    ensures informed { IfOk result (λ _. IsInformed seat.new.view) }
     ensures tired { IfErr result (λ _. HasMade (P.least patience.now) seat.new.view) }
 {
     // Before the first search: inside a section of its own a wait for everybody would wait for itself.

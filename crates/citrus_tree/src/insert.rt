@@ -9,7 +9,7 @@
 //! - `taking.rt` and `slots.rt` of `node_slots`: a free slot, or a slot put back; `reclaiming.rt`: the retired ones, given back;
 //! - `lives.rt`: a life compared under the lock; `commit.rt`: the front, odd for the link's store alone; `answer.rt`: the reply;
 //! - `steps.rt` and `steps/waiters.rt` of `seat_table`, the latter called by `waiters`: each atomic step, made in `access.rt`.
-ghost use Rattle.std.specs.Prelude.{◌≡◌, ℕ, ◌+◌, ◌*◌, ◌≤◌, true, false, ◌∷◌, [], Some, None, IfOk, IfErr};
+ghost use Rattle.std.specs.Prelude.{◌≡◌, ℕ, ◌*◌, ◌≤◌, true, false, ◌∷◌, [], Some, None, IfOk, IfErr};
 ghost use Rattle.core_points.specs.declared.stage.Aim.TheVariants.{Leaf};
 ghost use Rattle.core_points.specs.declared.stage.Spot.{Spot};
 ghost use Rattle.core_points.specs.declared.stage.Stage.TheVariants as at;
@@ -17,9 +17,9 @@ ghost use Rattle.prcu_model.specs.declared.operation.Op.TheVariants.{Put};
 ghost use Rattle.seat_table.specs.Gains.{IsInformed};
 ghost use Rattle.seat_table.specs.Sections.{HasMade, HasStepped};
 ghost use Rattle.seat_table.specs.Seats.{AreListed, IsQuietSeat, IsSlotOf, shape_of};
-ghost use Rattle.tree_points.specs.Points.{HasLocks, IsAt, KeepsAllowance};
+ghost use Rattle.tree_points.specs.Points.{HasLocks, IsAt};
 ghost use Rattle.citrus_tree.specs.Deletes.{StandsAt, Comes, BeginsByLookup};
-ghost use Rattle.citrus_tree.specs.Going.{Goes, Searched, leaf_stage, KeepsSlots, KeepsWait, old_stage, taken_stage, filled_stage, held_stage, linked_stage, MakesRoom, Links};
+ghost use Rattle.citrus_tree.specs.Going.{Goes, Searched, leaf_stage, KeepsSlots, old_stage, taken_stage, filled_stage, held_stage, linked_stage, MakesRoom, Links, KeepsSeat};
 ghost use Rattle.citrus_tree.specs.Replies.{IsFullNow, Puts};
 
 use crate::answer::{Called, answered};
@@ -59,11 +59,7 @@ pub fn put<P: Patience, W: WaitPart, G: Gate>(
     ensures table { seat.new.table ≡ seat.old.table }
     ensures puts { IfOk result (λ answer. Puts (shape_of W.WAY table.now) seat.old.view key value answer.told seat.new.view) }
     ensures begins { IfOk result (λ _. BeginsByLookup seat.old.view key seat.new.view) }
-    ensures quiet { IfOk result (λ _. IsQuietSeat seat.new) }
-    ensures wait { IfOk result (λ _. KeepsWait seat.old.view seat.new.view) }
-    ensures slots { IfOk result (λ _. KeepsSlots seat.old seat.new) }
-    ensures tickets { IfOk result (λ _. seat.old.view.allowance.tickets ≤ seat.new.view.allowance.tickets + 4) }
-    ensures allowance { IfOk result (λ _. KeepsAllowance seat.old.view seat.new.view) }
+    ensures keeps { IfOk result (λ _. KeepsSeat 4 seat.old seat.new) }
     ensures informed { IfOk result (λ _. IsInformed seat.new.view) }
     ensures tired { IfErr result (λ _. HasMade (P.least patience.now) seat.new.view) }
 {

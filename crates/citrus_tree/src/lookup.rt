@@ -2,10 +2,9 @@
 ghost use Rattle.std.specs.Prelude.{◌≡◌};
 ghost use Rattle.seat_table.specs.Seats.{IsQuietSeat, shape_of};
 ghost use Rattle.seat_table.specs.Gains.{IsInformed};
-ghost use Rattle.tree_points.specs.Points.{KeepsAllowance};
 ghost use Rattle.citrus_tree.specs.Deletes.{BeginsByLookup};
 ghost use Rattle.citrus_tree.specs.Hops.{EndsWithin};
-ghost use Rattle.citrus_tree.specs.Going.{KeepsSlots, KeepsWait};
+ghost use Rattle.citrus_tree.specs.Going.{KeepsSeat};
 ghost use Rattle.citrus_tree.specs.Lookups.{Looked, Gets};
 
 use crate::answer::answered;
@@ -56,11 +55,8 @@ pub fn get<W: WaitPart, G: Gate>(
     ensures gets { Gets seat.old.view key result seat.new.view }
     ensures begins { BeginsByLookup seat.old.view key seat.new.view }
     ensures within { EndsWithin (shape_of W.WAY table.now) 4 seat.old.view seat.new.view }
-    ensures wait { KeepsWait seat.old.view seat.new.view }
-    ensures slots { KeepsSlots seat.old seat.new }
     ensures tickets { seat.new.view.allowance.tickets ≡ seat.old.view.allowance.tickets }
-    ensures allowance { KeepsAllowance seat.old.view seat.new.view }
-    ensures quiet { IsQuietSeat seat.new }
+    ensures keeps { KeepsSeat 0 seat.old seat.new }
     ensures informed { IsInformed seat.new.view }
 {
     // Each way out has its answer: else the caller would ask once more which one it is.

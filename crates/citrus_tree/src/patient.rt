@@ -1,12 +1,11 @@
 //! The calls, for callers with a patience of their own: where it ends, so does the call, and the seat may hold locks or stand in a section.
-ghost use Rattle.std.specs.Prelude.{◌≡◌, ◌+◌, ◌≤◌, IfOk, IfErr};
+ghost use Rattle.std.specs.Prelude.{◌≡◌, ◌≤◌, IfOk, IfErr};
 ghost use Rattle.seat_table.specs.Gains.{IsInformed};
 ghost use Rattle.seat_table.specs.Sections.{HasMade};
 ghost use Rattle.seat_table.specs.Seats.{IsQuietSeat, shape_of};
-ghost use Rattle.tree_points.specs.Points.{KeepsAllowance};
 ghost use Rattle.citrus_tree.specs.Deletes.{Begins};
 ghost use Rattle.citrus_tree.specs.Replies.{IsTold};
-ghost use Rattle.citrus_tree.specs.Going.{KeepsSlots, KeepsWait};
+ghost use Rattle.citrus_tree.specs.Going.{KeepsSeat};
 
 use crate::answer::Called;
 pub use crate::comparing::compare;
@@ -36,11 +35,7 @@ pub fn call<P: Patience, W: WaitPart, G: Gate>(
     ensures table { seat.new.table ≡ seat.old.table }
     ensures told { IfOk result (λ answer. IsTold (shape_of W.WAY table.now) seat.old.view op answer.told seat.new.view) }
     ensures begins { IfOk result (λ _. Begins (shape_of W.WAY table.now) seat.old.view op seat.new.view) }
-    ensures wait { IfOk result (λ _. KeepsWait seat.old.view seat.new.view) }
-    ensures slots { IfOk result (λ _. KeepsSlots seat.old seat.new) }
-    ensures tickets { IfOk result (λ _. seat.old.view.allowance.tickets ≤ seat.new.view.allowance.tickets + 4) }
-    ensures allowance { IfOk result (λ _. KeepsAllowance seat.old.view seat.new.view) }
-    ensures quiet { IfOk result (λ _. IsQuietSeat seat.new) }
+    ensures keeps { IfOk result (λ _. KeepsSeat 4 seat.old seat.new) }
     ensures informed { IfOk result (λ _. IsInformed seat.new.view) }
     ensures tired { IfErr result (λ _. HasMade (P.least patience.now) seat.new.view) }
 {

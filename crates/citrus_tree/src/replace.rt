@@ -1,14 +1,14 @@
 //! A value is replaced.
-ghost use Rattle.std.specs.Prelude.{◌≡◌, ℕ, ◌+◌, ◌≤◌, ◌↔◌, [], Some, None, IsTrue, IfOk, IfErr};
+ghost use Rattle.std.specs.Prelude.{◌≡◌, ℕ, ◌≤◌, ◌↔◌, [], Some, None, IsTrue, IfOk, IfErr};
 ghost use Rattle.core_points.specs.declared.stage.Stage.TheVariants as at;
 ghost use Rattle.prcu_model.specs.declared.operation.Op.TheVariants.{Set};
 ghost use Rattle.seat_table.specs.Gains.{IsInformed};
 ghost use Rattle.seat_table.specs.Sections.{HasMade, HasStepped};
 ghost use Rattle.seat_table.specs.Seats.{IsQuietSeat, shape_of};
-ghost use Rattle.tree_points.specs.Points.{IsAt, KeepsAllowance};
+ghost use Rattle.tree_points.specs.Points.{IsAt};
 ghost use Rattle.citrus_tree.specs.declared.replace.Replaced.{Replaced};
 ghost use Rattle.citrus_tree.specs.Deletes.{BeginsByLookup};
-ghost use Rattle.citrus_tree.specs.Going.{Goes, IsOther, Sought, Stores, set_stage, KeepsSlots, KeepsWait};
+ghost use Rattle.citrus_tree.specs.Going.{Goes, IsOther, Sought, Stores, set_stage, KeepsSeat};
 ghost use Rattle.citrus_tree.specs.Replies.{Sets};
 
 use crate::answer::answered;
@@ -51,11 +51,7 @@ pub fn set<P: Patience, W: WaitPart, G: Gate>(
     ensures table { seat.new.table ≡ seat.old.table }
     ensures sets { IfOk result (λ answer. Sets seat.old.view key value answer seat.new.view) }
     ensures begins { IfOk result (λ _. BeginsByLookup seat.old.view key seat.new.view) }
-    ensures quiet { IfOk result (λ _. IsQuietSeat seat.new) }
-    ensures wait { IfOk result (λ _. KeepsWait seat.old.view seat.new.view) }
-    ensures slots { IfOk result (λ _. KeepsSlots seat.old seat.new) }
-    ensures tickets { IfOk result (λ _. seat.old.view.allowance.tickets ≤ seat.new.view.allowance.tickets + 4) }
-    ensures allowance { IfOk result (λ _. KeepsAllowance seat.old.view seat.new.view) }
+    ensures keeps { IfOk result (λ _. KeepsSeat 4 seat.old seat.new) }
     ensures informed { IfOk result (λ _. IsInformed seat.new.view) }
     ensures tired { IfErr result (λ _. HasMade (P.least patience.now) seat.new.view) }
 {

@@ -1,12 +1,10 @@
 //! The calls, for callers that never give up.
-ghost use Rattle.std.specs.Prelude.{◌≡◌, ◌+◌, ◌≤◌};
-ghost use Rattle.citrus_tree.specs.Deletes.{Begins, BeginsByLookup, BeginsOnceReady};
-ghost use Rattle.citrus_tree.specs.Replies.{IsTold, Compares, Dels, Puts, RetiresInOrder, Sets, TellsValue};
-ghost use Rattle.citrus_tree.specs.Going.{KeepsSlots, KeepsWait};
-ghost use Rattle.prcu_model.specs.declared.operation.Reply.TheVariants.{Gone};
+ghost use Rattle.std.specs.Prelude.{◌≡◌, ◌≤◌};
+ghost use Rattle.citrus_tree.specs.Deletes.{Begins, BeginsByLookup, DelTells};
+ghost use Rattle.citrus_tree.specs.Replies.{IsTold, Compares, Puts, Sets, TellsValue};
+ghost use Rattle.citrus_tree.specs.Going.{KeepsSeat};
 ghost use Rattle.seat_table.specs.Gains.{IsInformed};
 ghost use Rattle.seat_table.specs.Seats.{IsQuietSeat, shape_of};
-ghost use Rattle.tree_points.specs.Points.{KeepsAllowance};
 
 use crate::answer::Called;
 use crate::comparing::Compared;
@@ -35,11 +33,7 @@ pub fn put<R: Wait, W: WaitPart, G: Gate>(
     ensures table { seat.new.table ≡ seat.old.table }
     ensures puts { Puts (shape_of W.WAY table.now) seat.old.view key value result seat.new.view }
     ensures begins { BeginsByLookup seat.old.view key seat.new.view }
-    ensures quiet { IsQuietSeat seat.new }
-    ensures wait { KeepsWait seat.old.view seat.new.view }
-    ensures slots { KeepsSlots seat.old seat.new }
-    ensures tickets { seat.old.view.allowance.tickets ≤ seat.new.view.allowance.tickets + 4 }
-    ensures allowance { KeepsAllowance seat.old.view seat.new.view }
+    ensures keeps { KeepsSeat 4 seat.old seat.new }
     ensures informed { IsInformed seat.new.view }
 {
     match patient::put(&Steadfast::new(rt), table, seat, gate, key, value) {
@@ -64,11 +58,7 @@ pub fn set<R: Wait, W: WaitPart, G: Gate>(
     ensures table { seat.new.table ≡ seat.old.table }
     ensures sets { Sets seat.old.view key value result seat.new.view }
     ensures begins { BeginsByLookup seat.old.view key seat.new.view }
-    ensures quiet { IsQuietSeat seat.new }
-    ensures wait { KeepsWait seat.old.view seat.new.view }
-    ensures slots { KeepsSlots seat.old seat.new }
-    ensures tickets { seat.old.view.allowance.tickets ≤ seat.new.view.allowance.tickets + 4 }
-    ensures allowance { KeepsAllowance seat.old.view seat.new.view }
+    ensures keeps { KeepsSeat 4 seat.old seat.new }
     ensures informed { IsInformed seat.new.view }
 {
     match patient::set(&Steadfast::new(rt), table, seat, gate, key, value) {
@@ -95,11 +85,7 @@ pub fn compare<R: Wait, W: WaitPart, G: Gate>(
     ensures table { seat.new.table ≡ seat.old.table }
     ensures compares { Compares seat.old.view key expected value result seat.new.view }
     ensures begins { BeginsByLookup seat.old.view key seat.new.view }
-    ensures quiet { IsQuietSeat seat.new }
-    ensures wait { KeepsWait seat.old.view seat.new.view }
-    ensures slots { KeepsSlots seat.old seat.new }
-    ensures tickets { seat.old.view.allowance.tickets ≤ seat.new.view.allowance.tickets + 4 }
-    ensures allowance { KeepsAllowance seat.old.view seat.new.view }
+    ensures keeps { KeepsSeat 4 seat.old seat.new }
     ensures informed { IsInformed seat.new.view }
 {
     match patient::compare(&Steadfast::new(rt), table, seat, gate, key, expected, value) {
@@ -124,15 +110,7 @@ pub fn del<R: Wait, W: WaitPart, G: Gate>(
     requires quiet { IsQuietSeat seat.old }
     requires tickets { 4 ≤ seat.old.view.allowance.tickets }
     ensures table { seat.new.table ≡ seat.old.table }
-    ensures dels { Dels (shape_of W.WAY table.now) seat.old.view key result seat.new.view }
-    ensures begins { BeginsOnceReady (shape_of W.WAY table.now) seat.old.view key seat.new.view }
-    ensures wait { KeepsWait seat.old.view seat.new.view }
-    ensures slots { KeepsSlots seat.old seat.new }
-    ensures retires { result.reply ≡ Gone → RetiresInOrder seat.old key result.number seat.new }
-    ensures tickets { seat.old.view.allowance.tickets ≤ seat.new.view.allowance.tickets + 4 }
-    ensures allowance { KeepsAllowance seat.old.view seat.new.view }
-    ensures quiet { IsQuietSeat seat.new }
-    ensures informed { IsInformed seat.new.view }
+    ensures tells { DelTells (shape_of W.WAY table.now) seat.old key result seat.new }
 {
     match patient::del(&Steadfast::new(rt), table, seat, gate, key) {
         Ok(told) => told,
@@ -153,16 +131,8 @@ pub fn remove<R: Wait, W: WaitPart, G: Gate>(
     requires quiet { IsQuietSeat seat.old }
     requires tickets { 4 ≤ seat.old.view.allowance.tickets }
     ensures table { seat.new.table ≡ seat.old.table }
-    ensures dels { Dels (shape_of W.WAY table.now) seat.old.view key result.told seat.new.view }
+    ensures tells { DelTells (shape_of W.WAY table.now) seat.old key result.told seat.new }
     ensures value { TellsValue seat.old.view key result.told result.value seat.new.view }
-    ensures begins { BeginsOnceReady (shape_of W.WAY table.now) seat.old.view key seat.new.view }
-    ensures wait { KeepsWait seat.old.view seat.new.view }
-    ensures slots { KeepsSlots seat.old seat.new }
-    ensures retires { result.told.reply ≡ Gone → RetiresInOrder seat.old key result.told.number seat.new }
-    ensures tickets { seat.old.view.allowance.tickets ≤ seat.new.view.allowance.tickets + 4 }
-    ensures allowance { KeepsAllowance seat.old.view seat.new.view }
-    ensures quiet { IsQuietSeat seat.new }
-    ensures informed { IsInformed seat.new.view }
 {
     match patient::remove(&Steadfast::new(rt), table, seat, gate, key) {
         Ok(removed) => removed,
@@ -187,11 +157,7 @@ pub fn call<R: Wait, W: WaitPart, G: Gate>(
     ensures table { seat.new.table ≡ seat.old.table }
     ensures told { IsTold (shape_of W.WAY table.now) seat.old.view op result.told seat.new.view }
     ensures begins { Begins (shape_of W.WAY table.now) seat.old.view op seat.new.view }
-    ensures wait { KeepsWait seat.old.view seat.new.view }
-    ensures slots { KeepsSlots seat.old seat.new }
-    ensures tickets { seat.old.view.allowance.tickets ≤ seat.new.view.allowance.tickets + 4 }
-    ensures allowance { KeepsAllowance seat.old.view seat.new.view }
-    ensures quiet { IsQuietSeat seat.new }
+    ensures keeps { KeepsSeat 4 seat.old seat.new }
     ensures informed { IsInformed seat.new.view }
 {
     match patient::call(&Steadfast::new(rt), table, seat, gate, op) {

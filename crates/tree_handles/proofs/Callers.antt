@@ -27,8 +27,7 @@ use Rattle.seat_table.specs.Sections.{HasEntered, HasLeft, IsQuietReader}
 use Rattle.seat_table.specs.Waits.{HasWaited}
 use Rattle.seat_table.proofs.SeveralSteps.{seen_more}
 use Rattle.node_slots.specs.Reclaiming.{HasReclaimed}
-use Rattle.tree_points.specs.Points.{KeepsAllowance}
-use Rattle.citrus_tree.specs.Going.{HasBegunNone, HasBegunFirst, KeepsSlots, KeepsWait, IsOfTry}
+use Rattle.citrus_tree.specs.Going.{HasBegunNone, HasBegunFirst, KeepsWait, IsOfTry, KeepsSeat}
 use Rattle.citrus_tree.specs.Lookups.{HoldsOrNot, IsHolding, Looked}
 use Rattle.citrus_tree.proofs.Leavings.{goes_looked}
 use Rattle.exact_list.specs.Loads.{HasListed, HasListedAfterTries, HasListedAlone, HasListedByTry, IsOneWalk}
@@ -148,13 +147,12 @@ module _ {k : Shape} {cookie : Option CookieAt} where
 
   -- ---- calls of the tree
 
-  pub cookie_called : {s t : SeatAt} → KeepsSlots s t → KeepsWait s.view t.view → KeepsAllowance s.view t.view → HasCookie k cookie s.view
-      → HasCookie k cookie t.view
-  cookie_called {s} {t} slots wait allowance has = stays_good (record {
-    place = ap (λ a. a.place) allowance.rest;
-    seen = seen_on wait;
-    waits = slots.waits;
-    wait = slots.wait;
+  pub cookie_called : {n : ℕ} {s t : SeatAt} → KeepsSeat n s t → HasCookie k cookie s.view → HasCookie k cookie t.view
+  cookie_called keeps has = stays_good (record {
+    place = ap (λ a. a.place) keeps.allowance.rest;
+    seen = seen_on keeps.wait;
+    waits = keeps.slots.waits;
+    wait = keeps.slots.wait;
   }) has
 
   -- ---- sections

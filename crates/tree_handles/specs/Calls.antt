@@ -1,20 +1,19 @@
 -- Gets and updates, each alone and one after another.
 -- What gets and updates answer, of a caller before and after.
 -- Source: docs/TREE_CALLS.md, "The calls".
-use Rattle.std.specs.Prelude.{◌≡◌, ◌⊎◌, ℕ, zero, suc, ◌+◌, ◌<◌, ◌≤◌, true, false, Option, Some, None, List, []}
+use Rattle.std.specs.Prelude.{◌≡◌, ◌⊎◌, ℕ, zero, suc, ◌<◌, ◌≤◌, true, false, Option, Some, None, List, []}
 use Rattle.prcu_model.specs.declared.operation.Op.{Op}
 use Rattle.prcu_model.specs.declared.operation.Op.TheVariants.{Put, Get, Del, Set}
 use Rattle.prcu_model.specs.declared.operation.Reply.{Reply}
 use Rattle.prcu_model.specs.declared.operation.Told.{Told}
 use Rattle.seat_table.specs.Gains.{IsInformed}
 use Rattle.seat_table.specs.Sections.{HasMade}
-use Rattle.seat_table.specs.Seats.{SeatAt, IsQuietSeat, shape_of}
-use Rattle.tree_points.specs.Points.{KeepsAllowance}
+use Rattle.seat_table.specs.Seats.{SeatAt, shape_of}
 use Rattle.citrus_tree.specs.declared.comparing.Compared.{Compared}
 use Rattle.citrus_tree.specs.Deletes.{Begins, BeginsByLookup}
 use Rattle.citrus_tree.specs.Hops.{EndsWithin}
 use Rattle.citrus_tree.specs.Replies.{IsTold, Compares, TellsValue, room_of}
-use Rattle.citrus_tree.specs.Going.{KeepsWait}
+use Rattle.citrus_tree.specs.Going.{KeepsSeat}
 use Rattle.tree_lift.specs.declared.lifting.Aim.{Aim}
 use Rattle.tree_lift.specs.declared.lifting.Lifted.{Lifted}
 use Rattle.tree_lift.specs.Lifts.{LeavesNoUpdate, HasLifted as TriesTurns}
@@ -33,15 +32,12 @@ abbrev pub patient_steps : ℕ
 patient_steps = 18446744073709551615
 
 -- The tree's call told this of the operation, and left this seat, with at most four tickets less. It began by a lookup of the key; a remove
--- by that once its place had room for what it takes out.
+-- by that once its place had room for what it takes out. To `IsTold`, what the answer says, it adds what the call leaves.
 pub record TreeTells (c : CallerAt) (op : Op) (told : Told) (s : SeatAt) : Type 0 where
   pub table : s.table ≡ c.table
   pub answer : IsTold (shape_of c.way c.table) c.seat.view op told s.view
   pub begins : Begins (shape_of c.way c.table) c.seat.view op s.view
-  pub wait : KeepsWait c.seat.view s.view
-  pub tickets : c.seat.view.allowance.tickets ≤ s.view.allowance.tickets + 4
-  pub allowance : KeepsAllowance c.seat.view s.view
-  pub quiet : IsQuietSeat s
+  pub keeps : KeepsSeat 4 c.seat s
   pub informed : IsInformed s.view
 
 -- The caller has the seat as it was left, and may go on.
@@ -69,9 +65,7 @@ pub record HasLifted (key : ℕ) (s : SeatAt) (d : CallerAt) : Type 0 where
   pub lifted : Lifted
   pub turns : TriesTurns (shape_of d.way d.table) aim lifted s.view d.seat.view
   pub updates : LeavesNoUpdate s.view key d.seat.view
-  pub wait : KeepsWait s.view d.seat.view
-  pub tickets : s.view.allowance.tickets ≤ d.seat.view.allowance.tickets + lift_tickets
-  pub allowance : KeepsAllowance s.view d.seat.view
+  pub keeps : KeepsSeat lift_tickets s d.seat
   pub informed : IsInformed d.seat.view
   pub may : MayGoOn d
 
@@ -84,7 +78,8 @@ pub record IsLostBehind (d : CallerAt) : Type 0 where
 abbrev pub ComesBehind : Op → Told → SeatAt → CallerAt → Type 0
 ComesBehind op told s d = GoesOn s d ⊎ ((key : ℕ) × HasAdded key op told × (HasLifted key s d ⊎ IsLostBehind d))
 
--- The caller, which had four tickets or more, made the operation, and was told this by the tree's call.
+-- The caller, which had four tickets or more, made the operation, and was told this by the tree's call. To `TreeTells`, which is of a seat, it
+-- adds the caller, and what comes behind the answer: a lift.
 pub record IsCalled (c : CallerAt) (op : Op) (told : Told) (d : CallerAt) : Type 0 where
   pub index : IsSameCaller c d
   pub before : MayGoOn c
@@ -93,7 +88,7 @@ pub record IsCalled (c : CallerAt) (op : Op) (told : Told) (d : CallerAt) : Type
   pub tells : TreeTells c op told answered
   pub behind : ComesBehind op told answered d
 
--- the same, where the reply was this
+-- The same, where the reply was this: the number of the update, which a handle doesn't tell, is some number.
 abbrev pub IsAnswered : CallerAt → Op → Reply → CallerAt → Type 0
 IsAnswered c op answer d = (told : Told) × (told.reply ≡ answer) × IsCalled c op told d
 
@@ -140,7 +135,8 @@ Gets c key was Done value d = IsAnswered c (Get key) (reply.Val value) d × IsWa
 Gets c key was Unchanged value d = IsAnswered c (Get key) reply.Absent d × IsWaitFree c d × (value ≡ was)
 Gets c key was status value d = CausedBy status c d × (d ≡ c) × (value ≡ was)
 
--- What an insert answers. It is Full only where as many pairs are there as always fit.
+-- What an insert answers. To `IsAnswered` it adds the status for each reply, and why no call was made. It is Full only where as many pairs are
+-- there as always fit.
 abbrev pub Inserts : CallerAt → ℕ → ℕ → Status → CallerAt → Type 0
 Inserts c key value Done d = IsAnswered c (Put key value) reply.New d
 Inserts c key value Unchanged d = IsAnswered c (Put key value) reply.Old d
@@ -169,9 +165,7 @@ pub record IsCompared (c : CallerAt) (key expected value : ℕ) (answer : Compar
   pub enough : 4 ≤ c.seat.view.allowance.tickets
   pub told : Compares c.seat.view key expected value answer d.seat.view
   pub begins : BeginsByLookup c.seat.view key d.seat.view
-  pub wait : KeepsWait c.seat.view d.seat.view
-  pub tickets : c.seat.view.allowance.tickets ≤ d.seat.view.allowance.tickets + 4
-  pub allowance : KeepsAllowance c.seat.view d.seat.view
+  pub keeps : KeepsSeat 4 c.seat d.seat
   pub informed : IsInformed d.seat.view
   pub may : MayGoOn d
 

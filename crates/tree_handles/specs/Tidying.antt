@@ -7,8 +7,8 @@ use Rattle.prcu_marks.specs.declared.mark.Mark.{Mark}
 use Rattle.core_state.specs.declared.view.View.{View}
 use Rattle.seat_table.specs.Seats.{shape_of}
 use Rattle.node_slots.specs.Reclaiming.{HasReclaimed}
-use Rattle.tree_points.specs.Points.{HasGone, KeepsAllowance}
-use Rattle.citrus_tree.specs.Going.{IsOfTry, KeepsWait}
+use Rattle.tree_points.specs.Points.{HasGone}
+use Rattle.citrus_tree.specs.Going.{IsOfTry, KeepsSeat}
 use Rattle.tree_lift.specs.declared.lifting.Aim.{Aim}
 use Rattle.tree_lift.specs.declared.lifting.Lifted.{Lifted}
 use Rattle.tree_lift.specs.declared.lifting.Stop.{Stop}
@@ -43,9 +43,7 @@ pub record LiftsWay (c : CallerAt) (key most : ℕ) (lifted : Lifted) (d : Calle
   pub ends : EndsBy (shape_of c.way c.table) aim lifted.stop d.seat.view
   pub few : (lifted.turns ≤ lifted.tried) × (lifted.tried ≤ most)
   pub updates : LeavesNoUpdate c.seat.view key d.seat.view
-  pub wait : KeepsWait c.seat.view d.seat.view
-  pub tickets : c.seat.view.allowance.tickets ≤ d.seat.view.allowance.tickets + 3 * lifted.tried + 3
-  pub allowance : KeepsAllowance c.seat.view d.seat.view
+  pub keeps : KeepsSeat (3 * lifted.tried + 3) c.seat d.seat
   pub may : MayGoOn d
 
 -- The way to one more key was lifted, with as many attempts as are left of all, and ended so. What was tried and made on it is added.
@@ -87,9 +85,7 @@ pub record GivesBack (c d : CallerAt) : Type 0 where
   pub index : IsSameCaller c d
   pub back : HasReclaimed (shape_of c.way c.table) c.seat.view c.seat.listed d.seat.view
   pub updates : (key : ℕ) → LeavesNoUpdate c.seat.view key d.seat.view
-  pub wait : KeepsWait c.seat.view d.seat.view
-  pub tickets : c.seat.view.allowance.tickets ≤ d.seat.view.allowance.tickets + 1
-  pub allowance : KeepsAllowance c.seat.view d.seat.view
+  pub keeps : KeepsSeat 1 c.seat d.seat
   pub may : MayGoOn d
 
 -- What comes where no slot was free for a turn: too few tickets are left for more; or retired slots were given back, so that the next call

@@ -19,7 +19,7 @@ use Rattle.node_slots.proofs.Points.{MayReclaim, gives_all, reclaim_gone, reclai
 use Rattle.tree_points.specs.Points.{HasGone}
 use Rattle.tree_points.proofs.Passing.{none_raised}
 use Rattle.tree_points.proofs.Locks.{gone_on, gone_same}
-use Rattle.citrus_tree.specs.Going.{Goes, IsOfTry, KeepsWait, retired_marks}
+use Rattle.citrus_tree.specs.Going.{Goes, IsOfTry, retired_marks, KeepsSeat}
 use Rattle.core_state.specs.Views.{unraised_among}
 use Rattle.citrus_tree.proofs.Leavings.{goes_on, slots_goes, slots_more, slots_on, slots_reclaimed, slots_self, none_begun, none_yet, reclaimed_first, wait_on}
 use Rattle.citrus_tree.proofs.DeleteTries.{empty_listed}
@@ -51,7 +51,7 @@ left_on {u} {v} {w} {key} a b = record {
 pub left_read : {v w : View} {key : ℕ} {r : Reading} → HasRead v key r w → LeavesNoUpdate v key w
 left_read read = record { marks = _; gone = (goes_read read).gone; each = ((refl, refl), (refl, tt)) }
 
-left_reclaimed : {k : Shape} {v w : View} {listed : List ℕ} (key : ℕ) → HasReclaimed k v listed w → LeavesNoUpdate v key w
+pub left_reclaimed : {k : Shape} {v w : View} {listed : List ℕ} (key : ℕ) → HasReclaimed k v listed w → LeavesNoUpdate v key w
 left_reclaimed key back = record { marks = _; gone = reclaim_gone back; each = ((refl, refl, refl), (refl, tt)) }
 
 -- the parts of an attempt
@@ -83,12 +83,6 @@ proceeds_goes key hard s t ms goes each listed informed = record {
   informed = informed;
 }
 
-pub same_left : (s t : SeatAt) → t ≡ s → (key : ℕ) → LeavesNoUpdate s.view key t.view
-same_left s t same key = subst (λ (u : SeatAt). LeavesNoUpdate s.view key u.view) (sym same) (left_none key gone_same)
-
-pub same_wait : (s t : SeatAt) → t ≡ s → KeepsWait s.view t.view
-same_wait s t same = subst (λ (u : SeatAt). KeepsWait s.view u.view) (sym same) (inl (none_yet s.view))
-
 -- No slot is listed, so none is retired.
 pub none_listed : (listed : List ℕ) (rs : List Retired) → listed ≡ [] → length listed ≡ length rs → rs ≡ []
 none_listed listed [] none long = refl
@@ -98,17 +92,6 @@ none_listed listed (r ∷ rs) none long = absurd (let empty = ap (length {A = �
 pub none_retired : (listed : List ℕ) (rs : List Retired) → rs ≡ [] → length listed ≡ length rs → listed ≡ []
 none_retired [] rs none long = refl
 none_retired (x ∷ listed) rs none long = absurd (let empty = ap (length {A = Retired}) none in omega (arith, long, empty))
-
--- All retired slots were given back.
-module _ (k : Shape) (s t : SeatAt) (back : HasReclaimed k s.view s.listed t.view) where
-  pub back_left : (key : ℕ) → LeavesNoUpdate s.view key t.view
-  back_left key = left_reclaimed key back
-
-  pub back_wait : KeepsWait s.view t.view
-  back_wait = inr (reclaimed_first back)
-
-  pub back_tickets : s.view.allowance.tickets ≤ t.view.allowance.tickets + 1
-  back_tickets = let e = ap (λ (z : View). z.allowance.tickets) back.rest in omega arith
 
 proceeds_reclaimed : (k : Shape) (key : ℕ) (hard : Bool) (s t : SeatAt) → Reclaims k hard s t → (IsInformed s.view → IsInformed t.view)
     → Proceeds key hard s t
@@ -180,6 +163,16 @@ reclaimed_quiet k s t listed back none q =
       };
       listed = empty_listed t none (reclaim_retired back);
     }
+
+-- what is left of a seat that gave all retired slots back
+pub back_keeps : (k : Shape) (s t : SeatAt) → HasReclaimed k s.view s.listed t.view → t.listed ≡ [] → IsQuietSeat s → KeepsSeat 1 s t
+back_keeps k s t back none quiet = record {
+  quiet = reclaimed_quiet k s t s.listed back none quiet;
+  wait = inr (reclaimed_first back);
+  slots = slots_reclaimed s t back;
+  tickets = (let e = ap (λ (z : View). z.allowance.tickets) back.rest in omega arith);
+  allowance = (reclaim_gone back).allowance;
+}
 
 room_reclaimed : (k : Shape) (key : ℕ) (hard : Bool) (s t : SeatAt) → Reclaims k hard s t → (IsInformed s.view → IsInformed t.view)
     → IsQuietSeat s → HasRoom k key hard s t
@@ -538,16 +531,27 @@ pub record HasEnded (k : Shape) (aim : Aim) (turns i : ℕ) (stop : Stop) (s t :
   pub proceeds : Proceeds aim.key aim.hard s t
   pub lifted : HasLifted k aim (record { turns = turns; tried = i; stop = stop }) s.view t.view
   pub ends : EndsBy k aim stop t.view
-  pub tickets : s.view.allowance.tickets ≤ t.view.allowance.tickets + 3 * aim.attempts
+  pub keeps : KeepsSeat (3 * aim.attempts) s t
   pub spares : s.view.allowance.tickets ≤ t.view.allowance.tickets + 3 * i + 3
-  pub quiet : IsQuietSeat t
+
+-- what attempts leave of the seat
+pub lift_keeps : {n : ℕ} {key : ℕ} {hard : Bool} {s t : SeatAt} → Proceeds key hard s t
+    → s.view.allowance.tickets ≤ t.view.allowance.tickets + n → IsQuietSeat t → KeepsSeat n s t
+lift_keeps proceeds tickets quiet = record {
+  quiet = quiet;
+  wait = proceeds.wait;
+  slots = proceeds.slots;
+  tickets = tickets;
+  allowance = proceeds.updates.gone.allowance;
+}
 
 pub ended_lift : (k : Shape) (aim : Aim) (turns i : ℕ) (stop : Stop) (s t u : SeatAt) → Proceeds aim.key aim.hard s t
     → HasTried k aim turns i s.view t.view → s.view.allowance.tickets ≤ t.view.allowance.tickets + 3 * i → i < aim.attempts
     → HasAttempted k aim t (EndedBy stop) u → HasEnded k aim turns i stop s u
 ended_lift k aim turns i stop s t u proceeds tried tickets more made =
+    let all = proceeds_on aim.key aim.hard s t u proceeds made.proceeds in
     record {
-      proceeds = proceeds_on aim.key aim.hard s t u proceeds made.proceeds;
+      proceeds = all;
       lifted = record {
         tried = tried.tried;
         were = tries_end k aim s.view t.view u.view tried.tried tried.were made.attempts.0;
@@ -557,7 +561,6 @@ ended_lift k aim turns i stop s t u proceeds tried tickets more made =
         spent = λ e. absurd (made.attempts.2 e);
       };
       ends = made.attempts.1;
-      tickets = (let last = made.tickets in omega arith);
+      keeps = lift_keeps all (let last = made.tickets in omega arith) made.quiet;
       spares = (let last = made.tickets in omega arith);
-      quiet = made.quiet;
     }

@@ -6,13 +6,13 @@ use Rattle.core_state.specs.declared.view.View.{View}
 use Rattle.seat_table.specs.Gains.{IsFull, IsInformed}
 use Rattle.seat_table.specs.Seats.{SeatAt, IsQuietSeat}
 use Rattle.node_slots.specs.Reclaiming.{HasReclaimed}
-use Rattle.citrus_tree.specs.Going.{Goes, IsOfTry, KeepsSlots, KeepsWait}
+use Rattle.citrus_tree.specs.Going.{Goes, IsOfTry, KeepsSeat, KeepsSlots, KeepsWait}
 use Rattle.tree_turn.specs.Turns.{IsQuietButHand, HasTurned, HasTurnedNone}
 use Rattle.std.specs.List.{AllByRecursion}
 use Rattle.prcu_marks.specs.declared.mark.Mark.{Mark}
 use Rattle.core_state.specs.declared.view.Reading.{Reading}
 use Rattle.list_laws.specs.Counts.{IsIn}
-use Rattle.tree_points.specs.Points.{HasGone, KeepsAllowance}
+use Rattle.tree_points.specs.Points.{HasGone}
 use Rattle.tree_turn.specs.declared.turn.Turn.{Turn}
 use Rattle.tree_lift.specs.declared.lifting.Aim.{Aim}
 use Rattle.tree_lift.specs.declared.lifting.Attempt.{Attempt}
@@ -215,10 +215,7 @@ pub record HasCalled (before : ClientAt) (op : Op) (told : Told) (after : Client
   pub shape : after.shape ≡ before.shape
   pub table : after.table ≡ before.table
   pub answer : IsToldThenLifts before.shape before.seat.view op told after.seat.view
-  pub wait : KeepsWait before.seat.view after.seat.view
-  pub tickets : before.seat.view.allowance.tickets ≤ after.seat.view.allowance.tickets + 16
-  pub allowance : KeepsAllowance before.seat.view after.seat.view
-  pub quiet : IsQuietSeat after.seat
+  pub keeps : KeepsSeat 16 before.seat after.seat
   pub informed : IsInformed after.seat.view
 
 -- Of a client whose place had made no update, the calls so far tell of lines that fit the updates that it has seen.

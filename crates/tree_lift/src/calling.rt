@@ -1,9 +1,8 @@
 //! A call of the tree, and the lift behind it.
-ghost use Rattle.std.specs.Prelude.{◌≡◌, ◌+◌, ◌≤◌};
+ghost use Rattle.std.specs.Prelude.{◌≡◌, ◌≤◌};
 ghost use Rattle.seat_table.specs.Gains.{IsInformed};
 ghost use Rattle.seat_table.specs.Seats.{IsQuietSeat, shape_of};
-ghost use Rattle.tree_points.specs.Points.{KeepsAllowance};
-ghost use Rattle.citrus_tree.specs.Going.{KeepsSlots, KeepsWait};
+ghost use Rattle.citrus_tree.specs.Going.{KeepsSeat};
 ghost use Rattle.tree_lift.specs.Lifts.{LeavesNoUpdate, IsToldThenLifts};
 
 use crate::{Aim, is_deep, is_far_too_deep, lift};
@@ -40,11 +39,7 @@ pub fn call_and_lift<R: Wait, W: WaitPart, G: Gate>(
     requires tickets { 16 ≤ seat.old.view.allowance.tickets }
     ensures table { seat.new.table ≡ seat.old.table }
     ensures told { IsToldThenLifts (shape_of W.WAY table.now) seat.old.view op result seat.new.view }
-    ensures wait { KeepsWait seat.old.view seat.new.view }
-    ensures slots { KeepsSlots seat.old seat.new }
-    ensures tickets { seat.old.view.allowance.tickets ≤ seat.new.view.allowance.tickets + 16 }
-    ensures allowance { KeepsAllowance seat.old.view seat.new.view }
-    ensures quiet { IsQuietSeat seat.new }
+    ensures keeps { KeepsSeat 16 seat.old seat.new }
     ensures informed { IsInformed seat.new.view }
 {
     let called = call(rt, table, seat, gate, op);
@@ -70,11 +65,7 @@ fn lift_if_deep<R: Wait, W: WaitPart>(
     requires informed { IsInformed seat.old.view }
     ensures table { seat.new.table ≡ seat.old.table }
     ensures updates { LeavesNoUpdate seat.old.view key seat.new.view }
-    ensures wait { KeepsWait seat.old.view seat.new.view }
-    ensures slots { KeepsSlots seat.old seat.new }
-    ensures tickets { seat.old.view.allowance.tickets ≤ seat.new.view.allowance.tickets + 12 }
-    ensures allowance { KeepsAllowance seat.old.view seat.new.view }
-    ensures quiet { IsQuietSeat seat.new }
+    ensures keeps { KeepsSeat 12 seat.old seat.new }
     ensures informed { IsInformed seat.new.view }
 {
     let size = u64::from(table.slots());

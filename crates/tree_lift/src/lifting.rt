@@ -3,8 +3,7 @@ ghost use Rattle.std.specs.Prelude.{◌≡◌, ◌+◌, ◌*◌, ◌≤◌, fals
 ghost use Rattle.seat_table.specs.Gains.{IsInformed};
 ghost use Rattle.seat_table.specs.Sections.{HasMade};
 ghost use Rattle.seat_table.specs.Seats.{IsQuietSeat, shape_of};
-ghost use Rattle.tree_points.specs.Points.{KeepsAllowance};
-ghost use Rattle.citrus_tree.specs.Going.{KeepsSlots, KeepsWait};
+ghost use Rattle.citrus_tree.specs.Going.{KeepsSeat};
 ghost use Rattle.tree_lift.specs.Lifts.{EndsBy, HasAttempted, HasLifted, LeavesNoUpdate};
 
 use crate::finding::find_turn;
@@ -79,13 +78,9 @@ pub fn lift<P: Patience, W: WaitPart>(
     ensures turns { IfOk result (λ answer. HasLifted (shape_of W.WAY table.now) aim answer seat.old.view seat.new.view) }
     ensures ends { IfOk result (λ answer. EndsBy (shape_of W.WAY table.now) aim answer.stop seat.new.view) }
     ensures few { IfOk result (λ answer. (answer.turns ≤ answer.tried) × (answer.tried ≤ aim.attempts)) }
-    ensures wait { IfOk result (λ _. KeepsWait seat.old.view seat.new.view) }
     ensures unwaited { IfOk result (λ _. aim.hard ≡ false → seat.new.view.counts.waits ≡ seat.old.view.counts.waits) }
-    ensures slots { IfOk result (λ _. KeepsSlots seat.old seat.new) }
-    ensures tickets { IfOk result (λ _. seat.old.view.allowance.tickets ≤ seat.new.view.allowance.tickets + 3 * aim.attempts) }
+    ensures keeps { IfOk result (λ _. KeepsSeat (3 * aim.attempts) seat.old seat.new) }
     ensures spares { IfOk result (λ answer. seat.old.view.allowance.tickets ≤ seat.new.view.allowance.tickets + 3 * answer.tried + 3) }
-    ensures allowance { IfOk result (λ _. KeepsAllowance seat.old.view seat.new.view) }
-    ensures quiet { IfOk result (λ _. IsQuietSeat seat.new) }
     ensures informed { IfOk result (λ _. IsInformed seat.old.view → IsInformed seat.new.view) }
     ensures tired { IfErr result (λ _. HasMade (P.least patience.now) seat.new.view) }
 {

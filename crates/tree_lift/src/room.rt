@@ -1,10 +1,9 @@
 //! What a turn needs of the place: room among the retired slots, a spare, and a slot in hand.
-ghost use Rattle.std.specs.Prelude.{◌≡◌, ℕ, ◌≤◌, ◌+◌, IfOk, IfErr};
+ghost use Rattle.std.specs.Prelude.{◌≡◌, ℕ, ◌≤◌, IfOk, IfErr};
 ghost use Rattle.seat_table.specs.Gains.{IsInformed};
 ghost use Rattle.seat_table.specs.Sections.{HasMade};
 ghost use Rattle.seat_table.specs.Seats.{IsQuietSeat, shape_of};
-ghost use Rattle.tree_points.specs.Points.{KeepsAllowance};
-ghost use Rattle.citrus_tree.specs.Going.{KeepsWait};
+ghost use Rattle.citrus_tree.specs.Going.{KeepsSeat};
 ghost use Rattle.tree_lift.specs.Lifts.{LeavesNoUpdate, GivesAllBack, MakesRoom, SeesToSpare, TakesSlots};
 
 use node_slots::Taken;
@@ -52,10 +51,7 @@ pub fn give_all_back<P: Patience, W: WaitPart>(
     ensures table { seat.new.table ≡ seat.old.table }
     ensures back { IfOk result (λ some. GivesAllBack (shape_of W.WAY table.now) seat.old some seat.new) }
     ensures updates { IfOk result (λ _. (key : ℕ) → LeavesNoUpdate seat.old.view key seat.new.view) }
-    ensures wait { IfOk result (λ _. KeepsWait seat.old.view seat.new.view) }
-    ensures tickets { IfOk result (λ _. seat.old.view.allowance.tickets ≤ seat.new.view.allowance.tickets + 1) }
-    ensures allowance { IfOk result (λ _. KeepsAllowance seat.old.view seat.new.view) }
-    ensures quiet { IfOk result (λ _. IsQuietSeat seat.new) }
+    ensures keeps { IfOk result (λ _. KeepsSeat 1 seat.old seat.new) }
     ensures informed { IfOk result (λ _. IsInformed seat.old.view → IsInformed seat.new.view) }
     ensures tired { IfErr result (λ _. HasMade (P.least patience.now) seat.new.view) }
 {

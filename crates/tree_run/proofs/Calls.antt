@@ -381,7 +381,7 @@ made_call shape table cookie left held s ready mid t op told first room call goo
   ends = room_ends shape op cookie s left ready first room;
   waits = settles_leave shape left mid held t good settles;
   few = starts_few settles.left settles.between held t settles.starts;
-  tickets = let same = ap (λ (z : Allowance). z.tickets) (room_allows shape op cookie s left ready first room) in let a = call.tickets in
+  tickets = let same = ap (λ (z : Allowance). z.tickets) (room_allows shape op cookie s left ready first room) in let a = call.keeps.tickets in
       let b = settles_pay shape left mid held t good settles in omega arith;
   quiet = quiet;
   sound = sound (informed_sound mid.view call.informed);

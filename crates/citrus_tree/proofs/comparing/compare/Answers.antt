@@ -1,8 +1,8 @@
 use Rattle.std.proofs.Common.{◌≡◌, ℕ, ◌≢◌, refl, ◌∙◌, arith}
 use mathlib.Core.Logic.{dite}
 use native.Mathlib.Decide.{ℕ_discrete}
-use Rattle.citrus_tree.proofs.Replacing.{absent_begins, absent_goes, absent_quiet, absent_retired, absent_tickets, absent_wait, outside, unlocked, begins, goes_all, may_store, tries_again, stored_begins, stored_quiet, stored_retired, stored_wait, stored_tickets, listed_on, absent_value, found_value, absent_compares, differs_compares, stored_compares}
-use Rattle.citrus_tree.proofs.Leavings.{slots_goes}
+use Rattle.citrus_tree.proofs.Replacing.{absent_begins, absent_goes, outside, unlocked, begins, goes_all, may_store, tries_again, stored_begins, absent_value, found_value, absent_compares, differs_compares, stored_compares, absent_keeps, stored_keeps}
+use Rattle.citrus_tree.proofs.Leavings.{keeps_goes}
 use Rattle.seat_table.proofs.SeveralSteps.{prefix_steps}
 use Rattle.citrus_tree.proofs.comparing.compare.Goals as goal
 
@@ -35,29 +35,12 @@ pub returns-in_default-clause-begins : goal.returns-in_default-clause-begins
 returns-in_default-clause-begins g c = absent_begins c.loop-round.invariant.tries c.requires.tickets
     (absent_value _ _ _ _ c.in_default.is c.find_value.ensures.sought)
 
-pub returns-in_default-clause-quiet : goal.returns-in_default-clause-quiet
-returns-in_default-clause-quiet g c = let l = absent_value _ _ _ _ c.in_default.is c.find_value.ensures.sought in record {
-  view = absent_quiet c.loop-round.invariant.tries c.requires.tickets l c.find_value.ensures.place;
-  listed = listed_on c.args.seat.now c.find_value.new.seat (c.find_value.ensures.seat.1 ∙ c.loop-round.invariant.listed)
-      (absent_retired c.loop-round.invariant.tries c.requires.tickets l) c.requires.quiet.listed;
-}
-
-pub returns-in_default-clause-wait : goal.returns-in_default-clause-wait
-returns-in_default-clause-wait g c = absent_wait c.loop-round.invariant.tries c.requires.tickets
-    (absent_value _ _ _ _ c.in_default.is c.find_value.ensures.sought)
-
-pub returns-in_default-clause-slots : goal.returns-in_default-clause-slots
-returns-in_default-clause-slots g c =
-    slots_goes c.args.seat.now c.find_value.new.seat _ (absent_goes c.loop-round.invariant.tries c.requires.tickets
-    (absent_value _ _ _ _ c.in_default.is c.find_value.ensures.sought)) (c.find_value.ensures.seat.1 ∙ c.loop-round.invariant.listed)
-
-pub returns-in_default-clause-tickets : goal.returns-in_default-clause-tickets
-returns-in_default-clause-tickets g c = absent_tickets c.loop-round.invariant.tries c.requires.tickets
-    (absent_value _ _ _ _ c.in_default.is c.find_value.ensures.sought) c.find_value.ensures.place
-
-pub returns-in_default-clause-allowance : goal.returns-in_default-clause-allowance
-returns-in_default-clause-allowance g c = (absent_goes c.loop-round.invariant.tries c.requires.tickets
-    (absent_value _ _ _ _ c.in_default.is c.find_value.ensures.sought)).gone.allowance
+pub returns-in_default-clause-keeps : goal.returns-in_default-clause-keeps
+returns-in_default-clause-keeps g c =
+    let tries = c.loop-round.invariant.tries in
+    let looked = absent_value _ _ _ _ c.in_default.is c.find_value.ensures.sought in
+    keeps_goes (absent_keeps tries c.requires.tickets looked c.find_value.ensures.place) (absent_goes tries c.requires.tickets looked)
+    (c.find_value.ensures.seat.1 ∙ c.loop-round.invariant.listed) c.requires.quiet.listed
 
 pub returns-in_default-clause-informed : goal.returns-in_default-clause-informed
 returns-in_default-clause-informed g c = (absent_value _ _ _ _ c.in_default.is c.find_value.ensures.sought).informed
@@ -70,30 +53,12 @@ pub returns-then-found-expected-clause-begins : goal.returns-then-found-expected
 returns-then-found-expected-clause-begins g c = absent_begins c.loop-round.invariant.tries c.requires.tickets
     (found_value _ _ _ _ c.in-Some.is c.find_value.ensures.sought).0.looked
 
-pub returns-then-found-expected-clause-quiet : goal.returns-then-found-expected-clause-quiet
-returns-then-found-expected-clause-quiet g c = let l = (found_value _ _ _ _ c.in-Some.is c.find_value.ensures.sought).0.looked in record {
-  view = absent_quiet c.loop-round.invariant.tries c.requires.tickets l c.find_value.ensures.place;
-  listed = listed_on c.args.seat.now c.find_value.new.seat (c.find_value.ensures.seat.1 ∙ c.loop-round.invariant.listed)
-      (absent_retired c.loop-round.invariant.tries c.requires.tickets l) c.requires.quiet.listed;
-}
-
-pub returns-then-found-expected-clause-wait : goal.returns-then-found-expected-clause-wait
-returns-then-found-expected-clause-wait g c = absent_wait c.loop-round.invariant.tries c.requires.tickets
-    (found_value _ _ _ _ c.in-Some.is c.find_value.ensures.sought).0.looked
-
-pub returns-then-found-expected-clause-slots : goal.returns-then-found-expected-clause-slots
-returns-then-found-expected-clause-slots g c =
-    slots_goes c.args.seat.now c.find_value.new.seat _ (absent_goes c.loop-round.invariant.tries c.requires.tickets
-    (found_value _ _ _ _ c.in-Some.is c.find_value.ensures.sought).0.looked)
-    (c.find_value.ensures.seat.1 ∙ c.loop-round.invariant.listed)
-
-pub returns-then-found-expected-clause-tickets : goal.returns-then-found-expected-clause-tickets
-returns-then-found-expected-clause-tickets g c = absent_tickets c.loop-round.invariant.tries c.requires.tickets
-    (found_value _ _ _ _ c.in-Some.is c.find_value.ensures.sought).0.looked c.find_value.ensures.place
-
-pub returns-then-found-expected-clause-allowance : goal.returns-then-found-expected-clause-allowance
-returns-then-found-expected-clause-allowance g c = (absent_goes c.loop-round.invariant.tries c.requires.tickets
-    (found_value _ _ _ _ c.in-Some.is c.find_value.ensures.sought).0.looked).gone.allowance
+pub returns-then-found-expected-clause-keeps : goal.returns-then-found-expected-clause-keeps
+returns-then-found-expected-clause-keeps g c =
+    let tries = c.loop-round.invariant.tries in
+    let looked = (found_value _ _ _ _ c.in-Some.is c.find_value.ensures.sought).0.looked in
+    keeps_goes (absent_keeps tries c.requires.tickets looked c.find_value.ensures.place) (absent_goes tries c.requires.tickets looked)
+    (c.find_value.ensures.seat.1 ∙ c.loop-round.invariant.listed) c.requires.quiet.listed
 
 pub returns-then-found-expected-clause-informed : goal.returns-then-found-expected-clause-informed
 returns-then-found-expected-clause-informed g c = (found_value _ _ _ _ c.in-Some.is c.find_value.ensures.sought).0.looked.informed
@@ -115,37 +80,15 @@ pub returns-in-Some-2-clause-begins : goal.returns-in-Some-2-clause-begins
 returns-in-Some-2-clause-begins g c = stored_begins c.loop-round.invariant.tries c.requires.tickets c.find_value.ensures.place _ refl
     (found_value _ _ _ _ c.in-Some.is c.find_value.ensures.sought).0 c.in-Some-2.is c.in_ok-done.ensures.stored c.in_ok-done.ensures.at
 
-pub returns-in-Some-2-clause-quiet : goal.returns-in-Some-2-clause-quiet
-returns-in-Some-2-clause-quiet g c = let found = (found_value _ _ _ _ c.in-Some.is c.find_value.ensures.sought).0 in record {
-  view = stored_quiet c.loop-round.invariant.tries c.requires.tickets c.find_value.ensures.place _ refl found c.in-Some-2.is
-      c.in_ok-done.ensures.stored c.in_ok-done.ensures.at;
-  listed = listed_on c.args.seat.now c.store_value.new.seat
-      (c.store_value.ensures.seat.1 ∙ c.find_value.ensures.seat.1 ∙ c.loop-round.invariant.listed)
-      (stored_retired c.loop-round.invariant.tries c.requires.tickets c.find_value.ensures.place _ refl found c.in-Some-2.is
-      c.in_ok-done.ensures.stored c.in_ok-done.ensures.at) c.requires.quiet.listed;
-}
-
-pub returns-in-Some-2-clause-wait : goal.returns-in-Some-2-clause-wait
-returns-in-Some-2-clause-wait g c = stored_wait c.loop-round.invariant.tries c.requires.tickets c.find_value.ensures.place _ refl
-    (found_value _ _ _ _ c.in-Some.is c.find_value.ensures.sought).0 c.in-Some-2.is c.in_ok-done.ensures.stored c.in_ok-done.ensures.at
-
-pub returns-in-Some-2-clause-slots : goal.returns-in-Some-2-clause-slots
-returns-in-Some-2-clause-slots g c =
-    slots_goes c.args.seat.now c.store_value.new.seat _ (goes_all c.loop-round.invariant.tries c.requires.tickets
-    c.find_value.ensures.place _
-    refl (found_value _ _ _ _ c.in-Some.is c.find_value.ensures.sought).0 c.in-Some-2.is c.in_ok-done.ensures.stored
-    c.in_ok-done.ensures.at)
-    (c.store_value.ensures.seat.1 ∙ c.find_value.ensures.seat.1 ∙ c.loop-round.invariant.listed)
-
-pub returns-in-Some-2-clause-tickets : goal.returns-in-Some-2-clause-tickets
-returns-in-Some-2-clause-tickets g c = stored_tickets c.loop-round.invariant.tries c.requires.tickets c.find_value.ensures.place _ refl
-    (found_value _ _ _ _ c.in-Some.is c.find_value.ensures.sought).0 c.in-Some-2.is c.in_ok-done.ensures.stored c.in_ok-done.ensures.at
-
-pub returns-in-Some-2-clause-allowance : goal.returns-in-Some-2-clause-allowance
-returns-in-Some-2-clause-allowance g c =
-    (goes_all c.loop-round.invariant.tries c.requires.tickets c.find_value.ensures.place _ refl
-    (found_value _ _ _ _ c.in-Some.is c.find_value.ensures.sought).0 c.in-Some-2.is c.in_ok-done.ensures.stored
-    c.in_ok-done.ensures.at).gone.allowance
+pub returns-in-Some-2-clause-keeps : goal.returns-in-Some-2-clause-keeps
+returns-in-Some-2-clause-keeps g c =
+    let tries = c.loop-round.invariant.tries in
+    let place = c.find_value.ensures.place in
+    let found = (found_value _ _ _ _ c.in-Some.is c.find_value.ensures.sought).0 in
+    let done = c.in_ok-done.ensures in
+    keeps_goes (stored_keeps tries c.requires.tickets place _ refl found c.in-Some-2.is done.stored done.at)
+    (goes_all tries c.requires.tickets place _ refl found c.in-Some-2.is done.stored done.at)
+    (c.store_value.ensures.seat.1 ∙ c.find_value.ensures.seat.1 ∙ c.loop-round.invariant.listed) c.requires.quiet.listed
 
 pub loop-round-preserved : goal.loop-round-preserved
 loop-round-preserved g c = record {

@@ -2,11 +2,10 @@ use Rattle.seat_table.specs.Seats.{shape_of}
 use Rattle.node_slots.specs.Taking.{Takes}
 use Rattle.node_slots.specs.declared.answers.Taken.{Taken}
 use Rattle.node_slots.proofs.Points.{none_retired_now, tries_further}
-use Rattle.citrus_tree.proofs.Replacing.{listed_on}
 use Rattle.citrus_tree.proofs.DeleteTries.{kept_retired, may_reclaim_spare, needs_kept, ready_kept, ready_spare, room_kept, room_spare}
 use Rattle.std.proofs.Common.{[], ap, ◌∙◌, inl, inr, subst}
 use Rattle.core_state.specs.declared.view.View.{View}
-use Rattle.citrus_tree.proofs.Leavings.{slots_goes, slots_on, slots_reclaimed, slots_same}
+use Rattle.citrus_tree.proofs.Leavings.{slots_goes, slots_on, slots_reclaimed, slots_same, listed_on}
 use Rattle.citrus_tree.proofs.Linking.{goes_none}
 use Rattle.citrus_tree.specs.Going.{retired_marks}
 use Rattle.citrus_tree.proofs.delete.take_spare.Goals as goal

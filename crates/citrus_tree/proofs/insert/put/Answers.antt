@@ -1,7 +1,6 @@
 use Rattle.std.proofs.Common.{[], refl, ◌∙◌, arith}
-use Rattle.citrus_tree.proofs.Inserting.{begins, outside, unlocked, may_give_up, old_found, old_looked, old_puts, old_allowance, old_begins, old_wait, old_quiet, old_tickets, may_take_leaf, spot_looked, full_puts, full_allowance, full_begins, full_wait, full_quiet, full_tickets, may_link, tries_again, new_goes, new_puts, new_retired, new_allowance, new_begins, new_wait, new_quiet, new_tickets}
-use Rattle.citrus_tree.proofs.Replacing.{listed_on}
-use Rattle.citrus_tree.proofs.Leavings.{goes_slots, slots_on, slots_self, room_steps}
+use Rattle.citrus_tree.proofs.Inserting.{begins, outside, unlocked, may_give_up, old_found, old_looked, old_puts, old_begins, may_take_leaf, spot_looked, full_puts, full_begins, may_link, tries_again, new_goes, new_puts, new_begins, old_keeps, full_keeps, new_keeps}
+use Rattle.citrus_tree.proofs.Leavings.{goes_slots, slots_on, slots_self, room_steps, keeps_seat, listed_on}
 use Rattle.seat_table.proofs.SeveralSteps.{prefix_steps}
 use Rattle.std.proofs.lemmas.Result.{err_from_is_err_and}
 use Rattle.citrus_tree.proofs.insert.put.Goals as goal
@@ -60,24 +59,20 @@ pub returns-in_default-clause-puts : goal.returns-in_default-clause-puts
 returns-in_default-clause-puts g c = old_puts c.loop-round.invariant.tries c.requires.tickets c.find_spot.ensures.place _ c.in_default.is
     c.find_spot.ensures.searched c.give_up_leaf.ensures.goes c.answered.ensures
 
-pub returns-in_default-clause-quiet : goal.returns-in_default-clause-quiet
-returns-in_default-clause-quiet g c = record {
-  view = old_quiet c.loop-round.invariant.tries c.requires.tickets c.find_spot.ensures.place _ c.in_default.is
-      c.find_spot.ensures.searched
-      c.give_up_leaf.ensures.goes c.give_up_leaf.ensures.at;
-  listed = listed_on c.loop-round.seat c.give_up_leaf.new.seat (c.give_up_leaf.ensures.seat.1 ∙ c.find_spot.ensures.seat.1)
-      (c.give_up_leaf.ensures.goes.retired ∙ (old_looked c.loop-round.invariant.tries c.requires.tickets c.find_spot.ensures.place _
-      c.in_default.is c.find_spot.ensures.searched).retired) c.loop-round.invariant.listed;
-}
-
-pub returns-in_default-clause-wait : goal.returns-in_default-clause-wait
-returns-in_default-clause-wait g c = old_wait c.loop-round.invariant.tries c.requires.tickets c.find_spot.ensures.place _ c.in_default.is
-    c.find_spot.ensures.searched c.give_up_leaf.ensures.goes
-
-pub returns-in_default-clause-tickets : goal.returns-in_default-clause-tickets
-returns-in_default-clause-tickets g c =
-    old_tickets c.loop-round.invariant.tries c.requires.tickets c.find_spot.ensures.place _ c.in_default.is
-    c.find_spot.ensures.searched c.give_up_leaf.ensures.goes c.give_up_leaf.ensures.at
+pub returns-in_default-clause-keeps : goal.returns-in_default-clause-keeps
+returns-in_default-clause-keeps g c =
+    let tries = c.loop-round.invariant.tries in
+    let place = c.find_spot.ensures.place in
+    let searched = c.find_spot.ensures.searched in
+    let looked = old_looked tries c.requires.tickets place _ c.in_default.is searched in
+    let found = goes_slots c.args.seat.now c.loop-round.seat c.find_spot.new.seat _ c.loop-round.invariant.slots looked
+    c.find_spot.ensures.seat.1 in
+    keeps_seat
+    (old_keeps tries c.requires.tickets place _ c.in_default.is searched c.give_up_leaf.ensures.goes c.give_up_leaf.ensures.at)
+    (listed_on c.loop-round.seat c.give_up_leaf.new.seat (c.give_up_leaf.ensures.seat.1 ∙ c.find_spot.ensures.seat.1)
+    (c.give_up_leaf.ensures.goes.retired ∙ looked.retired) c.loop-round.invariant.listed)
+    (goes_slots c.args.seat.now c.find_spot.new.seat c.give_up_leaf.new.seat [] found c.give_up_leaf.ensures.goes
+    c.give_up_leaf.ensures.seat.1)
 
 pub leaf_in_hand-requires-clause-listed : goal.leaf_in_hand-requires-clause-listed
 leaf_in_hand-requires-clause-listed g c = listed_on c.loop-round.seat c.find_spot.new.seat c.find_spot.ensures.seat.1
@@ -94,22 +89,17 @@ pub returns-in_default-2-clause-puts : goal.returns-in_default-2-clause-puts
 returns-in_default-2-clause-puts g c = full_puts c.loop-round.invariant.tries c.requires.tickets c.find_spot.ensures.place _ c.in-Some.is
     c.find_spot.ensures.searched c.in_ok-leaf.ensures.room (c.in_ok-leaf.ensures.full c.in_default-2.is) c.answered-in_default-2.ensures
 
-pub returns-in_default-2-clause-quiet : goal.returns-in_default-2-clause-quiet
-returns-in_default-2-clause-quiet g c = record {
-  view =
-      full_quiet c.loop-round.invariant.tries c.requires.tickets c.find_spot.ensures.place _ c.in-Some.is c.find_spot.ensures.searched
-      c.in_ok-leaf.ensures.room c.in_default-2.is c.in_ok-leaf.ensures.at;
-  listed = c.in_ok-leaf.ensures.listed;
-}
-
-pub returns-in_default-2-clause-wait : goal.returns-in_default-2-clause-wait
-returns-in_default-2-clause-wait g c = full_wait c.loop-round.invariant.tries c.requires.tickets c.find_spot.ensures.place _ c.in-Some.is
-    c.find_spot.ensures.searched c.in_ok-leaf.ensures.room
-
-pub returns-in_default-2-clause-tickets : goal.returns-in_default-2-clause-tickets
-returns-in_default-2-clause-tickets g c =
-    full_tickets c.loop-round.invariant.tries c.requires.tickets c.find_spot.ensures.place _ c.in-Some.is
-    c.find_spot.ensures.searched c.in_ok-leaf.ensures.room c.in_default-2.is c.in_ok-leaf.ensures.at
+pub returns-in_default-2-clause-keeps : goal.returns-in_default-2-clause-keeps
+returns-in_default-2-clause-keeps g c =
+    let tries = c.loop-round.invariant.tries in
+    let place = c.find_spot.ensures.place in
+    let searched = c.find_spot.ensures.searched in
+    keeps_seat
+    (full_keeps tries c.requires.tickets place _ c.in-Some.is searched c.in_ok-leaf.ensures.room c.in_default-2.is c.in_ok-leaf.ensures.at)
+    c.in_ok-leaf.ensures.listed
+    (slots_on c.args.seat.now c.find_spot.new.seat c.leaf_in_hand.new.seat
+    (goes_slots c.args.seat.now c.loop-round.seat c.find_spot.new.seat _ c.loop-round.invariant.slots
+    (spot_looked tries c.requires.tickets place _ c.in-Some.is searched) c.find_spot.ensures.seat.1) c.in_ok-leaf.ensures.slots)
 
 pub link_leaf-requires-clause-at : goal.link_leaf-requires-clause-at
 link_leaf-requires-clause-at g c = may_link c.loop-round.invariant.tries c.requires.tickets c.find_spot.ensures.place _ c.in-Some.is
@@ -120,26 +110,24 @@ returns-in-Some-3-clause-puts g c = new_puts c.loop-round.invariant.tries c.requ
     c.find_spot.ensures.searched c.in_ok-leaf.ensures.room
     c.in-Some-2.is c.in_ok-leaf.ensures.at c.in-Some-3.is c.in_ok-number.ensures.linked c.answered-in-Some-3.ensures
 
-pub returns-in-Some-3-clause-quiet : goal.returns-in-Some-3-clause-quiet
-returns-in-Some-3-clause-quiet g c = record {
-  view = new_quiet c.loop-round.invariant.tries c.requires.tickets c.find_spot.ensures.place _ c.in-Some.is c.find_spot.ensures.searched
-      c.in_ok-leaf.ensures.room c.in-Some-2.is c.in_ok-leaf.ensures.at c.in-Some-3.is c.in_ok-number.ensures.linked
-      c.in_ok-number.ensures.at;
-  listed = listed_on c.leaf_in_hand.new.seat c.link_leaf.new.seat c.link_leaf.ensures.seat.1
-      (new_retired c.loop-round.invariant.tries c.requires.tickets c.find_spot.ensures.place _ c.in-Some.is c.find_spot.ensures.searched
-      c.in_ok-leaf.ensures.room
-      c.in-Some-2.is c.in_ok-leaf.ensures.at c.in-Some-3.is c.in_ok-number.ensures.linked) c.in_ok-leaf.ensures.listed;
-}
-
-pub returns-in-Some-3-clause-wait : goal.returns-in-Some-3-clause-wait
-returns-in-Some-3-clause-wait g c = new_wait c.loop-round.invariant.tries c.requires.tickets c.find_spot.ensures.place _ c.in-Some.is
-    c.find_spot.ensures.searched c.in_ok-leaf.ensures.room
-    c.in-Some-2.is c.in_ok-leaf.ensures.at c.in-Some-3.is c.in_ok-number.ensures.linked
-
-pub returns-in-Some-3-clause-tickets : goal.returns-in-Some-3-clause-tickets
-returns-in-Some-3-clause-tickets g c = new_tickets c.loop-round.invariant.tries c.requires.tickets c.find_spot.ensures.place _ c.in-Some.is
-    c.find_spot.ensures.searched c.in_ok-leaf.ensures.room
-    c.in-Some-2.is c.in_ok-leaf.ensures.at c.in-Some-3.is c.in_ok-number.ensures.linked c.in_ok-number.ensures.at
+pub returns-in-Some-3-clause-keeps : goal.returns-in-Some-3-clause-keeps
+returns-in-Some-3-clause-keeps g c =
+    let tries = c.loop-round.invariant.tries in
+    let place = c.find_spot.ensures.place in
+    let searched = c.find_spot.ensures.searched in
+    let leaf = c.in_ok-leaf.ensures in
+    let number = c.in_ok-number.ensures in
+    let goes = new_goes tries c.requires.tickets place _ c.in-Some.is searched leaf.room c.in-Some-2.is leaf.at c.in-Some-3.is
+    number.linked in
+    keeps_seat
+    (new_keeps tries c.requires.tickets place _ c.in-Some.is searched leaf.room c.in-Some-2.is leaf.at c.in-Some-3.is number.linked
+    number.at)
+    (listed_on c.leaf_in_hand.new.seat c.link_leaf.new.seat c.link_leaf.ensures.seat.1 goes.retired leaf.listed)
+    (goes_slots c.args.seat.now c.leaf_in_hand.new.seat c.link_leaf.new.seat _
+    (slots_on c.args.seat.now c.find_spot.new.seat c.leaf_in_hand.new.seat
+    (goes_slots c.args.seat.now c.loop-round.seat c.find_spot.new.seat _ c.loop-round.invariant.slots
+    (spot_looked tries c.requires.tickets place _ c.in-Some.is searched) c.find_spot.ensures.seat.1) leaf.slots) goes
+    c.link_leaf.ensures.seat.1)
 
 pub loop-round-preserved : goal.loop-round-preserved
 loop-round-preserved g c = record {
@@ -163,47 +151,6 @@ loop-round-preserved g c = record {
       c.in_default-3.is).gone.steps in
       omega (arith, made, found, taken, tried);
 }
-
-pub returns-in_default-clause-slots : goal.returns-in_default-clause-slots
-returns-in_default-clause-slots g c =
-    let found = goes_slots c.args.seat.now c.loop-round.seat c.find_spot.new.seat _ c.loop-round.invariant.slots
-    (old_looked c.loop-round.invariant.tries c.requires.tickets c.find_spot.ensures.place _ c.in_default.is c.find_spot.ensures.searched)
-    c.find_spot.ensures.seat.1 in
-    goes_slots c.args.seat.now c.find_spot.new.seat c.give_up_leaf.new.seat [] found c.give_up_leaf.ensures.goes
-    c.give_up_leaf.ensures.seat.1
-
-pub returns-in_default-2-clause-slots : goal.returns-in_default-2-clause-slots
-returns-in_default-2-clause-slots g c = slots_on c.args.seat.now c.find_spot.new.seat c.leaf_in_hand.new.seat
-    (goes_slots c.args.seat.now c.loop-round.seat c.find_spot.new.seat _ c.loop-round.invariant.slots
-    (spot_looked c.loop-round.invariant.tries c.requires.tickets c.find_spot.ensures.place _ c.in-Some.is c.find_spot.ensures.searched)
-    c.find_spot.ensures.seat.1) c.in_ok-leaf.ensures.slots
-
-pub returns-in-Some-3-clause-slots : goal.returns-in-Some-3-clause-slots
-returns-in-Some-3-clause-slots g c =
-    let leaf = slots_on c.args.seat.now c.find_spot.new.seat c.leaf_in_hand.new.seat
-    (goes_slots c.args.seat.now c.loop-round.seat c.find_spot.new.seat _ c.loop-round.invariant.slots
-    (spot_looked c.loop-round.invariant.tries c.requires.tickets c.find_spot.ensures.place _ c.in-Some.is c.find_spot.ensures.searched)
-    c.find_spot.ensures.seat.1) c.in_ok-leaf.ensures.slots in
-    goes_slots c.args.seat.now c.leaf_in_hand.new.seat c.link_leaf.new.seat _ leaf
-    (new_goes c.loop-round.invariant.tries c.requires.tickets c.find_spot.ensures.place _ c.in-Some.is c.find_spot.ensures.searched
-    c.in_ok-leaf.ensures.room
-    c.in-Some-2.is c.in_ok-leaf.ensures.at c.in-Some-3.is c.in_ok-number.ensures.linked) c.link_leaf.ensures.seat.1
-
-pub returns-in_default-clause-allowance : goal.returns-in_default-clause-allowance
-returns-in_default-clause-allowance g c = old_allowance c.loop-round.invariant.tries c.requires.tickets c.find_spot.ensures.place _
-    c.in_default.is
-    c.find_spot.ensures.searched c.give_up_leaf.ensures.goes
-
-pub returns-in_default-2-clause-allowance : goal.returns-in_default-2-clause-allowance
-returns-in_default-2-clause-allowance g c =
-    full_allowance c.loop-round.invariant.tries c.requires.tickets c.find_spot.ensures.place _ c.in-Some.is c.find_spot.ensures.searched
-    c.in_ok-leaf.ensures.room
-
-pub returns-in-Some-3-clause-allowance : goal.returns-in-Some-3-clause-allowance
-returns-in-Some-3-clause-allowance g c =
-    new_allowance c.loop-round.invariant.tries c.requires.tickets c.find_spot.ensures.place _ c.in-Some.is
-    c.find_spot.ensures.searched c.in_ok-leaf.ensures.room
-    c.in-Some-2.is c.in_ok-leaf.ensures.at c.in-Some-3.is c.in_ok-number.ensures.linked
 
 pub returns-in_default-clause-begins : goal.returns-in_default-clause-begins
 returns-in_default-clause-begins g c =

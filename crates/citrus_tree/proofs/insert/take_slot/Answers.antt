@@ -10,11 +10,10 @@ use Rattle.core_state.specs.declared.shape.Shape.{Shape}
 use Rattle.core_state.specs.declared.view.View.{View}
 use Rattle.std.proofs.Common.{◌≡◌, ◌≢◌, ℕ, Option, Some, ap, sym, ◌∙◌, inl, inr, subst}
 use Rattle.citrus_tree.proofs.Linking.{goes_taken, goes_none, nothing_retired, something_retired, empty_is, empty_not, is_full_now, room_goes, reuses, reserves_again}
-use Rattle.citrus_tree.proofs.Replacing.{listed_on}
 use Rattle.node_slots.proofs.Points.{MayReclaim, may_reclaim, may_take, none_begins, none_ends, none_retired_now, reclaim_retired, taken_retired, taken_slot, takes_leaf, tries_further}
 use Rattle.citrus_tree.proofs.DeleteTries.{empty_listed}
 use Rattle.std.proofs.Common.{[]}
-use Rattle.citrus_tree.proofs.Leavings.{goes_slots, slots_goes, slots_on, slots_reclaimed}
+use Rattle.citrus_tree.proofs.Leavings.{goes_slots, slots_goes, slots_on, slots_reclaimed, listed_on}
 use Rattle.citrus_tree.proofs.insert.take_slot.Goals as goal
 
 -- what a take left, once its answer is known

@@ -1,9 +1,10 @@
-use Rattle.std.proofs.Common.{IfOk, sym, subst}
+use Rattle.std.proofs.Common.{IfOk, sym, subst, arith}
 use Rattle.prcu_model.specs.declared.operation.Op.{Op}
 use Rattle.seat_table.specs.Seats.{shape_of}
 use Rattle.citrus_tree.specs.Deletes.{Begins}
 use Rattle.citrus_tree.specs.Replies.{IsTold}
 use Rattle.citrus_tree.specs.declared.answer.Called.{Called}
+use Rattle.citrus_tree.proofs.Leavings.{keeps_more}
 use Rattle.citrus_tree.proofs.patient.call.Goals as goal
 
 pub returns-in-Put-clause-told : goal.returns-in-Put-clause-told
@@ -18,3 +19,6 @@ pub returns-in-Get-clause-begins : goal.returns-in-Get-clause-begins
 returns-in-Get-clause-begins g c =
     subst (λ (o : Op). Begins (shape_of g.W.WaitWords.WAY c.args.table.now) c.args.seat.now.view o c.get.new.seat.view) (sym c.in-Get.is)
     c.get.ensures.begins
+
+pub returns-in-Get-clause-keeps : goal.returns-in-Get-clause-keeps
+returns-in-Get-clause-keeps g c = keeps_more (omega arith) c.get.ensures.keeps

@@ -1,7 +1,7 @@
 use Rattle.std.proofs.Common.{◌+◌, refl, sym, subst, ◌∙◌, arith}
 use Rattle.seat_table.specs.Seats.{shape_of}
 use Rattle.tree_lift.specs.Lifts.{HasAttempted}
-use Rattle.tree_lift.proofs.Attempts.{HasTried, tried_none, tried_more, one_at_most, spent_lift, proceeds_on, proceeds_same, ended_lift}
+use Rattle.tree_lift.proofs.Attempts.{HasTried, tried_none, tried_more, one_at_most, spent_lift, proceeds_on, proceeds_same, ended_lift, lift_keeps}
 use Rattle.tree_lift.proofs.lifting.lift.Goals as goal
 
 pub loop-i-init : goal.loop-i-init
@@ -66,15 +66,6 @@ returns-in-Ended-clause-ends g c =
     (subst (λ a. HasAttempted k c.args.aim c.loop-i.seat a c.make_attempt.new.seat) c.in-Ended.is c.in_ok-turned.ensures.attempted) in
     ended.ends
 
-pub returns-in-Ended-clause-wait : goal.returns-in-Ended-clause-wait
-returns-in-Ended-clause-wait g c =
-    let k = shape_of g.W.WaitWords.WAY c.args.table.now in
-    let inv = c.loop-i.invariant in
-    let ended = ended_lift k c.args.aim c.loop-i.turns c.loop-i.i c.in-Ended.stop c.args.seat.now c.loop-i.seat c.make_attempt.new.seat
-    inv.proceeds inv.tried inv.tickets c.loop-i-test.true
-    (subst (λ a. HasAttempted k c.args.aim c.loop-i.seat a c.make_attempt.new.seat) c.in-Ended.is c.in_ok-turned.ensures.attempted) in
-    ended.proceeds.wait
-
 pub returns-in-Ended-clause-unwaited : goal.returns-in-Ended-clause-unwaited
 returns-in-Ended-clause-unwaited g c =
     let k = shape_of g.W.WaitWords.WAY c.args.table.now in
@@ -84,41 +75,14 @@ returns-in-Ended-clause-unwaited g c =
     (subst (λ a. HasAttempted k c.args.aim c.loop-i.seat a c.make_attempt.new.seat) c.in-Ended.is c.in_ok-turned.ensures.attempted) in
     ended.proceeds.unwaited
 
-pub returns-in-Ended-clause-slots : goal.returns-in-Ended-clause-slots
-returns-in-Ended-clause-slots g c =
+pub returns-in-Ended-clause-keeps : goal.returns-in-Ended-clause-keeps
+returns-in-Ended-clause-keeps g c =
     let k = shape_of g.W.WaitWords.WAY c.args.table.now in
     let inv = c.loop-i.invariant in
     let ended = ended_lift k c.args.aim c.loop-i.turns c.loop-i.i c.in-Ended.stop c.args.seat.now c.loop-i.seat c.make_attempt.new.seat
     inv.proceeds inv.tried inv.tickets c.loop-i-test.true
     (subst (λ a. HasAttempted k c.args.aim c.loop-i.seat a c.make_attempt.new.seat) c.in-Ended.is c.in_ok-turned.ensures.attempted) in
-    ended.proceeds.slots
-
-pub returns-in-Ended-clause-tickets : goal.returns-in-Ended-clause-tickets
-returns-in-Ended-clause-tickets g c =
-    let k = shape_of g.W.WaitWords.WAY c.args.table.now in
-    let inv = c.loop-i.invariant in
-    let ended = ended_lift k c.args.aim c.loop-i.turns c.loop-i.i c.in-Ended.stop c.args.seat.now c.loop-i.seat c.make_attempt.new.seat
-    inv.proceeds inv.tried inv.tickets c.loop-i-test.true
-    (subst (λ a. HasAttempted k c.args.aim c.loop-i.seat a c.make_attempt.new.seat) c.in-Ended.is c.in_ok-turned.ensures.attempted) in
-    ended.tickets
-
-pub returns-in-Ended-clause-allowance : goal.returns-in-Ended-clause-allowance
-returns-in-Ended-clause-allowance g c =
-    let k = shape_of g.W.WaitWords.WAY c.args.table.now in
-    let inv = c.loop-i.invariant in
-    let ended = ended_lift k c.args.aim c.loop-i.turns c.loop-i.i c.in-Ended.stop c.args.seat.now c.loop-i.seat c.make_attempt.new.seat
-    inv.proceeds inv.tried inv.tickets c.loop-i-test.true
-    (subst (λ a. HasAttempted k c.args.aim c.loop-i.seat a c.make_attempt.new.seat) c.in-Ended.is c.in_ok-turned.ensures.attempted) in
-    ended.proceeds.updates.gone.allowance
-
-pub returns-in-Ended-clause-quiet : goal.returns-in-Ended-clause-quiet
-returns-in-Ended-clause-quiet g c =
-    let k = shape_of g.W.WaitWords.WAY c.args.table.now in
-    let inv = c.loop-i.invariant in
-    let ended = ended_lift k c.args.aim c.loop-i.turns c.loop-i.i c.in-Ended.stop c.args.seat.now c.loop-i.seat c.make_attempt.new.seat
-    inv.proceeds inv.tried inv.tickets c.loop-i-test.true
-    (subst (λ a. HasAttempted k c.args.aim c.loop-i.seat a c.make_attempt.new.seat) c.in-Ended.is c.in_ok-turned.ensures.attempted) in
-    ended.quiet
+    ended.keeps
 
 pub returns-in-Ended-clause-informed : goal.returns-in-Ended-clause-informed
 returns-in-Ended-clause-informed g c =
@@ -158,25 +122,16 @@ pub returns-clause-ends : goal.returns-clause-ends
 returns-clause-ends g c =
     tt
 
-pub returns-clause-wait : goal.returns-clause-wait
-returns-clause-wait g c =
-    let inv = c.loop-i.invariant in inv.proceeds.wait
-
 pub returns-clause-unwaited : goal.returns-clause-unwaited
 returns-clause-unwaited g c =
     let inv = c.loop-i.invariant in inv.proceeds.unwaited
 
-pub returns-clause-slots : goal.returns-clause-slots
-returns-clause-slots g c =
-    let inv = c.loop-i.invariant in inv.proceeds.slots
-
-pub returns-clause-allowance : goal.returns-clause-allowance
-returns-clause-allowance g c =
-    let inv = c.loop-i.invariant in inv.proceeds.updates.gone.allowance
-
-pub returns-clause-quiet : goal.returns-clause-quiet
-returns-clause-quiet g c =
-    let inv = c.loop-i.invariant in inv.quiet
+pub returns-clause-keeps : goal.returns-clause-keeps
+returns-clause-keeps g c =
+    let inv = c.loop-i.invariant in
+    let left = inv.tickets in
+    let inside = c.loop-i.auto.i-end in
+    lift_keeps inv.proceeds (omega arith) inv.quiet
 
 pub returns-clause-informed : goal.returns-clause-informed
 returns-clause-informed g c =
@@ -188,8 +143,4 @@ returns-clause-few g c =
 
 pub returns-clause-spares : goal.returns-clause-spares
 returns-clause-spares g c =
-    let left = c.loop-i.invariant.tickets in let inside = c.loop-i.auto.i-end in omega arith
-
-pub returns-clause-tickets : goal.returns-clause-tickets
-returns-clause-tickets g c =
     let left = c.loop-i.invariant.tickets in let inside = c.loop-i.auto.i-end in omega arith

@@ -2,7 +2,8 @@ use Rattle.std.proofs.Common.{refl, sym, ◌∙◌}
 use Rattle.seat_table.specs.Seats.{shape_of}
 use Rattle.node_slots.proofs.Returns.{listed_length}
 use Rattle.citrus_tree.proofs.Linking.{empty_is, empty_not}
-use Rattle.tree_lift.proofs.Attempts.{back_left, back_tickets, back_wait, may_reclaim_room, none_listed, none_retired, reclaimed_quiet, same_left, same_wait}
+use Rattle.citrus_tree.proofs.Leavings.{keeps_same}
+use Rattle.tree_lift.proofs.Attempts.{may_reclaim_room, none_listed, none_retired, back_keeps, left_reclaimed}
 use Rattle.tree_lift.proofs.room.give_all_back.Goals as goal
 
 pub returns-then-is_empty-clause-back : goal.returns-then-is_empty-clause-back
@@ -40,20 +41,11 @@ returns-clause-back g c = (
 )
 
 pub returns-clause-updates : goal.returns-clause-updates
-returns-clause-updates g c = back_left (shape_of g.W.WaitWords.WAY c.args.table.now) c.args.seat.now c.reclaim.new.seat c.in_ok-reclaim.ensures.view
+returns-clause-updates g c key = left_reclaimed key c.in_ok-reclaim.ensures.view
 
-pub returns-clause-wait : goal.returns-clause-wait
-returns-clause-wait g c = back_wait (shape_of g.W.WaitWords.WAY c.args.table.now) c.args.seat.now c.reclaim.new.seat c.in_ok-reclaim.ensures.view
+pub returns-clause-keeps : goal.returns-clause-keeps
+returns-clause-keeps g c = back_keeps (shape_of g.W.WaitWords.WAY c.args.table.now) c.args.seat.now c.reclaim.new.seat
+    c.in_ok-reclaim.ensures.view c.in_ok-reclaim.ensures.listed c.requires.quiet
 
-pub returns-clause-tickets : goal.returns-clause-tickets
-returns-clause-tickets g c =
-    back_tickets (shape_of g.W.WaitWords.WAY c.args.table.now) c.args.seat.now c.reclaim.new.seat c.in_ok-reclaim.ensures.view
-
-pub returns-clause-allowance : goal.returns-clause-allowance
-returns-clause-allowance g c =
-    (back_left (shape_of g.W.WaitWords.WAY c.args.table.now) c.args.seat.now c.reclaim.new.seat c.in_ok-reclaim.ensures.view 0).gone.allowance
-
-pub returns-clause-quiet : goal.returns-clause-quiet
-returns-clause-quiet g c = reclaimed_quiet
-    (shape_of g.W.WaitWords.WAY c.args.table.now) c.args.seat.now c.reclaim.new.seat c.args.seat.now.listed c.in_ok-reclaim.ensures.view
-    c.in_ok-reclaim.ensures.listed c.requires.quiet
+pub returns-then-is_empty-clause-keeps : goal.returns-then-is_empty-clause-keeps
+returns-then-is_empty-clause-keeps g c = keeps_same c.requires.quiet

@@ -5,4 +5,4 @@ use Rattle.tree_handles.proofs.caller.Caller.compare.Goals as goal
 -- the cookie is good still
 pub invariant_of-self : goal.invariant_of-self
 invariant_of-self g c = let e = c.in-Ok.ensures in
-    (search rules, search rules, λ kept. cookie_called e.slots e.wait e.allowance (c.self.invariant.2 kept))
+    (search rules, search rules, λ kept. cookie_called e.keeps (c.self.invariant.2 kept))

@@ -12,4 +12,4 @@ returns-in-Ok-clause-taken g c = (
 -- the cookie is good still
 pub invariant_of-self : goal.invariant_of-self
 invariant_of-self g c = let e = c.in-Ok.ensures in
-    (search rules, search rules, λ kept. cookie_called e.slots e.wait e.allowance (c.self.invariant.2 kept))
+    (search rules, search rules, λ kept. cookie_called e.tells.keeps (c.self.invariant.2 kept))

@@ -13,7 +13,7 @@ settle-self-inside-requires-clause-good g c =
     let value = c.take-2.ensures.value in
     subst (IsGood k c.call_and_lift-told.new.seat) (sym value)
     (good_stays k room.result room.new.seat c.call_and_lift-told.new.seat
-    (call_keeps k c.args.op c.call_and_lift-told.result room.new.seat c.call_and_lift-told.new.seat e.told e.slots) room.ensures.good)
+    (call_keeps k c.args.op c.call_and_lift-told.result room.new.seat c.call_and_lift-told.new.seat e.told e.keeps.slots) room.ensures.good)
 
 pub returns-clause-made : goal.returns-clause-made
 returns-clause-made g c =
@@ -27,7 +27,7 @@ returns-clause-made g c =
     let e = c.call_and_lift-told.ensures in
     let after = c.settle-self-inside.ensures in
     let made = subst (λ held. MakesRoom k c.args.op held s room.result ready) c.take.ensures.value room.ensures.room in
-    let good = good_stays k room.result ready mid (call_keeps k c.args.op c.call_and_lift-told.result ready mid e.told e.slots) room.ensures.good in
+    let good = good_stays k room.result ready mid (call_keeps k c.args.op c.call_and_lift-told.result ready mid e.told e.keeps.slots) room.ensures.good in
     let settles = subst (λ held. Settles k held mid c.settle-self-inside.result t) c.take-2.ensures.value after.settles in
     let now : CookieClientAt = record {
       tree = record { shape = k; table = c.self.inside.table.now; seat = t };
@@ -40,10 +40,7 @@ returns-clause-made g c =
       shape = refl;
       table = refl;
       answer = e.told;
-      wait = e.wait;
-      tickets = e.tickets;
-      allowance = e.allowance;
-      quiet = e.quiet;
+      keeps = e.keeps;
       informed = e.informed;
     })
     good settles after.quiet after.sound)

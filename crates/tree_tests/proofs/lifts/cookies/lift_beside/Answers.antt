@@ -4,7 +4,7 @@ use Rattle.tree_tests.proofs.lifts.cookies.lift_beside.Goals as goal
 pub returns-clause-keeps : goal.returns-clause-keeps
 returns-clause-keeps g c =
     let lifted = c.in-Ok.ensures in
-    let slots = lifted.slots in
+    let slots = lifted.keeps.slots in
     record {
       latest = record {
         place = lifted.updates.gone.same;
