@@ -25,18 +25,18 @@ use Rattle.std.specs.List.{AllByRecursion}
 use mathlib.Core.Option.{some}
 use lib.ListN.{get_elem?}
 use Rattle.hash_core.specs.declared.view.Hold.{Hold}
-use Rattle.hash_core.proofs.Stocks.{rule, is_known, roles_by, moved_by, had, law_take, law_refill, law_move, law_push, law_chain, law11}
+use Rattle.hash_core.proofs.Stocks.{rule, is_known, roles_by, moved_by, had, law_take, law_refill, law_move, law_push, law_chain, law_write}
 use Rattle.atomic_table.proofs.Lists.{set_here, set_again}
 use Rattle.prcu_marks.specs.declared.commit.Commit.{Commit}
 use Rattle.prcu_marks.specs.declared.mark.Mark.TheVariants.{Left as LeftMark, Given}
 use Rattle.hash_core.specs.declared.act.Act.{Act}
 use Rattle.hash_core.specs.declared.words.Field.{Field}
 use Rattle.hash_core.proofs.SeatFrames.{law_stepped}
-use Rattle.hash_core.proofs.Sections.{law3, law4, law5}
-use Rattle.hash_core.proofs.Locks.{law6, law7, law8, law9, law12, law16}
-use Rattle.hash_core.proofs.Links.{on_chain, law13, law15}
-use Rattle.hash_core.proofs.Unlinks.{law14}
-use Rattle.hash_core.proofs.Splits.{law1, law2, starts}
+use Rattle.hash_core.proofs.Sections.{law_enter, law_leave, law_search_load}
+use Rattle.hash_core.proofs.Locks.{law_lock, law_unlock, law_readers_load, law_held_load, law_commit, law_even}
+use Rattle.hash_core.proofs.Links.{on_chain, law_link, law_replace}
+use Rattle.hash_core.proofs.Unlinks.{law_unlink}
+use Rattle.hash_core.proofs.Splits.{law_split, law_join, starts}
 use Rattle.std.specs.FinMap as finite
 use Rattle.hash_core.specs.declared.act.Act.TheVariants as act
 
@@ -424,42 +424,42 @@ module _ (capacities : List ℕ) (places tickets : ℕ) (m : Memory) (vs : List 
   keeps (act.Enter key) d =
       let a : Act = act.Enter key in let f = Readers (key % 64) in let u : View = noted v a (m f) in
       marked a (stored m f (m f + 1)) (after_enter u key h) (marks_of v a) (kept_by m h f (m f + 1) (λ s gone of. of))
-      (λ us r' at'. law3 capacities places tickets m us h r' id u at' key d.0 works d.1.0)
+      (λ us r' at'. law_enter capacities places tickets m us h r' id u at' key d.0 works d.1.0)
   keeps act.Leave d =
       let a : Act = act.Leave in let u : View = noted v a (m (field_of v a)) in let f = Readers (d.0.key % 64) in
       subst (λ (z : Section). Kept (stored m (Readers (z.key % 64)) (m (Readers (z.key % 64)) - 1)) (after_leave u z h)
       (LeftMark v.place z.count ∷ [])) (sym (section_is v d.0 d.1))
       (marked a (stored m f (m f - 1)) (after_leave u d.0 h) (LeftMark v.place d.0.count ∷ []) (kept_by m h f (m f - 1) (λ s gone of. of))
-      (λ us r' at'. law4 capacities places tickets m us h r' id u at' d.0 d.1))
+      (λ us r' at'. law_leave capacities places tickets m us h r' id u at' d.0 d.1))
   keeps (act.SearchLoad f) d =
       let a : Act = act.SearchLoad f in let u : View = noted v a (m f) in
       subst (λ (z : Section). Kept (stored m f (m f)) (after_search_load u z f (m f)) []) (sym (section_is v d.0 d.1))
-      (loaded a f (after_search_load u d.0 f (m f)) (λ us r' at'. law5 capacities places tickets m us h r' id u at' d.0 d.1 f d.2))
+      (loaded a f (after_search_load u d.0 f (m f)) (λ us r' at'. law_search_load capacities places tickets m us h r' id u at' d.0 d.1 f d.2))
   keeps (act.Lock c) d =
       let a : Act = act.Lock c in let n : ℕ = m (Lock c) in let u : View = noted v a n in
       let mine : View = record u { hold = Some (fresh_hold c) } in dite (ℕ_discrete n 0)
       (λ free. subst (λ b. Kept (stored m (Lock c) (cond b (v.place + 1) n)) (cond b mine u) []) (sym (eq-eqb n 0 free))
       (unmarked a (stored m (Lock c) (v.place + 1)) mine (kept_by m h (Lock c) (v.place + 1) (λ s gone of. of))
-      (λ us r' at'. law6 capacities places tickets m us h r' id u at' c d.0 d.1 works free)))
+      (λ us r' at'. law_lock capacities places tickets m us h r' id u at' c d.0 d.1 works free)))
       (λ taken. subst (λ b. Kept (stored m (Lock c) (cond b (v.place + 1) n)) (cond b mine u) []) (sym (ne_eqb n 0 taken))
       (quiet a (Lock c)))
   keeps act.Unlock d =
       let a : Act = act.Unlock in let u : View = noted v a 0 in
       held (λ z. Kept (stored m (Lock z.class) 0) (after_unlock u) []) d.0 d.1.hold_is
       (unmarked a (stored m (Lock d.0.class) 0) (after_unlock u) (kept_by m h (Lock d.0.class) 0 (λ s gone of. of))
-      (λ us r' at'. law7 capacities places tickets m us h r' id u at' d.0 (search rules)))
+      (λ us r' at'. law_unlock capacities places tickets m us h r' id u at' d.0 (search rules)))
   keeps act.LoadReaders d =
       let a : Act = act.LoadReaders in let u : View = noted v a (m (field_of v a)) in
       let f = Readers d.0.class in let clear : View = record u { hold = Some (record d.0 { clear = true }) } in
       held (λ z. Kept (stored m (Readers z.class) (m (Readers z.class))) (after_readers_load u z (m (Readers z.class))) []) d.0 d.1
       (dite (ℕ_discrete (m f) 0)
       (λ none. subst (λ b. Kept (stored m f (m f)) (cond b clear u) []) (sym (eq-eqb (m f) 0 none))
-      (loaded a f clear (λ us r' at'. law8 capacities places tickets m us h r' id u at' d.0 d.1 none)))
+      (loaded a f clear (λ us r' at'. law_readers_load capacities places tickets m us h r' id u at' d.0 d.1 none)))
       (λ some. subst (λ b. Kept (stored m f (m f)) (cond b clear u) []) (sym (ne_eqb (m f) 0 some)) (quiet a f)))
   keeps (act.LockedLoad f) d =
       let a : Act = act.LockedLoad f in let u : View = noted v a (m f) in
       held (λ z. Kept (stored m f (m f)) (after_held_load u z f (m f) h) []) d.0 d.1
-      (loaded a f (after_held_load u d.0 f (m f) h) (λ us r' at'. law9 capacities places tickets m us h r' id u at' d.0 d.1 f d.2 (m f == 0)))
+      (loaded a f (after_held_load u d.0 f (m f) h) (λ us r' at'. law_held_load capacities places tickets m us h r' id u at' d.0 d.1 f d.2 (m f == 0)))
   keeps (act.TakeSlot slot next) d =
       let a : Act = act.TakeSlot slot next in let u : View = noted v a next in let f = Free d.0.class in
       held (λ z. Kept (stored m (Free z.class) next) (after_take u z slot next h) (Given slot ∷ [])) d.0 d.1.hold_is
@@ -489,49 +489,49 @@ module _ (capacities : List ℕ) (places tickets : ℕ) (m : Memory) (vs : List 
       let a : Act = act.Fill f number in let u : View = noted v a number in
       held (λ z. Kept (stored m f number) (after_write u z f number) []) d.0 d.2.hold_is
       (unmarked a (stored m f number) (after_write u d.0 f number) (kept_by m h f number (written d.0 d.1 f d.2))
-      (λ us r' at'. law11 capacities places tickets m us h r' id u at' d.0 d.2.hold_is d.1 f number (search rules)))
+      (λ us r' at'. law_write capacities places tickets m us h r' id u at' d.0 d.2.hold_is d.1 f number (search rules)))
   keeps (act.OpenCommit even) d =
       let a : Act = act.OpenCommit even in let n : ℕ = m Front in let u : View = noted v a n in
       let mine : View = record u { commit = Some (record { found = even; stored = false }) } in dite (ℕ_discrete n even)
       (λ free. subst (λ b. Kept (stored m Front (cond b (even + 1) n)) (cond b mine u) []) (sym (eq-eqb n even free))
       (unmarked a (stored m Front (even + 1)) mine (kept_by m h Front (even + 1) (λ s gone of. of))
-      (λ us r' at'. law12 capacities places tickets m us h r' id u at' d.0 even d.1 free)))
+      (λ us r' at'. law_commit capacities places tickets m us h r' id u at' d.0 even d.1 free)))
       (λ taken. subst (λ b. Kept (stored m Front (cond b (even + 1) n)) (cond b mine u) []) (sym (ne_eqb n even taken)) (quiet a Front))
   keeps (act.LinkSlot slot key value) d =
       let a : Act = act.LinkSlot slot key value in let u : View = noted v a slot in let f = Head d.0.class in
       odd (λ z even. Kept (stored m (Head z.class) slot) (after_link u z even slot key value h) (marks_of v a))
       d.0 d.1 d.3.commit.hold_is d.3.commit.commit_is
       (marked a (stored m f slot) (after_link u d.0 d.1 slot key value h) (marks_of v a) (kept_by m h f slot (λ s gone of. of))
-      (λ us r' at'. law13 capacities places tickets m us h r' id u at' d.0 d.3.commit.hold_is d.1 slot key value d.2 (search rules)))
+      (λ us r' at'. law_link capacities places tickets m us h r' id u at' d.0 d.3.commit.hold_is d.1 slot key value d.2 (search rules)))
   keeps (act.UnlinkSlot f slot key next) d =
       let a : Act = act.UnlinkSlot f slot key next in let u : View = noted v a next in
       odd (λ z even. Kept (stored m f next) (after_unlink u z even f slot key next h) (marks_of v a))
       d.0 d.1 d.2.commit.hold_is d.2.commit.commit_is
       (marked a (stored m f next) (after_unlink u d.0 d.1 f slot key next h) (marks_of v a)
       (kept_by m h f next (linked_at d.0 d.2.commit.hold_is f d.2.link_is))
-      (λ us r' at'. law14 capacities places tickets m us h r' id u at' d.0 d.2.commit.hold_is d.1 f slot key next (search rules)))
+      (λ us r' at'. law_unlink capacities places tickets m us h r' id u at' d.0 d.2.commit.hold_is d.1 f slot key next (search rules)))
   keeps (act.ReplaceValue slot key value) d =
       let a : Act = act.ReplaceValue slot key value in let u : View = noted v a value in let f = Value slot in
       odd (λ z even. Kept (stored m f value) (after_replace u z even slot key value h) (marks_of v a))
       d.0 d.1 d.2.commit.hold_is d.2.commit.commit_is
       (marked a (stored m f value) (after_replace u d.0 d.1 slot key value h) (marks_of v a)
       (kept_by m h f value (λ s gone of. walked d.0 d.2.commit.hold_is slot d.2.on_walk s (sym of) gone))
-      (λ us r' at'. law15 capacities places tickets m us h r' id u at' d.0 d.2.commit.hold_is d.1 slot key value (search rules)))
+      (λ us r' at'. law_replace capacities places tickets m us h r' id u at' d.0 d.2.commit.hold_is d.1 slot key value (search rules)))
   keeps (act.CloseCommit front) d =
       let a : Act = act.CloseCommit front in let u : View = noted v a front in
       subst (λ z. Kept (stored m Front z) (after_even u) []) (sym d.2)
       (unmarked a (stored m Front (d.0 + 2)) (after_even u) (kept_by m h Front (d.0 + 2) (λ s gone of. of))
-      (λ us r' at'. law16 capacities places tickets m us h r' id u at' d.0 d.1))
+      (λ us r' at'. law_even capacities places tickets m us h r' id u at' d.0 d.1))
 
 pub acts_keep : ActsKeep
 acts_keep capacities places tickets m vs h id v a r at works needs = keeps capacities places tickets m vs h id v r at works a needs
 
 pub splits_keep : SplitsKeep
-splits_keep capacities places tickets m vs h id away given v r at needs = law1 capacities places tickets m vs h r id v at away given needs
+splits_keep capacities places tickets m vs h id away given v r at needs = law_split capacities places tickets m vs h r id v at away given needs
 
 pub joins_keep : JoinsKeep
 joins_keep capacities places tickets m vs h id other_id v other r at there two quiet quiet_other =
-    law2 capacities places tickets m vs h r id v at other_id other there two quiet quiet_other
+    law_join capacities places tickets m vs h r id v at other_id other there two quiet quiet_other
 
 pub fresh_holds : FreshHolds
 fresh_holds capacities places tickets m shape fresh = starts capacities places tickets shape m fresh
@@ -545,6 +545,6 @@ runs_hold capacities places tickets m vs h shape run = holds m vs h run
     holds m vs h (steps {m = m0} {vs = us} {h = g} id v a run there works needs) =
         (acts_keep capacities places tickets m0 us g id v a (holds m0 us g run) there works needs).rule
     holds m vs h (splits {m = m0} {vs = us} {h = g} id away given v run there needs) =
-        law1 capacities places tickets m0 us g (holds m0 us g run) id v there away given needs
+        law_split capacities places tickets m0 us g (holds m0 us g run) id v there away given needs
     holds m vs h (joins {m = m0} {vs = us} {h = g} id other_id v other run at there two quiet quiet_other) =
-        law2 capacities places tickets m0 us g (holds m0 us g run) id v at other_id other there two quiet quiet_other
+        law_join capacities places tickets m0 us g (holds m0 us g run) id v at other_id other there two quiet quiet_other

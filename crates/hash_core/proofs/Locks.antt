@@ -87,11 +87,11 @@ module _ (capacities : List ℕ) (places tickets : ℕ) (m : Memory) (vs : List 
 
   -- H6, where the lock was free
   module _ (c : ℕ) (small : c < 64) (quiet : IsQuiet v) (place : 1 ≤ v.places) (free : m (Lock c) ≡ 0) where
-    abbrev w6 : View
-    w6 = record v { hold = Some (fresh_hold c) }
+    abbrev w_lock : View
+    w_lock = record v { hold = Some (fresh_hold c) }
 
-    abbrev m6 : Memory
-    m6 = stored m (Lock c) (v.place + 1)
+    abbrev m_lock : Memory
+    m_lock = stored m (Lock c) (v.place + 1)
 
     nobody : (r.bucket c).hold ≡ None
     nobody = none_case (r.bucket c).hold refl (r.buckets c small).locked
@@ -100,16 +100,16 @@ module _ (capacities : List ℕ) (places tickets : ℕ) (m : Memory) (vs : List 
         none_case None is locked = is
         none_case (Some hold) is locked = absurd (let a = locked.has.word in omega arith)
 
-    abbrev b6 : Bucket
-    b6 = record (r.bucket c) { hold = Some (fresh_hold c) }
+    abbrev b_lock : Bucket
+    b_lock = record (r.bucket c) { hold = Some (fresh_hold c) }
 
-    seats6 : SeatsRule capacities places tickets m6 (set vs id w6) h
-    seats6 = seats_same capacities places tickets m vs h r id v w6 at m6
+    seats_lock : SeatsRule capacities places tickets m_lock (set vs id w_lock) h
+    seats_lock = seats_same capacities places tickets m vs h r id v w_lock at m_lock
         (seat_holds v (Some (fresh_hold c)) v.trail (λ commit hold is held. (fresh_hold c, refl))
         (λ hold is. let e : fresh_hold c ≡ hold = cc in (subst (λ (z : Hold). z.class < 64) e small, place))) refl refl
 
-    bucket6 : c < 64 → BucketRule capacities c m6 h (updates_of h) (set vs id w6) b6
-    bucket6 _ =
+    bucket_lock : c < 64 → BucketRule capacities c m_lock h (updates_of h) (set vs id w_lock) b_lock
+    bucket_lock _ =
         let b = r.buckets c small in
         let none : (r.bucket c).hold ≡ None = nobody in
         record {
@@ -125,7 +125,7 @@ module _ (capacities : List ℕ) (places tickets : ℕ) (m : Memory) (vs : List 
                 ≡ cond (is_slot_of capacities c x) 1 0) none (b.roles.once x);
           };
           mapped = record { answers = b.mapped.answers };
-          locked = only_here vs id v w6 at
+          locked = only_here vs id v w_lock at
               (record { holds = refl; class = refl; word = stored_here m (Lock c) (v.place + 1) (same_self (Lock c)) })
               (λ j u _ e. (subst (IsLocked c m vs) none b.locked).1 j u e);
           known = record {
@@ -140,43 +140,43 @@ module _ (capacities : List ℕ) (places tickets : ℕ) (m : Memory) (vs : List 
             moved = b.ages.moved;
             unlinked = λ s is. absurd (cc);
           };
-          counted = record { readers = (counted_still capacities c m h vs id v w6 at refl b.counted).readers };
-          clean = clean_still c w6 refl (r.bucket c) (Some (fresh_hold c)) (λ hold is yes s of. absurd (let e : fresh_hold c ≡ hold = cc in
+          counted = record { readers = (counted_still capacities c m h vs id v w_lock at refl b.counted).readers };
+          clean = clean_still c w_lock refl (r.bucket c) (Some (fresh_hold c)) (λ hold is yes s of. absurd (let e : fresh_hold c ≡ hold = cc in
               let z : hold.clear ≡ false = ap (λ (y : Hold). y.clear) (sym e) in cc)) b.clean;
-          answered = answered_still capacities c m h vs id v w6 at refl m6 (r.bucket c)
+          answered = answered_still capacities c m h vs id v w_lock at refl m_lock (r.bucket c)
               (λ s _. (refl, refl, refl, refl)) b.roles b.answered;
         }
 
-    pub law6 : MemoryRule capacities places tickets m6 (set vs id w6) h
-    law6 = after_step capacities places tickets m vs h r id v w6 at m6 h seats6 c b6 bucket6
+    pub law_lock : MemoryRule capacities places tickets m_lock (set vs id w_lock) h
+    law_lock = after_step capacities places tickets m vs h r id v w_lock at m_lock h seats_lock c b_lock bucket_lock
         (λ d _ ne. record {
           words = lock_words capacities c d m (v.place + 1) ne;
           marks = same_marks capacities d h;
           view = record {
             place = refl;
             section = same_section d v.section;
-            hold = subst (λ z. SameHold d z w6.hold) (sym quiet.1) (λ e. ne (sym e));
+            hold = subst (λ z. SameHold d z w_lock.hold) (sym quiet.1) (λ e. ne (sym e));
           };
         })
 
   -- H7
   module _ (hold : Hold) (needs : NeedsUnlock v hold) where
-    abbrev w7 : View
-    w7 = after_unlock v
+    abbrev w_unlock : View
+    w_unlock = after_unlock v
 
-    abbrev m7 : Memory
-    m7 = stored m (Lock hold.class) 0
+    abbrev m_unlock : Memory
+    m_unlock = stored m (Lock hold.class) 0
 
-    abbrev b7 : Bucket
-    b7 = record (r.bucket hold.class) { hold = None }
+    abbrev b_unlock : Bucket
+    b_unlock = record (r.bucket hold.class) { hold = None }
 
-    seats7 : SeatsRule capacities places tickets m7 (set vs id w7) h
-    seats7 = seats_same capacities places tickets m vs h r id v w7 at m7
+    seats_unlock : SeatsRule capacities places tickets m_unlock (set vs id w_unlock) h
+    seats_unlock = seats_same capacities places tickets m vs h r id v w_unlock at m_unlock
         (seat_holds v None v.trail (λ commit held is mine. absurd (let z : Some commit ≡ None = sym is ∙ needs.even in cc))
         (λ other is. absurd (cc))) refl refl
 
-    bucket7 : hold.class < 64 → BucketRule capacities hold.class m7 h (updates_of h) (set vs id w7) b7
-    bucket7 small =
+    bucket_unlock : hold.class < 64 → BucketRule capacities hold.class m_unlock h (updates_of h) (set vs id w_unlock) b_unlock
+    bucket_unlock small =
         let c : ℕ = hold.class in
         let b = r.buckets c small in
         let mine : (r.bucket c).hold ≡ Some hold = holder_of c small hold needs.hold_is refl in
@@ -199,7 +199,7 @@ module _ (capacities : List ℕ) (places tickets : ℕ) (m : Memory) (vs : List 
           mapped = record { answers = b.mapped.answers };
           locked = (
             stored_here m (Lock c) 0 (same_self (Lock c)),
-            each_set (λ k z. HoldsOther c z) vs id w7 (λ other is. absurd (cc)) (elim (only_at vs id v at locked) [
+            each_set (λ k z. HoldsOther c z) vs id w_unlock (λ other is. absurd (cc)) (elim (only_at vs id v at locked) [
               | inl o ↦ o.1
               | inr free ↦ absurd (free hold needs.hold_is refl)
             ]),
@@ -212,14 +212,14 @@ module _ (capacities : List ℕ) (places tickets : ℕ) (m : Memory) (vs : List 
             moved = b.ages.moved;
             unlinked = λ s is. absurd (cc);
           };
-          counted = record { readers = (counted_still capacities c m h vs id v w7 at refl b.counted).readers };
-          clean = clean_still c w7 refl (r.bucket c) None (λ other is yes s of. absurd (cc)) b.clean;
-          answered = answered_still capacities c m h vs id v w7 at refl m7 (r.bucket c)
+          counted = record { readers = (counted_still capacities c m h vs id v w_unlock at refl b.counted).readers };
+          clean = clean_still c w_unlock refl (r.bucket c) None (λ other is yes s of. absurd (cc)) b.clean;
+          answered = answered_still capacities c m h vs id v w_unlock at refl m_unlock (r.bucket c)
               (λ s _. (refl, refl, refl, refl)) b.roles b.answered;
         }
 
-    pub law7 : MemoryRule capacities places tickets m7 (set vs id w7) h
-    law7 = after_step capacities places tickets m vs h r id v w7 at m7 h seats7 hold.class b7 bucket7
+    pub law_unlock : MemoryRule capacities places tickets m_unlock (set vs id w_unlock) h
+    law_unlock = after_step capacities places tickets m vs h r id v w_unlock at m_unlock h seats_unlock hold.class b_unlock bucket_unlock
         (λ d _ ne. record {
           words = lock_words capacities hold.class d m 0 ne;
           marks = same_marks capacities d h;
@@ -305,11 +305,11 @@ module _ (capacities : List ℕ) (places tickets : ℕ) (m : Memory) (vs : List 
 
   -- H8, where no reader was found
   module _ (hold : Hold) (mine : v.hold ≡ Some hold) (nobody_reads : m (Readers hold.class) ≡ 0) where
-    abbrev new8 : Hold
-    new8 = record hold { clear = true }
+    abbrev new_clear : Hold
+    new_clear = record hold { clear = true }
 
-    abbrev w8 : View
-    w8 = record v { hold = Some new8 }
+    abbrev w_clear : View
+    w_clear = record v { hold = Some new_clear }
 
     no_section : hold.class < 64 → (j : ℕ) (u : View) (section : Section) → get_elem? vs j ≡ some u → u.section ≡ Some section
         → section.key % 64 ≢ hold.class
@@ -320,33 +320,33 @@ module _ (capacities : List ℕ) (places tickets : ℕ) (m : Memory) (vs : List 
         let was = (r.buckets hold.class small).counted.readers in
         omega arith
 
-    pub law8 : MemoryRule capacities places tickets m (set vs id w8) h
-    law8 = after_step capacities places tickets m vs h r id v w8 at m h
-        (seats_same capacities places tickets m vs h r id v w8 at m
-        (seat_holds v (Some new8) v.trail (λ commit held is had. (new8, refl))
-        (λ other is. let e : new8 ≡ other = cc in
+    pub law_readers_load : MemoryRule capacities places tickets m (set vs id w_clear) h
+    law_readers_load = after_step capacities places tickets m vs h r id v w_clear at m h
+        (seats_same capacities places tickets m vs h r id v w_clear at m
+        (seat_holds v (Some new_clear) v.trail (λ commit held is had. (new_clear, refl))
+        (λ other is. let e : new_clear ≡ other = cc in
         (subst (λ (z : Hold). z.class < 64) e (class_small hold mine), works hold mine))) refl refl)
-        hold.class (held_bucket hold new8)
+        hold.class (held_bucket hold new_clear)
         (holder_learns hold mine hold.known true v.seen (λ field number old. old field number)
         (λ small yes s of p j u section gone there inside class. absurd (no_section small j u section there inside class)))
         (λ d _ ne. record {
           words = same_words capacities d m;
           marks = same_marks capacities d h;
-          view = elsewhere_held d hold new8 mine refl ne w8 refl refl refl;
+          view = elsewhere_held d hold new_clear mine refl ne w_clear refl refl refl;
         })
 
   -- H9
   module _ (hold : Hold) (mine : v.hold ≡ Some hold) (field : Field) (of : IsOfClass capacities hold.class field) (see : Bool) where
-    abbrev new9 : Hold
-    new9 = knowing hold field (m field)
+    abbrev new_load : Hold
+    new_load = knowing hold field (m field)
 
-    abbrev w9 : View
-    w9 = record v { hold = Some new9; seen = cond see h v.seen }
+    abbrev w_load : View
+    w_load = record v { hold = Some new_load; seen = cond see h v.seen }
 
-    known9 : (other : Field) (number : ℕ) → ((f : Field) (n : ℕ) → known_in hold.known f ≡ Some n
-        → IsOfClass capacities hold.class f × (m f ≡ n)) → known_in new9.known other ≡ Some number
+    known_load : (other : Field) (number : ℕ) → ((f : Field) (n : ℕ) → known_in hold.known f ≡ Some n
+        → IsOfClass capacities hold.class f × (m f ≡ n)) → known_in new_load.known other ≡ Some number
         → IsOfClass capacities hold.class other × (m other ≡ number)
-    known9 other number old found = known_case (same_field field other) refl found
+    known_load other number old found = known_case (same_field field other) refl found
       where
         known_case : (t : Bool) → same_field field other ≡ t → cond t (Some (m field)) (known_in hold.known other) ≡ Some number
             → IsOfClass capacities hold.class other × (m other ≡ number)
@@ -354,44 +354,44 @@ module _ (capacities : List ℕ) (places tickets : ℕ) (m : Memory) (vs : List 
             (subst (IsOfClass capacities hold.class) q of, ap m (sym q) ∙ cc)
         known_case false same e = old other number e
 
-    seen9 : AreSeen (set vs id w9) h
-    seen9 = seen_case see refl
+    seen_load : AreSeen (set vs id w_load) h
+    seen_load = seen_case see refl
       where
-        seen_case : (t : Bool) → see ≡ t → AreSeen (set vs id w9) h
-        seen_case true is = seen_whole vs id v w9 at h h (ap (λ b. cond b h v.seen) is) refl (prefix_self h) r.seen
-        seen_case false is = seen_same vs id v w9 at h (ap (λ b. cond b h v.seen) is) refl r.seen
+        seen_case : (t : Bool) → see ≡ t → AreSeen (set vs id w_load) h
+        seen_case true is = seen_whole vs id v w_load at h h (ap (λ b. cond b h v.seen) is) refl (prefix_self h) r.seen
+        seen_case false is = seen_same vs id v w_load at h (ap (λ b. cond b h v.seen) is) refl r.seen
 
-    met9 : (t : Bool) → see ≡ t → (w9.seen ≡ v.seen) ⊎ (w9.seen ≡ h ++ [])
-    met9 true is = inr (ap (λ b. cond b h v.seen) is ∙ sym (append-nil h))
-    met9 false is = inl (ap (λ b. cond b h v.seen) is)
+    met_load : (t : Bool) → see ≡ t → (w_load.seen ≡ v.seen) ⊎ (w_load.seen ≡ h ++ [])
+    met_load true is = inr (ap (λ b. cond b h v.seen) is ∙ sym (append-nil h))
+    met_load false is = inl (ap (λ b. cond b h v.seen) is)
 
-    seats9 : SeatsRule capacities places tickets m (set vs id w9) h
-    seats9 =
+    seats_load : SeatsRule capacities places tickets m (set vs id w_load) h
+    seats_load =
         record {
-          seen = seen9;
-          apart = apart_same vs id v w9 at places (record { place = refl; places = refl; joined = refl }) r.apart;
-          owned = subst (AreOwned places (set vs id w9)) (append-nil h)
-              (owned_same vs id v w9 at places h [] (record { place = refl; places = refl; joined = refl }) refl
-              (met9 see refl) no_marks r.owned);
-          sections = open_same vs id v w9 at h h (updates_of h) (updates_of h) refl refl refl (section_back v w9 refl)
-              (section_forth v w9 refl) (λ p. refl) (λ p. refl) (omega arith) r.sections;
-          held = held_still vs id v w9 at (λ other is. let e : new9 ≡ other = cc in
+          seen = seen_load;
+          apart = apart_same vs id v w_load at places (record { place = refl; places = refl; joined = refl }) r.apart;
+          owned = subst (AreOwned places (set vs id w_load)) (append-nil h)
+              (owned_same vs id v w_load at places h [] (record { place = refl; places = refl; joined = refl }) refl
+              (met_load see refl) no_marks r.owned);
+          sections = open_same vs id v w_load at h h (updates_of h) (updates_of h) refl refl refl (section_back v w_load refl)
+              (section_forth v w_load refl) (λ p. refl) (λ p. refl) (omega arith) r.sections;
+          held = held_still vs id v w_load at (λ other is. let e : new_load ≡ other = cc in
               (subst (λ (z : Hold). z.class < 64) e (class_small hold mine), works hold mine)) r.held;
-          turned = turned_same vs id v w9 at m m (length (updates_of h)) refl refl (λ commit held is had. (new9, refl)) r.turned;
-          tickets_are = tickets_same capacities places tickets m vs h r id v w9 at m refl;
+          turned = turned_same vs id v w_load at m m (length (updates_of h)) refl refl (λ commit held is had. (new_load, refl)) r.turned;
+          tickets_are = tickets_same capacities places tickets m vs h r id v w_load at m refl;
           legal = r.legal;
           marks = r.marks;
           reuse = r.reuse;
         }
 
-    pub law9 : MemoryRule capacities places tickets m (set vs id w9) h
-    law9 = after_step capacities places tickets m vs h r id v w9 at m h seats9 hold.class (held_bucket hold new9)
-        (holder_learns hold mine new9.known hold.clear w9.seen known9
+    pub law_held_load : MemoryRule capacities places tickets m (set vs id w_load) h
+    law_held_load = after_step capacities places tickets m vs h r id v w_load at m h seats_load hold.class (held_bucket hold new_load)
+        (holder_learns hold mine new_load.known hold.clear w_load.seen known_load
         (λ small. (r.buckets hold.class small).clean.clear hold (holder_of hold.class small hold mine refl)))
         (λ d _ ne. record {
           words = same_words capacities d m;
           marks = same_marks capacities d h;
-          view = elsewhere_held d hold new9 mine refl ne w9 refl refl refl;
+          view = elsewhere_held d hold new_load mine refl ne w_load refl refl refl;
         })
 
   -- the front is stored, and what the view has of its turn changes
@@ -424,21 +424,21 @@ module _ (capacities : List ℕ) (places tickets : ℕ) (m : Memory) (vs : List 
 
   -- H12, where the front was the even number
   module _ (hold : Hold) (even : ℕ) (needs : NeedsCommit v hold even) (found : m Front ≡ even) where
-    abbrev turn12 : Commit
-    turn12 = record { found = even; stored = false }
+    abbrev turn_commit : Commit
+    turn_commit = record { found = even; stored = false }
 
-    abbrev w12 : View
-    w12 = record v { commit = Some turn12 }
+    abbrev w_commit : View
+    w_commit = record v { commit = Some turn_commit }
 
-    abbrev m12 : Memory
-    m12 = stored m Front (even + 1)
+    abbrev m_commit : Memory
+    m_commit = stored m Front (even + 1)
 
-    turned12 : IsTurned m12 (set vs id w12) (length (updates_of h))
-    turned12 = turn_case r.turned
+    turned_commit : IsTurned m_commit (set vs id w_commit) (length (updates_of h))
+    turned_commit = turn_case r.turned
       where
-        turn_case : IsTurned m vs (length (updates_of h)) → IsTurned m12 (set vs id w12) (length (updates_of h))
-        turn_case (inl free) = inr (only_here vs id v w12 at (record {
-          commit = turn12;
+        turn_case : IsTurned m vs (length (updates_of h)) → IsTurned m_commit (set vs id w_commit) (length (updates_of h))
+        turn_case (inl free) = inr (only_here vs id v w_commit at (record {
+          commit = turn_commit;
           hold = hold;
           has = refl;
           holds = needs.0;
@@ -451,28 +451,28 @@ module _ (capacities : List ℕ) (places tickets : ℕ) (m : Memory) (vs : List 
             parity true n b a = let z = needs.1 in omega arith
             parity false n b a = let z = needs.1 in omega arith
 
-    pub law12 : MemoryRule capacities places tickets m12 (set vs id w12) h
-    law12 = front_stored (even + 1) (Some turn12) turned12
+    pub law_commit : MemoryRule capacities places tickets m_commit (set vs id w_commit) h
+    law_commit = front_stored (even + 1) (Some turn_commit) turned_commit
 
   -- H16
   module _ (even : ℕ) (needs : NeedsEven v even) where
-    abbrev w16 : View
-    w16 = after_even v
+    abbrev w_even : View
+    w_even = after_even v
 
-    abbrev m16 : Memory
-    m16 = stored m Front (even + 2)
+    abbrev m_even : Memory
+    m_even = stored m Front (even + 2)
 
-    turned16 : IsTurned m16 (set vs id w16) (length (updates_of h))
-    turned16 = turn_case r.turned
+    turned_even : IsTurned m_even (set vs id w_even) (length (updates_of h))
+    turned_even = turn_case r.turned
       where
-        turn_case : IsTurned m vs (length (updates_of h)) → IsTurned m16 (set vs id w16) (length (updates_of h))
+        turn_case : IsTurned m vs (length (updates_of h)) → IsTurned m_even (set vs id w_even) (length (updates_of h))
         turn_case (inl free) = absurd (let z : Some (record { found = even; stored = true }) ≡ None = sym needs ∙ free.1 id v at in cc)
         turn_case (inr odd) = elim (only_at vs id v at odd) [
           | inl o ↦
               let commit : Some (record { found = even; stored = true }) ≡ Some o.0.commit = sym needs ∙ o.0.has in
               let by : updates_by (record { found = even; stored = true }) ≡ updates_by o.0.commit =
               ap (λ (o : Option Commit). turn_updates o) commit in
-              inl ((let b = o.0.updates in omega arith), each_set (λ k z. HasNoCommit z) vs id w16 refl o.1)
+              inl ((let b = o.0.updates in omega arith), each_set (λ k z. HasNoCommit z) vs id w_even refl o.1)
           | inr none ↦ absurd (let z : Some (record { found = even; stored = true }) ≡ None = sym needs ∙ none in cc)
         ]
           where
@@ -480,8 +480,8 @@ module _ (capacities : List ℕ) (places tickets : ℕ) (m : Memory) (vs : List 
             turn_updates None = 0
             turn_updates (Some t) = updates_by t
 
-    pub law16 : MemoryRule capacities places tickets m16 (set vs id w16) h
-    law16 = front_stored (even + 2) None turned16
+    pub law_even : MemoryRule capacities places tickets m_even (set vs id w_even) h
+    law_even = front_stored (even + 2) None turned_even
 
 -- What an update leaves of the parts on seats and on other classes, and what it makes of the dictionary.
 

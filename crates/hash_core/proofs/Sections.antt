@@ -79,42 +79,42 @@ module _ (capacities : List ℕ) (places tickets : ℕ) (m : Memory) (vs : List 
   readers_stay c n _ of = absurd of
 
   module _ (key : ℕ) (fits : key < 2 ^ 64) (works : 1 ≤ v.places) (outside : v.section ≡ None) where
-    abbrev section3 : Section
-    section3 = record { key = key; count = v.sections; entered = length h; from = length (updates_of h); state = Start; loaded = None }
+    abbrev section_enter : Section
+    section_enter = record { key = key; count = v.sections; entered = length h; from = length (updates_of h); state = Start; loaded = None }
 
-    abbrev mark3 : Mark
-    mark3 = Entered v.place v.sections key
+    abbrev mark_enter : Mark
+    mark_enter = Entered v.place v.sections key
 
-    abbrev h3 : List Mark
-    h3 = h ++ mark3 ∷ []
+    abbrev h_enter : List Mark
+    h_enter = h ++ mark_enter ∷ []
 
-    abbrev w3 : View
-    w3 = after_enter v key h
+    abbrev w_enter : View
+    w_enter = after_enter v key h
 
-    abbrev m3 : Memory
-    m3 = stored m (Readers (key % 64)) (m (Readers (key % 64)) + 1)
+    abbrev m_enter : Memory
+    m_enter = stored m (Readers (key % 64)) (m (Readers (key % 64)) + 1)
 
-    same_updates3 : updates_of h3 ≡ updates_of h
-    same_updates3 = updates_of-append h (mark3 ∷ []) ∙ append-nil (updates_of h)
+    same_updates_enter : updates_of h_enter ≡ updates_of h
+    same_updates_enter = updates_of-append h (mark_enter ∷ []) ∙ append-nil (updates_of h)
 
-    same_marks3 : (d : ℕ) → SameMarks capacities d h h3 (updates_of h) (updates_of h3)
-    same_marks3 d = record {
+    same_marks_enter : (d : ℕ) → SameMarks capacities d h h_enter (updates_of h) (updates_of h_enter)
+    same_marks_enter d = record {
       more = [];
-      longer = same_updates3 ∙ sym (append-nil _);
-      gone = λ s _. gone_at-same h mark3 tt s;
-      last = λ s _. last_unlinked-same h mark3 tt s;
-      pairs = λ k class. ap (λ us. finite.get (map_of us) k) same_updates3;
+      longer = same_updates_enter ∙ sym (append-nil _);
+      gone = λ s _. gone_at-same h mark_enter tt s;
+      last = λ s _. last_unlinked-same h mark_enter tt s;
+      pairs = λ k class. ap (λ us. finite.get (map_of us) k) same_updates_enter;
     }
 
-    open_here3 : open_at v.place h3 ≡ Some (open_of section3)
-    open_here3 = open_at-snoc v.place h mark3 ∙ ap (λ b. cond b (Some (open_of section3)) (open_at v.place h)) (eq-eqb v.place v.place refl)
+    open_here_enter : open_at v.place h_enter ≡ Some (open_of section_enter)
+    open_here_enter = open_at-snoc v.place h mark_enter ∙ ap (λ b. cond b (Some (open_of section_enter)) (open_at v.place h)) (eq-eqb v.place v.place refl)
 
-    open_else3 : (p : ℕ) → p ≢ v.place → open_at p h3 ≡ open_at p h
-    open_else3 p ne = open_at-snoc p h mark3 ∙ ap (λ b. cond b (Some (open_of section3)) (open_at p h)) (ne_eqb v.place p (λ e. ne (sym e)))
+    open_else_enter : (p : ℕ) → p ≢ v.place → open_at p h_enter ≡ open_at p h
+    open_else_enter p ne = open_at-snoc p h mark_enter ∙ ap (λ b. cond b (Some (open_of section_enter)) (open_at p h)) (ne_eqb v.place p (λ e. ne (sym e)))
 
     -- no section is open at the place
-    closed3 : open_at v.place h ≡ None
-    closed3 = closed_case (open_at v.place h) refl
+    closed_enter : open_at v.place h ≡ None
+    closed_enter = closed_case (open_at v.place h) refl
       where
         closed_case : (o : Option Open) → open_at v.place h ≡ o → o ≡ None
         closed_case None is = refl
@@ -126,193 +126,193 @@ module _ (capacities : List ℕ) (places tickets : ℕ) (m : Memory) (vs : List 
             let mine : HasOpen v v.place o = somewhere_at vs id v at q me in
             absurd (let z : Some mine.1 ≡ None = sym mine.2 ∙ outside in cc)
 
-    sections3 : AreOpen (set vs id w3) h3 (updates_of h3)
-    sections3 = record {
+    sections_enter : AreOpen (set vs id w_enter) h_enter (updates_of h_enter)
+    sections_enter = record {
       open_here = λ j u section there is. each_set
-          (λ k z. z.section ≡ Some section → (1 ≤ z.places) × (open_at z.place h3 ≡ Some (open_of section))
-          × (section.from ≤ length (updates_of h3)) × (section.key < 2 ^ 64)) vs id w3
-          (λ mine. let e : section3 ≡ section = cc in
-          subst (λ (z : Section). (1 ≤ v.places) × (open_at v.place h3 ≡ Some (open_of z)) × (z.from ≤ length (updates_of h3))
-          × (z.key < 2 ^ 64)) e (works, open_here3, let n = ap length same_updates3 in omega arith, fits))
+          (λ k z. z.section ≡ Some section → (1 ≤ z.places) × (open_at z.place h_enter ≡ Some (open_of section))
+          × (section.from ≤ length (updates_of h_enter)) × (section.key < 2 ^ 64)) vs id w_enter
+          (λ mine. let e : section_enter ≡ section = cc in
+          subst (λ (z : Section). (1 ≤ v.places) × (open_at v.place h_enter ≡ Some (open_of z)) × (z.from ≤ length (updates_of h_enter))
+          × (z.key < 2 ^ 64)) e (works, open_here_enter, let n = ap length same_updates_enter in omega arith, fits))
           (λ k z other e theirs. let o = r.sections.open_here k z section e theirs in (
             o.0,
-            open_else3 z.place (other_place k z other e works o.0) ∙ o.1,
-            let n = ap length same_updates3 in let a = o.2 in
+            open_else_enter z.place (other_place k z other e works o.0) ∙ o.1,
+            let n = ap length same_updates_enter in let a = o.2 in
                 omega arith,
             o.3,
           )) j u there is;
-      entered = λ j u there has. each_set (λ k z. 1 ≤ z.places → z.sections ≡ entered_at z.place h3) vs id w3
-          (λ mine. let a = entered_at-append v.place h (mark3 ∷ []) in
-          let one : entered_at v.place (mark3 ∷ []) ≡ 1 = ap (λ b. cond b 1 0 + 0) (eq-eqb v.place v.place refl) in
+      entered = λ j u there has. each_set (λ k z. 1 ≤ z.places → z.sections ≡ entered_at z.place h_enter) vs id w_enter
+          (λ mine. let a = entered_at-append v.place h (mark_enter ∷ []) in
+          let one : entered_at v.place (mark_enter ∷ []) ≡ 1 = ap (λ b. cond b 1 0 + 0) (eq-eqb v.place v.place refl) in
           let old = r.sections.entered id v at works in omega arith)
-          (λ k z other e theirs. let a = entered_at-append z.place h (mark3 ∷ []) in
-          let none : entered_at z.place (mark3 ∷ []) ≡ 0 =
+          (λ k z other e theirs. let a = entered_at-append z.place h (mark_enter ∷ []) in
+          let none : entered_at z.place (mark_enter ∷ []) ≡ 0 =
           ap (λ b. cond b 1 0 + 0) (ne_eqb v.place z.place (λ f. other_place k z other e works theirs (sym f))) in
           let old = r.sections.entered k z e theirs in omega arith) j u there has;
       all = λ p o is. dite (ℕ_discrete p v.place)
-          (λ e. let now : open_at v.place h3 ≡ Some o = subst (λ q. open_at q h3 ≡ Some o) e is in
-          let same : open_of section3 ≡ o = cc (open_here3, now) in
-          somewhere_here vs id v w3 at (sym e, section3, refl, sym same))
-          (λ ne. somewhere_still vs id v w3 at
+          (λ e. let now : open_at v.place h_enter ≡ Some o = subst (λ q. open_at q h_enter ≡ Some o) e is in
+          let same : open_of section_enter ≡ o = cc (open_here_enter, now) in
+          somewhere_here vs id v w_enter at (sym e, section_enter, refl, sym same))
+          (λ ne. somewhere_still vs id v w_enter at
           (λ (mine : HasOpen v p o). absurd (let z : Some mine.1 ≡ None = sym mine.2 ∙ outside in cc))
-          (r.sections.all p o (sym (open_else3 p ne) ∙ is)));
+          (r.sections.all p o (sym (open_else_enter p ne) ∙ is)));
     }
 
-    seats3 : SeatsRule capacities places tickets m3 (set vs id w3) h3
-    seats3 = record {
-      seen = seen_whole vs id v w3 at h h3 refl refl (mark3 ∷ [], refl) r.seen;
-      apart = apart_same vs id v w3 at places (record { place = refl; places = refl; joined = refl }) r.apart;
-      owned = owned_more vs id v w3 at places h [] mark3 (record { place = refl; places = refl; joined = refl }) works refl refl
+    seats_enter : SeatsRule capacities places tickets m_enter (set vs id w_enter) h_enter
+    seats_enter = record {
+      seen = seen_whole vs id v w_enter at h h_enter refl refl (mark_enter ∷ [], refl) r.seen;
+      apart = apart_same vs id v w_enter at places (record { place = refl; places = refl; joined = refl }) r.apart;
+      owned = owned_more vs id v w_enter at places h [] mark_enter (record { place = refl; places = refl; joined = refl }) works refl refl
           (eq-eqb v.place v.place refl) (λ p ne. ne_eqb v.place p (λ e. ne (sym e))) (λ p. refl) r.apart r.owned;
-      sections = sections3;
-      held = held_still vs id v w3 at (λ hold is. r.held.held id v hold at is) r.held;
-      turned = subst (IsTurned m3 (set vs id w3)) (sym (ap length same_updates3))
-          (turned_same vs id v w3 at m m3 (length (updates_of h)) refl refl (λ commit hold is held. (hold, held)) r.turned);
-      tickets_are = ap (λ us. length us + total (λ (z : View). z.tickets) (set vs id w3)) same_updates3
-          ∙ tickets_same capacities places tickets m vs h r id v w3 at m3 refl;
-      legal = subst IsLegal (sym same_updates3) r.legal;
-      marks = marks_snoc places h mark3 (
+      sections = sections_enter;
+      held = held_still vs id v w_enter at (λ hold is. r.held.held id v hold at is) r.held;
+      turned = subst (IsTurned m_enter (set vs id w_enter)) (sym (ap length same_updates_enter))
+          (turned_same vs id v w_enter at m m_enter (length (updates_of h)) refl refl (λ commit hold is held. (hold, held)) r.turned);
+      tickets_are = ap (λ us. length us + total (λ (z : View). z.tickets) (set vs id w_enter)) same_updates_enter
+          ∙ tickets_same capacities places tickets m vs h r id v w_enter at m_enter refl;
+      legal = subst IsLegal (sym same_updates_enter) r.legal;
+      marks = marks_snoc places h mark_enter (
         r.apart.within id v v.place at (inl (omega arith, omega arith)),
         fits,
         r.sections.entered id v at works,
-        closed3,
+        closed_enter,
       ) r.marks;
-      reuse = reuse_more capacities h mark3 (λ s e. absurd (cc)) r.reuse;
+      reuse = reuse_more capacities h mark_enter (λ s e. absurd (cc)) r.reuse;
     }
 
-    bucket3 : key % 64 < 64 → BucketRule capacities (key % 64) m3 h3 (updates_of h3) (set vs id w3) (r.bucket (key % 64))
-    bucket3 small =
+    bucket_enter : key % 64 < 64 → BucketRule capacities (key % 64) m_enter h_enter (updates_of h_enter) (set vs id w_enter) (r.bucket (key % 64))
+    bucket_enter small =
         let c : ℕ = key % 64 in
         let b = r.buckets c small in
-        let marks = same_marks3 c in
-        let gone : (s : ℕ) → gone_at s h3 ≡ gone_at s h = gone_at-same h mark3 tt in
+        let marks = same_marks_enter c in
+        let gone : (s : ℕ) → gone_at s h_enter ≡ gone_at s h = gone_at-same h mark_enter tt in
         record {
           chained = record { path = b.chained.path; classes = b.chained.classes; distinct = b.chained.distinct };
           listed = record { free = b.listed.free; retired = b.listed.retired; moved = b.listed.moved };
           roles = b.roles;
           mapped = record { answers = λ k class. marks.pairs k class ∙ b.mapped.answers k class };
-          locked = locked_same c m m3 vs id v w3 at refl refl (same_hold c v.hold) (r.bucket c).hold b.locked;
-          known = known_same c m3 (readers_stay c (m (Readers c) + 1)) b.known;
-          ages = frame_ages_same capacities c h h3 (r.bucket c) (λ s _. gone s) b.roles b.ages;
+          locked = locked_same c m m_enter vs id v w_enter at refl refl (same_hold c v.hold) (r.bucket c).hold b.locked;
+          known = known_same c m_enter (readers_stay c (m (Readers c) + 1)) b.known;
+          ages = frame_ages_same capacities c h h_enter (r.bucket c) (λ s _. gone s) b.roles b.ages;
           counted = record {
             readers =
-                let sum = total_set (λ (z : View). inside_count c z.section) vs id v w3 at in
+                let sum = total_set (λ (z : View). inside_count c z.section) vs id v w_enter at in
                 let before : inside_count c v.section ≡ 0 = ap (inside_count c) outside in
-                let now : inside_count c w3.section ≡ 1 = ap (λ t. cond t 1 0) (eq-eqb (key % 64) c refl) in
-                let word : m3 (Readers c) ≡ m (Readers c) + 1 = stored_here m (Readers c) (m (Readers c) + 1) (same_self (Readers c)) in
+                let now : inside_count c w_enter.section ≡ 1 = ap (λ t. cond t 1 0) (eq-eqb (key % 64) c refl) in
+                let word : m_enter (Readers c) ≡ m (Readers c) + 1 = stored_here m (Readers c) (m (Readers c) + 1) (same_self (Readers c)) in
                 let was = b.counted.readers in
                 omega arith;
           };
-          clean = clean_each capacities c h h3 vs id w3 (r.bucket c) (last_unlinked-same h mark3 tt)
-              (λ s p section free was is class. let e : section3 ≡ section = cc in let l = last_unlinked-below s h p was in
+          clean = clean_each capacities c h h_enter vs id w_enter (r.bucket c) (last_unlinked-same h mark_enter tt)
+              (λ s p section free was is class. let e : section_enter ≡ section = cc in let l = last_unlinked-below s h p was in
               subst (λ (z : Section). p < z.entered) e l) b.clean;
           answered = record {
             readers = λ j u section there is class. each_set
-                (λ k z. z.section ≡ Some section → WillAnswer capacities c m3 h3 (updates_of h3)
-                (r.bucket c).chain section section.state) vs id w3
-                (λ mine. let e : section3 ≡ section = cc in
-                subst (λ (z : Section). WillAnswer capacities c m3 h3 (updates_of h3) (r.bucket c).chain z z.state) e tt)
-                (λ k z other e theirs. still_answer capacities c m m3 h h3 (updates_of h) (updates_of h3) (r.bucket c)
+                (λ k z. z.section ≡ Some section → WillAnswer capacities c m_enter h_enter (updates_of h_enter)
+                (r.bucket c).chain section section.state) vs id w_enter
+                (λ mine. let e : section_enter ≡ section = cc in
+                subst (λ (z : Section). WillAnswer capacities c m_enter h_enter (updates_of h_enter) (r.bucket c).chain z z.state) e tt)
+                (λ k z other e theirs. still_answer capacities c m m_enter h h_enter (updates_of h) (updates_of h_enter) (r.bucket c)
                 (λ s _. (refl, refl, refl, refl)) marks b.roles section section.state
                 (b.answered.readers k z section e theirs class)) j u there is;
             loaded = λ j u section value there is class read. each_set
-                (λ k z. z.section ≡ Some section → WasSaid (updates_of h3) section.key section.from (Some value)) vs id w3
-                (λ mine. absurd (let e : section3 ≡ section = cc in
+                (λ k z. z.section ≡ Some section → WasSaid (updates_of h_enter) section.key section.from (Some value)) vs id w_enter
+                (λ mine. absurd (let e : section_enter ≡ section = cc in
                 let none : section.loaded ≡ None = ap (λ (z : Section). z.loaded) (sym e) in cc))
-                (λ k z other e theirs. still_said capacities c m m3 h h3 (updates_of h) (updates_of h3) (r.bucket c)
+                (λ k z other e theirs. still_said capacities c m m_enter h h_enter (updates_of h) (updates_of h_enter) (r.bucket c)
                 (λ s _. (refl, refl, refl, refl)) marks b.roles section.key section.from (Some value)
                 (b.answered.loaded k z section value e theirs class read)) j u there is;
           };
         }
 
     -- H3 keeps the rule
-    pub law3 : MemoryRule capacities places tickets m3 (set vs id w3) h3
-    law3 = after_step capacities places tickets m vs h r id v w3 at m3 h3 seats3 (key % 64) (r.bucket (key % 64)) bucket3
+    pub law_enter : MemoryRule capacities places tickets m_enter (set vs id w_enter) h_enter
+    law_enter = after_step capacities places tickets m vs h r id v w_enter at m_enter h_enter seats_enter (key % 64) (r.bucket (key % 64)) bucket_enter
         (λ d small ne. record {
           words = readers_words capacities (key % 64) d m (m (Readers (key % 64)) + 1) ne;
-          marks = same_marks3 d;
+          marks = same_marks_enter d;
           view = record {
             place = refl;
-            section = subst (λ z. SameSection d z w3.section) (sym outside) (λ e. ne (sym e));
+            section = subst (λ z. SameSection d z w_enter.section) (sym outside) (λ e. ne (sym e));
             hold = same_hold d v.hold;
           };
         })
 
   module _ (section : Section) (inside : v.section ≡ Some section) where
-    works4 : 1 ≤ v.places
-    works4 = (r.sections.open_here id v section at inside).0
+    works_leave : 1 ≤ v.places
+    works_leave = (r.sections.open_here id v section at inside).0
 
-    abbrev mark4 : Mark
-    mark4 = Left v.place section.count
+    abbrev mark_leave : Mark
+    mark_leave = Left v.place section.count
 
-    abbrev h4 : List Mark
-    h4 = h ++ mark4 ∷ []
+    abbrev h_leave : List Mark
+    h_leave = h ++ mark_leave ∷ []
 
-    abbrev w4 : View
-    w4 = after_leave v section h
+    abbrev w_leave : View
+    w_leave = after_leave v section h
 
-    abbrev m4 : Memory
-    m4 = stored m (Readers (section.key % 64)) (m (Readers (section.key % 64)) - 1)
+    abbrev m_leave : Memory
+    m_leave = stored m (Readers (section.key % 64)) (m (Readers (section.key % 64)) - 1)
 
-    same_updates4 : updates_of h4 ≡ updates_of h
-    same_updates4 = updates_of-append h (mark4 ∷ []) ∙ append-nil (updates_of h)
+    same_updates_leave : updates_of h_leave ≡ updates_of h
+    same_updates_leave = updates_of-append h (mark_leave ∷ []) ∙ append-nil (updates_of h)
 
-    same_marks4 : (d : ℕ) → SameMarks capacities d h h4 (updates_of h) (updates_of h4)
-    same_marks4 d = record {
+    same_marks_leave : (d : ℕ) → SameMarks capacities d h h_leave (updates_of h) (updates_of h_leave)
+    same_marks_leave d = record {
       more = [];
-      longer = same_updates4 ∙ sym (append-nil _);
-      gone = λ s _. gone_at-same h mark4 tt s;
-      last = λ s _. last_unlinked-same h mark4 tt s;
-      pairs = λ k class. ap (λ us. finite.get (map_of us) k) same_updates4;
+      longer = same_updates_leave ∙ sym (append-nil _);
+      gone = λ s _. gone_at-same h mark_leave tt s;
+      last = λ s _. last_unlinked-same h mark_leave tt s;
+      pairs = λ k class. ap (λ us. finite.get (map_of us) k) same_updates_leave;
     }
 
-    open_here4 : open_at v.place h4 ≡ None
-    open_here4 = open_at-snoc v.place h mark4 ∙ ap (λ b. cond b None (open_at v.place h)) (eq-eqb v.place v.place refl)
+    open_here_leave : open_at v.place h_leave ≡ None
+    open_here_leave = open_at-snoc v.place h mark_leave ∙ ap (λ b. cond b None (open_at v.place h)) (eq-eqb v.place v.place refl)
 
-    open_else4 : (p : ℕ) → p ≢ v.place → open_at p h4 ≡ open_at p h
-    open_else4 p ne = open_at-snoc p h mark4 ∙ ap (λ b. cond b None (open_at p h)) (ne_eqb v.place p (λ e. ne (sym e)))
+    open_else_leave : (p : ℕ) → p ≢ v.place → open_at p h_leave ≡ open_at p h
+    open_else_leave p ne = open_at-snoc p h mark_leave ∙ ap (λ b. cond b None (open_at p h)) (ne_eqb v.place p (λ e. ne (sym e)))
 
-    same_entered4 : (p : ℕ) → entered_at p h4 ≡ entered_at p h
-    same_entered4 p = let a = entered_at-append p h (mark4 ∷ []) in omega arith
+    same_entered_leave : (p : ℕ) → entered_at p h_leave ≡ entered_at p h
+    same_entered_leave p = let a = entered_at-append p h (mark_leave ∷ []) in omega arith
 
-    sections4 : AreOpen (set vs id w4) h4 (updates_of h4)
-    sections4 = record {
+    sections_leave : AreOpen (set vs id w_leave) h_leave (updates_of h_leave)
+    sections_leave = record {
       open_here = λ j u other there is. each_set (λ k z. z.section ≡ Some other
-          → (1 ≤ z.places) × (open_at z.place h4 ≡ Some (open_of other)) × (other.from ≤ length (updates_of h4))
-          × (other.key < 2 ^ 64)) vs id w4
+          → (1 ≤ z.places) × (open_at z.place h_leave ≡ Some (open_of other)) × (other.from ≤ length (updates_of h_leave))
+          × (other.key < 2 ^ 64)) vs id w_leave
           (λ mine. absurd (cc))
           (λ k z far e theirs. let o = r.sections.open_here k z other e theirs in (
             o.0,
-            open_else4 z.place (other_place k z far e works4 o.0) ∙ o.1,
-            let n = ap length same_updates4 in let a = o.2 in
+            open_else_leave z.place (other_place k z far e works_leave o.0) ∙ o.1,
+            let n = ap length same_updates_leave in let a = o.2 in
                 omega arith,
             o.3,
           )) j u there is;
-      entered = λ j u there has. each_set (λ k z. 1 ≤ z.places → z.sections ≡ entered_at z.place h4) vs id w4
-          (λ mine. r.sections.entered id v at works4 ∙ sym (same_entered4 v.place))
-          (λ k z far e theirs. r.sections.entered k z e theirs ∙ sym (same_entered4 z.place)) j u there has;
+      entered = λ j u there has. each_set (λ k z. 1 ≤ z.places → z.sections ≡ entered_at z.place h_leave) vs id w_leave
+          (λ mine. r.sections.entered id v at works_leave ∙ sym (same_entered_leave v.place))
+          (λ k z far e theirs. r.sections.entered k z e theirs ∙ sym (same_entered_leave z.place)) j u there has;
       all = λ p o is. dite (ℕ_discrete p v.place)
-          (λ e. absurd (let now : open_at v.place h4 ≡ Some o = subst (λ q. open_at q h4 ≡ Some o) e is in
-          let z : None ≡ Some o = sym open_here4 ∙ now in cc))
-          (λ ne. somewhere_still vs id v w4 at (λ (mine : HasOpen v p o). absurd (ne (sym mine.0)))
-          (r.sections.all p o (sym (open_else4 p ne) ∙ is)));
+          (λ e. absurd (let now : open_at v.place h_leave ≡ Some o = subst (λ q. open_at q h_leave ≡ Some o) e is in
+          let z : None ≡ Some o = sym open_here_leave ∙ now in cc))
+          (λ ne. somewhere_still vs id v w_leave at (λ (mine : HasOpen v p o). absurd (ne (sym mine.0)))
+          (r.sections.all p o (sym (open_else_leave p ne) ∙ is)));
     }
 
-    seats4 : SeatsRule capacities places tickets m4 (set vs id w4) h4
-    seats4 = record {
-      seen = seen_whole vs id v w4 at h h4 refl refl (mark4 ∷ [], refl) r.seen;
-      apart = apart_same vs id v w4 at places (record { place = refl; places = refl; joined = refl }) r.apart;
-      owned = owned_more vs id v w4 at places h [] mark4 (record { place = refl; places = refl; joined = refl }) works4 refl refl
+    seats_leave : SeatsRule capacities places tickets m_leave (set vs id w_leave) h_leave
+    seats_leave = record {
+      seen = seen_whole vs id v w_leave at h h_leave refl refl (mark_leave ∷ [], refl) r.seen;
+      apart = apart_same vs id v w_leave at places (record { place = refl; places = refl; joined = refl }) r.apart;
+      owned = owned_more vs id v w_leave at places h [] mark_leave (record { place = refl; places = refl; joined = refl }) works_leave refl refl
           (eq-eqb v.place v.place refl) (λ p ne. ne_eqb v.place p (λ e. ne (sym e))) (λ p. refl) r.apart r.owned;
-      sections = sections4;
-      held = held_still vs id v w4 at (λ hold is. r.held.held id v hold at is) r.held;
-      turned = subst (IsTurned m4 (set vs id w4)) (sym (ap length same_updates4))
-          (turned_same vs id v w4 at m m4 (length (updates_of h)) refl refl (λ commit hold is held. (hold, held)) r.turned);
-      tickets_are = ap (λ us. length us + total (λ (z : View). z.tickets) (set vs id w4)) same_updates4
-          ∙ tickets_same capacities places tickets m vs h r id v w4 at m4 refl;
-      legal = subst IsLegal (sym same_updates4) r.legal;
-      marks = marks_snoc places h mark4 (open_of section, (r.sections.open_here id v section at inside).1, refl) r.marks;
-      reuse = reuse_more capacities h mark4 (λ s e. absurd (cc)) r.reuse;
+      sections = sections_leave;
+      held = held_still vs id v w_leave at (λ hold is. r.held.held id v hold at is) r.held;
+      turned = subst (IsTurned m_leave (set vs id w_leave)) (sym (ap length same_updates_leave))
+          (turned_same vs id v w_leave at m m_leave (length (updates_of h)) refl refl (λ commit hold is held. (hold, held)) r.turned);
+      tickets_are = ap (λ us. length us + total (λ (z : View). z.tickets) (set vs id w_leave)) same_updates_leave
+          ∙ tickets_same capacities places tickets m vs h r id v w_leave at m_leave refl;
+      legal = subst IsLegal (sym same_updates_leave) r.legal;
+      marks = marks_snoc places h mark_leave (open_of section, (r.sections.open_here id v section at inside).1, refl) r.marks;
+      reuse = reuse_more capacities h mark_leave (λ s e. absurd (cc)) r.reuse;
     }
 
     -- the readers word counts the section
@@ -324,56 +324,56 @@ module _ (capacities : List ℕ) (places tickets : ℕ) (m : Memory) (vs : List 
         let was = (r.buckets c small).counted.readers in
         omega arith
 
-    bucket4 : section.key % 64 < 64 → BucketRule capacities (section.key % 64) m4 h4 (updates_of h4) (set vs id w4)
+    bucket_leave : section.key % 64 < 64 → BucketRule capacities (section.key % 64) m_leave h_leave (updates_of h_leave) (set vs id w_leave)
         (r.bucket (section.key % 64))
-    bucket4 small =
+    bucket_leave small =
         let c : ℕ = section.key % 64 in
         let b = r.buckets c small in
-        let marks = same_marks4 c in
-        let gone : (s : ℕ) → gone_at s h4 ≡ gone_at s h = gone_at-same h mark4 tt in
+        let marks = same_marks_leave c in
+        let gone : (s : ℕ) → gone_at s h_leave ≡ gone_at s h = gone_at-same h mark_leave tt in
         record {
           chained = record { path = b.chained.path; classes = b.chained.classes; distinct = b.chained.distinct };
           listed = record { free = b.listed.free; retired = b.listed.retired; moved = b.listed.moved };
           roles = b.roles;
           mapped = record { answers = λ k class. marks.pairs k class ∙ b.mapped.answers k class };
-          locked = locked_same c m m4 vs id v w4 at refl refl (same_hold c v.hold) (r.bucket c).hold b.locked;
-          known = known_same c m4 (readers_stay c (m (Readers c) - 1)) b.known;
-          ages = frame_ages_same capacities c h h4 (r.bucket c) (λ s _. gone s) b.roles b.ages;
+          locked = locked_same c m m_leave vs id v w_leave at refl refl (same_hold c v.hold) (r.bucket c).hold b.locked;
+          known = known_same c m_leave (readers_stay c (m (Readers c) - 1)) b.known;
+          ages = frame_ages_same capacities c h h_leave (r.bucket c) (λ s _. gone s) b.roles b.ages;
           counted = record {
             readers =
-                let sum = total_set (λ (z : View). inside_count c z.section) vs id v w4 at in
+                let sum = total_set (λ (z : View). inside_count c z.section) vs id v w_leave at in
                 let before : inside_count c v.section ≡ 1 =
                 ap (inside_count c) inside ∙ ap (λ t. cond t 1 0) (eq-eqb (section.key % 64) c refl) in
-                let word : m4 (Readers c) ≡ m (Readers c) - 1 = stored_here m (Readers c) (m (Readers c) - 1) (same_self (Readers c)) in
+                let word : m_leave (Readers c) ≡ m (Readers c) - 1 = stored_here m (Readers c) (m (Readers c) - 1) (same_self (Readers c)) in
                 let was = b.counted.readers in
                 let has = some_reader small in
                 omega arith;
           };
-          clean = clean_each capacities c h h4 vs id w4 (r.bucket c) (last_unlinked-same h mark4 tt)
+          clean = clean_each capacities c h h_leave vs id w_leave (r.bucket c) (last_unlinked-same h mark_leave tt)
               (λ s p other free was is class. absurd (cc)) b.clean;
           answered = record {
             readers = λ j u other there is class. each_set
-                (λ k z. z.section ≡ Some other → WillAnswer capacities c m4 h4 (updates_of h4)
-                (r.bucket c).chain other other.state) vs id w4
+                (λ k z. z.section ≡ Some other → WillAnswer capacities c m_leave h_leave (updates_of h_leave)
+                (r.bucket c).chain other other.state) vs id w_leave
                 (λ mine. absurd (cc))
-                (λ k z far e theirs. still_answer capacities c m m4 h h4 (updates_of h) (updates_of h4) (r.bucket c)
+                (λ k z far e theirs. still_answer capacities c m m_leave h h_leave (updates_of h) (updates_of h_leave) (r.bucket c)
                 (λ s _. (refl, refl, refl, refl)) marks b.roles other other.state
                 (b.answered.readers k z other e theirs class)) j u there is;
             loaded = λ j u other value there is class read. each_set
-                (λ k z. z.section ≡ Some other → WasSaid (updates_of h4) other.key other.from (Some value)) vs id w4
+                (λ k z. z.section ≡ Some other → WasSaid (updates_of h_leave) other.key other.from (Some value)) vs id w_leave
                 (λ mine. absurd (cc))
-                (λ k z far e theirs. still_said capacities c m m4 h h4 (updates_of h) (updates_of h4) (r.bucket c)
+                (λ k z far e theirs. still_said capacities c m m_leave h h_leave (updates_of h) (updates_of h_leave) (r.bucket c)
                 (λ s _. (refl, refl, refl, refl)) marks b.roles other.key other.from (Some value)
                 (b.answered.loaded k z other value e theirs class read)) j u there is;
           };
         }
 
     -- H4 keeps the rule
-    pub law4 : MemoryRule capacities places tickets m4 (set vs id w4) h4
-    law4 = after_step capacities places tickets m vs h r id v w4 at m4 h4 seats4 (section.key % 64) (r.bucket (section.key % 64)) bucket4
+    pub law_leave : MemoryRule capacities places tickets m_leave (set vs id w_leave) h_leave
+    law_leave = after_step capacities places tickets m vs h r id v w_leave at m_leave h_leave seats_leave (section.key % 64) (r.bucket (section.key % 64)) bucket_leave
         (λ d small ne. record {
           words = readers_words capacities (section.key % 64) d m (m (Readers (section.key % 64)) - 1) ne;
-          marks = same_marks4 d;
+          marks = same_marks_leave d;
           view = record {
             place = refl;
             section = subst (λ z. SameSection d z None) (sym inside) (λ e. ne (sym e));
@@ -383,8 +383,8 @@ module _ (capacities : List ℕ) (places tickets : ℕ) (m : Memory) (vs : List 
 
     -- H5: where the search goes on, its way goes on
     module _ (c : ℕ) (small : c < 64) (class : section.key % 64 ≡ c) where
-      chain5 : List ℕ
-      chain5 = (r.bucket c).chain
+      chain_load : List ℕ
+      chain_load = (r.bucket c).chain
 
       -- what the dictionary says now
       says : (answer : Option ℕ) → seek m section.key (r.bucket c).chain ≡ answer → WasSaid (updates_of h) section.key section.from answer
@@ -502,28 +502,28 @@ module _ (capacities : List ℕ) (places tickets : ℕ) (m : Memory) (vs : List 
     searched_same _ _ n = (refl, refl)
 
     module _ (field : Field) (may : MayLoad section field) where
-      abbrev section5 : Section
-      section5 = searched section section.state field (m field)
+      abbrev section_load : Section
+      section_load = searched section section.state field (m field)
 
-      abbrev w5 : View
-      w5 = after_search_load v section field (m field)
+      abbrev w_load : View
+      w_load = after_search_load v section field (m field)
 
-      key5 : section5.key ≡ section.key
-      key5 = ap (λ (o : Open). o.key) (searched_same section.state field (m field)).0
+      key_load : section_load.key ≡ section.key
+      key_load = ap (λ (o : Open). o.key) (searched_same section.state field (m field)).0
 
-      entered5 : section5.entered ≡ section.entered
-      entered5 = ap (λ (o : Open). o.at) (searched_same section.state field (m field)).0
+      entered_load : section_load.entered ≡ section.entered
+      entered_load = ap (λ (o : Open). o.at) (searched_same section.state field (m field)).0
 
-      seats5 : SeatsRule capacities places tickets m (set vs id w5) h
-      seats5 = seats_same capacities places tickets m vs h r id v w5 at m
+      seats_load : SeatsRule capacities places tickets m (set vs id w_load) h
+      seats_load = seats_same capacities places tickets m vs h r id v w_load at m
           (record {
             places = record { place = refl; places = refl; joined = refl };
             tickets = refl;
             sections = refl;
-            back = λ new is. let e : section5 ≡ new = cc in let s = searched_same section.state field (m field) in
+            back = λ new is. let e : section_load ≡ new = cc in let s = searched_same section.state field (m field) in
                 (section, inside, ap open_of (sym e) ∙ s.0, ap (λ (z : Section). z.from) (sym e) ∙ s.1);
             forth = λ old is. let e : section ≡ old = cc in
-                (section5, refl, ap open_of (sym e) ∙ sym (searched_same section.state field (m field)).0);
+                (section_load, refl, ap open_of (sym e) ∙ sym (searched_same section.state field (m field)).0);
             commit = refl;
             kept = λ commit hold is held. (hold, held);
             held = λ hold is. r.held.held id v hold at is;
@@ -531,9 +531,9 @@ module _ (capacities : List ℕ) (places tickets : ℕ) (m : Memory) (vs : List 
             heard = refl;
           }) refl refl
 
-      bucket5 : section.key % 64 < 64 → BucketRule capacities (section.key % 64) m h (updates_of h) (set vs id w5)
+      bucket_load : section.key % 64 < 64 → BucketRule capacities (section.key % 64) m h (updates_of h) (set vs id w_load)
           (r.bucket (section.key % 64))
-      bucket5 small =
+      bucket_load small =
           let c : ℕ = section.key % 64 in
           let b = r.buckets c small in
           let will = b.answered.readers id v section at inside refl in
@@ -542,37 +542,37 @@ module _ (capacities : List ℕ) (places tickets : ℕ) (m : Memory) (vs : List 
             listed = b.listed;
             roles = b.roles;
             mapped = b.mapped;
-            locked = locked_same c m m vs id v w5 at refl refl (same_hold c v.hold) (r.bucket c).hold b.locked;
+            locked = locked_same c m m vs id v w_load at refl refl (same_hold c v.hold) (r.bucket c).hold b.locked;
             known = b.known;
             ages = b.ages;
             counted = record {
               readers =
-                  let sum = total_set (λ (z : View). inside_count c z.section) vs id v w5 at in
+                  let sum = total_set (λ (z : View). inside_count c z.section) vs id v w_load at in
                   let before : inside_count c v.section ≡ cond (section.key % 64 == c) 1 0 = ap (inside_count c) inside in
-                  let now : inside_count c w5.section ≡ cond (section.key % 64 == c) 1 0 = ap (λ k. cond (k % 64 == c) 1 0) key5 in
+                  let now : inside_count c w_load.section ≡ cond (section.key % 64 == c) 1 0 = ap (λ k. cond (k % 64 == c) 1 0) key_load in
                   let was = b.counted.readers in
                   omega arith;
             };
-            clean = clean_each capacities c h h vs id w5 (r.bucket c) (λ s. refl)
-                (λ s p new free was is class. let e : section5 ≡ new = cc in
+            clean = clean_each capacities c h h vs id w_load (r.bucket c) (λ s. refl)
+                (λ s p new free was is class. let e : section_load ≡ new = cc in
                 let l = free p id v section was at inside refl in
-                let f : section.entered ≡ new.entered = sym entered5 ∙ ap (λ (z : Section). z.entered) e in omega arith) b.clean;
+                let f : section.entered ≡ new.entered = sym entered_load ∙ ap (λ (z : Section). z.entered) e in omega arith) b.clean;
             answered = record {
               readers = λ j u new there is class. each_set
-                  (λ k z. z.section ≡ Some new → WillAnswer capacities c m h (updates_of h) (r.bucket c).chain new new.state) vs id w5
-                  (λ mine. let e : section5 ≡ new = cc in
+                  (λ k z. z.section ≡ Some new → WillAnswer capacities c m h (updates_of h) (r.bucket c).chain new new.state) vs id w_load
+                  (λ mine. let e : section_load ≡ new = cc in
                   subst (λ (z : Section). WillAnswer capacities c m h (updates_of h) (r.bucket c).chain z z.state) e
-                  (same_will c section5 section5.state (searched_same section.state field (m field)).0
+                  (same_will c section_load section_load.state (searched_same section.state field (m field)).0
                   (searched_same section.state field (m field)).1 (will_case c small refl field may section.state field may will will)))
                   (λ k z far e theirs. b.answered.readers k z new e theirs class) j u there is;
               loaded = λ j u new value there is class read. each_set
-                  (λ k z. z.section ≡ Some new → WasSaid (updates_of h) new.key new.from (Some value)) vs id w5
-                  (λ mine. let e : section5 ≡ new = cc in
+                  (λ k z. z.section ≡ Some new → WasSaid (updates_of h) new.key new.from (Some value)) vs id w_load
+                  (λ mine. let e : section_load ≡ new = cc in
                   let said = loaded_case c small refl field may section.state field may will
                   (λ n has. b.answered.loaded id v section n at inside refl has) value (ap (λ (z : Section). z.loaded) e ∙ read) in
                   let s = searched_same section.state field (m field) in
                   subst (λ (q : ℕ × ℕ). WasSaid (updates_of h) q.0 q.1 (Some value))
-                  (λ i. ((sym key5 ∙ ap (λ (z : Section). z.key) e) i, (sym s.1 ∙ ap (λ (z : Section). z.from) e) i)) said)
+                  (λ i. ((sym key_load ∙ ap (λ (z : Section). z.key) e) i, (sym s.1 ∙ ap (λ (z : Section). z.from) e) i)) said)
                   (λ k z far e theirs. b.answered.loaded k z new value e theirs class read) j u there is;
             };
           }
@@ -617,15 +617,15 @@ module _ (capacities : List ℕ) (places tickets : ℕ) (m : Memory) (vs : List 
               like Ended w = said_like (λ _. None) w
 
       -- H5 keeps the rule
-      pub law5 : MemoryRule capacities places tickets m (set vs id w5) h
-      law5 = after_step capacities places tickets m vs h r id v w5 at m h seats5 (section.key % 64) (r.bucket (section.key % 64)) bucket5
+      pub law_search_load : MemoryRule capacities places tickets m (set vs id w_load) h
+      law_search_load = after_step capacities places tickets m vs h r id v w_load at m h seats_load (section.key % 64) (r.bucket (section.key % 64)) bucket_load
           (λ d small ne. record {
             words = same_words capacities d m;
             marks = same_marks capacities d h;
             view = record {
               place = refl;
-              section = subst (λ z. SameSection d z w5.section) (sym inside)
-                  (inr (λ e. ne (sym e), λ e. ne (sym e ∙ ap (λ k. k % 64) key5)));
+              section = subst (λ z. SameSection d z w_load.section) (sym inside)
+                  (inr (λ e. ne (sym e), λ e. ne (sym e ∙ ap (λ k. k % 64) key_load)));
               hold = same_hold d v.hold;
             };
           })

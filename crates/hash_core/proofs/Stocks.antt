@@ -337,84 +337,84 @@ module _ (capacities : List ℕ) (places tickets : ℕ) (m : Memory) (vs : List 
 
   -- H11
   module _ (slot : ℕ) (field : Field) (number : ℕ) (needs : NeedsWrite v hold slot field) where
-    abbrev new11 : Hold
-    new11 = knowing hold field number
+    abbrev new_write : Hold
+    new_write = knowing hold field number
 
-    abbrev m11 : Memory
-    m11 = stored m field number
+    abbrev m_write : Memory
+    m_write = stored m field number
 
-    slot_of11 : is_slot_of capacities hold.class slot ≡ true
-    slot_of11 = taken_slot capacities hold.class (r.bucket hold.class) rule.roles slot (ap taken_of had ∙ needs.taken)
+    slot_of_write : is_slot_of capacities hold.class slot ≡ true
+    slot_of_write = taken_slot capacities hold.class (r.bucket hold.class) rule.roles slot (ap taken_of had ∙ needs.taken)
 
-    of_class11 : (f : Field) → IsFieldOf slot f → IsOfClass capacities hold.class f
-    of_class11 (Key s) is = subst (λ z. is_slot_of capacities hold.class z ≡ true) (sym is) slot_of11
-    of_class11 (Value s) is = subst (λ z. is_slot_of capacities hold.class z ≡ true) (sym is) slot_of11
-    of_class11 (Next s) is = subst (λ z. is_slot_of capacities hold.class z ≡ true) (sym is) slot_of11
-    of_class11 _ is = absurd is
+    of_class_write : (f : Field) → IsFieldOf slot f → IsOfClass capacities hold.class f
+    of_class_write (Key s) is = subst (λ z. is_slot_of capacities hold.class z ≡ true) (sym is) slot_of_write
+    of_class_write (Value s) is = subst (λ z. is_slot_of capacities hold.class z ≡ true) (sym is) slot_of_write
+    of_class_write (Next s) is = subst (λ z. is_slot_of capacities hold.class z ≡ true) (sym is) slot_of_write
+    of_class_write _ is = absurd is
 
     -- other slots keep what stands in them, and the class its words
-    else11 : (f : Field) → IsFieldOf slot f → (s : ℕ) → s ≢ slot
+    else_write : (f : Field) → IsFieldOf slot f → (s : ℕ) → s ≢ slot
         → (stored m f number (Key s) ≡ m (Key s)) × (stored m f number (Value s) ≡ m (Value s)) × (stored m f number (Next s) ≡ m (Next s))
-    else11 (Key t) is s ne = (ap (λ b. cond b number (m (Key s))) (ne_eqb t s (λ e. ne (sym e ∙ is))), refl, refl)
-    else11 (Value t) is s ne = (refl, ap (λ b. cond b number (m (Value s))) (ne_eqb t s (λ e. ne (sym e ∙ is))), refl)
-    else11 (Next t) is s ne = (refl, refl, ap (λ b. cond b number (m (Next s))) (ne_eqb t s (λ e. ne (sym e ∙ is))))
-    else11 _ is s ne = absurd is
+    else_write (Key t) is s ne = (ap (λ b. cond b number (m (Key s))) (ne_eqb t s (λ e. ne (sym e ∙ is))), refl, refl)
+    else_write (Value t) is s ne = (refl, ap (λ b. cond b number (m (Value s))) (ne_eqb t s (λ e. ne (sym e ∙ is))), refl)
+    else_write (Next t) is s ne = (refl, refl, ap (λ b. cond b number (m (Next s))) (ne_eqb t s (λ e. ne (sym e ∙ is))))
+    else_write _ is s ne = absurd is
 
-    chains11 : (f : Field) → IsFieldOf slot f → (s : ℕ) → stored m f number (Chain s) ≡ m (Chain s)
-    chains11 (Key t) is s = refl
-    chains11 (Value t) is s = refl
-    chains11 (Next t) is s = refl
-    chains11 _ is s = absurd is
+    chains_write : (f : Field) → IsFieldOf slot f → (s : ℕ) → stored m f number (Chain s) ≡ m (Chain s)
+    chains_write (Key t) is s = refl
+    chains_write (Value t) is s = refl
+    chains_write (Next t) is s = refl
+    chains_write _ is s = absurd is
 
-    words11 : (f : Field) → IsFieldOf slot f → (d : ℕ) → SameLists d m (stored m f number) × (stored m f number (Head d) ≡ m (Head d))
-    words11 (Key t) is d = (record { lock = refl; readers = refl; free = refl; retired = refl; front = refl }, refl)
-    words11 (Value t) is d = (record { lock = refl; readers = refl; free = refl; retired = refl; front = refl }, refl)
-    words11 (Next t) is d = (record { lock = refl; readers = refl; free = refl; retired = refl; front = refl }, refl)
-    words11 _ is d = absurd is
+    words_write : (f : Field) → IsFieldOf slot f → (d : ℕ) → SameLists d m (stored m f number) × (stored m f number (Head d) ≡ m (Head d))
+    words_write (Key t) is d = (record { lock = refl; readers = refl; free = refl; retired = refl; front = refl }, refl)
+    words_write (Value t) is d = (record { lock = refl; readers = refl; free = refl; retired = refl; front = refl }, refl)
+    words_write (Next t) is d = (record { lock = refl; readers = refl; free = refl; retired = refl; front = refl }, refl)
+    words_write _ is d = absurd is
 
     -- the slot taken isn't linked
-    linked11 : (s : ℕ) → 1 ≤ times s (r.bucket hold.class).chain → s ≢ slot
-    linked11 s there e =
+    linked_write : (s : ℕ) → 1 ≤ times s (r.bucket hold.class).chain → s ≢ slot
+    linked_write s there e =
         let a = roles_by slot in
         let l = at_most_one (is_slot_of capacities hold.class slot) _ a in
         let b : times slot (option_to_list hold.taken) ≡ 1 =
         ap (λ o. times slot (option_to_list o)) needs.taken ∙ (let t = times_here slot [] in omega arith) in
         let d : 1 ≤ times slot (r.bucket hold.class).chain = subst (λ z. 1 ≤ times z (r.bucket hold.class).chain) e there in omega arith
 
-    pub law11 : MemoryRule capacities places tickets m11 (set vs id (after_write v hold field number)) h
-    law11 =
+    pub law_write : MemoryRule capacities places tickets m_write (set vs id (after_write v hold field number)) h
+    law_write =
         let w : View = after_write v hold field number in
         let f = needs.field_is in
         let c : ℕ = hold.class in
         let chain : List ℕ = (r.bucket hold.class).chain in
-        let (words, head) = words11 field f c in
-        held_law new11 refl field number (of_class11 field f) words.front (record (r.bucket hold.class) { hold = Some new11 }) (record {
+        let (words, head) = words_write field f c in
+        held_law new_write refl field number (of_class_write field f) words.front (record (r.bucket hold.class) { hold = Some new_write }) (record {
           chained = record {
-            path = subst (λ z. IsPath (λ s. m11 (Next s)) z chain) (sym head)
-                (IsPath-same (λ s. m (Next s)) (λ s. m11 (Next s)) (m (Head c)) chain
-                (λ s there. (else11 field f s (linked11 s there)).2) rule.chained.path);
-            classes = all_change (λ s. m (Key s) % 64 ≡ c) (λ s. m11 (Key s) % 64 ≡ c) chain
-                (λ s there p. ap (λ n. n % 64) (else11 field f s (linked11 s there)).0 ∙ p) rule.chained.classes;
-            distinct = HaveDistinctKeys-same m m11 chain
-                (λ s there. let q = else11 field f s (linked11 s there) in (q.0, q.1)) rule.chained.distinct;
+            path = subst (λ z. IsPath (λ s. m_write (Next s)) z chain) (sym head)
+                (IsPath-same (λ s. m (Next s)) (λ s. m_write (Next s)) (m (Head c)) chain
+                (λ s there. (else_write field f s (linked_write s there)).2) rule.chained.path);
+            classes = all_change (λ s. m (Key s) % 64 ≡ c) (λ s. m_write (Key s) % 64 ≡ c) chain
+                (λ s there p. ap (λ n. n % 64) (else_write field f s (linked_write s there)).0 ∙ p) rule.chained.classes;
+            distinct = HaveDistinctKeys-same m m_write chain
+                (λ s there. let q = else_write field f s (linked_write s there) in (q.0, q.1)) rule.chained.distinct;
           };
           listed = record {
-            free = subst (λ z. IsPath (λ s. m11 (Chain s)) z (r.bucket c).free) (sym words.free)
-                (IsPath-same (λ s. m (Chain s)) (λ s. m11 (Chain s)) (m (Free c)) (r.bucket c).free
-                (λ s _. chains11 field f s) rule.listed.free);
-            retired = subst (λ z. IsPath (λ s. m11 (Chain s)) z (r.bucket c).retired) (sym words.retired)
-                (IsPath-same (λ s. m (Chain s)) (λ s. m11 (Chain s)) (m (Retired c)) (r.bucket c).retired
-                (λ s _. chains11 field f s) rule.listed.retired);
-            moved = IsPath-same (λ s. m (Chain s)) (λ s. m11 (Chain s)) (link_of hold.moved) (r.bucket c).moved
-                (λ s _. chains11 field f s) moved_by;
+            free = subst (λ z. IsPath (λ s. m_write (Chain s)) z (r.bucket c).free) (sym words.free)
+                (IsPath-same (λ s. m (Chain s)) (λ s. m_write (Chain s)) (m (Free c)) (r.bucket c).free
+                (λ s _. chains_write field f s) rule.listed.free);
+            retired = subst (λ z. IsPath (λ s. m_write (Chain s)) z (r.bucket c).retired) (sym words.retired)
+                (IsPath-same (λ s. m (Chain s)) (λ s. m_write (Chain s)) (m (Retired c)) (r.bucket c).retired
+                (λ s _. chains_write field f s) rule.listed.retired);
+            moved = IsPath-same (λ s. m (Chain s)) (λ s. m_write (Chain s)) (link_of hold.moved) (r.bucket c).moved
+                (λ s _. chains_write field f s) moved_by;
           };
           roles = record { once = roles_by };
           mapped = record {
             answers = λ key class. rule.mapped.answers key class
-                ∙ sym (seek-same m m11 key chain (λ s there. let q = else11 field f s (linked11 s there) in (q.0, q.1)));
+                ∙ sym (seek-same m m_write key chain (λ s there. let q = else_write field f s (linked_write s there) in (q.0, q.1)));
           };
-          locked = locked_by capacities places tickets m vs h r id v at hold new11 mine refl m11 words.lock w refl refl;
-          known = known_after field number (of_class11 field f) new11 refl;
+          locked = locked_by capacities places tickets m vs h r id v at hold new_write mine refl m_write words.lock w refl refl;
+          known = known_after field number (of_class_write field f) new_write refl;
           ages = record {
             chain = rule.ages.chain;
             taken = λ s is. rule.ages.taken s (ap taken_of had ∙ is);
@@ -423,10 +423,10 @@ module _ (capacities : List ℕ) (places tickets : ℕ) (m : Memory) (vs : List 
             unlinked = λ s is. rule.ages.unlinked s (ap unlinked_of had ∙ is);
           };
           counted = record { readers = words.readers ∙ (counted_still capacities c m h vs id v w at refl rule.counted).readers };
-          clean = clean_held new11 refl;
-          answered = answered_by w refl m11 chain (λ section. record {
-            linked = λ t there. else11 field f t (linked11 t there);
-            old = λ t _ held. else11 field f t (λ e. absurd
+          clean = clean_held new_write refl;
+          answered = answered_by w refl m_write chain (λ section. record {
+            linked = λ t there. else_write field f t (linked_write t there);
+            old = λ t _ held. else_write field f t (λ e. absurd
                 (let g : gone_at slot h ≡ None = rule.ages.taken slot (ap taken_of had ∙ needs.taken) in
                 let z : gone_at slot h ≡ Some held.0 = subst (λ y. gone_at y h ≡ Some held.0) e held.1 in
                 let q : None ≡ Some held.0 = sym g ∙ z in cc));
