@@ -7,7 +7,7 @@ use Rattle.hash_core.specs.declared.view.View.{View}
 use Rattle.hash_core.specs.Rule.{Rule, HasPlace as OwnsPlace, AnswersFor, IsShape}
 use Rattle.hash_core.specs.Steps.{IsQuiet, NeedsSplit, fresh_hold, first_of, second_of, both_of, spent, section_of, hold_of, new_view}
 use Rattle.atomic_table.proofs.Lists.{set_else}
-use Rattle.hash_core.proofs.Splits.{law1, law2, starts, fresh_memory}
+use Rattle.hash_core.proofs.Splits.{law_split, law_join, starts, fresh_memory}
 use Rattle.hash_core.specs.declared.view.SearchState.TheVariants.{Start}
 use Rattle.hash_core.specs.declared.view.Section.{Section}
 use Rattle.hash_core.specs.declared.view.Hold.{Hold}
@@ -37,14 +37,14 @@ module _ (k : Shape) (id : ℕ) (v : View) where
   splits places tickets needs s r at = record {
     marks = r.marks;
     long = r.long;
-    holds = law1 k.capacities.items k.places k.tickets _ s.views r.marks r.holds id v at places tickets needs;
+    holds = law_split (record { rule = r.holds; at = at }) places tickets needs;
   }
 
   pub joins : (other : ℕ) (w : View) → IsQuiet v → IsQuiet w → Joins Keeps id v other w (both_of v w) spent
   joins other w quiet empty s r at apart there = record {
     marks = r.marks;
     long = r.long;
-    holds = law2 k.capacities.items k.places k.tickets _ s.views r.marks r.holds id v at other w
+    holds = law_join (record { rule = r.holds; at = at }) other w
         (sym (set_else s.views id other (both_of v w) apart) ∙ there) (λ e. apart (sym e)) quiet empty;
   }
 

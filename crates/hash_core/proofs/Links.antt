@@ -27,52 +27,51 @@ use Rattle.prcu_model.proofs.ListFacts.{all_map}
 use Rattle.list_laws.proofs.Lists.{each_set, all_times}
 use Rattle.hash_core.proofs.SlotLists.{seek_here, seek_past, seek-same, HaveDistinctKeys-same, slot_within, will_still, whole_path, comes_on, lacks_none, cut_at, seek_some, seek_slot, seek_replaced}
 use Rattle.prcu_marks.proofs.Marks.{updates_of-append, entered_at-append, open_at-below, last_unlinked-same}
-use Rattle.hash_core.proofs.SeatFrames.{marks_snoc, open_at-same, gone_at-same, reuse_more, after_step}
+use Rattle.hash_core.proofs.SeatFrames.{Seated, marks_snoc, open_at-same, gone_at-same, reuse_more, after_step}
 use Rattle.hash_core.proofs.Frames.{SameMarks, chain_slot, taken_slot, clean_by, class_words, stored_here, same_self}
 use Rattle.prcu_marks.proofs.Callers.{said_longer}
 use Rattle.hash_core.proofs.Sections.{free_each}
 use Rattle.hash_core.proofs.Locks.{counted_still, locked_by, elsewhere_held, said_after, seats_updated}
 use Rattle.hash_core.proofs.Stocks.{rule, had, is_known, known_after, roles_by, moved_by}
 
-module _ (capacities : List ℕ) (places tickets : ℕ) (m : Memory) (vs : List View) (h : List Mark)
-    (r : MemoryRule capacities places tickets m vs h) (id : ℕ) (v : View) (at : get_elem? vs id ≡ some v) (hold : Hold)
-    (mine : v.hold ≡ Some hold) where
-  abbrev bucket_rule : BucketRule capacities hold.class m h (updates_of h) vs (r.bucket hold.class)
-  bucket_rule = rule capacities places tickets m vs h r id v at hold mine
+module _ {capacities : List ℕ} {places tickets : ℕ} {m : Memory} {vs : List View} {h : List Mark} {id : ℕ} {v : View}
+    (seat : Seated capacities places tickets m vs h id v) {hold : Hold} (mine : v.hold ≡ Some hold) where
+  abbrev bucket_rule : BucketRule capacities hold.class m h (updates_of h) vs (seat.rule.bucket hold.class)
+  bucket_rule = rule seat mine
 
   abbrev chain_now : List ℕ
-  chain_now = (r.bucket hold.class).chain
+  chain_now = (seat.rule.bucket hold.class).chain
 
   -- a slot on the known walk is linked
-  pub on_chain : (slot : ℕ) → IsOnWalk hold slot → 1 ≤ times slot (r.bucket hold.class).chain
-  on_chain slot on = comes_on hold.known m (λ s n e. (is_known capacities places tickets m vs h r id v at hold mine
+  pub on_chain : (slot : ℕ) → IsOnWalk hold slot → 1 ≤ times slot (seat.rule.bucket hold.class).chain
+  on_chain slot on = comes_on hold.known m (λ s n e. (is_known seat mine
       (Next s) n e).1) on.first on.before chain_now slot on.comes
       (subst (λ z. IsPath (λ s. m (Next s)) z chain_now)
-      (is_known capacities places tickets m vs h r id v at hold mine (Head hold.class) on.first on.head).1 bucket_rule.chained.path)
+      (is_known seat mine (Head hold.class) on.first on.head).1 bucket_rule.chained.path)
 
   -- a key that the known walk lacks is absent
-  pub absent_now : (key : ℕ) → ShowsAbsent hold key → seek m key (r.bucket hold.class).chain ≡ None
+  pub absent_now : (key : ℕ) → ShowsAbsent hold key → seek m key (seat.rule.bucket hold.class).chain ≡ None
   absent_now key shows =
       let walk_is : chain_now ≡ shows.walk = whole_path hold.known m
-      (λ s n e. (is_known capacities places tickets m vs h r id v at hold mine
+      (λ s n e. (is_known seat mine
       (Next s) n e).1) shows.first shows.walk chain_now shows.whole
       (subst (λ z. IsPath (λ s. m (Next s)) z chain_now)
-      (is_known capacities places tickets m vs h r id v at hold mine
+      (is_known seat mine
       (Head hold.class) shows.first shows.head).1 bucket_rule.chained.path) in
       ap (seek m key) walk_is ∙ lacks_none hold.known m
-      (λ s n e. (is_known capacities places tickets m vs h r id v at hold mine (Key s) n e).1) key shows.walk shows.lacks
+      (λ s n e. (is_known seat mine (Key s) n e).1) key shows.walk shows.lacks
 
   -- a section was entered among the marks, at a front of the updates
   pub section_bounds : (j : ℕ) (u : View) (section : Section) → get_elem? vs j ≡ some u → u.section ≡ Some section
       → (section.entered < length h) × (section.from ≤ length (updates_of h))
   section_bounds j u section there is =
-      let o = r.sections.open_here j u section there is in
+      let o = seat.rule.sections.open_here j u section there is in
       (open_at-below u.place h (open_of section) o.1, o.2)
 
   -- readers' answers after a step of a view that stays in its section
   pub answered_from : (w : View) → w.section ≡ v.section → (m' : Memory) (h' : List Mark) (us' : List Update) (chain' : List ℕ)
       → ((section : Section) → section.entered < length h → section.from ≤ length (updates_of h) → section.key % 64 ≡ hold.class
-      → (state : SearchState) → WillAnswer capacities hold.class m h (updates_of h) (r.bucket hold.class).chain section state
+      → (state : SearchState) → WillAnswer capacities hold.class m h (updates_of h) (seat.rule.bucket hold.class).chain section state
       → WillAnswer capacities hold.class m' h' us' chain' section state)
       → ((section : Section) (answer : Option ℕ) → WasSaid (updates_of h) section.key section.from answer
       → WasSaid us' section.key section.from answer)
@@ -85,10 +84,10 @@ module _ (capacities : List ℕ) (places tickets : ℕ) (m : Memory) (vs : List 
       record {
         readers = λ j u section there is class. each_set
             (λ k z. z.section ≡ Some section → WillAnswer capacities hold.class m' h' us' chain' section section.state) vs id w
-            (λ yes. each id v section at (sym same ∙ yes) class) (λ k z far e theirs. each k z section e theirs class) j u there is;
+            (λ yes. each id v section seat.at (sym same ∙ yes) class) (λ k z far e theirs. each k z section e theirs class) j u there is;
         loaded = λ j u section value there is class read. each_set
             (λ k z. z.section ≡ Some section → WasSaid us' section.key section.from (Some value)) vs id w
-            (λ yes. said section (Some value) (bucket_rule.answered.loaded id v section value at (sym same ∙ yes) class read))
+            (λ yes. said section (Some value) (bucket_rule.answered.loaded id v section value seat.at (sym same ∙ yes) class read))
             (λ k z far e theirs. said section (Some value)
             (bucket_rule.answered.loaded k z section value e theirs class read)) j u there is;
       }
@@ -130,15 +129,15 @@ module _ (capacities : List ℕ) (places tickets : ℕ) (m : Memory) (vs : List 
     done_entered p = let a = entered_at-append p h (Done update ∷ []) in omega arith
 
     pub done_marks : AreMarks places h_done
-    done_marks = marks_snoc places h (Done update) tt r.marks
+    done_marks = marks_snoc places h (Done update) tt seat.rule.marks
 
     pub done_reuse : ReuseByClass capacities h_done
-    done_reuse = reuse_more capacities h (Done update) (λ s e. absurd (cc)) r.reuse
+    done_reuse = reuse_more capacities h (Done update) (λ s e. absurd (cc)) seat.rule.reuse
 
     pub free_done : (w : View) → w.section ≡ v.section → (s : ℕ) → IsFreeOfReaders hold.class h vs s
         → IsFreeOfReaders hold.class h_done (set vs id w) s
     free_done w same s free = free_each hold.class h h_done vs id w s (done_last s)
-        (λ p section was is class. free p id v section was at (sym same ∙ is) class) free
+        (λ p section was is class. free p id v section was seat.at (sym same ∙ is) class) free
 
     pub said_done : (section : Section) (answer : Option ℕ) → WasSaid (updates_of h) section.key section.from answer
         → WasSaid (updates_of h_done) section.key section.from answer
@@ -167,10 +166,10 @@ module _ (capacities : List ℕ) (places tickets : ℕ) (m : Memory) (vs : List 
     w_link = after_link v hold even slot key value h
 
     is_key_link : m (Key slot) ≡ key
-    is_key_link = (is_known capacities places tickets m vs h r id v at hold mine (Key slot) key needs.key_is).1
+    is_key_link = (is_known seat mine (Key slot) key needs.key_is).1
 
     is_value_link : m (Value slot) ≡ value
-    is_value_link = (is_known capacities places tickets m vs h r id v at hold mine (Value slot) value needs.value_is).1
+    is_value_link = (is_known seat mine (Value slot) value needs.value_is).1
 
     nothing_link : seek m key chain_now ≡ None
     nothing_link = absent_now key needs.absent
@@ -179,11 +178,11 @@ module _ (capacities : List ℕ) (places tickets : ℕ) (m : Memory) (vs : List 
     absent_link = ap is_some (bucket_rule.mapped.answers key needs.class ∙ nothing_link)
 
     slot_of_link : is_slot_of capacities hold.class slot ≡ true
-    slot_of_link = taken_slot capacities hold.class (r.bucket hold.class) bucket_rule.roles slot
-        (ap taken_of (had capacities places tickets m vs h r id v at hold mine) ∙ needs.taken)
+    slot_of_link = taken_slot bucket_rule.roles slot
+        (ap taken_of (had seat mine) ∙ needs.taken)
 
     abbrev b_link : Bucket
-    b_link = record (r.bucket hold.class) { chain = slot ∷ (r.bucket hold.class).chain; hold = Some new_link }
+    b_link = record (seat.rule.bucket hold.class) { chain = slot ∷ (seat.rule.bucket hold.class).chain; hold = Some new_link }
 
     mapped_link : (k : ℕ) → k % 64 ≡ hold.class → finite.get (map_of (updates_of h_link)) k ≡ seek m_link k (slot ∷ chain_now)
     mapped_link k class = dite (ℕ_discrete k key)
@@ -201,9 +200,8 @@ module _ (capacities : List ℕ) (places tickets : ℕ) (m : Memory) (vs : List 
 
     pub law_link : MemoryRule capacities places tickets m_link (set vs id (after_link v hold even slot key value h)) h_link
     law_link =
-        let held : (r.bucket hold.class).hold ≡ Some hold = had capacities places tickets m vs h r id v at hold mine in
-        after_step capacities places tickets m vs h r id v w_link at m_link h_link
-        (seats_updated capacities places tickets m vs h r id v at hold mine even needs.commit (Put key value) new_link refl m_link refl []
+        let held : (seat.rule.bucket hold.class).hold ≡ Some hold = had seat mine in
+        after_step seat w_link (seats_updated seat mine needs.commit (Put key value) new_link refl m_link refl []
         (done_longer even (Put key value)) (λ p. refl) (done_open even (Put key value)) (done_entered even (Put key value))
         (done_marks even (Put key value)) (done_reuse even (Put key value)) absent_link)
         hold.class b_link
@@ -213,8 +211,8 @@ module _ (capacities : List ℕ) (places tickets : ℕ) (m : Memory) (vs : List 
               stored_here m (Head hold.class) slot (same_self (Head hold.class)),
               (slot_within capacities hold.class slot slot_of_link).0,
               subst (λ z. IsPath (λ s. m (Next s)) z chain_now)
-                  ((is_known capacities places tickets m vs h r id v at hold mine (Head hold.class) first needs.head_is).1
-                  ∙ sym (is_known capacities places tickets m vs h r id v at hold mine
+                  ((is_known seat mine (Head hold.class) first needs.head_is).1
+                  ∙ sym (is_known seat mine
                   (Next slot) first needs.next_is).1) bucket_rule.chained.path,
             );
             classes = (ap (λ z. z % 64) is_key_link ∙ needs.class, bucket_rule.chained.classes);
@@ -223,15 +221,15 @@ module _ (capacities : List ℕ) (places tickets : ℕ) (m : Memory) (vs : List 
           listed = record {
             free = bucket_rule.listed.free;
             retired = bucket_rule.listed.retired;
-            moved = moved_by capacities places tickets m vs h r id v at hold mine;
+            moved = moved_by seat mine;
           };
           roles = record {
-            once = λ x. let a = roles_by capacities places tickets m vs h r id v at hold mine x in
+            once = λ x. let a = roles_by seat mine x in
                 let n = ap (λ o. times x (option_to_list o)) needs.taken in omega arith;
           };
           mapped = record { answers = mapped_link };
-          locked = locked_by capacities places tickets m vs h r id v at hold new_link mine refl m_link refl w_link refl refl;
-          known = known_after capacities places tickets m vs h r id v at hold mine (Head hold.class) slot refl new_link refl;
+          locked = locked_by seat hold new_link mine refl m_link refl w_link refl refl;
+          known = known_after seat mine (Head hold.class) slot refl new_link refl;
           ages = record {
             chain = (
               done_gone even (Put key value) slot ∙ bucket_rule.ages.taken slot (ap taken_of held ∙ needs.taken),
@@ -239,20 +237,19 @@ module _ (capacities : List ℕ) (places tickets : ℕ) (m : Memory) (vs : List 
                   (λ s p. done_gone even (Put key value) s ∙ p) bucket_rule.ages.chain,
             );
             taken = λ s is. absurd (cc);
-            retired = all_map (IsGone h) (IsGone h_link) (r.bucket hold.class).retired
+            retired = all_map (IsGone h) (IsGone h_link) (seat.rule.bucket hold.class).retired
                 (λ s p. (p.0, done_gone even (Put key value) s ∙ p.1)) bucket_rule.ages.retired;
-            moved = all_map (IsGone h) (IsGone h_link) (r.bucket hold.class).moved
+            moved = all_map (IsGone h) (IsGone h_link) (seat.rule.bucket hold.class).moved
                 (λ s p. (p.0, done_gone even (Put key value) s ∙ p.1)) bucket_rule.ages.moved;
             unlinked = λ s is. let p = bucket_rule.ages.unlinked s (ap unlinked_of held ∙ is) in
                 (p.0, done_gone even (Put key value) s ∙ p.1);
           };
-          counted = record { readers = (counted_still capacities hold.class m h vs id v w_link at refl bucket_rule.counted).readers };
-          clean = clean_by capacities hold.class h h_link vs (set vs id w_link) (r.bucket hold.class) _ (free_done even (Put key value) w_link refl)
+          counted = record { readers = (counted_still seat hold.class w_link refl bucket_rule.counted).readers };
+          clean = clean_by capacities hold.class h h_link vs (set vs id w_link) (seat.rule.bucket hold.class) _ (free_done even (Put key value) w_link refl)
               refl refl (λ other is yes s of. let e : new_link ≡ other = cc in
               bucket_rule.clean.clear hold held (ap (λ (z : Hold). z.clear) e ∙ yes) s of) bucket_rule.clean;
           answered = answered_from w_link refl m_link h_link (updates_of h_link) (slot ∷ chain_now)
-              (λ section entered from class state. will_still capacities hold.class m m_link h h_link (updates_of h) (updates_of h_link) chain_now
-              (slot ∷ chain_now) section (record {
+              (λ section entered from class state. will_still (record {
                 linked = λ t _. (refl, refl, refl);
                 old = λ t _ _. (refl, refl, refl);
                 held = λ t _ p. (p.0, done_gone even (Put key value) t ∙ p.1, p.2);
@@ -265,7 +262,7 @@ module _ (capacities : List ℕ) (places tickets : ℕ) (m : Memory) (vs : List 
           words = class_words capacities hold.class d m slot ne (Head hold.class) refl;
           marks = marks_elsewhere d ne (record { caller = v.place; op = Put key value }) needs.class h_link (done_longer even (Put key value))
               (λ s _. done_gone even (Put key value) s) (λ s _. done_last even (Put key value) s);
-          view = elsewhere_held capacities places tickets m vs h r id v at d hold new_link mine refl ne w_link refl refl refl;
+          view = elsewhere_held seat d hold new_link mine refl ne w_link refl refl refl;
         })
 
   -- H15
@@ -283,13 +280,13 @@ module _ (capacities : List ℕ) (places tickets : ℕ) (m : Memory) (vs : List 
     w_replace = after_replace v hold even slot key value h
 
     is_key_replace : m (Key slot) ≡ key
-    is_key_replace = (is_known capacities places tickets m vs h r id v at hold mine (Key slot) key needs.key_is).1
+    is_key_replace = (is_known seat mine (Key slot) key needs.key_is).1
 
     there_replace : 1 ≤ times slot chain_now
     there_replace = on_chain slot needs.on_walk
 
     slot_of_replace : is_slot_of capacities hold.class slot ≡ true
-    slot_of_replace = chain_slot capacities hold.class (r.bucket hold.class) bucket_rule.roles slot there_replace
+    slot_of_replace = chain_slot bucket_rule.roles slot there_replace
 
     class_replace : key % 64 ≡ hold.class
     class_replace = ap (λ z. z % 64) (sym is_key_replace) ∙ all_times
@@ -379,13 +376,12 @@ module _ (capacities : List ℕ) (places tickets : ℕ) (m : Memory) (vs : List 
 
     pub law_replace : MemoryRule capacities places tickets m_replace (set vs id (after_replace v hold even slot key value h)) h_replace
     law_replace =
-        let held : (r.bucket hold.class).hold ≡ Some hold = had capacities places tickets m vs h r id v at hold mine in
+        let held : (seat.rule.bucket hold.class).hold ≡ Some hold = had seat mine in
         let gone : (s : ℕ) → gone_at s h_replace ≡ gone_at s h = done_gone even (Set key value) in
-        after_step capacities places tickets m vs h r id v w_replace at m_replace h_replace
-        (seats_updated capacities places tickets m vs h r id v at hold mine even needs.commit (Set key value) new_replace refl m_replace refl []
+        after_step seat w_replace (seats_updated seat mine needs.commit (Set key value) new_replace refl m_replace refl []
         (done_longer even (Set key value)) (λ p. refl) (done_open even (Set key value)) (done_entered even (Set key value))
         (done_marks even (Set key value)) (done_reuse even (Set key value)) present_replace)
-        hold.class (record (r.bucket hold.class) { hold = Some new_replace })
+        hold.class (record (seat.rule.bucket hold.class) { hold = Some new_replace })
         (λ _. record {
           chained = record {
             path = bucket_rule.chained.path;
@@ -395,21 +391,21 @@ module _ (capacities : List ℕ) (places tickets : ℕ) (m : Memory) (vs : List 
           listed = record {
             free = bucket_rule.listed.free;
             retired = bucket_rule.listed.retired;
-            moved = moved_by capacities places tickets m vs h r id v at hold mine;
+            moved = moved_by seat mine;
           };
-          roles = record { once = roles_by capacities places tickets m vs h r id v at hold mine };
+          roles = record { once = roles_by seat mine };
           mapped = record { answers = mapped_replace };
-          locked = locked_by capacities places tickets m vs h r id v at hold new_replace mine refl m_replace refl w_replace refl refl;
-          known = known_after capacities places tickets m vs h r id v at hold mine (Value slot) value slot_of_replace new_replace refl;
+          locked = locked_by seat hold new_replace mine refl m_replace refl w_replace refl refl;
+          known = known_after seat mine (Value slot) value slot_of_replace new_replace refl;
           ages = record {
             chain = all_map (λ s. gone_at s h ≡ None) (λ s. gone_at s h_replace ≡ None) chain_now (λ s p. gone s ∙ p) bucket_rule.ages.chain;
             taken = λ s is. gone s ∙ bucket_rule.ages.taken s (ap taken_of held ∙ is);
-            retired = all_map (IsGone h) (IsGone h_replace) (r.bucket hold.class).retired (λ s p. (p.0, gone s ∙ p.1)) bucket_rule.ages.retired;
-            moved = all_map (IsGone h) (IsGone h_replace) (r.bucket hold.class).moved (λ s p. (p.0, gone s ∙ p.1)) bucket_rule.ages.moved;
+            retired = all_map (IsGone h) (IsGone h_replace) (seat.rule.bucket hold.class).retired (λ s p. (p.0, gone s ∙ p.1)) bucket_rule.ages.retired;
+            moved = all_map (IsGone h) (IsGone h_replace) (seat.rule.bucket hold.class).moved (λ s p. (p.0, gone s ∙ p.1)) bucket_rule.ages.moved;
             unlinked = λ s is. let p = bucket_rule.ages.unlinked s (ap unlinked_of held ∙ is) in (p.0, gone s ∙ p.1);
           };
-          counted = record { readers = (counted_still capacities hold.class m h vs id v w_replace at refl bucket_rule.counted).readers };
-          clean = clean_by capacities hold.class h h_replace vs (set vs id w_replace) (r.bucket hold.class) _ (free_done even (Set key value) w_replace refl)
+          counted = record { readers = (counted_still seat hold.class w_replace refl bucket_rule.counted).readers };
+          clean = clean_by capacities hold.class h h_replace vs (set vs id w_replace) (seat.rule.bucket hold.class) _ (free_done even (Set key value) w_replace refl)
               refl refl (λ other is yes s of. let e : new_replace ≡ other = cc in
               bucket_rule.clean.clear hold held (ap (λ (z : Hold). z.clear) e ∙ yes) s of) bucket_rule.clean;
           answered = answered_from w_replace refl m_replace h_replace (updates_of h_replace) chain_now
@@ -419,5 +415,5 @@ module _ (capacities : List ℕ) (places tickets : ℕ) (m : Memory) (vs : List 
           words = class_words capacities hold.class d m value ne (Value slot) slot_of_replace;
           marks = marks_elsewhere d ne (record { caller = v.place; op = Set key value }) class_replace h_replace (done_longer even (Set key value))
               (λ s _. gone s) (λ s _. done_last even (Set key value) s);
-          view = elsewhere_held capacities places tickets m vs h r id v at d hold new_replace mine refl ne w_replace refl refl refl;
+          view = elsewhere_held seat d hold new_replace mine refl ne w_replace refl refl refl;
         })

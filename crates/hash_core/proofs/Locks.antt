@@ -21,7 +21,7 @@ use Rattle.prcu_model.specs.Dictionary.{WasSaid, updated, map_of, IsUpdateAt, Is
 use Rattle.prcu_model.proofs.ListFacts.{prefix_self}
 use Rattle.list_laws.proofs.Lists.{each_set, total_set, total_part, only_at, only_here}
 use Rattle.hash_core.proofs.Frames.{SameSlots, SameSection, SameHold, SameView, still_answer, clean_by, same_words, lock_words, front_words, stored_here, same_self, same_is}
-use Rattle.hash_core.proofs.SeatFrames.{seen_same, seen_whole, apart_same, owned_same, open_same, held_still, turned_same, same_marks, same_section, same_hold, seats_same, section_back, section_forth, tickets_same, no_marks, seat_holds, SeatsRule, after_step, after_quiet, owned_more}
+use Rattle.hash_core.proofs.SeatFrames.{Seated, seen_same, seen_whole, apart_same, owned_same, open_same, held_still, turned_same, same_marks, same_section, same_hold, seats_same, section_back, section_forth, tickets_same, no_marks, seat_holds, SeatsRule, after_step, after_quiet, owned_more}
 use Rattle.prcu_marks.specs.declared.mark.Mark.TheVariants.{Done}
 use Rattle.prcu_model.specs.declared.operation.Op.{Op}
 use Rattle.prcu_model.proofs.Dictionaries.{map_of-push}
@@ -29,17 +29,18 @@ use Rattle.prcu_marks.proofs.Callers.{legal_more, said_now}
 use Rattle.std.specs.FinMap as finite
 
 -- the parts on a class that read views, where another view has the same section
-module _ (capacities : List ℕ) (c : ℕ) (m : Memory) (h : List Mark) (vs : List View) (id : ℕ) (v w : View) (at : get_elem? vs id ≡ some v)
+module _ {capacities : List ℕ} {places tickets : ℕ} {m : Memory} {vs : List View} {h : List Mark} {id : ℕ} {v : View}
+    (seat : Seated capacities places tickets m vs h id v) (c : ℕ) (w : View)
     (same : w.section ≡ v.section) where
   pub counted_still : AreCounted c m vs → AreCounted c m (set vs id w)
   counted_still counted = record {
-    readers = let sum = total_set (λ (z : View). inside_count c z.section) vs id v w at in let e = ap (inside_count c) same in
+    readers = let sum = total_set (λ (z : View). inside_count c z.section) vs id v w seat.at in let e = ap (inside_count c) same in
         let was = counted.readers in omega arith;
   }
 
   pub free_still : (s : ℕ) → IsFreeOfReaders c h vs s → IsFreeOfReaders c h (set vs id w) s
   free_still s free p j u section gone there is class = each_set (λ k z. z.section ≡ Some section → p < section.entered) vs id w
-      (λ mine. free p id v section gone at (sym same ∙ mine) class)
+      (λ mine. free p id v section gone seat.at (sym same ∙ mine) class)
       (λ k z far e theirs. free p k z section gone e theirs class) j u there is
 
   -- in a memory whose slots are the same
@@ -49,41 +50,41 @@ module _ (capacities : List ℕ) (c : ℕ) (m : Memory) (h : List Mark) (vs : Li
       let us : List Update = updates_of h in
       let will : (section : Section) → WillAnswer capacities c m h us b.chain section section.state
       → WillAnswer capacities c m' h us b.chain section section.state =
-      λ section. still_answer capacities c m m' h h us us b slots (same_marks capacities c h) roles section section.state in
+      λ section. still_answer m m' slots (same_marks capacities c h) roles section section.state in
       record {
         readers = λ j u section there is class. each_set
             (λ k z. z.section ≡ Some section → WillAnswer capacities c m' h us b.chain section section.state) vs id w
-            (λ mine. will section (answered.readers id v section at (sym same ∙ mine) class))
+            (λ mine. will section (answered.readers id v section seat.at (sym same ∙ mine) class))
             (λ k z far e theirs. will section (answered.readers k z section e theirs class)) j u there is;
         loaded = λ j u section value there is class read. each_set
             (λ k z. z.section ≡ Some section → WasSaid us section.key section.from (Some value)) vs id w
-            (λ mine. answered.loaded id v section value at (sym same ∙ mine) class read)
+            (λ mine. answered.loaded id v section value seat.at (sym same ∙ mine) class read)
             (λ k z far e theirs. answered.loaded k z section value e theirs class read) j u there is;
       }
 
-module _ (capacities : List ℕ) (places tickets : ℕ) (m : Memory) (vs : List View) (h : List Mark)
-    (r : MemoryRule capacities places tickets m vs h) (id : ℕ) (v : View) (at : get_elem? vs id ≡ some v) where
+module _ {capacities : List ℕ} {places tickets : ℕ} {m : Memory} {vs : List View} {h : List Mark} {id : ℕ} {v : View}
+    (seat : Seated capacities places tickets m vs h id v) where
   -- who holds a lock is the holder of its class
-  pub holder_of : (c : ℕ) → c < 64 → (hold : Hold) → v.hold ≡ Some hold → hold.class ≡ c → (r.bucket c).hold ≡ Some hold
-  holder_of c small hold mine class = holder_case (r.bucket c).hold refl (r.buckets c small).locked
+  pub holder_of : (c : ℕ) → c < 64 → (hold : Hold) → v.hold ≡ Some hold → hold.class ≡ c → (seat.rule.bucket c).hold ≡ Some hold
+  holder_of c small hold mine class = holder_case (seat.rule.bucket c).hold refl (seat.rule.buckets c small).locked
     where
-      holder_case : (held : Option Hold) → (r.bucket c).hold ≡ held → IsLocked c m vs held → (r.bucket c).hold ≡ Some hold
-      holder_case None is locked = absurd (locked.1 id v at hold mine class)
+      holder_case : (held : Option Hold) → (seat.rule.bucket c).hold ≡ held → IsLocked c m vs held → (seat.rule.bucket c).hold ≡ Some hold
+      holder_case None is locked = absurd (locked.1 id v seat.at hold mine class)
       holder_case (Some other) is locked =
-          elim (only_at vs id v at locked) [ inl o ↦ is ∙ sym o.0.holds ∙ mine | inr free ↦ absurd (free hold mine class) ]
+          elim (only_at vs id v seat.at locked) [ inl o ↦ is ∙ sym o.0.holds ∙ mine | inr free ↦ absurd (free hold mine class) ]
 
-  pub class_small : (hold : Hold) → v.hold ≡ Some hold → hold.class < 64
-  class_small hold mine = (r.held.held id v hold at mine).0
+  pub class_small : {hold : Hold} → v.hold ≡ Some hold → hold.class < 64
+  class_small {hold} mine = (seat.rule.held.held id v hold seat.at mine).0
 
-  pub works : (hold : Hold) → v.hold ≡ Some hold → 1 ≤ v.places
-  works hold mine = (r.held.held id v hold at mine).1
+  pub works : {hold : Hold} → v.hold ≡ Some hold → 1 ≤ v.places
+  works {hold} mine = (seat.rule.held.held id v hold seat.at mine).1
 
   -- slots that are to be free stay so
   pub clean_still : (c : ℕ) (w : View) → w.section ≡ v.section → (b : Bucket) → (new : Option Hold)
       → ((hold : Hold) → new ≡ Some hold → hold.clear ≡ true → (s : ℕ) → is_slot_of capacities c s ≡ true → IsFreeOfReaders c h vs s)
       → AreClean capacities c h vs b → AreClean capacities c h (set vs id w) (record b { hold = new })
   clean_still c w section b new = clean_by capacities c h h vs (set vs id w) b (record b { hold = new })
-      (free_still capacities c m h vs id v w at section) refl refl
+      (free_still seat c w section) refl refl
 
   -- H6, where the lock was free
   module _ (c : ℕ) (small : c < 64) (quiet : IsQuiet v) (place : 1 ≤ v.places) (free : m (Lock c) ≡ 0) where
@@ -93,39 +94,39 @@ module _ (capacities : List ℕ) (places tickets : ℕ) (m : Memory) (vs : List 
     abbrev m_lock : Memory
     m_lock = stored m (Lock c) (v.place + 1)
 
-    nobody : (r.bucket c).hold ≡ None
-    nobody = none_case (r.bucket c).hold refl (r.buckets c small).locked
+    nobody : (seat.rule.bucket c).hold ≡ None
+    nobody = none_case (seat.rule.bucket c).hold refl (seat.rule.buckets c small).locked
       where
-        none_case : (held : Option Hold) → (r.bucket c).hold ≡ held → IsLocked c m vs held → (r.bucket c).hold ≡ None
+        none_case : (held : Option Hold) → (seat.rule.bucket c).hold ≡ held → IsLocked c m vs held → (seat.rule.bucket c).hold ≡ None
         none_case None is locked = is
         none_case (Some hold) is locked = absurd (let a = locked.has.word in omega arith)
 
     abbrev b_lock : Bucket
-    b_lock = record (r.bucket c) { hold = Some (fresh_hold c) }
+    b_lock = record (seat.rule.bucket c) { hold = Some (fresh_hold c) }
 
     seats_lock : SeatsRule capacities places tickets m_lock (set vs id w_lock) h
-    seats_lock = seats_same capacities places tickets m vs h r id v w_lock at m_lock
+    seats_lock = seats_same seat w_lock m_lock
         (seat_holds v (Some (fresh_hold c)) v.trail (λ commit hold is held. (fresh_hold c, refl))
         (λ hold is. let e : fresh_hold c ≡ hold = cc in (subst (λ (z : Hold). z.class < 64) e small, place))) refl refl
 
     bucket_lock : c < 64 → BucketRule capacities c m_lock h (updates_of h) (set vs id w_lock) b_lock
     bucket_lock _ =
-        let b = r.buckets c small in
-        let none : (r.bucket c).hold ≡ None = nobody in
+        let b = seat.rule.buckets c small in
+        let none : (seat.rule.bucket c).hold ≡ None = nobody in
         record {
           chained = record { path = b.chained.path; classes = b.chained.classes; distinct = b.chained.distinct };
           listed = record {
             free = b.listed.free;
             retired = b.listed.retired;
-            moved = subst (λ z. IsPath (λ s. m (Chain s)) (link_of (moved_of z)) (r.bucket c).moved) none b.listed.moved;
+            moved = subst (λ z. IsPath (λ s. m (Chain s)) (link_of (moved_of z)) (seat.rule.bucket c).moved) none b.listed.moved;
           };
           roles = record {
-            once = λ x. subst (λ z. times x (r.bucket c).chain + times x (r.bucket c).free + times x (r.bucket c).retired
-                + times x (r.bucket c).moved + times x (option_to_list (taken_of z)) + times x (option_to_list (unlinked_of z))
+            once = λ x. subst (λ z. times x (seat.rule.bucket c).chain + times x (seat.rule.bucket c).free + times x (seat.rule.bucket c).retired
+                + times x (seat.rule.bucket c).moved + times x (option_to_list (taken_of z)) + times x (option_to_list (unlinked_of z))
                 ≡ cond (is_slot_of capacities c x) 1 0) none (b.roles.once x);
           };
           mapped = record { answers = b.mapped.answers };
-          locked = only_here vs id v w_lock at
+          locked = only_here vs id v w_lock seat.at
               (record { holds = refl; class = refl; word = stored_here m (Lock c) (v.place + 1) (same_self (Lock c)) })
               (λ j u _ e. (subst (IsLocked c m vs) none b.locked).1 j u e);
           known = record {
@@ -140,15 +141,15 @@ module _ (capacities : List ℕ) (places tickets : ℕ) (m : Memory) (vs : List 
             moved = b.ages.moved;
             unlinked = λ s is. absurd (cc);
           };
-          counted = record { readers = (counted_still capacities c m h vs id v w_lock at refl b.counted).readers };
-          clean = clean_still c w_lock refl (r.bucket c) (Some (fresh_hold c)) (λ hold is yes s of. absurd (let e : fresh_hold c ≡ hold = cc in
+          counted = record { readers = (counted_still seat c w_lock refl b.counted).readers };
+          clean = clean_still c w_lock refl (seat.rule.bucket c) (Some (fresh_hold c)) (λ hold is yes s of. absurd (let e : fresh_hold c ≡ hold = cc in
               let z : hold.clear ≡ false = ap (λ (y : Hold). y.clear) (sym e) in cc)) b.clean;
-          answered = answered_still capacities c m h vs id v w_lock at refl m_lock (r.bucket c)
+          answered = answered_still seat c w_lock refl m_lock (seat.rule.bucket c)
               (λ s _. (refl, refl, refl, refl)) b.roles b.answered;
         }
 
     pub law_lock : MemoryRule capacities places tickets m_lock (set vs id w_lock) h
-    law_lock = after_step capacities places tickets m vs h r id v w_lock at m_lock h seats_lock c b_lock bucket_lock
+    law_lock = after_step seat w_lock seats_lock c b_lock bucket_lock
         (λ d _ ne. record {
           words = lock_words capacities c d m (v.place + 1) ne;
           marks = same_marks capacities d h;
@@ -168,38 +169,38 @@ module _ (capacities : List ℕ) (places tickets : ℕ) (m : Memory) (vs : List 
     m_unlock = stored m (Lock hold.class) 0
 
     abbrev b_unlock : Bucket
-    b_unlock = record (r.bucket hold.class) { hold = None }
+    b_unlock = record (seat.rule.bucket hold.class) { hold = None }
 
     seats_unlock : SeatsRule capacities places tickets m_unlock (set vs id w_unlock) h
-    seats_unlock = seats_same capacities places tickets m vs h r id v w_unlock at m_unlock
+    seats_unlock = seats_same seat w_unlock m_unlock
         (seat_holds v None v.trail (λ commit held is mine. absurd (let z : Some commit ≡ None = sym is ∙ needs.even in cc))
         (λ other is. absurd (cc))) refl refl
 
     bucket_unlock : hold.class < 64 → BucketRule capacities hold.class m_unlock h (updates_of h) (set vs id w_unlock) b_unlock
     bucket_unlock small =
         let c : ℕ = hold.class in
-        let b = r.buckets c small in
-        let mine : (r.bucket c).hold ≡ Some hold = holder_of c small hold needs.hold_is refl in
-        let no_taken : taken_of (r.bucket c).hold ≡ None = ap taken_of mine ∙ needs.taken in
-        let no_unlinked : unlinked_of (r.bucket c).hold ≡ None = ap unlinked_of mine ∙ needs.unlinked in
-        let no_moved : moved_of (r.bucket c).hold ≡ None = ap moved_of mine ∙ needs.moved in
+        let b = seat.rule.buckets c small in
+        let mine : (seat.rule.bucket c).hold ≡ Some hold = holder_of c small hold needs.hold_is refl in
+        let no_taken : taken_of (seat.rule.bucket c).hold ≡ None = ap taken_of mine ∙ needs.taken in
+        let no_unlinked : unlinked_of (seat.rule.bucket c).hold ≡ None = ap unlinked_of mine ∙ needs.unlinked in
+        let no_moved : moved_of (seat.rule.bucket c).hold ≡ None = ap moved_of mine ∙ needs.moved in
         let locked = subst (IsLocked c m vs) mine b.locked in
         record {
           chained = record { path = b.chained.path; classes = b.chained.classes; distinct = b.chained.distinct };
           listed = record {
             free = b.listed.free;
             retired = b.listed.retired;
-            moved = subst (λ z. IsPath (λ s. m (Chain s)) (link_of z) (r.bucket c).moved) no_moved b.listed.moved;
+            moved = subst (λ z. IsPath (λ s. m (Chain s)) (link_of z) (seat.rule.bucket c).moved) no_moved b.listed.moved;
           };
           roles = record {
-            once = λ x. subst (λ (z : Option ℕ × Option ℕ). times x (r.bucket c).chain + times x (r.bucket c).free
-                + times x (r.bucket c).retired + times x (r.bucket c).moved + times x (option_to_list z.0) + times x (option_to_list z.1)
+            once = λ x. subst (λ (z : Option ℕ × Option ℕ). times x (seat.rule.bucket c).chain + times x (seat.rule.bucket c).free
+                + times x (seat.rule.bucket c).retired + times x (seat.rule.bucket c).moved + times x (option_to_list z.0) + times x (option_to_list z.1)
                 ≡ cond (is_slot_of capacities c x) 1 0) (λ i. (no_taken i, no_unlinked i)) (b.roles.once x);
           };
           mapped = record { answers = b.mapped.answers };
           locked = (
             stored_here m (Lock c) 0 (same_self (Lock c)),
-            each_set (λ k z. HoldsOther c z) vs id w_unlock (λ other is. absurd (cc)) (elim (only_at vs id v at locked) [
+            each_set (λ k z. HoldsOther c z) vs id w_unlock (λ other is. absurd (cc)) (elim (only_at vs id v seat.at locked) [
               | inl o ↦ o.1
               | inr free ↦ absurd (free hold needs.hold_is refl)
             ]),
@@ -212,14 +213,14 @@ module _ (capacities : List ℕ) (places tickets : ℕ) (m : Memory) (vs : List 
             moved = b.ages.moved;
             unlinked = λ s is. absurd (cc);
           };
-          counted = record { readers = (counted_still capacities c m h vs id v w_unlock at refl b.counted).readers };
-          clean = clean_still c w_unlock refl (r.bucket c) None (λ other is yes s of. absurd (cc)) b.clean;
-          answered = answered_still capacities c m h vs id v w_unlock at refl m_unlock (r.bucket c)
+          counted = record { readers = (counted_still seat c w_unlock refl b.counted).readers };
+          clean = clean_still c w_unlock refl (seat.rule.bucket c) None (λ other is yes s of. absurd (cc)) b.clean;
+          answered = answered_still seat c w_unlock refl m_unlock (seat.rule.bucket c)
               (λ s _. (refl, refl, refl, refl)) b.roles b.answered;
         }
 
     pub law_unlock : MemoryRule capacities places tickets m_unlock (set vs id w_unlock) h
-    law_unlock = after_step capacities places tickets m vs h r id v w_unlock at m_unlock h seats_unlock hold.class b_unlock bucket_unlock
+    law_unlock = after_step seat w_unlock seats_unlock hold.class b_unlock bucket_unlock
         (λ d _ ne. record {
           words = lock_words capacities hold.class d m 0 ne;
           marks = same_marks capacities d h;
@@ -232,7 +233,7 @@ module _ (capacities : List ℕ) (places tickets : ℕ) (m : Memory) (vs : List 
 
   -- the bucket of the holder, with what it knows and does now
   abbrev held_bucket : Hold → Hold → Bucket
-  held_bucket hold new = record (r.bucket hold.class) { hold = Some new }
+  held_bucket hold new = record (seat.rule.bucket hold.class) { hold = Some new }
 
   -- the holder is the same view
   pub locked_by : (hold new : Hold) → v.hold ≡ Some hold → new.class ≡ hold.class → (m' : Memory)
@@ -240,10 +241,10 @@ module _ (capacities : List ℕ) (places tickets : ℕ) (m : Memory) (vs : List 
       → IsLocked hold.class m' (set vs id w) (Some new)
   locked_by hold new mine class m' word w is place =
       let c : ℕ = hold.class in
-      let locked = subst (IsLocked c m vs) (holder_of c (class_small hold mine) hold mine refl)
-      (r.buckets c (class_small hold mine)).locked in
-      elim (only_at vs id v at locked) [
-        | inl o ↦ only_here vs id v w at (record { holds = is; class = class; word = word ∙ o.0.word ∙ ap (λ n. n + 1) (sym place) }) o.1
+      let locked = subst (IsLocked c m vs) (holder_of c (class_small mine) hold mine refl)
+      (seat.rule.buckets c (class_small mine)).locked in
+      elim (only_at vs id v seat.at locked) [
+        | inl o ↦ only_here vs id v w seat.at (record { holds = is; class = class; word = word ∙ o.0.word ∙ ap (λ n. n + 1) (sym place) }) o.1
         | inr free ↦ absurd (free hold mine refl)
       ]
 
@@ -270,18 +271,18 @@ module _ (capacities : List ℕ) (places tickets : ℕ) (m : Memory) (vs : List 
       let c : ℕ = hold.class in
       let new : Hold = record hold { known = known; clear = clear } in
       let w : View = record v { hold = Some new; seen = seen } in
-      let b = r.buckets c small in
-      let had : (r.bucket c).hold ≡ Some hold = holder_of c small hold mine refl in
+      let b = seat.rule.buckets c small in
+      let had : (seat.rule.bucket c).hold ≡ Some hold = holder_of c small hold mine refl in
       record {
         chained = b.chained;
         listed = record {
           free = b.listed.free;
           retired = b.listed.retired;
-          moved = subst (λ z. IsPath (λ s. m (Chain s)) (link_of (moved_of z)) (r.bucket c).moved) had b.listed.moved;
+          moved = subst (λ z. IsPath (λ s. m (Chain s)) (link_of (moved_of z)) (seat.rule.bucket c).moved) had b.listed.moved;
         };
         roles = record {
-          once = λ x. subst (λ z. times x (r.bucket c).chain + times x (r.bucket c).free + times x (r.bucket c).retired
-              + times x (r.bucket c).moved + times x (option_to_list (taken_of z)) + times x (option_to_list (unlinked_of z))
+          once = λ x. subst (λ z. times x (seat.rule.bucket c).chain + times x (seat.rule.bucket c).free + times x (seat.rule.bucket c).retired
+              + times x (seat.rule.bucket c).moved + times x (option_to_list (taken_of z)) + times x (option_to_list (unlinked_of z))
               ≡ cond (is_slot_of capacities c x) 1 0) had (b.roles.once x);
         };
         mapped = b.mapped;
@@ -297,10 +298,10 @@ module _ (capacities : List ℕ) (places tickets : ℕ) (m : Memory) (vs : List 
           moved = b.ages.moved;
           unlinked = λ s is. b.ages.unlinked s (ap unlinked_of had ∙ is);
         };
-        counted = counted_still capacities c m h vs id v w at refl b.counted;
-        clean = clean_still c w refl (r.bucket c) (Some new)
+        counted = counted_still seat c w refl b.counted;
+        clean = clean_still c w refl (seat.rule.bucket c) (Some new)
             (λ other is yes. let e : new ≡ other = cc in none small (ap (λ (z : Hold). z.clear) e ∙ yes)) b.clean;
-        answered = answered_still capacities c m h vs id v w at refl m (r.bucket c) (λ s _. (refl, refl, refl, refl)) b.roles b.answered;
+        answered = answered_still seat c w refl m (seat.rule.bucket c) (λ s _. (refl, refl, refl, refl)) b.roles b.answered;
       }
 
   -- H8, where no reader was found
@@ -317,15 +318,14 @@ module _ (capacities : List ℕ) (places tickets : ℕ) (m : Memory) (vs : List 
         let part = total_part (λ (z : View). inside_count hold.class z.section) vs j u there in
         let one : inside_count hold.class u.section ≡ 1 =
         ap (inside_count hold.class) is ∙ ap (λ t. cond t 1 0) (eq-eqb (section.key % 64) hold.class class) in
-        let was = (r.buckets hold.class small).counted.readers in
+        let was = (seat.rule.buckets hold.class small).counted.readers in
         omega arith
 
     pub law_readers_load : MemoryRule capacities places tickets m (set vs id w_clear) h
-    law_readers_load = after_step capacities places tickets m vs h r id v w_clear at m h
-        (seats_same capacities places tickets m vs h r id v w_clear at m
+    law_readers_load = after_step seat w_clear (seats_same seat w_clear m
         (seat_holds v (Some new_clear) v.trail (λ commit held is had. (new_clear, refl))
         (λ other is. let e : new_clear ≡ other = cc in
-        (subst (λ (z : Hold). z.class < 64) e (class_small hold mine), works hold mine))) refl refl)
+        (subst (λ (z : Hold). z.class < 64) e (class_small mine), works mine))) refl refl)
         hold.class (held_bucket hold new_clear)
         (holder_learns hold mine hold.known true v.seen (λ field number old. old field number)
         (λ small yes s of p j u section gone there inside class. absurd (no_section small j u section there inside class)))
@@ -358,8 +358,8 @@ module _ (capacities : List ℕ) (places tickets : ℕ) (m : Memory) (vs : List 
     seen_load = seen_case see refl
       where
         seen_case : (t : Bool) → see ≡ t → AreSeen (set vs id w_load) h
-        seen_case true is = seen_whole vs id v w_load at h h (ap (λ b. cond b h v.seen) is) refl (prefix_self h) r.seen
-        seen_case false is = seen_same vs id v w_load at h (ap (λ b. cond b h v.seen) is) refl r.seen
+        seen_case true is = seen_whole seat w_load h (ap (λ b. cond b h v.seen) is) refl (prefix_self h)
+        seen_case false is = seen_same seat w_load (ap (λ b. cond b h v.seen) is) refl
 
     met_load : (t : Bool) → see ≡ t → (w_load.seen ≡ v.seen) ⊎ (w_load.seen ≡ h ++ [])
     met_load true is = inr (ap (λ b. cond b h v.seen) is ∙ sym (append-nil h))
@@ -369,25 +369,25 @@ module _ (capacities : List ℕ) (places tickets : ℕ) (m : Memory) (vs : List 
     seats_load =
         record {
           seen = seen_load;
-          apart = apart_same vs id v w_load at places (record { place = refl; places = refl; joined = refl }) r.apart;
+          apart = apart_same seat w_load (record { place = refl; places = refl; joined = refl });
           owned = subst (AreOwned places (set vs id w_load)) (append-nil h)
-              (owned_same vs id v w_load at places h [] (record { place = refl; places = refl; joined = refl }) refl
-              (met_load see refl) no_marks r.owned);
-          sections = open_same vs id v w_load at h h (updates_of h) (updates_of h) refl refl refl (section_back v w_load refl)
-              (section_forth v w_load refl) (λ p. refl) (λ p. refl) (omega arith) r.sections;
-          held = held_still vs id v w_load at (λ other is. let e : new_load ≡ other = cc in
-              (subst (λ (z : Hold). z.class < 64) e (class_small hold mine), works hold mine)) r.held;
-          turned = turned_same vs id v w_load at m m (length (updates_of h)) refl refl (λ commit held is had. (new_load, refl)) r.turned;
-          tickets_are = tickets_same capacities places tickets m vs h r id v w_load at m refl;
-          legal = r.legal;
-          marks = r.marks;
-          reuse = r.reuse;
+              (owned_same seat w_load [] (record { place = refl; places = refl; joined = refl }) refl
+              (met_load see refl) no_marks);
+          sections = open_same seat w_load h refl refl refl (section_back v w_load refl)
+              (section_forth v w_load refl) (λ p. refl) (λ p. refl) (omega arith);
+          held = held_still seat w_load (λ other is. let e : new_load ≡ other = cc in
+              (subst (λ (z : Hold). z.class < 64) e (class_small mine), works mine));
+          turned = turned_same seat w_load m refl refl (λ commit held is had. (new_load, refl));
+          tickets_are = tickets_same seat w_load refl;
+          legal = seat.rule.legal;
+          marks = seat.rule.marks;
+          reuse = seat.rule.reuse;
         }
 
     pub law_held_load : MemoryRule capacities places tickets m (set vs id w_load) h
-    law_held_load = after_step capacities places tickets m vs h r id v w_load at m h seats_load hold.class (held_bucket hold new_load)
+    law_held_load = after_step seat w_load seats_load hold.class (held_bucket hold new_load)
         (holder_learns hold mine new_load.known hold.clear w_load.seen known_load
-        (λ small. (r.buckets hold.class small).clean.clear hold (holder_of hold.class small hold mine refl)))
+        (λ small. (seat.rule.buckets hold.class small).clean.clear hold (holder_of hold.class small hold mine refl)))
         (λ d _ ne. record {
           words = same_words capacities d m;
           marks = same_marks capacities d h;
@@ -401,20 +401,19 @@ module _ (capacities : List ℕ) (places tickets : ℕ) (m : Memory) (vs : List 
   front_stored number commit turned =
       let w : View = record v { commit = commit } in
       let to : Memory = stored m Front number in
-      after_quiet capacities places tickets m vs h r id v w at to h
-      (record {
-        seen = seen_same vs id v w at h refl refl r.seen;
-        apart = apart_same vs id v w at places (record { place = refl; places = refl; joined = refl }) r.apart;
+      after_quiet seat w (record {
+        seen = seen_same seat w refl refl;
+        apart = apart_same seat w (record { place = refl; places = refl; joined = refl });
         owned = subst (AreOwned places (set vs id w)) (append-nil h)
-            (owned_same vs id v w at places h [] (record { place = refl; places = refl; joined = refl }) refl (inl refl) no_marks r.owned);
-        sections = open_same vs id v w at h h (updates_of h) (updates_of h) refl refl refl (section_back v w refl) (section_forth v w refl)
-            (λ p. refl) (λ p. refl) (omega arith) r.sections;
-        held = held_still vs id v w at (λ other is. r.held.held id v other at is) r.held;
+            (owned_same seat w [] (record { place = refl; places = refl; joined = refl }) refl (inl refl) no_marks);
+        sections = open_same seat w h refl refl refl (section_back v w refl) (section_forth v w refl)
+            (λ p. refl) (λ p. refl) (omega arith);
+        held = held_still seat w (λ other is. seat.rule.held.held id v other seat.at is);
         turned = turned;
-        tickets_are = tickets_same capacities places tickets m vs h r id v w at to refl;
-        legal = r.legal;
-        marks = r.marks;
-        reuse = r.reuse;
+        tickets_are = tickets_same seat w refl;
+        legal = seat.rule.legal;
+        marks = seat.rule.marks;
+        reuse = seat.rule.reuse;
       })
       (λ d _. record {
         words = front_words capacities d m number;
@@ -434,10 +433,10 @@ module _ (capacities : List ℕ) (places tickets : ℕ) (m : Memory) (vs : List 
     m_commit = stored m Front (even + 1)
 
     turned_commit : IsTurned m_commit (set vs id w_commit) (length (updates_of h))
-    turned_commit = turn_case r.turned
+    turned_commit = turn_case seat.rule.turned
       where
         turn_case : IsTurned m vs (length (updates_of h)) → IsTurned m_commit (set vs id w_commit) (length (updates_of h))
-        turn_case (inl free) = inr (only_here vs id v w_commit at (record {
+        turn_case (inl free) = inr (only_here vs id v w_commit seat.at (record {
           commit = turn_commit;
           hold = hold;
           has = refl;
@@ -463,11 +462,11 @@ module _ (capacities : List ℕ) (places tickets : ℕ) (m : Memory) (vs : List 
     m_even = stored m Front (even + 2)
 
     turned_even : IsTurned m_even (set vs id w_even) (length (updates_of h))
-    turned_even = turn_case r.turned
+    turned_even = turn_case seat.rule.turned
       where
         turn_case : IsTurned m vs (length (updates_of h)) → IsTurned m_even (set vs id w_even) (length (updates_of h))
-        turn_case (inl free) = absurd (let z : Some (record { found = even; stored = true }) ≡ None = sym needs ∙ free.1 id v at in cc)
-        turn_case (inr odd) = elim (only_at vs id v at odd) [
+        turn_case (inl free) = absurd (let z : Some (record { found = even; stored = true }) ≡ None = sym needs ∙ free.1 id v seat.at in cc)
+        turn_case (inr odd) = elim (only_at vs id v seat.at odd) [
           | inl o ↦
               let commit : Some (record { found = even; stored = true }) ≡ Some o.0.commit = sym needs ∙ o.0.has in
               let by : updates_by (record { found = even; stored = true }) ≡ updates_by o.0.commit =
@@ -493,15 +492,15 @@ said_after us u key from answer since e =
     subst (WasSaid (us ++ u ∷ []) key from) (ap (λ z. finite.get z key) (map_of-push us u) ∙ e)
     (said_now (us ++ u ∷ []) key from (omega arith))
 
-module _ (capacities : List ℕ) (places tickets : ℕ) (m : Memory) (vs : List View) (h : List Mark)
-    (r : MemoryRule capacities places tickets m vs h) (id : ℕ) (v : View) (at : get_elem? vs id ≡ some v) (hold : Hold)
-    (mine : v.hold ≡ Some hold) (even : ℕ) (commit : HasCommit v hold even) where
+module _ {capacities : List ℕ} {places tickets : ℕ} {m : Memory} {vs : List View} {h : List Mark} {id : ℕ} {v : View}
+    (seat : Seated capacities places tickets m vs h id v)
+    {hold : Hold} (mine : v.hold ≡ Some hold) {even : ℕ} (commit : HasCommit v hold even) where
   -- the front is odd by this view
   pub turned_by : (m Front ≡ even + 1) × (even ≡ 2 * length (updates_of h))
       × ((j : ℕ) (u : View) → j ≢ id → get_elem? vs j ≡ some u → HasNoCommit u)
-  turned_by = elim r.turned [
-    | inl quiet ↦ absurd (let a : None ≡ Some (record { found = even; stored = false }) = sym (quiet.1 id v at) ∙ commit.commit_is in cc)
-    | inr odd ↦ elim (only_at vs id v at odd) [
+  turned_by = elim seat.rule.turned [
+    | inl quiet ↦ absurd (let a : None ≡ Some (record { found = even; stored = false }) = sym (quiet.1 id v seat.at) ∙ commit.commit_is in cc)
+    | inr odd ↦ elim (only_at vs id v seat.at odd) [
       | inl o ↦
           let there : Some o.0.commit ≡ Some (record { found = even; stored = false }) = sym o.0.has ∙ commit.commit_is in
           let it : ◌≡◌ {A = Commit} o.0.commit (record { found = even; stored = false }) = cc in
@@ -533,19 +532,19 @@ module _ (capacities : List ℕ) (places tickets : ℕ) (m : Memory) (vs : List 
 
       pub seats_updated : SeatsRule capacities places tickets m' (set vs id w_new) h_new
       seats_updated = record {
-        seen = seen_whole vs id v w_new at h h_new refl refl (Done (record { caller = v.place; op = op }) ∷ more, refl) r.seen;
-        apart = apart_same vs id v w_new at places (record { place = refl; places = refl; joined = refl }) r.apart;
-        owned = owned_more vs id v w_new at places h more (Done (record { caller = v.place; op = op }))
-            (record { place = refl; places = refl; joined = refl }) (works capacities places tickets m vs h r id v at hold mine) refl refl
-            (eq-eqb v.place v.place refl) (λ p ne. ne_eqb v.place p (λ e. ne (sym e))) none r.apart r.owned;
-        sections = open_same vs id v w_new at h h_new (updates_of h) (updates_of h_new) refl refl refl (section_back v w_new refl)
-            (section_forth v w_new refl) opened entered (let n = one_longer in omega arith) r.sections;
-        held = held_still vs id v w_new at (λ other is. let e : new ≡ other = cc in (
+        seen = seen_whole seat w_new h_new refl refl (Done (record { caller = v.place; op = op }) ∷ more, refl);
+        apart = apart_same seat w_new (record { place = refl; places = refl; joined = refl });
+        owned = owned_more seat w_new more (Done (record { caller = v.place; op = op }))
+            (record { place = refl; places = refl; joined = refl }) (works seat mine) refl refl
+            (eq-eqb v.place v.place refl) (λ p ne. ne_eqb v.place p (λ e. ne (sym e))) none;
+        sections = open_same seat w_new h_new refl refl refl (section_back v w_new refl)
+            (section_forth v w_new refl) opened entered (let n = one_longer in omega arith);
+        held = held_still seat w_new (λ other is. let e : new ≡ other = cc in (
           subst (λ (z : Hold). z.class < 64) e (subst (λ z. z < 64) (sym class)
-              (class_small capacities places tickets m vs h r id v at hold mine)),
-          works capacities places tickets m vs h r id v at hold mine,
-        )) r.held;
-        turned = inr (only_here vs id v w_new at (record {
+              (class_small seat mine)),
+          works seat mine,
+        ));
+        turned = inr (only_here vs id v w_new seat.at (record {
           commit = record { found = even; stored = true };
           hold = new;
           has = refl;
@@ -554,12 +553,12 @@ module _ (capacities : List ℕ) (places tickets : ℕ) (m : Memory) (vs : List 
           updates = let a = turned_by.1 in let n = one_longer in omega arith;
         }) turned_by.2);
         tickets_are =
-            (let sum = total_set (λ (z : View). z.tickets) vs id v w_new at in
-            let was = r.tickets_are in
+            (let sum = total_set (λ (z : View). z.tickets) vs id v w_new seat.at in
+            let was = seat.rule.tickets_are in
             let some_ticket = commit.ticket in
-            let part = total_part (λ (z : View). z.tickets) vs id v at in
+            let part = total_part (λ (z : View). z.tickets) vs id v seat.at in
             let n = one_longer in omega arith);
-        legal = subst IsLegal (sym longer) (legal_more (updates_of h) (record { caller = v.place; op = op }) r.legal is_update);
+        legal = subst IsLegal (sym longer) (legal_more (updates_of h) (record { caller = v.place; op = op }) seat.rule.legal is_update);
         marks = order;
         reuse = reuse;
       }

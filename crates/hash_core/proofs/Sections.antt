@@ -25,7 +25,7 @@ use Rattle.prcu_model.proofs.ListFacts.{all_map}
 use Rattle.list_laws.proofs.Lists.{each_set, total_set, total_part, somewhere_at, somewhere_here, somewhere_still}
 use Rattle.hash_core.proofs.SlotLists.{path_cons, path_none, seek_here, seek_past}
 use Rattle.prcu_marks.proofs.Marks.{open_at-snoc, updates_of-append, entered_at-append, last_unlinked-below, last_unlinked-same}
-use Rattle.hash_core.proofs.SeatFrames.{marks_snoc, gone_at-same, reuse_more, seen_whole, apart_same, owned_more, held_still, turned_same, same_marks, same_hold, seats_same, tickets_same, SeatsRule, after_step}
+use Rattle.hash_core.proofs.SeatFrames.{Seated, marks_snoc, gone_at-same, reuse_more, seen_whole, apart_same, owned_more, held_still, turned_same, same_marks, same_hold, seats_same, tickets_same, SeatsRule, after_step}
 use Rattle.hash_core.proofs.Frames.{SameMarks, SameSection, locked_same, still_said, still_answer, frame_ages_same, clean_by, same_words, readers_words, stored_here, same_self}
 
 -- a link that was loaded: the end, or the next slot
@@ -52,16 +52,16 @@ pub clean_each : (capacities : List ℕ) (c : ℕ) (h h' : List Mark) (vs : List
 clean_each capacities c h h' vs id w b same mine clean = clean_by capacities c h h' vs (set vs id w) b b
     (λ s free. free_each c h h' vs id w s (same s) (λ p section. mine s p section free) free) refl refl clean.clear clean
 
-module _ (capacities : List ℕ) (places tickets : ℕ) (m : Memory) (vs : List View) (h : List Mark)
-    (r : MemoryRule capacities places tickets m vs h) (id : ℕ) (v : View) (at : get_elem? vs id ≡ some v) where
+module _ {capacities : List ℕ} {places tickets : ℕ} {m : Memory} {vs : List View} {h : List Mark} {id : ℕ} {v : View}
+    (seat : Seated capacities places tickets m vs h id v) where
   -- no other view works at the place
   other_place : (j : ℕ) (u : View) → j ≢ id → get_elem? vs j ≡ some u → 1 ≤ v.places → 1 ≤ u.places → u.place ≢ v.place
   other_place j u ne there mine theirs e =
-      ne (r.apart.apart j id u.place u v there at (inl (omega arith, omega arith)) (inl (omega arith, omega arith)))
+      ne (seat.rule.apart.apart j id u.place u v there seat.at (inl (omega arith, omega arith)) (inl (omega arith, omega arith)))
 
   -- what a load of another field gives, where the memory is the same
   known_same : (d : ℕ) (m' : Memory) → ((field : Field) → IsOfClass capacities d field → m' field ≡ m field)
-      → IsKnown capacities d m (r.bucket d).hold → IsKnown capacities d m' (r.bucket d).hold
+      → IsKnown capacities d m (seat.rule.bucket d).hold → IsKnown capacities d m' (seat.rule.bucket d).hold
   known_same d m' same known = record {
     known = λ hold field number is found. let k = known.known hold field number is found in
         (k.0, same field k.0 ∙ k.1);
@@ -119,11 +119,11 @@ module _ (capacities : List ℕ) (places tickets : ℕ) (m : Memory) (vs : List 
         closed_case : (o : Option Open) → open_at v.place h ≡ o → o ≡ None
         closed_case None is = refl
         closed_case (Some o) is =
-            let q = r.sections.all v.place o is in
-            let there = r.sections.open_here q.id q.view q.has.1 q.there q.has.2 in
-            let me : q.id ≡ id = r.apart.apart q.id id v.place q.view v q.there at
+            let q = seat.rule.sections.all v.place o is in
+            let there = seat.rule.sections.open_here q.id q.view q.has.1 q.there q.has.2 in
+            let me : q.id ≡ id = seat.rule.apart.apart q.id id v.place q.view v q.there seat.at
             (let e = q.has.0 in let w = there.0 in inl (omega arith, omega arith)) (inl (omega arith, omega arith)) in
-            let mine : HasOpen v v.place o = somewhere_at vs id v at q me in
+            let mine : HasOpen v v.place o = somewhere_at vs id v seat.at q me in
             absurd (let z : Some mine.1 ≡ None = sym mine.2 ∙ outside in cc)
 
     sections_enter : AreOpen (set vs id w_enter) h_enter (updates_of h_enter)
@@ -134,7 +134,7 @@ module _ (capacities : List ℕ) (places tickets : ℕ) (m : Memory) (vs : List 
           (λ mine. let e : section_enter ≡ section = cc in
           subst (λ (z : Section). (1 ≤ v.places) × (open_at v.place h_enter ≡ Some (open_of z)) × (z.from ≤ length (updates_of h_enter))
           × (z.key < 2 ^ 64)) e (works, open_here_enter, let n = ap length same_updates_enter in omega arith, fits))
-          (λ k z other e theirs. let o = r.sections.open_here k z section e theirs in (
+          (λ k z other e theirs. let o = seat.rule.sections.open_here k z section e theirs in (
             o.0,
             open_else_enter z.place (other_place k z other e works o.0) ∙ o.1,
             let n = ap length same_updates_enter in let a = o.2 in
@@ -144,46 +144,46 @@ module _ (capacities : List ℕ) (places tickets : ℕ) (m : Memory) (vs : List 
       entered = λ j u there has. each_set (λ k z. 1 ≤ z.places → z.sections ≡ entered_at z.place h_enter) vs id w_enter
           (λ mine. let a = entered_at-append v.place h (mark_enter ∷ []) in
           let one : entered_at v.place (mark_enter ∷ []) ≡ 1 = ap (λ b. cond b 1 0 + 0) (eq-eqb v.place v.place refl) in
-          let old = r.sections.entered id v at works in omega arith)
+          let old = seat.rule.sections.entered id v seat.at works in omega arith)
           (λ k z other e theirs. let a = entered_at-append z.place h (mark_enter ∷ []) in
           let none : entered_at z.place (mark_enter ∷ []) ≡ 0 =
           ap (λ b. cond b 1 0 + 0) (ne_eqb v.place z.place (λ f. other_place k z other e works theirs (sym f))) in
-          let old = r.sections.entered k z e theirs in omega arith) j u there has;
+          let old = seat.rule.sections.entered k z e theirs in omega arith) j u there has;
       all = λ p o is. dite (ℕ_discrete p v.place)
           (λ e. let now : open_at v.place h_enter ≡ Some o = subst (λ q. open_at q h_enter ≡ Some o) e is in
           let same : open_of section_enter ≡ o = cc (open_here_enter, now) in
-          somewhere_here vs id v w_enter at (sym e, section_enter, refl, sym same))
-          (λ ne. somewhere_still vs id v w_enter at
+          somewhere_here vs id v w_enter seat.at (sym e, section_enter, refl, sym same))
+          (λ ne. somewhere_still vs id v w_enter seat.at
           (λ (mine : HasOpen v p o). absurd (let z : Some mine.1 ≡ None = sym mine.2 ∙ outside in cc))
-          (r.sections.all p o (sym (open_else_enter p ne) ∙ is)));
+          (seat.rule.sections.all p o (sym (open_else_enter p ne) ∙ is)));
     }
 
     seats_enter : SeatsRule capacities places tickets m_enter (set vs id w_enter) h_enter
     seats_enter = record {
-      seen = seen_whole vs id v w_enter at h h_enter refl refl (mark_enter ∷ [], refl) r.seen;
-      apart = apart_same vs id v w_enter at places (record { place = refl; places = refl; joined = refl }) r.apart;
-      owned = owned_more vs id v w_enter at places h [] mark_enter (record { place = refl; places = refl; joined = refl }) works refl refl
-          (eq-eqb v.place v.place refl) (λ p ne. ne_eqb v.place p (λ e. ne (sym e))) (λ p. refl) r.apart r.owned;
+      seen = seen_whole seat w_enter h_enter refl refl (mark_enter ∷ [], refl);
+      apart = apart_same seat w_enter (record { place = refl; places = refl; joined = refl });
+      owned = owned_more seat w_enter [] mark_enter (record { place = refl; places = refl; joined = refl }) works refl refl
+          (eq-eqb v.place v.place refl) (λ p ne. ne_eqb v.place p (λ e. ne (sym e))) (λ p. refl);
       sections = sections_enter;
-      held = held_still vs id v w_enter at (λ hold is. r.held.held id v hold at is) r.held;
+      held = held_still seat w_enter (λ hold is. seat.rule.held.held id v hold seat.at is);
       turned = subst (IsTurned m_enter (set vs id w_enter)) (sym (ap length same_updates_enter))
-          (turned_same vs id v w_enter at m m_enter (length (updates_of h)) refl refl (λ commit hold is held. (hold, held)) r.turned);
+          (turned_same seat w_enter m_enter refl refl (λ commit hold is held. (hold, held)));
       tickets_are = ap (λ us. length us + total (λ (z : View). z.tickets) (set vs id w_enter)) same_updates_enter
-          ∙ tickets_same capacities places tickets m vs h r id v w_enter at m_enter refl;
-      legal = subst IsLegal (sym same_updates_enter) r.legal;
+          ∙ tickets_same seat w_enter refl;
+      legal = subst IsLegal (sym same_updates_enter) seat.rule.legal;
       marks = marks_snoc places h mark_enter (
-        r.apart.within id v v.place at (inl (omega arith, omega arith)),
+        seat.rule.apart.within id v v.place seat.at (inl (omega arith, omega arith)),
         fits,
-        r.sections.entered id v at works,
+        seat.rule.sections.entered id v seat.at works,
         closed_enter,
-      ) r.marks;
-      reuse = reuse_more capacities h mark_enter (λ s e. absurd (cc)) r.reuse;
+      ) seat.rule.marks;
+      reuse = reuse_more capacities h mark_enter (λ s e. absurd (cc)) seat.rule.reuse;
     }
 
-    bucket_enter : key % 64 < 64 → BucketRule capacities (key % 64) m_enter h_enter (updates_of h_enter) (set vs id w_enter) (r.bucket (key % 64))
+    bucket_enter : key % 64 < 64 → BucketRule capacities (key % 64) m_enter h_enter (updates_of h_enter) (set vs id w_enter) (seat.rule.bucket (key % 64))
     bucket_enter small =
         let c : ℕ = key % 64 in
-        let b = r.buckets c small in
+        let b = seat.rule.buckets c small in
         let marks = same_marks_enter c in
         let gone : (s : ℕ) → gone_at s h_enter ≡ gone_at s h = gone_at-same h mark_enter tt in
         record {
@@ -191,43 +191,41 @@ module _ (capacities : List ℕ) (places tickets : ℕ) (m : Memory) (vs : List 
           listed = record { free = b.listed.free; retired = b.listed.retired; moved = b.listed.moved };
           roles = b.roles;
           mapped = record { answers = λ k class. marks.pairs k class ∙ b.mapped.answers k class };
-          locked = locked_same c m m_enter vs id v w_enter at refl refl (same_hold c v.hold) (r.bucket c).hold b.locked;
+          locked = locked_same c m m_enter vs id v w_enter seat.at refl refl (same_hold c v.hold) (seat.rule.bucket c).hold b.locked;
           known = known_same c m_enter (readers_stay c (m (Readers c) + 1)) b.known;
-          ages = frame_ages_same capacities c h h_enter (r.bucket c) (λ s _. gone s) b.roles b.ages;
+          ages = frame_ages_same h h_enter (λ s _. gone s) b.roles b.ages;
           counted = record {
             readers =
-                let sum = total_set (λ (z : View). inside_count c z.section) vs id v w_enter at in
+                let sum = total_set (λ (z : View). inside_count c z.section) vs id v w_enter seat.at in
                 let before : inside_count c v.section ≡ 0 = ap (inside_count c) outside in
                 let now : inside_count c w_enter.section ≡ 1 = ap (λ t. cond t 1 0) (eq-eqb (key % 64) c refl) in
                 let word : m_enter (Readers c) ≡ m (Readers c) + 1 = stored_here m (Readers c) (m (Readers c) + 1) (same_self (Readers c)) in
                 let was = b.counted.readers in
                 omega arith;
           };
-          clean = clean_each capacities c h h_enter vs id w_enter (r.bucket c) (last_unlinked-same h mark_enter tt)
+          clean = clean_each capacities c h h_enter vs id w_enter (seat.rule.bucket c) (last_unlinked-same h mark_enter tt)
               (λ s p section free was is class. let e : section_enter ≡ section = cc in let l = last_unlinked-below s h p was in
               subst (λ (z : Section). p < z.entered) e l) b.clean;
           answered = record {
             readers = λ j u section there is class. each_set
                 (λ k z. z.section ≡ Some section → WillAnswer capacities c m_enter h_enter (updates_of h_enter)
-                (r.bucket c).chain section section.state) vs id w_enter
+                (seat.rule.bucket c).chain section section.state) vs id w_enter
                 (λ mine. let e : section_enter ≡ section = cc in
-                subst (λ (z : Section). WillAnswer capacities c m_enter h_enter (updates_of h_enter) (r.bucket c).chain z z.state) e tt)
-                (λ k z other e theirs. still_answer capacities c m m_enter h h_enter (updates_of h) (updates_of h_enter) (r.bucket c)
-                (λ s _. (refl, refl, refl, refl)) marks b.roles section section.state
+                subst (λ (z : Section). WillAnswer capacities c m_enter h_enter (updates_of h_enter) (seat.rule.bucket c).chain z z.state) e tt)
+                (λ k z other e theirs. still_answer m m_enter (λ s _. (refl, refl, refl, refl)) marks b.roles section section.state
                 (b.answered.readers k z section e theirs class)) j u there is;
             loaded = λ j u section value there is class read. each_set
                 (λ k z. z.section ≡ Some section → WasSaid (updates_of h_enter) section.key section.from (Some value)) vs id w_enter
                 (λ mine. absurd (let e : section_enter ≡ section = cc in
                 let none : section.loaded ≡ None = ap (λ (z : Section). z.loaded) (sym e) in cc))
-                (λ k z other e theirs. still_said capacities c m m_enter h h_enter (updates_of h) (updates_of h_enter) (r.bucket c)
-                (λ s _. (refl, refl, refl, refl)) marks b.roles section.key section.from (Some value)
+                (λ k z other e theirs. still_said marks section.key section.from (Some value)
                 (b.answered.loaded k z section value e theirs class read)) j u there is;
           };
         }
 
     -- H3 keeps the rule
     pub law_enter : MemoryRule capacities places tickets m_enter (set vs id w_enter) h_enter
-    law_enter = after_step capacities places tickets m vs h r id v w_enter at m_enter h_enter seats_enter (key % 64) (r.bucket (key % 64)) bucket_enter
+    law_enter = after_step seat w_enter seats_enter (key % 64) (seat.rule.bucket (key % 64)) bucket_enter
         (λ d small ne. record {
           words = readers_words capacities (key % 64) d m (m (Readers (key % 64)) + 1) ne;
           marks = same_marks_enter d;
@@ -240,7 +238,7 @@ module _ (capacities : List ℕ) (places tickets : ℕ) (m : Memory) (vs : List 
 
   module _ (section : Section) (inside : v.section ≡ Some section) where
     works_leave : 1 ≤ v.places
-    works_leave = (r.sections.open_here id v section at inside).0
+    works_leave = (seat.rule.sections.open_here id v section seat.at inside).0
 
     abbrev mark_leave : Mark
     mark_leave = Left v.place section.count
@@ -281,7 +279,7 @@ module _ (capacities : List ℕ) (places tickets : ℕ) (m : Memory) (vs : List 
           → (1 ≤ z.places) × (open_at z.place h_leave ≡ Some (open_of other)) × (other.from ≤ length (updates_of h_leave))
           × (other.key < 2 ^ 64)) vs id w_leave
           (λ mine. absurd (cc))
-          (λ k z far e theirs. let o = r.sections.open_here k z other e theirs in (
+          (λ k z far e theirs. let o = seat.rule.sections.open_here k z other e theirs in (
             o.0,
             open_else_leave z.place (other_place k z far e works_leave o.0) ∙ o.1,
             let n = ap length same_updates_leave in let a = o.2 in
@@ -289,46 +287,46 @@ module _ (capacities : List ℕ) (places tickets : ℕ) (m : Memory) (vs : List 
             o.3,
           )) j u there is;
       entered = λ j u there has. each_set (λ k z. 1 ≤ z.places → z.sections ≡ entered_at z.place h_leave) vs id w_leave
-          (λ mine. r.sections.entered id v at works_leave ∙ sym (same_entered_leave v.place))
-          (λ k z far e theirs. r.sections.entered k z e theirs ∙ sym (same_entered_leave z.place)) j u there has;
+          (λ mine. seat.rule.sections.entered id v seat.at works_leave ∙ sym (same_entered_leave v.place))
+          (λ k z far e theirs. seat.rule.sections.entered k z e theirs ∙ sym (same_entered_leave z.place)) j u there has;
       all = λ p o is. dite (ℕ_discrete p v.place)
           (λ e. absurd (let now : open_at v.place h_leave ≡ Some o = subst (λ q. open_at q h_leave ≡ Some o) e is in
           let z : None ≡ Some o = sym open_here_leave ∙ now in cc))
-          (λ ne. somewhere_still vs id v w_leave at (λ (mine : HasOpen v p o). absurd (ne (sym mine.0)))
-          (r.sections.all p o (sym (open_else_leave p ne) ∙ is)));
+          (λ ne. somewhere_still vs id v w_leave seat.at (λ (mine : HasOpen v p o). absurd (ne (sym mine.0)))
+          (seat.rule.sections.all p o (sym (open_else_leave p ne) ∙ is)));
     }
 
     seats_leave : SeatsRule capacities places tickets m_leave (set vs id w_leave) h_leave
     seats_leave = record {
-      seen = seen_whole vs id v w_leave at h h_leave refl refl (mark_leave ∷ [], refl) r.seen;
-      apart = apart_same vs id v w_leave at places (record { place = refl; places = refl; joined = refl }) r.apart;
-      owned = owned_more vs id v w_leave at places h [] mark_leave (record { place = refl; places = refl; joined = refl }) works_leave refl refl
-          (eq-eqb v.place v.place refl) (λ p ne. ne_eqb v.place p (λ e. ne (sym e))) (λ p. refl) r.apart r.owned;
+      seen = seen_whole seat w_leave h_leave refl refl (mark_leave ∷ [], refl);
+      apart = apart_same seat w_leave (record { place = refl; places = refl; joined = refl });
+      owned = owned_more seat w_leave [] mark_leave (record { place = refl; places = refl; joined = refl }) works_leave refl refl
+          (eq-eqb v.place v.place refl) (λ p ne. ne_eqb v.place p (λ e. ne (sym e))) (λ p. refl);
       sections = sections_leave;
-      held = held_still vs id v w_leave at (λ hold is. r.held.held id v hold at is) r.held;
+      held = held_still seat w_leave (λ hold is. seat.rule.held.held id v hold seat.at is);
       turned = subst (IsTurned m_leave (set vs id w_leave)) (sym (ap length same_updates_leave))
-          (turned_same vs id v w_leave at m m_leave (length (updates_of h)) refl refl (λ commit hold is held. (hold, held)) r.turned);
+          (turned_same seat w_leave m_leave refl refl (λ commit hold is held. (hold, held)));
       tickets_are = ap (λ us. length us + total (λ (z : View). z.tickets) (set vs id w_leave)) same_updates_leave
-          ∙ tickets_same capacities places tickets m vs h r id v w_leave at m_leave refl;
-      legal = subst IsLegal (sym same_updates_leave) r.legal;
-      marks = marks_snoc places h mark_leave (open_of section, (r.sections.open_here id v section at inside).1, refl) r.marks;
-      reuse = reuse_more capacities h mark_leave (λ s e. absurd (cc)) r.reuse;
+          ∙ tickets_same seat w_leave refl;
+      legal = subst IsLegal (sym same_updates_leave) seat.rule.legal;
+      marks = marks_snoc places h mark_leave (open_of section, (seat.rule.sections.open_here id v section seat.at inside).1, refl) seat.rule.marks;
+      reuse = reuse_more capacities h mark_leave (λ s e. absurd (cc)) seat.rule.reuse;
     }
 
     -- the readers word counts the section
     pub some_reader : section.key % 64 < 64 → 1 ≤ m (Readers (section.key % 64))
     some_reader small =
         let c : ℕ = section.key % 64 in
-        let part = total_part (λ (z : View). inside_count c z.section) vs id v at in
+        let part = total_part (λ (z : View). inside_count c z.section) vs id v seat.at in
         let before : inside_count c v.section ≡ 1 = ap (inside_count c) inside ∙ ap (λ t. cond t 1 0) (eq-eqb (section.key % 64) c refl) in
-        let was = (r.buckets c small).counted.readers in
+        let was = (seat.rule.buckets c small).counted.readers in
         omega arith
 
     bucket_leave : section.key % 64 < 64 → BucketRule capacities (section.key % 64) m_leave h_leave (updates_of h_leave) (set vs id w_leave)
-        (r.bucket (section.key % 64))
+        (seat.rule.bucket (section.key % 64))
     bucket_leave small =
         let c : ℕ = section.key % 64 in
-        let b = r.buckets c small in
+        let b = seat.rule.buckets c small in
         let marks = same_marks_leave c in
         let gone : (s : ℕ) → gone_at s h_leave ≡ gone_at s h = gone_at-same h mark_leave tt in
         record {
@@ -336,12 +334,12 @@ module _ (capacities : List ℕ) (places tickets : ℕ) (m : Memory) (vs : List 
           listed = record { free = b.listed.free; retired = b.listed.retired; moved = b.listed.moved };
           roles = b.roles;
           mapped = record { answers = λ k class. marks.pairs k class ∙ b.mapped.answers k class };
-          locked = locked_same c m m_leave vs id v w_leave at refl refl (same_hold c v.hold) (r.bucket c).hold b.locked;
+          locked = locked_same c m m_leave vs id v w_leave seat.at refl refl (same_hold c v.hold) (seat.rule.bucket c).hold b.locked;
           known = known_same c m_leave (readers_stay c (m (Readers c) - 1)) b.known;
-          ages = frame_ages_same capacities c h h_leave (r.bucket c) (λ s _. gone s) b.roles b.ages;
+          ages = frame_ages_same h h_leave (λ s _. gone s) b.roles b.ages;
           counted = record {
             readers =
-                let sum = total_set (λ (z : View). inside_count c z.section) vs id v w_leave at in
+                let sum = total_set (λ (z : View). inside_count c z.section) vs id v w_leave seat.at in
                 let before : inside_count c v.section ≡ 1 =
                 ap (inside_count c) inside ∙ ap (λ t. cond t 1 0) (eq-eqb (section.key % 64) c refl) in
                 let word : m_leave (Readers c) ≡ m (Readers c) - 1 = stored_here m (Readers c) (m (Readers c) - 1) (same_self (Readers c)) in
@@ -349,28 +347,26 @@ module _ (capacities : List ℕ) (places tickets : ℕ) (m : Memory) (vs : List 
                 let has = some_reader small in
                 omega arith;
           };
-          clean = clean_each capacities c h h_leave vs id w_leave (r.bucket c) (last_unlinked-same h mark_leave tt)
+          clean = clean_each capacities c h h_leave vs id w_leave (seat.rule.bucket c) (last_unlinked-same h mark_leave tt)
               (λ s p other free was is class. absurd (cc)) b.clean;
           answered = record {
             readers = λ j u other there is class. each_set
                 (λ k z. z.section ≡ Some other → WillAnswer capacities c m_leave h_leave (updates_of h_leave)
-                (r.bucket c).chain other other.state) vs id w_leave
+                (seat.rule.bucket c).chain other other.state) vs id w_leave
                 (λ mine. absurd (cc))
-                (λ k z far e theirs. still_answer capacities c m m_leave h h_leave (updates_of h) (updates_of h_leave) (r.bucket c)
-                (λ s _. (refl, refl, refl, refl)) marks b.roles other other.state
+                (λ k z far e theirs. still_answer m m_leave (λ s _. (refl, refl, refl, refl)) marks b.roles other other.state
                 (b.answered.readers k z other e theirs class)) j u there is;
             loaded = λ j u other value there is class read. each_set
                 (λ k z. z.section ≡ Some other → WasSaid (updates_of h_leave) other.key other.from (Some value)) vs id w_leave
                 (λ mine. absurd (cc))
-                (λ k z far e theirs. still_said capacities c m m_leave h h_leave (updates_of h) (updates_of h_leave) (r.bucket c)
-                (λ s _. (refl, refl, refl, refl)) marks b.roles other.key other.from (Some value)
+                (λ k z far e theirs. still_said marks other.key other.from (Some value)
                 (b.answered.loaded k z other value e theirs class read)) j u there is;
           };
         }
 
     -- H4 keeps the rule
     pub law_leave : MemoryRule capacities places tickets m_leave (set vs id w_leave) h_leave
-    law_leave = after_step capacities places tickets m vs h r id v w_leave at m_leave h_leave seats_leave (section.key % 64) (r.bucket (section.key % 64)) bucket_leave
+    law_leave = after_step seat w_leave seats_leave (section.key % 64) (seat.rule.bucket (section.key % 64)) bucket_leave
         (λ d small ne. record {
           words = readers_words capacities (section.key % 64) d m (m (Readers (section.key % 64)) - 1) ne;
           marks = same_marks_leave d;
@@ -384,27 +380,27 @@ module _ (capacities : List ℕ) (places tickets : ℕ) (m : Memory) (vs : List 
     -- H5: where the search goes on, its way goes on
     module _ (c : ℕ) (small : c < 64) (class : section.key % 64 ≡ c) where
       chain_load : List ℕ
-      chain_load = (r.bucket c).chain
+      chain_load = (seat.rule.bucket c).chain
 
       -- what the dictionary says now
-      says : (answer : Option ℕ) → seek m section.key (r.bucket c).chain ≡ answer → WasSaid (updates_of h) section.key section.from answer
-      says answer is = subst (WasSaid (updates_of h) section.key section.from) ((r.buckets c small).mapped.answers section.key class ∙ is)
-          (said_now (updates_of h) section.key section.from (r.sections.open_here id v section at inside).2)
+      says : (answer : Option ℕ) → seek m section.key (seat.rule.bucket c).chain ≡ answer → WasSaid (updates_of h) section.key section.from answer
+      says answer is = subst (WasSaid (updates_of h) section.key section.from) ((seat.rule.buckets c small).mapped.answers section.key class ∙ is)
+          (said_now (updates_of h) section.key section.from (seat.rule.sections.open_here id v section seat.at inside).2)
 
       -- from the head
       pub way_from_head : (link : ℕ) → link ≡ m (Head c)
-          → WillAnswer capacities c m h (updates_of h) (r.bucket c).chain section (link_stand link)
-      way_from_head link is = link_case (WillAnswer capacities c m h (updates_of h) (r.bucket c).chain section) link
+          → WillAnswer capacities c m h (updates_of h) (seat.rule.bucket c).chain section (link_stand link)
+      way_from_head link is = link_case (WillAnswer capacities c m h (updates_of h) (seat.rule.bucket c).chain section) link
           (λ e.
-          let none : (r.bucket c).chain ≡ [] = path_none (λ s. m (Next s)) (r.bucket c).chain
-          (subst (λ z. IsPath (λ s. m (Next s)) z (r.bucket c).chain) (sym is ∙ e) (r.buckets c small).chained.path) in
+          let none : (seat.rule.bucket c).chain ≡ [] = path_none (λ s. m (Next s)) (seat.rule.bucket c).chain
+          (subst (λ z. IsPath (λ s. m (Next s)) z (seat.rule.bucket c).chain) (sym is ∙ e) (seat.rule.buckets c small).chained.path) in
           says None (ap (seek m section.key) none))
           (λ ne. record {
             olds = [];
             front = [];
-            rest = (r.bucket c).chain;
+            rest = (seat.rule.bucket c).chain;
             some = ne;
-            path = subst (λ z. IsPath (λ s. m (Next s)) z (r.bucket c).chain) (sym is) (r.buckets c small).chained.path;
+            path = subst (λ z. IsPath (λ s. m (Next s)) z (seat.rule.bucket c).chain) (sym is) (seat.rule.buckets c small).chained.path;
             held = tt;
             slots = tt;
             joins = refl;
@@ -412,17 +408,17 @@ module _ (capacities : List ℕ) (places tickets : ℕ) (m : Memory) (vs : List 
           })
 
       -- past a slot with another key
-      pub way_past : (slot link : ℕ) → HasWay capacities c m h (updates_of h) (r.bucket c).chain section slot → m (Key slot) ≢ section.key
-          → link ≡ m (Next slot) → WillAnswer capacities c m h (updates_of h) (r.bucket c).chain section (link_stand link)
+      pub way_past : (slot link : ℕ) → HasWay capacities c m h (updates_of h) (seat.rule.bucket c).chain section slot → m (Key slot) ≢ section.key
+          → link ≡ m (Next slot) → WillAnswer capacities c m h (updates_of h) (seat.rule.bucket c).chain section (link_stand link)
       way_past slot link way other is = goes way.olds way.rest way.front way.path way.held way.slots way.joins way.said
         where
           past : (olds rest front : List ℕ) → (link' : ℕ) → link' ≡ m (Next slot) → IsPath (λ s. m (Next s)) (m (Next slot)) (olds ++ rest)
               → AllByRecursion (IsHeldBack h section) olds → AllByRecursion (λ s. is_slot_of capacities c s ≡ true) olds
-              → (r.bucket c).chain ≡ front ++ rest
+              → (seat.rule.bucket c).chain ≡ front ++ rest
               → WasSaid (updates_of h) section.key section.from (seek m section.key (olds ++ rest))
-              → WillAnswer capacities c m h (updates_of h) (r.bucket c).chain section (link_stand link')
+              → WillAnswer capacities c m h (updates_of h) (seat.rule.bucket c).chain section (link_stand link')
           past olds rest front link' at_next path held slots joins said =
-              link_case (WillAnswer capacities c m h (updates_of h) (r.bucket c).chain section) link'
+              link_case (WillAnswer capacities c m h (updates_of h) (seat.rule.bucket c).chain section) link'
               (λ e.
               let none : olds ++ rest ≡ [] = path_none (λ s. m (Next s)) (olds ++ rest)
               (subst (λ z. IsPath (λ s. m (Next s)) z (olds ++ rest)) (sym at_next ∙ e) path) in
@@ -440,9 +436,9 @@ module _ (capacities : List ℕ) (places tickets : ℕ) (m : Memory) (vs : List 
               })
 
           goes : (olds rest front : List ℕ) → IsPath (λ s. m (Next s)) slot (olds ++ rest) → AllByRecursion (IsHeldBack h section) olds
-              → AllByRecursion (λ s. is_slot_of capacities c s ≡ true) olds → (r.bucket c).chain ≡ front ++ rest
+              → AllByRecursion (λ s. is_slot_of capacities c s ≡ true) olds → (seat.rule.bucket c).chain ≡ front ++ rest
               → WasSaid (updates_of h) section.key section.from (seek m section.key (olds ++ rest))
-              → WillAnswer capacities c m h (updates_of h) (r.bucket c).chain section (link_stand link)
+              → WillAnswer capacities c m h (updates_of h) (seat.rule.bucket c).chain section (link_stand link)
           goes [] [] front path held slots joins said = absurd (way.some path)
           goes [] (s ∷ ss) front path held slots joins said =
               past [] ss (front ++ s ∷ []) link is (subst (λ z. IsPath (λ t. m (Next t)) (m (Next z)) ss) (sym path.0) path.2) tt tt
@@ -456,7 +452,7 @@ module _ (capacities : List ℕ) (places tickets : ℕ) (m : Memory) (vs : List 
               (seek_past m section.key t (ts ++ rest) (λ e. other (ap (λ z. m (Key z)) path.0 ∙ e))) said)
 
       -- the value at the slot found
-      pub value_said : (slot : ℕ) → HasWay capacities c m h (updates_of h) (r.bucket c).chain section slot → m (Key slot) ≡ section.key
+      pub value_said : (slot : ℕ) → HasWay capacities c m h (updates_of h) (seat.rule.bucket c).chain section slot → m (Key slot) ≡ section.key
           → WasSaid (updates_of h) section.key section.from (Some (m (Value slot)))
       value_said slot way found =
           let first = path_cons (λ s. m (Next s)) slot (way.olds ++ way.rest) way.some way.path in
@@ -466,7 +462,7 @@ module _ (capacities : List ℕ) (places tickets : ℕ) (m : Memory) (vs : List 
     -- what the search will answer after a load, and what value it has loaded
     module _ (c : ℕ) (small : c < 64) (class : section.key % 64 ≡ c) (field : Field) (may : MayLoad section field) where
       abbrev Will : SearchState → Type 0
-      Will state = WillAnswer capacities c m h (updates_of h) (r.bucket c).chain section state
+      Will state = WillAnswer capacities c m h (updates_of h) (seat.rule.bucket c).chain section state
 
       will_case : (state : SearchState) (f : Field) → MayLoad (record section { state = state }) f → Will state → Will section.state
           → Will (searched section state f (m f)).state
@@ -515,7 +511,7 @@ module _ (capacities : List ℕ) (places tickets : ℕ) (m : Memory) (vs : List 
       entered_load = ap (λ (o : Open). o.at) (searched_same section.state field (m field)).0
 
       seats_load : SeatsRule capacities places tickets m (set vs id w_load) h
-      seats_load = seats_same capacities places tickets m vs h r id v w_load at m
+      seats_load = seats_same seat w_load m
           (record {
             places = record { place = refl; places = refl; joined = refl };
             tickets = refl;
@@ -526,42 +522,42 @@ module _ (capacities : List ℕ) (places tickets : ℕ) (m : Memory) (vs : List 
                 (section_load, refl, ap open_of (sym e) ∙ sym (searched_same section.state field (m field)).0);
             commit = refl;
             kept = λ commit hold is held. (hold, held);
-            held = λ hold is. r.held.held id v hold at is;
+            held = λ hold is. seat.rule.held.held id v hold seat.at is;
             own = refl;
             heard = refl;
           }) refl refl
 
       bucket_load : section.key % 64 < 64 → BucketRule capacities (section.key % 64) m h (updates_of h) (set vs id w_load)
-          (r.bucket (section.key % 64))
+          (seat.rule.bucket (section.key % 64))
       bucket_load small =
           let c : ℕ = section.key % 64 in
-          let b = r.buckets c small in
-          let will = b.answered.readers id v section at inside refl in
+          let b = seat.rule.buckets c small in
+          let will = b.answered.readers id v section seat.at inside refl in
           record {
             chained = b.chained;
             listed = b.listed;
             roles = b.roles;
             mapped = b.mapped;
-            locked = locked_same c m m vs id v w_load at refl refl (same_hold c v.hold) (r.bucket c).hold b.locked;
+            locked = locked_same c m m vs id v w_load seat.at refl refl (same_hold c v.hold) (seat.rule.bucket c).hold b.locked;
             known = b.known;
             ages = b.ages;
             counted = record {
               readers =
-                  let sum = total_set (λ (z : View). inside_count c z.section) vs id v w_load at in
+                  let sum = total_set (λ (z : View). inside_count c z.section) vs id v w_load seat.at in
                   let before : inside_count c v.section ≡ cond (section.key % 64 == c) 1 0 = ap (inside_count c) inside in
                   let now : inside_count c w_load.section ≡ cond (section.key % 64 == c) 1 0 = ap (λ k. cond (k % 64 == c) 1 0) key_load in
                   let was = b.counted.readers in
                   omega arith;
             };
-            clean = clean_each capacities c h h vs id w_load (r.bucket c) (λ s. refl)
+            clean = clean_each capacities c h h vs id w_load (seat.rule.bucket c) (λ s. refl)
                 (λ s p new free was is class. let e : section_load ≡ new = cc in
-                let l = free p id v section was at inside refl in
+                let l = free p id v section was seat.at inside refl in
                 let f : section.entered ≡ new.entered = sym entered_load ∙ ap (λ (z : Section). z.entered) e in omega arith) b.clean;
             answered = record {
               readers = λ j u new there is class. each_set
-                  (λ k z. z.section ≡ Some new → WillAnswer capacities c m h (updates_of h) (r.bucket c).chain new new.state) vs id w_load
+                  (λ k z. z.section ≡ Some new → WillAnswer capacities c m h (updates_of h) (seat.rule.bucket c).chain new new.state) vs id w_load
                   (λ mine. let e : section_load ≡ new = cc in
-                  subst (λ (z : Section). WillAnswer capacities c m h (updates_of h) (r.bucket c).chain z z.state) e
+                  subst (λ (z : Section). WillAnswer capacities c m h (updates_of h) (seat.rule.bucket c).chain z z.state) e
                   (same_will c section_load section_load.state (searched_same section.state field (m field)).0
                   (searched_same section.state field (m field)).1 (will_case c small refl field may section.state field may will will)))
                   (λ k z far e theirs. b.answered.readers k z new e theirs class) j u there is;
@@ -569,7 +565,7 @@ module _ (capacities : List ℕ) (places tickets : ℕ) (m : Memory) (vs : List 
                   (λ k z. z.section ≡ Some new → WasSaid (updates_of h) new.key new.from (Some value)) vs id w_load
                   (λ mine. let e : section_load ≡ new = cc in
                   let said = loaded_case c small refl field may section.state field may will
-                  (λ n has. b.answered.loaded id v section n at inside refl has) value (ap (λ (z : Section). z.loaded) e ∙ read) in
+                  (λ n has. b.answered.loaded id v section n seat.at inside refl has) value (ap (λ (z : Section). z.loaded) e ∙ read) in
                   let s = searched_same section.state field (m field) in
                   subst (λ (q : ℕ × ℕ). WasSaid (updates_of h) q.0 q.1 (Some value))
                   (λ i. ((sym key_load ∙ ap (λ (z : Section). z.key) e) i, (sym s.1 ∙ ap (λ (z : Section). z.from) e) i)) said)
@@ -579,8 +575,8 @@ module _ (capacities : List ℕ) (places tickets : ℕ) (m : Memory) (vs : List 
         where
           -- what is answered is read of the key, the entry and the front alone
           same_will : (c : ℕ) (new : Section) (state : SearchState) → open_of new ≡ open_of section → new.from ≡ section.from
-              → WillAnswer capacities c m h (updates_of h) (r.bucket c).chain section state
-              → WillAnswer capacities c m h (updates_of h) (r.bucket c).chain new state
+              → WillAnswer capacities c m h (updates_of h) (seat.rule.bucket c).chain section state
+              → WillAnswer capacities c m h (updates_of h) (seat.rule.bucket c).chain new state
           same_will c new state o f will = like state will
             where
               key : new.key ≡ section.key
@@ -593,8 +589,8 @@ module _ (capacities : List ℕ) (places tickets : ℕ) (m : Memory) (vs : List 
                   → WasSaid (updates_of h) new.key new.from (answer new.key)
               said_like answer said = subst (λ (q : ℕ × ℕ). WasSaid (updates_of h) q.0 q.1 (answer q.0)) (λ i. (sym key i, sym f i)) said
 
-              way_like : (slot : ℕ) → HasWay capacities c m h (updates_of h) (r.bucket c).chain section slot
-                  → HasWay capacities c m h (updates_of h) (r.bucket c).chain new slot
+              way_like : (slot : ℕ) → HasWay capacities c m h (updates_of h) (seat.rule.bucket c).chain section slot
+                  → HasWay capacities c m h (updates_of h) (seat.rule.bucket c).chain new slot
               way_like slot way = record {
                 olds = way.olds;
                 front = way.front;
@@ -608,8 +604,8 @@ module _ (capacities : List ℕ) (places tickets : ℕ) (m : Memory) (vs : List 
                 said = said_like (λ k. seek m k (way.olds ++ way.rest)) way.said;
               }
 
-              like : (st : SearchState) → WillAnswer capacities c m h (updates_of h) (r.bucket c).chain section st
-                  → WillAnswer capacities c m h (updates_of h) (r.bucket c).chain new st
+              like : (st : SearchState) → WillAnswer capacities c m h (updates_of h) (seat.rule.bucket c).chain section st
+                  → WillAnswer capacities c m h (updates_of h) (seat.rule.bucket c).chain new st
               like Start w = tt
               like (Unread s) w = way_like s w
               like (Passed s) w = (way_like s w.0, λ e. w.1 (e ∙ key))
@@ -618,7 +614,7 @@ module _ (capacities : List ℕ) (places tickets : ℕ) (m : Memory) (vs : List 
 
       -- H5 keeps the rule
       pub law_search_load : MemoryRule capacities places tickets m (set vs id w_load) h
-      law_search_load = after_step capacities places tickets m vs h r id v w_load at m h seats_load (section.key % 64) (r.bucket (section.key % 64)) bucket_load
+      law_search_load = after_step seat w_load seats_load (section.key % 64) (seat.rule.bucket (section.key % 64)) bucket_load
           (λ d small ne. record {
             words = same_words capacities d m;
             marks = same_marks capacities d h;

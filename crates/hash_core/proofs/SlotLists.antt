@@ -229,7 +229,7 @@ pub record KeepsWays (capacities : List ℕ) (c : ℕ) (m m' : Memory) (h h' : L
   pub joins : (front rest : List ℕ) → chain ≡ front ++ rest → (front' : List ℕ) × (chain' ≡ front' ++ rest)
   pub said : (answer : Option ℕ) → WasSaid us section.key section.from answer → WasSaid us' section.key section.from answer
 
-module _ (capacities : List ℕ) (c : ℕ) (m m' : Memory) (h h' : List Mark) (us us' : List Update) (chain chain' : List ℕ) (section : Section)
+module _ {capacities : List ℕ} {c : ℕ} {m m' : Memory} {h h' : List Mark} {us us' : List Update} {chain chain' : List ℕ} {section : Section}
     (keeps : KeepsWays capacities c m m' h h' us us' chain chain' section) where
   on_way : (slot : ℕ) (way : HasWay capacities c m h us chain section slot) (t : ℕ) → 1 ≤ times t (way.olds ++ way.rest)
       → (m' (Key t) ≡ m (Key t)) × (m' (Value t) ≡ m (Value t)) × (m' (Next t) ≡ m (Next t))
@@ -306,9 +306,9 @@ class_within (x ∷ xs) (suc c) =
 -- a slot is of one class
 pub one_class : (capacities : List ℕ) (c d s : ℕ) → is_slot_of capacities c s ≡ true → is_slot_of capacities d s ≡ true → c ≡ d
 one_class capacities c d s of_c of_d =
-    let p = slot_bounds capacities c s of_c in
-    let q = slot_bounds capacities d s of_d in
-    let p0 = p.0 in let p1 = p.1 in let q0 = q.0 in let q1 = q.1 in
+    let in_c = slot_bounds capacities c s of_c in
+    let in_d = slot_bounds capacities d s of_d in
+    let low_c = in_c.0 in let high_c = in_c.1 in let low_d = in_d.0 in let high_d = in_d.1 in
     dite (ℕ_discrete c d) (λ e. e) (λ ne. dite (dec_le (suc c) d)
     (λ less. let z = class_before capacities c d less in absurd (omega arith))
     (λ not_less. let z = class_before capacities d c (omega arith) in absurd (omega arith)))
@@ -316,4 +316,5 @@ one_class capacities c d s of_c of_d =
 -- and lies in the table
 pub slot_within : (capacities : List ℕ) (c s : ℕ) → is_slot_of capacities c s ≡ true → (1 ≤ s) × (s ≤ sum capacities)
 slot_within capacities c s of =
-    let p = slot_bounds capacities c s of in let p0 = p.0 in let p1 = p.1 in let z = class_within capacities c in (omega arith, omega arith)
+    let bounds = slot_bounds capacities c s of in let low = bounds.0 in let high = bounds.1 in
+    let z = class_within capacities c in (omega arith, omega arith)

@@ -22,27 +22,26 @@ use Rattle.prcu_model.proofs.ListFacts.{all_map}
 use Rattle.list_laws.proofs.Lists.{past_snoc, each_set, all_change, all_from_times, times_here, at_most_one}
 use Rattle.hash_core.proofs.SlotLists.{path_cons, path_none, IsPath-same, seek-same, HaveDistinctKeys-same, one_class, slot_within, KeepsWays, will_still}
 use Rattle.prcu_marks.proofs.Marks.{updates_of-append, entered_at-append, last_unlinked-same, last_gone}
-use Rattle.hash_core.proofs.SeatFrames.{marks_snoc, open_at-same, gone_at-given_here, gone_at-given_other, seen_whole, apart_same, owned_same, open_same, held_still, turned_same, same_marks, seats_same, section_back, section_forth, tickets_same, seat_holds, SeatsRule, after_step}
+use Rattle.hash_core.proofs.SeatFrames.{Seated, marks_snoc, open_at-same, gone_at-given_here, gone_at-given_other, seen_whole, apart_same, owned_same, open_same, held_still, turned_same, same_marks, seats_same, section_back, section_forth, tickets_same, seat_holds, SeatsRule, after_step}
 use Rattle.hash_core.proofs.Frames.{SameMarks, SameLists, free_slot, retired_slot, taken_slot, unlinked_slot, class_words, stored_here, same_self, same_is}
 use Rattle.hash_core.proofs.Locks.{counted_still, free_still, answered_still, holder_of, class_small, works, locked_by, elsewhere_held, clean_still}
 
-module _ (capacities : List ℕ) (places tickets : ℕ) (m : Memory) (vs : List View) (h : List Mark)
-    (r : MemoryRule capacities places tickets m vs h) (id : ℕ) (v : View) (at : get_elem? vs id ≡ some v) (hold : Hold)
-    (mine : v.hold ≡ Some hold) where
+module _ {capacities : List ℕ} {places tickets : ℕ} {m : Memory} {vs : List View} {h : List Mark} {id : ℕ} {v : View}
+    (seat : Seated capacities places tickets m vs h id v) {hold : Hold} (mine : v.hold ≡ Some hold) where
   abbrev c : ℕ
   c = hold.class
 
   abbrev bucket : Bucket
-  bucket = r.bucket hold.class
+  bucket = seat.rule.bucket hold.class
 
   small : hold.class < 64
-  small = class_small capacities places tickets m vs h r id v at hold mine
+  small = class_small seat mine
 
-  pub rule : BucketRule capacities hold.class m h (updates_of h) vs (r.bucket hold.class)
-  rule = r.buckets hold.class small
+  pub rule : BucketRule capacities hold.class m h (updates_of h) vs (seat.rule.bucket hold.class)
+  rule = seat.rule.buckets hold.class small
 
-  pub had : (r.bucket hold.class).hold ≡ Some hold
-  had = holder_of capacities places tickets m vs h r id v at hold.class small hold mine refl
+  pub had : (seat.rule.bucket hold.class).hold ≡ Some hold
+  had = holder_of seat hold.class small hold mine refl
 
   -- what the holder knows is so
   pub is_known : (field : Field) (number : ℕ) → known_in hold.known field ≡ Some number
@@ -67,53 +66,53 @@ module _ (capacities : List ℕ) (places tickets : ℕ) (m : Memory) (vs : List 
       known_case f n false is e = let k = is_known f n e in (k.0, ap (λ t. cond t number (m f)) is ∙ k.1)
 
   -- the slot roles, by what the holder has in hand
-  pub roles_by : (x : ℕ) → times x (r.bucket hold.class).chain + times x (r.bucket hold.class).free + times x (r.bucket hold.class).retired
-      + times x (r.bucket hold.class).moved + times x (option_to_list hold.taken) + times x (option_to_list hold.unlinked)
+  pub roles_by : (x : ℕ) → times x (seat.rule.bucket hold.class).chain + times x (seat.rule.bucket hold.class).free + times x (seat.rule.bucket hold.class).retired
+      + times x (seat.rule.bucket hold.class).moved + times x (option_to_list hold.taken) + times x (option_to_list hold.unlinked)
       ≡ cond (is_slot_of capacities hold.class x) 1 0
-  roles_by x = subst (λ z. times x (r.bucket hold.class).chain + times x (r.bucket hold.class).free + times x (r.bucket hold.class).retired
-      + times x (r.bucket hold.class).moved + times x (option_to_list (taken_of z)) + times x (option_to_list (unlinked_of z))
+  roles_by x = subst (λ z. times x (seat.rule.bucket hold.class).chain + times x (seat.rule.bucket hold.class).free + times x (seat.rule.bucket hold.class).retired
+      + times x (seat.rule.bucket hold.class).moved + times x (option_to_list (taken_of z)) + times x (option_to_list (unlinked_of z))
       ≡ cond (is_slot_of capacities hold.class x) 1 0) had (rule.roles.once x)
 
-  pub moved_by : IsPath (λ s. m (Chain s)) (link_of hold.moved) (r.bucket hold.class).moved
-  moved_by = subst (λ z. IsPath (λ s. m (Chain s)) (link_of (moved_of z)) (r.bucket hold.class).moved) had rule.listed.moved
+  pub moved_by : IsPath (λ s. m (Chain s)) (link_of hold.moved) (seat.rule.bucket hold.class).moved
+  moved_by = subst (λ z. IsPath (λ s. m (Chain s)) (link_of (moved_of z)) (seat.rule.bucket hold.class).moved) had rule.listed.moved
 
   -- a step that leaves no mark, and only changes what the holder knows and has in hand
   seats_held : (new : Hold) → new.class ≡ hold.class → (m' : Memory) → m' Front ≡ m Front
       → SeatsRule capacities places tickets m' (set vs id (record v { hold = Some new })) h
   seats_held new class m' front =
       let w : View = record v { hold = Some new } in
-      seats_same capacities places tickets m vs h r id v w at m'
+      seats_same seat w m'
       (seat_holds v (Some new) v.trail (λ commit held is had_it. (new, refl)) (λ other is. let e : new ≡ other = cc in (
         subst (λ (z : Hold). z.class < 64) e (subst (λ z. z < 64) (sym class) small),
-        works capacities places tickets m vs h r id v at hold mine,
+        works seat mine,
       ))) refl front
 
   -- readers' answers, where the slots on their ways stay
   answered_by : (w : View) → w.section ≡ v.section → (m' : Memory) (chain' : List ℕ)
       → ((section : Section) → KeepsWays capacities hold.class m m' h h (updates_of h) (updates_of h)
-      (r.bucket hold.class).chain chain' section) → AreAnswered capacities hold.class m' h (updates_of h) (set vs id w) chain'
+      (seat.rule.bucket hold.class).chain chain' section) → AreAnswered capacities hold.class m' h (updates_of h) (set vs id w) chain'
   answered_by w same m' chain' keeps =
       let us : List Update = updates_of h in
-      let chain : List ℕ = (r.bucket hold.class).chain in
+      let chain : List ℕ = (seat.rule.bucket hold.class).chain in
       let will : (section : Section) → WillAnswer capacities hold.class m h us chain section section.state
       → WillAnswer capacities hold.class m' h us chain' section section.state =
-      λ section. will_still capacities hold.class m m' h h us us chain chain' section (keeps section) section.state in
+      λ section. will_still (keeps section) section.state in
       record {
         readers = λ j u section there is class. each_set
             (λ k z. z.section ≡ Some section → WillAnswer capacities hold.class m' h us chain' section section.state) vs id w
-            (λ yes. will section (rule.answered.readers id v section at (sym same ∙ yes) class))
+            (λ yes. will section (rule.answered.readers id v section seat.at (sym same ∙ yes) class))
             (λ k z far e theirs. will section (rule.answered.readers k z section e theirs class)) j u there is;
         loaded = λ j u section value there is class read. each_set
             (λ k z. z.section ≡ Some section → WasSaid us section.key section.from (Some value)) vs id w
-            (λ yes. rule.answered.loaded id v section value at (sym same ∙ yes) class read)
+            (λ yes. rule.answered.loaded id v section value seat.at (sym same ∙ yes) class read)
             (λ k z far e theirs. rule.answered.loaded k z section value e theirs class read) j u there is;
       }
 
   -- slots that are to be free stay so, where it says nothing new of readers
   clean_held : (new : Hold) → new.clear ≡ hold.clear → AreClean capacities hold.class h (set vs id (record v { hold = Some new }))
-      (record (r.bucket hold.class) { hold = Some new })
-  clean_held new same = clean_still capacities places tickets m vs h r id v at hold.class (record v { hold = Some new }) refl
-      (r.bucket hold.class) (Some new) (λ other is yes s of. let e : new ≡ other = cc in
+      (record (seat.rule.bucket hold.class) { hold = Some new })
+  clean_held new same = clean_still seat hold.class (record v { hold = Some new }) refl
+      (seat.rule.bucket hold.class) (Some new) (λ other is yes s of. let e : new ≡ other = cc in
       rule.clean.clear hold had (sym same ∙ ap (λ (z : Hold). z.clear) e ∙ yes) s of) rule.clean
 
   -- such a step that stores in a field of the class, by the rule of the bucket after it
@@ -124,11 +123,11 @@ module _ (capacities : List ℕ) (places tickets : ℕ) (m : Memory) (vs : List 
   held_law new class field number of front b bucket =
       let w : View = record v { hold = Some new } in
       let m' : Memory = stored m field number in
-      after_step capacities places tickets m vs h r id v w at m' h (seats_held new class m' front) hold.class b (λ _. bucket)
+      after_step seat w (seats_held new class m' front) hold.class b (λ _. bucket)
       (λ d _ ne. record {
         words = class_words capacities hold.class d m number ne field of;
         marks = same_marks capacities d h;
-        view = elsewhere_held capacities places tickets m vs h r id v at d hold new mine class ne w refl refl refl;
+        view = elsewhere_held seat d hold new mine class ne w refl refl refl;
       })
 
   -- H10, refill
@@ -139,12 +138,12 @@ module _ (capacities : List ℕ) (places tickets : ℕ) (m : Memory) (vs : List 
     abbrev m_refill : Memory
     m_refill = stored m (Free hold.class) slot
 
-    no_free : (r.bucket hold.class).free ≡ []
-    no_free = path_none (λ s. m (Chain s)) (r.bucket hold.class).free
-        (subst (λ z. IsPath (λ s. m (Chain s)) z (r.bucket hold.class).free) (is_known (Free hold.class) 0 needs.empty).1 rule.listed.free)
+    no_free : (seat.rule.bucket hold.class).free ≡ []
+    no_free = path_none (λ s. m (Chain s)) (seat.rule.bucket hold.class).free
+        (subst (λ z. IsPath (λ s. m (Chain s)) z (seat.rule.bucket hold.class).free) (is_known (Free hold.class) 0 needs.empty).1 rule.listed.free)
 
     abbrev b_refill : Bucket
-    b_refill = record (r.bucket hold.class) { free = (r.bucket hold.class).moved; moved = []; hold = Some new_refill }
+    b_refill = record (seat.rule.bucket hold.class) { free = (seat.rule.bucket hold.class).moved; moved = []; hold = Some new_refill }
 
     pub law_refill : MemoryRule capacities places tickets m_refill (set vs id (after_refill v hold slot)) h
     law_refill =
@@ -152,14 +151,14 @@ module _ (capacities : List ℕ) (places tickets : ℕ) (m : Memory) (vs : List 
         held_law new_refill refl (Free hold.class) slot refl refl b_refill (record {
           chained = record { path = rule.chained.path; classes = rule.chained.classes; distinct = rule.chained.distinct };
           listed = record {
-            free = subst (λ z. IsPath (λ s. m (Chain s)) z (r.bucket hold.class).moved)
+            free = subst (λ z. IsPath (λ s. m (Chain s)) z (seat.rule.bucket hold.class).moved)
                 (ap link_of needs.moved ∙ sym (stored_here m (Free hold.class) slot (same_self (Free hold.class)))) moved_by;
             retired = rule.listed.retired;
             moved = refl;
           };
           roles = record { once = λ x. let a = roles_by x in let n = ap (times x) no_free in omega arith };
           mapped = record { answers = rule.mapped.answers };
-          locked = locked_by capacities places tickets m vs h r id v at hold new_refill mine refl m_refill refl w refl refl;
+          locked = locked_by seat hold new_refill mine refl m_refill refl w refl refl;
           known = known_after (Free hold.class) slot refl new_refill refl;
           ages = record {
             chain = rule.ages.chain;
@@ -168,9 +167,9 @@ module _ (capacities : List ℕ) (places tickets : ℕ) (m : Memory) (vs : List 
             moved = tt;
             unlinked = λ s is. rule.ages.unlinked s (ap unlinked_of had ∙ is);
           };
-          counted = record { readers = (counted_still capacities hold.class m h vs id v w at refl rule.counted).readers };
+          counted = record { readers = (counted_still seat hold.class w refl rule.counted).readers };
           clean = (let still = clean_held new_refill refl in record { free = still.moved; moved = tt; clear = still.clear });
-          answered = answered_still capacities hold.class m h vs id v w at refl m_refill (r.bucket hold.class)
+          answered = answered_still seat hold.class w refl m_refill (seat.rule.bucket hold.class)
               (λ s _. (refl, refl, refl, refl)) rule.roles rule.answered;
         })
 
@@ -182,12 +181,12 @@ module _ (capacities : List ℕ) (places tickets : ℕ) (m : Memory) (vs : List 
     abbrev m_move : Memory
     m_move = stored m (Retired hold.class) 0
 
-    no_moved : (r.bucket hold.class).moved ≡ []
-    no_moved = path_none (λ s. m (Chain s)) (r.bucket hold.class).moved
-        (subst (λ z. IsPath (λ s. m (Chain s)) (link_of z) (r.bucket hold.class).moved) needs.empty moved_by)
+    no_moved : (seat.rule.bucket hold.class).moved ≡ []
+    no_moved = path_none (λ s. m (Chain s)) (seat.rule.bucket hold.class).moved
+        (subst (λ z. IsPath (λ s. m (Chain s)) (link_of z) (seat.rule.bucket hold.class).moved) needs.empty moved_by)
 
     abbrev b_move : Bucket
-    b_move = record (r.bucket hold.class) { retired = []; moved = (r.bucket hold.class).retired; hold = Some new_move }
+    b_move = record (seat.rule.bucket hold.class) { retired = []; moved = (seat.rule.bucket hold.class).retired; hold = Some new_move }
 
     pub law_move : MemoryRule capacities places tickets m_move (set vs id (after_move v hold slot)) h
     law_move =
@@ -197,12 +196,12 @@ module _ (capacities : List ℕ) (places tickets : ℕ) (m : Memory) (vs : List 
           listed = record {
             free = rule.listed.free;
             retired = stored_here m (Retired hold.class) 0 (same_self (Retired hold.class));
-            moved = subst (λ z. IsPath (λ s. m (Chain s)) z (r.bucket hold.class).retired)
+            moved = subst (λ z. IsPath (λ s. m (Chain s)) z (seat.rule.bucket hold.class).retired)
                 (is_known (Retired hold.class) slot needs.first).1 rule.listed.retired;
           };
           roles = record { once = λ x. let a = roles_by x in let n = ap (times x) no_moved in omega arith };
           mapped = record { answers = rule.mapped.answers };
-          locked = locked_by capacities places tickets m vs h r id v at hold new_move mine refl m_move refl w refl refl;
+          locked = locked_by seat hold new_move mine refl m_move refl w refl refl;
           known = known_after (Retired hold.class) 0 refl new_move refl;
           ages = record {
             chain = rule.ages.chain;
@@ -211,18 +210,18 @@ module _ (capacities : List ℕ) (places tickets : ℕ) (m : Memory) (vs : List 
             moved = rule.ages.retired;
             unlinked = λ s is. rule.ages.unlinked s (ap unlinked_of had ∙ is);
           };
-          counted = record { readers = (counted_still capacities hold.class m h vs id v w at refl rule.counted).readers };
-          clean = (let still = clean_still capacities places tickets m vs h r id v at hold.class w refl (r.bucket hold.class)
+          counted = record { readers = (counted_still seat hold.class w refl rule.counted).readers };
+          clean = (let still = clean_still seat hold.class w refl (seat.rule.bucket hold.class)
               (Some new_move) (λ other is yes s of. rule.clean.clear hold had needs.clear s of) rule.clean in
               record {
                 free = still.free;
-                moved = all_from_times (IsFreeOfReaders hold.class h (set vs id w)) (r.bucket hold.class).retired
-                    (λ s there. free_still capacities hold.class m h vs id v w at refl s
+                moved = all_from_times (IsFreeOfReaders hold.class h (set vs id w)) (seat.rule.bucket hold.class).retired
+                    (λ s there. free_still seat hold.class w refl s
                     (rule.clean.clear hold had needs.clear s
-                    (retired_slot capacities hold.class (r.bucket hold.class) rule.roles s there)));
+                    (retired_slot rule.roles s there)));
                 clear = still.clear;
               });
-          answered = answered_still capacities hold.class m h vs id v w at refl m_move (r.bucket hold.class)
+          answered = answered_still seat hold.class w refl m_move (seat.rule.bucket hold.class)
               (λ s _. (refl, refl, refl, refl)) rule.roles rule.answered;
         })
 
@@ -235,10 +234,10 @@ module _ (capacities : List ℕ) (places tickets : ℕ) (m : Memory) (vs : List 
     m_push = stored m (Retired hold.class) slot
 
     slot_of_push : is_slot_of capacities hold.class slot ≡ true
-    slot_of_push = unlinked_slot capacities hold.class (r.bucket hold.class) rule.roles slot (ap unlinked_of had ∙ needs.unlinked)
+    slot_of_push = unlinked_slot rule.roles slot (ap unlinked_of had ∙ needs.unlinked)
 
     abbrev b_push : Bucket
-    b_push = record (r.bucket hold.class) { retired = slot ∷ (r.bucket hold.class).retired; hold = Some new_push }
+    b_push = record (seat.rule.bucket hold.class) { retired = slot ∷ (seat.rule.bucket hold.class).retired; hold = Some new_push }
 
     pub law_push : MemoryRule capacities places tickets m_push (set vs id (after_push v hold slot)) h
     law_push =
@@ -250,7 +249,7 @@ module _ (capacities : List ℕ) (places tickets : ℕ) (m : Memory) (vs : List 
             retired = (
               stored_here m (Retired hold.class) slot (same_self (Retired hold.class)),
               (slot_within capacities hold.class slot slot_of_push).0,
-              subst (λ z. IsPath (λ s. m (Chain s)) z (r.bucket hold.class).retired)
+              subst (λ z. IsPath (λ s. m (Chain s)) z (seat.rule.bucket hold.class).retired)
                   ((is_known (Retired hold.class) first needs.first_is).1
                   ∙ sym (is_known (Chain slot) first needs.chained).1) rule.listed.retired,
             );
@@ -258,7 +257,7 @@ module _ (capacities : List ℕ) (places tickets : ℕ) (m : Memory) (vs : List 
           };
           roles = record { once = λ x. let a = roles_by x in let n = ap (λ o. times x (option_to_list o)) needs.unlinked in omega arith };
           mapped = record { answers = rule.mapped.answers };
-          locked = locked_by capacities places tickets m vs h r id v at hold new_push mine refl m_push refl w refl refl;
+          locked = locked_by seat hold new_push mine refl m_push refl w refl refl;
           known = known_after (Retired hold.class) slot refl new_push refl;
           ages = record {
             chain = rule.ages.chain;
@@ -267,9 +266,9 @@ module _ (capacities : List ℕ) (places tickets : ℕ) (m : Memory) (vs : List 
             moved = rule.ages.moved;
             unlinked = λ s is. absurd (cc);
           };
-          counted = record { readers = (counted_still capacities hold.class m h vs id v w at refl rule.counted).readers };
+          counted = record { readers = (counted_still seat hold.class w refl rule.counted).readers };
           clean = (let still = clean_held new_push refl in record { free = still.free; moved = still.moved; clear = still.clear });
-          answered = answered_still capacities hold.class m h vs id v w at refl m_push (r.bucket hold.class)
+          answered = answered_still seat hold.class w refl m_push (seat.rule.bucket hold.class)
               (λ s _. (refl, refl, refl, refl)) rule.roles rule.answered;
         })
 
@@ -282,7 +281,7 @@ module _ (capacities : List ℕ) (places tickets : ℕ) (m : Memory) (vs : List 
     m_chain = stored m (Chain slot) number
 
     slot_of_chain : is_slot_of capacities hold.class slot ≡ true
-    slot_of_chain = unlinked_slot capacities hold.class (r.bucket hold.class) rule.roles slot (ap unlinked_of had ∙ needs.1)
+    slot_of_chain = unlinked_slot rule.roles slot (ap unlinked_of had ∙ needs.1)
 
     -- the slot in hand is on no list
     chain_else : (xs : List ℕ) → ((x : ℕ) → times x xs + times x (option_to_list hold.unlinked) ≤ 1) → (s : ℕ) → 1 ≤ times s xs
@@ -296,26 +295,26 @@ module _ (capacities : List ℕ) (places tickets : ℕ) (m : Memory) (vs : List 
     pub law_chain : MemoryRule capacities places tickets m_chain (set vs id (after_chain v hold slot number)) h
     law_chain =
         let w : View = after_chain v hold slot number in
-        held_law new_chain refl (Chain slot) number slot_of_chain refl (record (r.bucket hold.class) { hold = Some new_chain }) (record {
+        held_law new_chain refl (Chain slot) number slot_of_chain refl (record (seat.rule.bucket hold.class) { hold = Some new_chain }) (record {
           chained = record { path = rule.chained.path; classes = rule.chained.classes; distinct = rule.chained.distinct };
           listed = record {
-            free = IsPath-same (λ s. m (Chain s)) (λ s. m_chain (Chain s)) (m (Free hold.class)) (r.bucket hold.class).free
-                (chain_else (r.bucket hold.class).free (λ x. let a = roles_by x in
+            free = IsPath-same (λ s. m (Chain s)) (λ s. m_chain (Chain s)) (m (Free hold.class)) (seat.rule.bucket hold.class).free
+                (chain_else (seat.rule.bucket hold.class).free (λ x. let a = roles_by x in
                 let l = at_most_one (is_slot_of capacities hold.class x) _ a in omega arith)) rule.listed.free;
-            retired = IsPath-same (λ s. m (Chain s)) (λ s. m_chain (Chain s)) (m (Retired hold.class)) (r.bucket hold.class).retired
-                (chain_else (r.bucket hold.class).retired
+            retired = IsPath-same (λ s. m (Chain s)) (λ s. m_chain (Chain s)) (m (Retired hold.class)) (seat.rule.bucket hold.class).retired
+                (chain_else (seat.rule.bucket hold.class).retired
                 (λ x. let a = roles_by x in let l = at_most_one (is_slot_of capacities hold.class x) _ a in
                 omega arith)) rule.listed.retired;
-            moved = IsPath-same (λ s. m (Chain s)) (λ s. m_chain (Chain s)) (link_of hold.moved) (r.bucket hold.class).moved
-                (chain_else (r.bucket hold.class).moved (λ x. let a = roles_by x in
+            moved = IsPath-same (λ s. m (Chain s)) (λ s. m_chain (Chain s)) (link_of hold.moved) (seat.rule.bucket hold.class).moved
+                (chain_else (seat.rule.bucket hold.class).moved (λ x. let a = roles_by x in
                 let l = at_most_one (is_slot_of capacities hold.class x) _ a in omega arith)) moved_by;
           };
           roles = record { once = roles_by };
           mapped = record {
             answers = λ key class. rule.mapped.answers key class
-                ∙ sym (seek-same m m_chain key (r.bucket hold.class).chain (λ s _. (refl, refl)));
+                ∙ sym (seek-same m m_chain key (seat.rule.bucket hold.class).chain (λ s _. (refl, refl)));
           };
-          locked = locked_by capacities places tickets m vs h r id v at hold new_chain mine refl m_chain refl w refl refl;
+          locked = locked_by seat hold new_chain mine refl m_chain refl w refl refl;
           known = known_after (Chain slot) number slot_of_chain new_chain refl;
           ages = record {
             chain = rule.ages.chain;
@@ -324,9 +323,9 @@ module _ (capacities : List ℕ) (places tickets : ℕ) (m : Memory) (vs : List 
             moved = rule.ages.moved;
             unlinked = λ s is. rule.ages.unlinked s (ap unlinked_of had ∙ is);
           };
-          counted = record { readers = (counted_still capacities hold.class m h vs id v w at refl rule.counted).readers };
+          counted = record { readers = (counted_still seat hold.class w refl rule.counted).readers };
           clean = clean_held new_chain refl;
-          answered = answered_by w refl m_chain (r.bucket hold.class).chain (λ section. record {
+          answered = answered_by w refl m_chain (seat.rule.bucket hold.class).chain (λ section. record {
             linked = λ t _. (refl, refl, refl);
             old = λ t _ _. (refl, refl, refl);
             held = λ t _ p. p;
@@ -344,7 +343,7 @@ module _ (capacities : List ℕ) (places tickets : ℕ) (m : Memory) (vs : List 
     m_write = stored m field number
 
     slot_of_write : is_slot_of capacities hold.class slot ≡ true
-    slot_of_write = taken_slot capacities hold.class (r.bucket hold.class) rule.roles slot (ap taken_of had ∙ needs.taken)
+    slot_of_write = taken_slot rule.roles slot (ap taken_of had ∙ needs.taken)
 
     of_class_write : (f : Field) → IsFieldOf slot f → IsOfClass capacities hold.class f
     of_class_write (Key s) is = subst (λ z. is_slot_of capacities hold.class z ≡ true) (sym is) slot_of_write
@@ -373,22 +372,22 @@ module _ (capacities : List ℕ) (places tickets : ℕ) (m : Memory) (vs : List 
     words_write _ is d = absurd is
 
     -- the slot taken isn't linked
-    linked_write : (s : ℕ) → 1 ≤ times s (r.bucket hold.class).chain → s ≢ slot
+    linked_write : (s : ℕ) → 1 ≤ times s (seat.rule.bucket hold.class).chain → s ≢ slot
     linked_write s there e =
         let a = roles_by slot in
         let l = at_most_one (is_slot_of capacities hold.class slot) _ a in
         let b : times slot (option_to_list hold.taken) ≡ 1 =
         ap (λ o. times slot (option_to_list o)) needs.taken ∙ (let t = times_here slot [] in omega arith) in
-        let d : 1 ≤ times slot (r.bucket hold.class).chain = subst (λ z. 1 ≤ times z (r.bucket hold.class).chain) e there in omega arith
+        let d : 1 ≤ times slot (seat.rule.bucket hold.class).chain = subst (λ z. 1 ≤ times z (seat.rule.bucket hold.class).chain) e there in omega arith
 
     pub law_write : MemoryRule capacities places tickets m_write (set vs id (after_write v hold field number)) h
     law_write =
         let w : View = after_write v hold field number in
         let f = needs.field_is in
         let c : ℕ = hold.class in
-        let chain : List ℕ = (r.bucket hold.class).chain in
+        let chain : List ℕ = (seat.rule.bucket hold.class).chain in
         let (words, head) = words_write field f c in
-        held_law new_write refl field number (of_class_write field f) words.front (record (r.bucket hold.class) { hold = Some new_write }) (record {
+        held_law new_write refl field number (of_class_write field f) words.front (record (seat.rule.bucket hold.class) { hold = Some new_write }) (record {
           chained = record {
             path = subst (λ z. IsPath (λ s. m_write (Next s)) z chain) (sym head)
                 (IsPath-same (λ s. m (Next s)) (λ s. m_write (Next s)) (m (Head c)) chain
@@ -399,13 +398,13 @@ module _ (capacities : List ℕ) (places tickets : ℕ) (m : Memory) (vs : List 
                 (λ s there. let q = else_write field f s (linked_write s there) in (q.0, q.1)) rule.chained.distinct;
           };
           listed = record {
-            free = subst (λ z. IsPath (λ s. m_write (Chain s)) z (r.bucket c).free) (sym words.free)
-                (IsPath-same (λ s. m (Chain s)) (λ s. m_write (Chain s)) (m (Free c)) (r.bucket c).free
+            free = subst (λ z. IsPath (λ s. m_write (Chain s)) z (seat.rule.bucket c).free) (sym words.free)
+                (IsPath-same (λ s. m (Chain s)) (λ s. m_write (Chain s)) (m (Free c)) (seat.rule.bucket c).free
                 (λ s _. chains_write field f s) rule.listed.free);
-            retired = subst (λ z. IsPath (λ s. m_write (Chain s)) z (r.bucket c).retired) (sym words.retired)
-                (IsPath-same (λ s. m (Chain s)) (λ s. m_write (Chain s)) (m (Retired c)) (r.bucket c).retired
+            retired = subst (λ z. IsPath (λ s. m_write (Chain s)) z (seat.rule.bucket c).retired) (sym words.retired)
+                (IsPath-same (λ s. m (Chain s)) (λ s. m_write (Chain s)) (m (Retired c)) (seat.rule.bucket c).retired
                 (λ s _. chains_write field f s) rule.listed.retired);
-            moved = IsPath-same (λ s. m (Chain s)) (λ s. m_write (Chain s)) (link_of hold.moved) (r.bucket c).moved
+            moved = IsPath-same (λ s. m (Chain s)) (λ s. m_write (Chain s)) (link_of hold.moved) (seat.rule.bucket c).moved
                 (λ s _. chains_write field f s) moved_by;
           };
           roles = record { once = roles_by };
@@ -413,7 +412,7 @@ module _ (capacities : List ℕ) (places tickets : ℕ) (m : Memory) (vs : List 
             answers = λ key class. rule.mapped.answers key class
                 ∙ sym (seek-same m m_write key chain (λ s there. let q = else_write field f s (linked_write s there) in (q.0, q.1)));
           };
-          locked = locked_by capacities places tickets m vs h r id v at hold new_write mine refl m_write words.lock w refl refl;
+          locked = locked_by seat hold new_write mine refl m_write words.lock w refl refl;
           known = known_after field number (of_class_write field f) new_write refl;
           ages = record {
             chain = rule.ages.chain;
@@ -422,7 +421,7 @@ module _ (capacities : List ℕ) (places tickets : ℕ) (m : Memory) (vs : List 
             moved = rule.ages.moved;
             unlinked = λ s is. rule.ages.unlinked s (ap unlinked_of had ∙ is);
           };
-          counted = record { readers = words.readers ∙ (counted_still capacities c m h vs id v w at refl rule.counted).readers };
+          counted = record { readers = words.readers ∙ (counted_still seat c w refl rule.counted).readers };
           clean = clean_held new_write refl;
           answered = answered_by w refl m_write chain (λ section. record {
             linked = λ t there. else_write field f t (linked_write t there);
@@ -453,16 +452,16 @@ module _ (capacities : List ℕ) (places tickets : ℕ) (m : Memory) (vs : List 
     same_updates_take : updates_of h_take ≡ updates_of h
     same_updates_take = updates_of-append h (Given slot ∷ []) ∙ append-nil (updates_of h)
 
-    first_free : (ss : List ℕ) × ((r.bucket hold.class).free ≡ slot ∷ ss) × IsPath (λ s. m (Chain s)) (m (Chain slot)) ss
-    first_free = path_cons (λ s. m (Chain s)) slot (r.bucket hold.class).free needs.some
-        (subst (λ z. IsPath (λ s. m (Chain s)) z (r.bucket hold.class).free)
+    first_free : (ss : List ℕ) × ((seat.rule.bucket hold.class).free ≡ slot ∷ ss) × IsPath (λ s. m (Chain s)) (m (Chain slot)) ss
+    first_free = path_cons (λ s. m (Chain s)) slot (seat.rule.bucket hold.class).free needs.some
+        (subst (λ z. IsPath (λ s. m (Chain s)) z (seat.rule.bucket hold.class).free)
         (is_known (Free hold.class) slot needs.first).1 rule.listed.free)
 
     abbrev others_free : List ℕ
     others_free = first_free.0
 
     slot_of_take : is_slot_of capacities hold.class slot ≡ true
-    slot_of_take = free_slot capacities hold.class (r.bucket hold.class) rule.roles slot
+    slot_of_take = free_slot rule.roles slot
         (let t = times_here slot first_free.0 in let e = ap (times slot) first_free.1 in omega arith)
 
     -- no section of the class holds the slot back
@@ -479,7 +478,7 @@ module _ (capacities : List ℕ) (places tickets : ℕ) (m : Memory) (vs : List 
     last_take s = last_unlinked-same h (Given slot) tt s
 
     -- the slot is in no other list
-    not_take : (xs : List ℕ) → ((x : ℕ) → times x xs + times x (r.bucket hold.class).free ≤ 1) → (s : ℕ) → 1 ≤ times s xs → s ≢ slot
+    not_take : (xs : List ℕ) → ((x : ℕ) → times x xs + times x (seat.rule.bucket hold.class).free ≤ 1) → (s : ℕ) → 1 ≤ times s xs → s ≢ slot
     not_take xs once s there e =
         let a = once slot in
         let t = times_here slot first_free.0 in
@@ -488,7 +487,7 @@ module _ (capacities : List ℕ) (places tickets : ℕ) (m : Memory) (vs : List 
 
     still_free_take : (s : ℕ) → IsFreeOfReaders hold.class h vs s → IsFreeOfReaders hold.class h_take (set vs id w_take) s
     still_free_take s free p j u section last there is class =
-        free_still capacities hold.class m h vs id v w_take at refl s free p j u section (sym (last_take s) ∙ last) there is class
+        free_still seat hold.class w_take refl s free p j u section (sym (last_take s) ∙ last) there is class
 
     reuse_take : ReuseByClass capacities h_take
     reuse_take j s d i p o given of gone there class =
@@ -496,13 +495,13 @@ module _ (capacities : List ℕ) (places tickets : ℕ) (m : Memory) (vs : List 
         h (Given slot) (Given s)
         (λ is last now.
         let e : slot ≡ s = (let z = is in cc) in
-        let q = r.sections.all p o now in
+        let q = seat.rule.sections.all p o now in
         let c_is : hold.class ≡ d = one_class capacities hold.class d slot slot_of_take
         (subst (λ z. is_slot_of capacities d z ≡ true) (sym e) of) in
         let key : q.has.1.key % 64 ≡ hold.class = ap (λ (z : Open). z.key % 64) (sym q.has.3) ∙ class ∙ sym c_is in
         let l = slot_clean i q.id q.view q.has.1 (ap (λ z. last_unlinked z h) e ∙ last) q.there q.has.2 key in
         let at_is : o.at ≡ q.has.1.entered = ap (λ (z : Open). z.at) q.has.3 in omega arith)
-        (λ n old _ last now. r.reuse n s d i p o old of last now class) j given refl gone there
+        (λ n old _ last now. seat.rule.reuse n s d i p o old of last now class) j given refl gone there
 
     same_marks_take : (d : ℕ) → d ≢ hold.class → SameMarks capacities d h h_take (updates_of h) (updates_of h_take)
     same_marks_take d ne = record {
@@ -516,31 +515,31 @@ module _ (capacities : List ℕ) (places tickets : ℕ) (m : Memory) (vs : List 
 
     seats_take : SeatsRule capacities places tickets m_take (set vs id w_take) h_take
     seats_take = record {
-      seen = seen_whole vs id v w_take at h h_take refl refl (Given slot ∷ [], refl) r.seen;
-      apart = apart_same vs id v w_take at places (record { place = refl; places = refl; joined = refl }) r.apart;
-      owned = owned_same vs id v w_take at places h (Given slot ∷ []) (record { place = refl; places = refl; joined = refl }) refl
-          (inr refl) (λ p. refl) r.owned;
-      sections = open_same vs id v w_take at h h_take (updates_of h) (updates_of h_take) refl refl refl (section_back v w_take refl)
+      seen = seen_whole seat w_take h_take refl refl (Given slot ∷ [], refl);
+      apart = apart_same seat w_take (record { place = refl; places = refl; joined = refl });
+      owned = owned_same seat w_take (Given slot ∷ []) (record { place = refl; places = refl; joined = refl }) refl
+          (inr refl) (λ p. refl);
+      sections = open_same seat w_take h_take refl refl refl (section_back v w_take refl)
           (section_forth v w_take refl) (open_at-same h (Given slot) tt)
           (λ p. let a = entered_at-append p h (Given slot ∷ []) in omega arith)
-          (let n = ap length same_updates_take in omega arith) r.sections;
-      held = held_still vs id v w_take at (λ other is. let e : new_take ≡ other = cc in
-          (subst (λ (z : Hold). z.class < 64) e small, works capacities places tickets m vs h r id v at hold mine)) r.held;
+          (let n = ap length same_updates_take in omega arith);
+      held = held_still seat w_take (λ other is. let e : new_take ≡ other = cc in
+          (subst (λ (z : Hold). z.class < 64) e small, works seat mine));
       turned = subst (IsTurned m_take (set vs id w_take)) (sym (ap length same_updates_take))
-          (turned_same vs id v w_take at m m_take (length (updates_of h)) refl refl (λ commit held is had_it. (new_take, refl)) r.turned);
+          (turned_same seat w_take m_take refl refl (λ commit held is had_it. (new_take, refl)));
       tickets_are = ap (λ us. length us + total (λ (z : View). z.tickets) (set vs id w_take)) same_updates_take
-          ∙ tickets_same capacities places tickets m vs h r id v w_take at m_take refl;
-      legal = subst IsLegal (sym same_updates_take) r.legal;
-      marks = marks_snoc places h (Given slot) tt r.marks;
+          ∙ tickets_same seat w_take refl;
+      legal = subst IsLegal (sym same_updates_take) seat.rule.legal;
+      marks = marks_snoc places h (Given slot) tt seat.rule.marks;
       reuse = reuse_take;
     }
 
     abbrev b_take : Bucket
-    b_take = record (r.bucket hold.class) { free = first_free.0; hold = Some new_take }
+    b_take = record (seat.rule.bucket hold.class) { free = first_free.0; hold = Some new_take }
 
     pub law_take : MemoryRule capacities places tickets m_take (set vs id (after_take v hold slot next h)) h_take
     law_take =
-        let chain : List ℕ = (r.bucket hold.class).chain in
+        let chain : List ℕ = (seat.rule.bucket hold.class).chain in
         let us : List Update = updates_of h in
         let us' : List Update = updates_of h_take in
         let keeps : (section : Section) (j : ℕ) (u : View) → get_elem? vs j ≡ some u → u.section ≡ Some section
@@ -558,7 +557,7 @@ module _ (capacities : List ℕ) (places tickets : ℕ) (m : Memory) (vs : List 
           joins = λ front rest e. (front, e);
           said = λ answer s. subst (λ z. WasSaid z section.key section.from answer) (sym same_updates_take) s;
         } in
-        after_step capacities places tickets m vs h r id v w_take at m_take h_take seats_take hold.class b_take
+        after_step seat w_take seats_take hold.class b_take
         (λ _. record {
           chained = record { path = rule.chained.path; classes = rule.chained.classes; distinct = rule.chained.distinct };
           listed = record {
@@ -573,7 +572,7 @@ module _ (capacities : List ℕ) (places tickets : ℕ) (m : Memory) (vs : List 
                 let f = ap (times x) first_free.1 in omega arith;
           };
           mapped = record { answers = λ key class. ap (λ z. finite.get (map_of z) key) same_updates_take ∙ rule.mapped.answers key class };
-          locked = locked_by capacities places tickets m vs h r id v at hold new_take mine refl m_take refl w_take refl refl;
+          locked = locked_by seat hold new_take mine refl m_take refl w_take refl refl;
           known = known_after (Free hold.class) next refl new_take refl;
           ages = record {
             chain = all_change (λ s. gone_at s h ≡ None) (λ s. gone_at s h_take ≡ None) chain
@@ -581,17 +580,17 @@ module _ (capacities : List ℕ) (places tickets : ℕ) (m : Memory) (vs : List 
                 (λ x. let a = roles_by x in let l = at_most_one (is_slot_of capacities hold.class x) _ a in omega arith) s there)
                 ∙ p) rule.ages.chain;
             taken = λ s is. let e : slot ≡ s = cc in subst (λ z. gone_at z h_take ≡ None) e (gone_at-given_here h slot);
-            retired = all_change (IsGone h) (IsGone h_take) (r.bucket hold.class).retired
+            retired = all_change (IsGone h) (IsGone h_take) (seat.rule.bucket hold.class).retired
                 (λ s there p. (
                   p.0,
-                  gone_take s (not_take (r.bucket hold.class).retired
+                  gone_take s (not_take (seat.rule.bucket hold.class).retired
                       (λ x. let a = roles_by x in let l = at_most_one (is_slot_of capacities hold.class x) _ a in omega arith) s there)
                       ∙ p.1,
                 )) rule.ages.retired;
-            moved = all_change (IsGone h) (IsGone h_take) (r.bucket hold.class).moved
+            moved = all_change (IsGone h) (IsGone h_take) (seat.rule.bucket hold.class).moved
                 (λ s there p. (
                   p.0,
-                  gone_take s (not_take (r.bucket hold.class).moved
+                  gone_take s (not_take (seat.rule.bucket hold.class).moved
                       (λ x. let a = roles_by x in let l = at_most_one (is_slot_of capacities hold.class x) _ a in omega arith) s there)
                       ∙ p.1,
                 )) rule.ages.moved;
@@ -604,12 +603,12 @@ module _ (capacities : List ℕ) (places tickets : ℕ) (m : Memory) (vs : List 
                       ap (λ o. times s (option_to_list o)) is ∙ (let t = times_here s [] in omega arith) in omega arith)) ∙ p.1,
                 );
           };
-          counted = record { readers = (counted_still capacities hold.class m h vs id v w_take at refl rule.counted).readers };
+          counted = record { readers = (counted_still seat hold.class w_take refl rule.counted).readers };
           clean = record {
             free = all_map (IsFreeOfReaders hold.class h vs)
                 (IsFreeOfReaders hold.class h_take (set vs id w_take)) first_free.0 still_free_take others_clean;
             moved = all_map (IsFreeOfReaders hold.class h vs) (IsFreeOfReaders hold.class h_take (set vs id w_take))
-                (r.bucket hold.class).moved still_free_take rule.clean.moved;
+                (seat.rule.bucket hold.class).moved still_free_take rule.clean.moved;
             clear = λ other is yes s of. let e : new_take ≡ other = cc in
                 still_free_take s (rule.clean.clear hold had (ap (λ (z : Hold). z.clear) e ∙ yes) s of);
           };
@@ -617,13 +616,11 @@ module _ (capacities : List ℕ) (places tickets : ℕ) (m : Memory) (vs : List 
             readers = λ j u section there is class. each_set
                 (λ k z. z.section ≡ Some section
                 → WillAnswer capacities hold.class m_take h_take us' chain section section.state) vs id w_take
-                (λ yes. will_still capacities hold.class m m_take h h_take us us' chain chain section
-                (keeps section id v at yes class) section.state (rule.answered.readers id v section at yes class))
-                (λ k z far e theirs. will_still capacities hold.class m m_take h h_take us us' chain chain section
-                (keeps section k z e theirs class) section.state (rule.answered.readers k z section e theirs class)) j u there is;
+                (λ yes. will_still (keeps section id v seat.at yes class) section.state (rule.answered.readers id v section seat.at yes class))
+                (λ k z far e theirs. will_still (keeps section k z e theirs class) section.state (rule.answered.readers k z section e theirs class)) j u there is;
             loaded = λ j u section value there is class read. each_set
                 (λ k z. z.section ≡ Some section → WasSaid us' section.key section.from (Some value)) vs id w_take
-                (λ yes. (keeps section id v at yes class).said (Some value) (rule.answered.loaded id v section value at yes class read))
+                (λ yes. (keeps section id v seat.at yes class).said (Some value) (rule.answered.loaded id v section value seat.at yes class read))
                 (λ k z far e theirs. (keeps section k z e theirs class).said (Some value)
                 (rule.answered.loaded k z section value e theirs class read)) j u there is;
           };
@@ -631,5 +628,5 @@ module _ (capacities : List ℕ) (places tickets : ℕ) (m : Memory) (vs : List 
         (λ d _ ne. record {
           words = class_words capacities hold.class d m next ne (Free hold.class) refl;
           marks = same_marks_take d ne;
-          view = elsewhere_held capacities places tickets m vs h r id v at d hold new_take mine refl ne w_take refl refl refl;
+          view = elsewhere_held seat d hold new_take mine refl ne w_take refl refl refl;
         })

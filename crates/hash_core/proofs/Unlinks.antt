@@ -26,7 +26,7 @@ use Rattle.prcu_model.proofs.ListFacts.{all_append, all_map}
 use Rattle.list_laws.proofs.Lists.{all_change, all_times, all_from_times, times_here, times_append, at_most_one}
 use Rattle.hash_core.proofs.SlotLists.{IsPath-same, path_cons, seek-same, seek_here, seek_past, seek_append, HaveDistinctKeys-same, one_class, path_past, path_back, cut_at, two_cuts, seek_without, distinct_without, seek_some}
 use Rattle.prcu_marks.proofs.Marks.{updates_of-append, entered_at-append, last_unlinked-same, last_unlinked-other}
-use Rattle.hash_core.proofs.SeatFrames.{marks_snoc, open_at-same, gone_at-same, gone_at-unlinked_here, gone_at-unlinked_other, reuse_more, after_step}
+use Rattle.hash_core.proofs.SeatFrames.{Seated, marks_snoc, open_at-same, gone_at-same, gone_at-unlinked_here, gone_at-unlinked_other, reuse_more, after_step}
 use Rattle.hash_core.proofs.Frames.{SameLists, chain_slot, class_words, stored_here, same_self}
 use Rattle.prcu_marks.proofs.Callers.{said_longer}
 use Rattle.hash_core.proofs.Sections.{free_each}
@@ -130,15 +130,14 @@ cut_next head next next' chain p slot once some_slot is is' same there path =
     none_of olds far = dite (dec_le 1 (times p olds)) (λ in_olds. absurd (let z = far p in_olds in let a = there in omega arith))
         (λ out. omega arith)
 
-module _ (capacities : List ℕ) (places tickets : ℕ) (m : Memory) (vs : List View) (h : List Mark)
-    (r : MemoryRule capacities places tickets m vs h) (id : ℕ) (v : View) (at : get_elem? vs id ≡ some v) (hold : Hold)
-    (mine : v.hold ≡ Some hold)
+module _ {capacities : List ℕ} {places tickets : ℕ} {m : Memory} {vs : List View} {h : List Mark} {id : ℕ} {v : View}
+    (seat : Seated capacities places tickets m vs h id v) {hold : Hold} (mine : v.hold ≡ Some hold)
     (even : ℕ) (link : Field) (slot key next : ℕ) (needs : NeedsUnlink v hold even link slot key next) where
-  abbrev bucket_rule : BucketRule capacities hold.class m h (updates_of h) vs (r.bucket hold.class)
-  bucket_rule = rule capacities places tickets m vs h r id v at hold mine
+  abbrev bucket_rule : BucketRule capacities hold.class m h (updates_of h) vs (seat.rule.bucket hold.class)
+  bucket_rule = rule seat mine
 
   abbrev chain_now : List ℕ
-  chain_now = (r.bucket hold.class).chain
+  chain_now = (seat.rule.bucket hold.class).chain
 
   abbrev m_unlink : Memory
   m_unlink = stored m link next
@@ -157,7 +156,7 @@ module _ (capacities : List ℕ) (places tickets : ℕ) (m : Memory) (vs : List 
 
   known_unlink : (field : Field) (number : ℕ) → known_in hold.known field ≡ Some number
       → IsOfClass capacities hold.class field × (m field ≡ number)
-  known_unlink = is_known capacities places tickets m vs h r id v at hold mine
+  known_unlink = is_known seat mine
 
   is_key : m (Key slot) ≡ key
   is_key = (known_unlink (Key slot) key needs.key_is).1
@@ -179,14 +178,14 @@ module _ (capacities : List ℕ) (places tickets : ℕ) (m : Memory) (vs : List 
 
   of_class_unlink : (l : Field) → LinksTo hold l → IsOfClass capacities hold.class l
   of_class_unlink (Head d) is = is
-  of_class_unlink (Next t) is = chain_slot capacities hold.class (r.bucket hold.class) bucket_rule.roles t
-      (on_chain capacities places tickets m vs h r id v at hold mine t is)
+  of_class_unlink (Next t) is = chain_slot bucket_rule.roles t
+      (on_chain seat mine t is)
   of_class_unlink _ is = absurd is
 
-  roles_unlink : (x : ℕ) → times x chain_now + times x (r.bucket hold.class).free + times x (r.bucket hold.class).retired
-      + times x (r.bucket hold.class).moved + times x (option_to_list hold.taken) + times x (option_to_list hold.unlinked)
+  roles_unlink : (x : ℕ) → times x chain_now + times x (seat.rule.bucket hold.class).free + times x (seat.rule.bucket hold.class).retired
+      + times x (seat.rule.bucket hold.class).moved + times x (option_to_list hold.taken) + times x (option_to_list hold.unlinked)
       ≡ cond (is_slot_of capacities hold.class x) 1 0
-  roles_unlink = roles_by capacities places tickets m vs h r id v at hold mine
+  roles_unlink = roles_by seat mine
 
   once_unlink : (t : ℕ) → times t chain_now ≤ 1
   once_unlink t = let a = roles_unlink t in let l = at_most_one (is_slot_of capacities hold.class t) _ a in omega arith
@@ -203,7 +202,7 @@ module _ (capacities : List ℕ) (places tickets : ℕ) (m : Memory) (vs : List 
       (known_unlink (Next t) slot linked).1
       (stored_here m (Next t) next (same_self (Next t)) ∙ sym is_next)
       (λ s ne. ap (λ b. cond b next (m (Next s))) (ne_eqb t s (λ e. ne (sym e))))
-      (on_chain capacities places tickets m vs h r id v at hold mine t is) bucket_rule.chained.path
+      (on_chain seat mine t is) bucket_rule.chained.path
   cut_by _ is linked = absurd is
 
   cut : Cut (m (Head hold.class)) (m_unlink (Head hold.class)) (λ s. m (Next s)) (λ s. m_unlink (Next s)) chain_now slot
@@ -226,7 +225,7 @@ module _ (capacities : List ℕ) (places tickets : ℕ) (m : Memory) (vs : List 
   there = let a = counts slot in let b = times_here slot [] in omega arith
 
   slot_of_unlink : is_slot_of capacities hold.class slot ≡ true
-  slot_of_unlink = chain_slot capacities hold.class (r.bucket hold.class) bucket_rule.roles slot there
+  slot_of_unlink = chain_slot bucket_rule.roles slot there
 
   in_old : (x : ℕ) → 1 ≤ times x (cut.before ++ cut.after) → 1 ≤ times x chain_now
   in_old x is = let a = counts x in omega arith
@@ -261,7 +260,7 @@ module _ (capacities : List ℕ) (places tickets : ℕ) (m : Memory) (vs : List 
   reuse_unlink : ReuseByClass capacities h_unlink
   reuse_unlink = subst (ReuseByClass capacities) whole_unlink
       (reuse_more capacities h_done (Unlinked slot) (λ s e. absurd (cc))
-      (reuse_more capacities h (Done (record { caller = v.place; op = Del key })) (λ s e. absurd (cc)) r.reuse))
+      (reuse_more capacities h (Done (record { caller = v.place; op = Del key })) (λ s e. absurd (cc)) seat.rule.reuse))
 
   gone_unlink : (s : ℕ) → s ≢ slot → gone_at s h_unlink ≡ gone_at s h
   gone_unlink s ne = ap (gone_at s) (sym whole_unlink) ∙ gone_at-unlinked_other h_done s slot (λ e. ne (sym e))
@@ -273,7 +272,7 @@ module _ (capacities : List ℕ) (places tickets : ℕ) (m : Memory) (vs : List 
 
   order_unlink : AreMarks places h_unlink
   order_unlink = subst (AreMarks places) whole_unlink (marks_snoc places h_done (Unlinked slot) tt
-      (marks_snoc places h (Done (record { caller = v.place; op = Del key })) tt r.marks))
+      (marks_snoc places h (Done (record { caller = v.place; op = Del key })) tt seat.rule.marks))
 
   gone_here_unlink : gone_at slot h_unlink ≡ Some (length h + 1)
   gone_here_unlink = ap (gone_at slot) (sym whole_unlink) ∙ gone_at-unlinked_here h_done slot
@@ -458,33 +457,32 @@ module _ (capacities : List ℕ) (places tickets : ℕ) (m : Memory) (vs : List 
 
   free_unlink : (s : ℕ) → s ≢ slot → IsFreeOfReaders hold.class h vs s → IsFreeOfReaders hold.class h_unlink (set vs id w_unlink) s
   free_unlink s ne free = free_each hold.class h h_unlink vs id w_unlink s (last_unlink s ne)
-      (λ p section was is class. free p id v section was at is class) free
+      (λ p section was is class. free p id v section was seat.at is class) free
 
   chains_unlink : (first : ℕ) (xs : List ℕ) → IsPath (λ s. m (Chain s)) first xs → IsPath (λ s. m_unlink (Chain s)) first xs
   chains_unlink first xs path = IsPath-same (λ s. m (Chain s)) (λ s. m_unlink (Chain s)) first xs (λ s _. (slots_unlink link needs.link_is s).2) path
 
   abbrev b_unlink : Bucket
-  b_unlink = record (r.bucket hold.class) { chain = cut.before ++ cut.after; hold = Some new_unlink }
+  b_unlink = record (seat.rule.bucket hold.class) { chain = cut.before ++ cut.after; hold = Some new_unlink }
 
   -- H14
   pub law_unlink : MemoryRule capacities places tickets m_unlink (set vs id (after_unlink v hold even link slot key next h)) h_unlink
   law_unlink =
-      let held : (r.bucket hold.class).hold ≡ Some hold = had capacities places tickets m vs h r id v at hold mine in
+      let held : (seat.rule.bucket hold.class).hold ≡ Some hold = had seat mine in
       let words = words_unlink link needs.link_is hold.class in
-      let other_free : times slot (r.bucket hold.class).free ≡ 0 =
-      elsewhere (r.bucket hold.class).free (λ x. let a = roles_unlink x in let l = at_most_one (is_slot_of capacities hold.class x) _ a in
+      let other_free : times slot (seat.rule.bucket hold.class).free ≡ 0 =
+      elsewhere (seat.rule.bucket hold.class).free (λ x. let a = roles_unlink x in let l = at_most_one (is_slot_of capacities hold.class x) _ a in
       omega arith) in
-      let other_retired : times slot (r.bucket hold.class).retired ≡ 0 =
-      elsewhere (r.bucket hold.class).retired (λ x. let a = roles_unlink x in let l = at_most_one (is_slot_of capacities hold.class x) _ a in
+      let other_retired : times slot (seat.rule.bucket hold.class).retired ≡ 0 =
+      elsewhere (seat.rule.bucket hold.class).retired (λ x. let a = roles_unlink x in let l = at_most_one (is_slot_of capacities hold.class x) _ a in
       omega arith) in
-      let other_moved : times slot (r.bucket hold.class).moved ≡ 0 =
-      elsewhere (r.bucket hold.class).moved (λ x. let a = roles_unlink x in let l = at_most_one (is_slot_of capacities hold.class x) _ a in
+      let other_moved : times slot (seat.rule.bucket hold.class).moved ≡ 0 =
+      elsewhere (seat.rule.bucket hold.class).moved (λ x. let a = roles_unlink x in let l = at_most_one (is_slot_of capacities hold.class x) _ a in
       omega arith) in
       let other_taken : times slot (option_to_list hold.taken) ≡ 0 =
       elsewhere (option_to_list hold.taken) (λ x. let a = roles_unlink x in let l = at_most_one (is_slot_of capacities hold.class x) _ a in
       omega arith) in
-      after_step capacities places tickets m vs h r id v w_unlink at m_unlink h_unlink
-      (seats_updated capacities places tickets m vs h r id v at hold mine even needs.commit (Del key) new_unlink refl m_unlink words.front
+      after_step seat w_unlink (seats_updated seat mine needs.commit (Del key) new_unlink refl m_unlink words.front
       (Unlinked slot ∷ []) longer_unlink (λ p. refl) open_unlink entered_unlink order_unlink reuse_unlink present_unlink)
       hold.class b_unlink
       (λ _. record {
@@ -497,19 +495,19 @@ module _ (capacities : List ℕ) (places tickets : ℕ) (m : Memory) (vs : List 
               (λ s _. let q = slots_unlink link needs.link_is s in (q.0, q.1)) without.0;
         };
         listed = record {
-          free = subst (λ z. IsPath (λ s. m_unlink (Chain s)) z (r.bucket hold.class).free) (sym words.free)
-              (chains_unlink (m (Free hold.class)) (r.bucket hold.class).free bucket_rule.listed.free);
-          retired = subst (λ z. IsPath (λ s. m_unlink (Chain s)) z (r.bucket hold.class).retired) (sym words.retired)
-              (chains_unlink (m (Retired hold.class)) (r.bucket hold.class).retired bucket_rule.listed.retired);
-          moved = chains_unlink (link_of hold.moved) (r.bucket hold.class).moved (moved_by capacities places tickets m vs h r id v at hold mine);
+          free = subst (λ z. IsPath (λ s. m_unlink (Chain s)) z (seat.rule.bucket hold.class).free) (sym words.free)
+              (chains_unlink (m (Free hold.class)) (seat.rule.bucket hold.class).free bucket_rule.listed.free);
+          retired = subst (λ z. IsPath (λ s. m_unlink (Chain s)) z (seat.rule.bucket hold.class).retired) (sym words.retired)
+              (chains_unlink (m (Retired hold.class)) (seat.rule.bucket hold.class).retired bucket_rule.listed.retired);
+          moved = chains_unlink (link_of hold.moved) (seat.rule.bucket hold.class).moved (moved_by seat mine);
         };
         roles = record {
           once = λ x. let a = roles_unlink x in let b = counts x in let n = ap (λ o. times x (option_to_list o)) needs.empty in
               omega arith;
         };
         mapped = record { answers = mapped_unlink };
-        locked = locked_by capacities places tickets m vs h r id v at hold new_unlink mine refl m_unlink words.lock w_unlink refl refl;
-        known = known_after capacities places tickets m vs h r id v at hold mine link next (of_class_unlink link needs.link_is) new_unlink refl;
+        locked = locked_by seat hold new_unlink mine refl m_unlink words.lock w_unlink refl refl;
+        known = known_after seat mine link next (of_class_unlink link needs.link_is) new_unlink refl;
         ages = record {
           chain = all_from_times (λ s. gone_at s h_unlink ≡ None) (cut.before ++ cut.after)
               (λ s is. gone_unlink s (not_slot (cut.before ++ cut.after) left_out s is)
@@ -518,33 +516,33 @@ module _ (capacities : List ℕ) (places tickets : ℕ) (m : Memory) (vs : List 
               (let e : times s (option_to_list hold.taken) ≡ 1 =
               ap (λ o. times s (option_to_list o)) is ∙ (let t = times_here s [] in omega arith) in omega arith))
               ∙ bucket_rule.ages.taken s (ap taken_of held ∙ is);
-          retired = all_change (IsGone h) (IsGone h_unlink) (r.bucket hold.class).retired
-              (λ s is p. (p.0, gone_unlink s (not_slot (r.bucket hold.class).retired other_retired s is) ∙ p.1)) bucket_rule.ages.retired;
-          moved = all_change (IsGone h) (IsGone h_unlink) (r.bucket hold.class).moved
-              (λ s is p. (p.0, gone_unlink s (not_slot (r.bucket hold.class).moved other_moved s is) ∙ p.1)) bucket_rule.ages.moved;
+          retired = all_change (IsGone h) (IsGone h_unlink) (seat.rule.bucket hold.class).retired
+              (λ s is p. (p.0, gone_unlink s (not_slot (seat.rule.bucket hold.class).retired other_retired s is) ∙ p.1)) bucket_rule.ages.retired;
+          moved = all_change (IsGone h) (IsGone h_unlink) (seat.rule.bucket hold.class).moved
+              (λ s is p. (p.0, gone_unlink s (not_slot (seat.rule.bucket hold.class).moved other_moved s is) ∙ p.1)) bucket_rule.ages.moved;
           unlinked = λ s is. let e : slot ≡ s = cc in (length h + 1, ap (λ z. gone_at z h_unlink) (sym e) ∙ gone_here_unlink);
         };
         counted = record {
-          readers = words.readers ∙ (counted_still capacities hold.class m h vs id v w_unlink at refl bucket_rule.counted).readers;
+          readers = words.readers ∙ (counted_still seat hold.class w_unlink refl bucket_rule.counted).readers;
         };
         clean = record {
-          free = all_change (IsFreeOfReaders hold.class h vs) (IsFreeOfReaders hold.class h_unlink (set vs id w_unlink)) (r.bucket hold.class).free
-              (λ s is. free_unlink s (not_slot (r.bucket hold.class).free other_free s is)) bucket_rule.clean.free;
-          moved = all_change (IsFreeOfReaders hold.class h vs) (IsFreeOfReaders hold.class h_unlink (set vs id w_unlink)) (r.bucket hold.class).moved
-              (λ s is. free_unlink s (not_slot (r.bucket hold.class).moved other_moved s is)) bucket_rule.clean.moved;
+          free = all_change (IsFreeOfReaders hold.class h vs) (IsFreeOfReaders hold.class h_unlink (set vs id w_unlink)) (seat.rule.bucket hold.class).free
+              (λ s is. free_unlink s (not_slot (seat.rule.bucket hold.class).free other_free s is)) bucket_rule.clean.free;
+          moved = all_change (IsFreeOfReaders hold.class h vs) (IsFreeOfReaders hold.class h_unlink (set vs id w_unlink)) (seat.rule.bucket hold.class).moved
+              (λ s is. free_unlink s (not_slot (seat.rule.bucket hold.class).moved other_moved s is)) bucket_rule.clean.moved;
           clear = λ other is yes s of. absurd (let e : new_unlink ≡ other = cc in let z : false ≡ true = ap (λ (k : Hold). k.clear) e ∙ yes in
               cc);
         };
-        answered = answered_from capacities places tickets m vs h r id v at hold mine w_unlink refl m_unlink h_unlink (updates_of h_unlink)
+        answered = answered_from seat mine w_unlink refl m_unlink h_unlink (updates_of h_unlink)
             (cut.before ++ cut.after) (λ section entered from class state. will_unlink section entered from state) said_unlink;
       })
       (λ d _ ne. record {
         words = class_words capacities hold.class d m next ne link (of_class_unlink link needs.link_is);
-        marks = marks_elsewhere capacities places tickets m vs h r id v at hold mine d ne
+        marks = marks_elsewhere seat mine d ne
             (record { caller = v.place; op = Del key }) class_unlink h_unlink longer_unlink
             (λ s of. gone_unlink s (λ e. ne (one_class capacities d hold.class slot
             (subst (λ z. is_slot_of capacities d z ≡ true) e of) slot_of_unlink)))
             (λ s of. last_unlink s (λ e. ne (one_class capacities d hold.class slot
             (subst (λ z. is_slot_of capacities d z ≡ true) e of) slot_of_unlink)));
-        view = elsewhere_held capacities places tickets m vs h r id v at d hold new_unlink mine refl ne w_unlink refl refl refl;
+        view = elsewhere_held seat d hold new_unlink mine refl ne w_unlink refl refl refl;
       })
