@@ -225,8 +225,7 @@ module _ {capacities : List ℕ} {c : ℕ} (h h' : List Mark) {b : Bucket}
     chain = all_change (λ s. gone_at s h ≡ None) (λ s. gone_at s h' ≡ None) b.chain
         (λ s there p. gone s (chain_slot roles s there) ∙ p) ages.chain;
     taken = λ s is. gone s (taken_slot roles s is) ∙ ages.taken s is;
-    retired = all_change (IsGone h) (IsGone h') b.retired
-        (λ s there p. still_gone s (retired_slot roles s there) p) ages.retired;
+    retired = all_change (IsGone h) (IsGone h') b.retired (λ s there p. still_gone s (retired_slot roles s there) p) ages.retired;
     moved = all_change (IsGone h) (IsGone h') b.moved (λ s there p. still_gone s (moved_slot roles s there) p) ages.moved;
     unlinked = λ s is. still_gone s (unlinked_slot roles s is) (ages.unlinked s is);
   }
@@ -461,8 +460,7 @@ module _ (capacities : List ℕ) (c d : ℕ) (m : Memory) (n : ℕ) (other : d �
   far_field _ _ of there = refl
 
   -- and not how many read the other, nor who has its lock
-  far_words : (field : Field) → IsOfClass capacities c field
-      → (same_field field (Lock d) ≡ false) × (same_field field (Readers d) ≡ false)
+  far_words : (field : Field) → IsOfClass capacities c field → (same_field field (Lock d) ≡ false) × (same_field field (Readers d) ≡ false)
   far_words (Lock e) of = absurd of
   far_words (Readers e) of = absurd of
   far_words _ of = (refl, refl)

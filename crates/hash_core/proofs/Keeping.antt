@@ -228,8 +228,7 @@ not_found m key (s ∷ ss) none = dite (ℕ_discrete (m (Key s)) key)
 
 found_there : (m : Memory) (key : ℕ) (ss : List ℕ) → 1 ≤ times key (keys_on m ss) → is_some (seek m key ss) ≡ true
 found_there m key [] there = absurd (let z : times key [] ≡ 0 = refl in omega arith)
-found_there m key (s ∷ ss) there = dite (ℕ_discrete (m (Key s)) key)
-    (λ e. ap is_some (seek_here m key s ss e))
+found_there m key (s ∷ ss) there = dite (ℕ_discrete (m (Key s)) key) (λ e. ap is_some (seek_here m key s ss e))
     (λ ne. ap is_some (seek_past m key s ss ne) ∙ found_there m key ss
     (let t = times_other key (m (Key s)) (keys_on m ss) ne in omega arith))
 

@@ -44,8 +44,7 @@ module _ {capacities : List ℕ} {places tickets : ℕ} {m : Memory} {vs : List 
 
   -- a slot on the known walk is linked
   pub on_chain : (slot : ℕ) → IsOnWalk hold slot → 1 ≤ times slot (seat.rule.bucket hold.class).chain
-  on_chain slot on = comes_on hold.known m (λ s n e. (is_known seat mine
-      (Next s) n e).1) on.first on.before chain_now slot on.comes
+  on_chain slot on = comes_on hold.known m (λ s n e. (is_known seat mine (Next s) n e).1) on.first on.before chain_now slot on.comes
       (subst (λ z. IsPath (λ s. m (Next s)) z chain_now)
       (is_known seat mine (Head hold.class) on.first on.head).1 bucket_rule.chained.path)
 
@@ -74,8 +73,7 @@ module _ {capacities : List ℕ} {places tickets : ℕ} {m : Memory} {vs : List 
       → (state : SearchState) → WillAnswer capacities hold.class m h (updates_of h) (seat.rule.bucket hold.class).chain section state
       → WillAnswer capacities hold.class m' h' us' chain' section state)
       → ((section : Section) (answer : Option ℕ) → WasSaid (updates_of h) section.key section.from answer
-      → WasSaid us' section.key section.from answer)
-      → AreAnswered capacities hold.class m' h' us' (set vs id w) chain'
+      → WasSaid us' section.key section.from answer) → AreAnswered capacities hold.class m' h' us' (set vs id w) chain'
   answered_from w same m' h' us' chain' will said =
       let each : (j : ℕ) (u : View) (section : Section) → get_elem? vs j ≡ some u → u.section ≡ Some section → section.key % 64 ≡ hold.class
       → WillAnswer capacities hold.class m' h' us' chain' section section.state = λ j u section there is class.
@@ -178,8 +176,7 @@ module _ {capacities : List ℕ} {places tickets : ℕ} {m : Memory} {vs : List 
     absent_link = ap is_some (bucket_rule.mapped.answers key needs.class ∙ nothing_link)
 
     slot_of_link : is_slot_of capacities hold.class slot ≡ true
-    slot_of_link = taken_slot bucket_rule.roles slot
-        (ap taken_of (had seat mine) ∙ needs.taken)
+    slot_of_link = taken_slot bucket_rule.roles slot (ap taken_of (had seat mine) ∙ needs.taken)
 
     abbrev b_link : Bucket
     b_link = record (seat.rule.bucket hold.class) { chain = slot ∷ (seat.rule.bucket hold.class).chain; hold = Some new_link }

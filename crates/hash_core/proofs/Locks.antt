@@ -144,8 +144,7 @@ module _ {capacities : List ℕ} {places tickets : ℕ} {m : Memory} {vs : List 
           counted = record { readers = (counted_still seat c w_lock refl b.counted).readers };
           clean = clean_still c w_lock refl (seat.rule.bucket c) (Some (fresh_hold c)) (λ hold is yes s of. absurd (let e : fresh_hold c ≡ hold = cc in
               let z : hold.clear ≡ false = ap (λ (y : Hold). y.clear) (sym e) in cc)) b.clean;
-          answered = answered_still seat c w_lock refl m_lock (seat.rule.bucket c)
-              (λ s _. (refl, refl, refl, refl)) b.roles b.answered;
+          answered = answered_still seat c w_lock refl m_lock (seat.rule.bucket c) (λ s _. (refl, refl, refl, refl)) b.roles b.answered;
         }
 
     pub law_lock : MemoryRule capacities places tickets m_lock (set vs id w_lock) h
@@ -215,8 +214,7 @@ module _ {capacities : List ℕ} {places tickets : ℕ} {m : Memory} {vs : List 
           };
           counted = record { readers = (counted_still seat c w_unlock refl b.counted).readers };
           clean = clean_still c w_unlock refl (seat.rule.bucket c) None (λ other is yes s of. absurd (cc)) b.clean;
-          answered = answered_still seat c w_unlock refl m_unlock (seat.rule.bucket c)
-              (λ s _. (refl, refl, refl, refl)) b.roles b.answered;
+          answered = answered_still seat c w_unlock refl m_unlock (seat.rule.bucket c) (λ s _. (refl, refl, refl, refl)) b.roles b.answered;
         }
 
     pub law_unlock : MemoryRule capacities places tickets m_unlock (set vs id w_unlock) h
@@ -406,8 +404,7 @@ module _ {capacities : List ℕ} {places tickets : ℕ} {m : Memory} {vs : List 
         apart = apart_same seat w (record { place = refl; places = refl; joined = refl });
         owned = subst (AreOwned places (set vs id w)) (append-nil h)
             (owned_same seat w [] (record { place = refl; places = refl; joined = refl }) refl (inl refl) no_marks);
-        sections = open_same seat w h refl refl refl (section_back v w refl) (section_forth v w refl)
-            (λ p. refl) (λ p. refl) (omega arith);
+        sections = open_same seat w h refl refl refl (section_back v w refl) (section_forth v w refl) (λ p. refl) (λ p. refl) (omega arith);
         held = held_still seat w (λ other is. seat.rule.held.held id v other seat.at is);
         turned = turned;
         tickets_are = tickets_same seat w refl;
@@ -540,8 +537,7 @@ module _ {capacities : List ℕ} {places tickets : ℕ} {m : Memory} {vs : List 
         sections = open_same seat w_new h_new refl refl refl (section_back v w_new refl)
             (section_forth v w_new refl) opened entered (let n = one_longer in omega arith);
         held = held_still seat w_new (λ other is. let e : new ≡ other = cc in (
-          subst (λ (z : Hold). z.class < 64) e (subst (λ z. z < 64) (sym class)
-              (class_small seat mine)),
+          subst (λ (z : Hold). z.class < 64) e (subst (λ z. z < 64) (sym class) (class_small seat mine)),
           works seat mine,
         ));
         turned = inr (only_here vs id v w_new seat.at (record {

@@ -481,8 +481,7 @@ module _ {capacities : List ℕ} {places tickets : ℕ} {m : Memory} {vs : List 
   seats_same same seen front = record {
     seen = seen_same seat w seen same.heard;
     apart = apart_same seat w same.places;
-    owned = subst (λ z. AreOwned places (set vs id w) z) (append-nil h)
-        (owned_same seat w [] same.places same.own (inl seen) no_marks);
+    owned = subst (λ z. AreOwned places (set vs id w) z) (append-nil h) (owned_same seat w [] same.places same.own (inl seen) no_marks);
     sections = open_same seat w h same.places.place same.places.places same.sections same.back same.forth (λ p. refl) (λ p. refl)
         (omega arith);
     held = held_still seat w same.held;

@@ -30,8 +30,7 @@ use Rattle.hash_core.proofs.Frames.{SameMarks, SameSection, locked_same, still_s
 
 -- a link that was loaded: the end, or the next slot
 link_case : (P : SearchState → Type 0) (link : ℕ) → (link ≡ 0 → P Ended) → (link ≢ 0 → P (Unread link)) → P (link_stand link)
-link_case P link end more = dite (ℕ_discrete link 0)
-    (λ e. subst P (sym (ap (λ b. cond b Ended (Unread link)) (eq-eqb link 0 e))) (end e))
+link_case P link end more = dite (ℕ_discrete link 0) (λ e. subst P (sym (ap (λ b. cond b Ended (Unread link)) (eq-eqb link 0 e))) (end e))
     (λ ne. subst P (sym (ap (λ b. cond b Ended (Unread link)) (ne_eqb link 0 ne))) (more ne))
 
 -- slots that no section holds back, where one view's section is another
@@ -47,8 +46,7 @@ free_each c h h' vs id w s same mine free p j u section was there is class =
 pub clean_each : (capacities : List ℕ) (c : ℕ) (h h' : List Mark) (vs : List View) (id : ℕ) (w : View) (b : Bucket)
     → ((s : ℕ) → last_unlinked s h' ≡ last_unlinked s h)
     → ((s p : ℕ) (section : Section) → IsFreeOfReaders c h vs s → last_unlinked s h ≡ Some p → w.section ≡ Some section
-    → section.key % 64 ≡ c → p < section.entered)
-    → AreClean capacities c h vs b → AreClean capacities c h' (set vs id w) b
+    → section.key % 64 ≡ c → p < section.entered) → AreClean capacities c h vs b → AreClean capacities c h' (set vs id w) b
 clean_each capacities c h h' vs id w b same mine clean = clean_by capacities c h h' vs (set vs id w) b b
     (λ s free. free_each c h h' vs id w s (same s) (λ p section. mine s p section free) free) refl refl clean.clear clean
 

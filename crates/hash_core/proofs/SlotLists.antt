@@ -78,8 +78,7 @@ pub seek_past : (m : Memory) (key s : ℕ) (ss : List ℕ) → m (Key s) ≢ key
 seek_past m key s ss ne = ap (λ b. cond b (Some (m (Value s))) (seek m key ss)) (ne_eqb (m (Key s)) key ne)
 
 -- a search along two lists, one after the other
-pub seek_append : (m : Memory) (key : ℕ) (xs ys : List ℕ)
-    → (seek m key xs ≡ None → seek m key (xs ++ ys) ≡ seek m key ys)
+pub seek_append : (m : Memory) (key : ℕ) (xs ys : List ℕ) → (seek m key xs ≡ None → seek m key (xs ++ ys) ≡ seek m key ys)
     × ((value : ℕ) → seek m key xs ≡ Some value → seek m key (xs ++ ys) ≡ Some value)
 seek_append m key [] ys = (λ e. refl, λ value e. absurd (cc))
 seek_append m key (x ∷ xs) ys =

@@ -642,10 +642,8 @@ has_field t n number has is = ap (λ b. cond b n 0) has ∙ is
 -- A memory is fresh where its words are: of each class its lock, readers, head, free and retired, and of each slot its chain.
 pub fresh_memory : (capacities ws : List ℕ) → slice_index ws (word_of Front) ≡ 0
     → ((c : ℕ) → c < 64 → IsFreshClass ws c (first_slot capacities c))
-    → ((c i : ℕ) → c < 64 → i < capacity capacities c
-    → slice_index ws (word_of (Chain (base capacities c + i + 1)))
-    ≡ cond (i + 1 == capacity capacities c) 0 (base capacities c + i + 2))
-    → IsFresh capacities (memory_of capacities ws)
+    → ((c i : ℕ) → c < 64 → i < capacity capacities c → slice_index ws (word_of (Chain (base capacities c + i + 1)))
+    ≡ cond (i + 1 == capacity capacities c) 0 (base capacities c + i + 2)) → IsFresh capacities (memory_of capacities ws)
 fresh_memory capacities ws front classes slots = record {
   front = front;
   locks = λ c small. has_field (nat_lt c 64) _ 0 (lt-ltb c 64 small) (classes c small).lock;

@@ -461,8 +461,7 @@ module _ {capacities : List ℕ} {places tickets : ℕ} {m : Memory} {vs : List 
     others_free = first_free.0
 
     slot_of_take : is_slot_of capacities hold.class slot ≡ true
-    slot_of_take = free_slot rule.roles slot
-        (let t = times_here slot first_free.0 in let e = ap (times slot) first_free.1 in omega arith)
+    slot_of_take = free_slot rule.roles slot (let t = times_here slot first_free.0 in let e = ap (times slot) first_free.1 in omega arith)
 
     -- no section of the class holds the slot back
     slot_clean : IsFreeOfReaders hold.class h vs slot
@@ -517,8 +516,7 @@ module _ {capacities : List ℕ} {places tickets : ℕ} {m : Memory} {vs : List 
     seats_take = record {
       seen = seen_whole seat w_take h_take refl refl (Given slot ∷ [], refl);
       apart = apart_same seat w_take (record { place = refl; places = refl; joined = refl });
-      owned = owned_same seat w_take (Given slot ∷ []) (record { place = refl; places = refl; joined = refl }) refl
-          (inr refl) (λ p. refl);
+      owned = owned_same seat w_take (Given slot ∷ []) (record { place = refl; places = refl; joined = refl }) refl (inr refl) (λ p. refl);
       sections = open_same seat w_take h_take refl refl refl (section_back v w_take refl)
           (section_forth v w_take refl) (open_at-same h (Given slot) tt)
           (λ p. let a = entered_at-append p h (Given slot ∷ []) in omega arith)

@@ -113,8 +113,7 @@ cut_next head next next' chain p slot once some_slot is is' same there path =
           ap (λ z. olds ++ (z ++ slot ∷ r.0)) fs_is ∙ ap (λ z. olds ++ z) (append_assoc ks (p ∷ []) (slot ∷ r.0))
           ∙ sym (append_assoc olds ks (p ∷ slot ∷ r.0)) in
           let goal_is : olds ++ (fs ++ r.0) ≡ (olds ++ ks) ++ p ∷ r.0 =
-          ap (λ z. olds ++ (z ++ r.0)) fs_is ∙ ap (λ z. olds ++ z) (append_assoc ks (p ∷ []) r.0)
-          ∙ sym (append_assoc olds ks (p ∷ r.0)) in
+          ap (λ z. olds ++ (z ++ r.0)) fs_is ∙ ap (λ z. olds ++ z) (append_assoc ks (p ∷ []) r.0) ∙ sym (append_assoc olds ks (p ∷ r.0)) in
           let in_front : times p (olds ++ ks) ≡ 0 =
           (let a = times_append p olds ks in
           let b : times p olds ≡ 0 = none_of olds far in
@@ -178,8 +177,7 @@ module _ {capacities : List ℕ} {places tickets : ℕ} {m : Memory} {vs : List 
 
   of_class_unlink : (l : Field) → LinksTo hold l → IsOfClass capacities hold.class l
   of_class_unlink (Head d) is = is
-  of_class_unlink (Next t) is = chain_slot bucket_rule.roles t
-      (on_chain seat mine t is)
+  of_class_unlink (Next t) is = chain_slot bucket_rule.roles t (on_chain seat mine t is)
   of_class_unlink _ is = absurd is
 
   roles_unlink : (x : ℕ) → times x chain_now + times x (seat.rule.bucket hold.class).free + times x (seat.rule.bucket hold.class).retired
@@ -538,8 +536,7 @@ module _ {capacities : List ℕ} {places tickets : ℕ} {m : Memory} {vs : List 
       })
       (λ d _ ne. record {
         words = class_words capacities hold.class d m next ne link (of_class_unlink link needs.link_is);
-        marks = marks_elsewhere seat mine d ne
-            (record { caller = v.place; op = Del key }) class_unlink h_unlink longer_unlink
+        marks = marks_elsewhere seat mine d ne (record { caller = v.place; op = Del key }) class_unlink h_unlink longer_unlink
             (λ s of. gone_unlink s (λ e. ne (one_class capacities d hold.class slot
             (subst (λ z. is_slot_of capacities d z ≡ true) e of) slot_of_unlink)))
             (λ s of. last_unlink s (λ e. ne (one_class capacities d hold.class slot
