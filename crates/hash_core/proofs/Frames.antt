@@ -158,6 +158,34 @@ module _ {capacities : List ℕ} {c : ℕ} {b : Bucket} (roles : HaveOneRole cap
       slot_case (is_slot_of capacities c x) _ r (omega arith)
 
 -- What readers of a class will answer, where its slots and marks are the same.
+-- What an open section will be told: what its search will answer, and the value that it has loaded.
+abbrev pub WillBeTold : List ℕ → ℕ → Memory → List Mark → List Update → List ℕ → Section → Type 0
+WillBeTold capacities c m h us chain section = WillAnswer capacities c m h us chain section section.state
+    × ((value : ℕ) → section.loaded ≡ Some value → WasSaid us section.key section.from (Some value))
+
+pub told_of : {capacities : List ℕ} {c : ℕ} {m : Memory} {h : List Mark} {us : List Update} {vs : List View} {chain : List ℕ}
+    → AreAnswered capacities c m h us vs chain → (j : ℕ) (u : View) (section : Section) → get_elem? vs j ≡ some u
+    → u.section ≡ Some section → section.key % 64 ≡ c → WillBeTold capacities c m h us chain section
+told_of answered j u section there is class = (
+  answered.readers j u section there is class,
+  λ value. answered.loaded j u section value there is class,
+)
+
+-- it is so of all after a step, where it is so of the stepping view's and of the others'
+pub answered_set : {capacities : List ℕ} {c : ℕ} {m : Memory} {h : List Mark} {us : List Update} {chain : List ℕ} (vs : List View) (id : ℕ)
+    (w : View) → ((section : Section) → w.section ≡ Some section → section.key % 64 ≡ c → WillBeTold capacities c m h us chain section)
+    → ((j : ℕ) (u : View) (section : Section) → get_elem? vs j ≡ some u → u.section ≡ Some section → section.key % 64 ≡ c
+    → WillBeTold capacities c m h us chain section) → AreAnswered capacities c m h us (set vs id w) chain
+answered_set {capacities} {c} {m} {h} {us} {chain} vs id w mine others =
+    let each : (j : ℕ) (u : View) → get_elem? (set vs id w) j ≡ some u → (section : Section) → u.section ≡ Some section
+    → section.key % 64 ≡ c → WillBeTold capacities c m h us chain section =
+    each_set (λ k z. (section : Section) → z.section ≡ Some section → section.key % 64 ≡ c
+    → WillBeTold capacities c m h us chain section) vs id w mine (λ k z far e section. others k z section e) in
+    record {
+      readers = λ j u section there is class. (each j u there section is class).0;
+      loaded = λ j u section value there is class. (each j u there section is class).1 value;
+    }
+
 pub still_said : {capacities : List ℕ} {c : ℕ} {h h' : List Mark} {us us' : List Update} → SameMarks capacities c h h' us us'
     → (key from : ℕ) (answer : Option ℕ) → WasSaid us key from answer → WasSaid us' key from answer
 still_said {us = us} marks key from answer said = subst (λ z. WasSaid z key from answer) (sym marks.longer)
@@ -213,6 +241,13 @@ module _ {capacities : List ℕ} {c : ℕ} (m m' : Memory) {h h' : List Mark} {u
   still_answer section (Passed s) a = (still_way section s a.0, λ e. a.1 (sym (slots s (way_slot m roles section s a.0)).0 ∙ e))
   still_answer section (Found s) a = (still_way section s a.0, (slots s (way_slot m roles section s a.0)).0 ∙ a.1)
   still_answer section Ended a = still_said marks section.key section.from None a
+
+  pub still_told : (section : Section) → WillBeTold capacities c m h us b.chain section
+      → WillBeTold capacities c m' h' us' b.chain section
+  still_told section told = (
+    still_answer section section.state told.0,
+    λ value read. still_said marks section.key section.from (Some value) (told.1 value read),
+  )
 
 -- where slots were unlinked, where that is the same
 module _ {capacities : List ℕ} {c : ℕ} (h h' : List Mark) {b : Bucket}
@@ -332,20 +367,10 @@ module _ (capacities : List ℕ) (c : ℕ) (m m' : Memory) (h h' : List Mark) (u
   }
 
   frame_answered : AreAnswered capacities c m' h' us' (set vs id w) b.chain
-  frame_answered = record {
-    readers = λ j u section there is class.
-        each_set (λ k z. z.section ≡ Some section → WillAnswer capacities c m' h' us' b.chain section section.state) vs id w
-        (λ mine. still_answer m m' words.slots marks r.roles section section.state
-        (r.answered.readers id v section at (section_back c v.section w.section section view.section mine class) class))
-        (λ k z other e theirs. still_answer m m' words.slots marks r.roles section section.state
-        (r.answered.readers k z section e theirs class)) j u there is;
-    loaded = λ j u section value there is class read.
-        each_set (λ k z. z.section ≡ Some section → WasSaid us' section.key section.from (Some value)) vs id w
-        (λ mine. still_said marks section.key section.from (Some value)
-        (r.answered.loaded id v section value at (section_back c v.section w.section section view.section mine class) class read))
-        (λ k z other e theirs. still_said marks section.key section.from (Some value)
-        (r.answered.loaded k z section value e theirs class read)) j u there is;
-  }
+  frame_answered = answered_set vs id w
+      (λ section mine class. still_told m m' words.slots marks r.roles section (told_of r.answered id v section at
+      (section_back c v.section w.section section view.section mine class) class))
+      (λ j u section e theirs class. still_told m m' words.slots marks r.roles section (told_of r.answered j u section e theirs class))
 
   -- the whole rule on a class, where a step was made elsewhere
   pub bucket_frame : BucketRule capacities c m' h' us' (set vs id w) b

@@ -22,8 +22,6 @@ use Rattle.hash_core.proofs.Frames.{chain_slot, same_is}
 use Rattle.hash_core.proofs.SlotLists.{path_cons, seek_here, seek_past, path_none, cut_at}
 use Rattle.std.proofs.lemmas.Bool.{lt-ltb, le-leb, le-ltb, lt-leb}
 use Rattle.std.specs.List.{AllByRecursion}
-use mathlib.Core.Option.{some}
-use lib.ListN.{get_elem?}
 use Rattle.hash_core.specs.declared.view.Hold.{Hold}
 use Rattle.hash_core.proofs.Stocks.{rule, is_known, roles_by, moved_by, had, law_take, law_refill, law_move, law_push, law_chain, law_write}
 use Rattle.atomic_table.proofs.Lists.{set_here, set_again}

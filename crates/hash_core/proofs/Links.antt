@@ -24,14 +24,14 @@ use Rattle.prcu_marks.specs.Marks.{updates_of, open_at, gone_at, IsGone, entered
 use Rattle.hash_core.specs.Steps.{knowing, ShowsAbsent, IsOnWalk, NeedsLink, after_link, NeedsReplace, after_replace}
 use Rattle.hash_core.specs.Rule.{Bucket, seek, IsFreeOfReaders, taken_of, unlinked_of, HaveDistinctKeys, AreAnswered, WillAnswer, IsHeldBack, HasWay, open_of, BucketRule, MemoryRule}
 use Rattle.prcu_model.proofs.ListFacts.{all_map}
-use Rattle.list_laws.proofs.Lists.{each_set, all_times}
+use Rattle.list_laws.proofs.Lists.{all_times}
 use Rattle.hash_core.proofs.SlotLists.{seek_here, seek_past, seek-same, HaveDistinctKeys-same, slot_within, will_still, whole_path, comes_on, lacks_none, cut_at, seek_some, seek_slot, seek_replaced}
 use Rattle.prcu_marks.proofs.Marks.{updates_of-append, entered_at-append, open_at-below, last_unlinked-same}
 use Rattle.hash_core.proofs.SeatFrames.{Seated, marks_snoc, open_at-same, gone_at-same, reuse_more, after_step}
 use Rattle.hash_core.proofs.Frames.{SameMarks, chain_slot, taken_slot, clean_by, class_words, stored_here, same_self}
 use Rattle.prcu_marks.proofs.Callers.{said_longer}
 use Rattle.hash_core.proofs.Sections.{free_each}
-use Rattle.hash_core.proofs.Locks.{counted_still, locked_by, elsewhere_held, said_after, seats_updated}
+use Rattle.hash_core.proofs.Locks.{counted_still, locked_by, elsewhere_held, said_after, seats_updated, answered_each}
 use Rattle.hash_core.proofs.Stocks.{rule, had, is_known, known_after, roles_by, moved_by}
 
 module _ {capacities : List ℕ} {places tickets : ℕ} {m : Memory} {vs : List View} {h : List Mark} {id : ℕ} {v : View}
@@ -75,20 +75,9 @@ module _ {capacities : List ℕ} {places tickets : ℕ} {m : Memory} {vs : List 
       → ((section : Section) (answer : Option ℕ) → WasSaid (updates_of h) section.key section.from answer
       → WasSaid us' section.key section.from answer) → AreAnswered capacities hold.class m' h' us' (set vs id w) chain'
   answered_from w same m' h' us' chain' will said =
-      let each : (j : ℕ) (u : View) (section : Section) → get_elem? vs j ≡ some u → u.section ≡ Some section → section.key % 64 ≡ hold.class
-      → WillAnswer capacities hold.class m' h' us' chain' section section.state = λ j u section there is class.
+      answered_each seat hold.class w same bucket_rule.answered (λ j u section there is class told.
       let b = section_bounds j u section there is in
-      will section b.0 b.1 class section.state (bucket_rule.answered.readers j u section there is class) in
-      record {
-        readers = λ j u section there is class. each_set
-            (λ k z. z.section ≡ Some section → WillAnswer capacities hold.class m' h' us' chain' section section.state) vs id w
-            (λ yes. each id v section seat.at (sym same ∙ yes) class) (λ k z far e theirs. each k z section e theirs class) j u there is;
-        loaded = λ j u section value there is class read. each_set
-            (λ k z. z.section ≡ Some section → WasSaid us' section.key section.from (Some value)) vs id w
-            (λ yes. said section (Some value) (bucket_rule.answered.loaded id v section value seat.at (sym same ∙ yes) class read))
-            (λ k z far e theirs. said section (Some value)
-            (bucket_rule.answered.loaded k z section value e theirs class read)) j u there is;
-      }
+      (will section b.0 b.1 class section.state told.0, λ value read. said section (Some value) (told.1 value read)))
 
   -- what an update says of the keys of another class
   pub marks_elsewhere : (d : ℕ) → d ≢ hold.class → (u : Update) → key_of u.op % 64 ≡ hold.class → (h' : List Mark)

@@ -1,6 +1,6 @@
 -- The steps on locks and on the front, and what an update leaves.
 -- The kinds of step on locks and on the front, and the loads under a lock.
-use Rattle.std.proofs.Common.{◌≡◌, ◌≢◌, ◌⊎◌, ℕ, ◌+◌, ◌*◌, ◌%◌, ◌<◌, ◌≤◌, Bool, true, false, cond, List, [], ◌++◌, length, set, Option, Some, None, refl, sym, ap, subst, ◌∙◌, inl, inr, arith, eq-eqb, append-nil, option_to_list, ◌∷◌, ne_eqb, length-append}
+use Rattle.std.proofs.Common.{◌≡◌, ◌≢◌, ◌⊎◌, ℕ, ◌+◌, ◌*◌, ◌%◌, ◌<◌, ◌≤◌, Bool, true, false, cond, List, [], ◌++◌, length, set, Option, Some, None, refl, sym, ap, subst, ◌∙◌, inl, inr, arith, eq-eqb, append-nil, ◌∷◌, ne_eqb, length-append}
 use mathlib.Core.Option.{some}
 use lib.ListN.{get_elem?}
 use Rattle.prcu_marks.specs.declared.mark.Mark.{Mark}
@@ -12,15 +12,14 @@ use Rattle.hash_core.specs.declared.view.Hold.{Hold}
 use Rattle.hash_core.specs.declared.view.Known.{Known}
 use Rattle.prcu_marks.specs.declared.commit.Commit.{Commit}
 use Rattle.hash_core.specs.declared.view.View.{View}
-use Rattle.list_laws.specs.Counts.{times}
 use Rattle.hash_core.specs.Memory.{IsPath, Memory, same_field, stored, is_slot_of, IsOfClass, AreMarks, ReuseByClass}
 use Rattle.prcu_marks.specs.Marks.{updates_of, open_at, own_of, entered_at, updates_by}
 use Rattle.hash_core.specs.Steps.{known_in, knowing, IsQuiet, fresh_hold, NeedsUnlock, after_unlock, NeedsCommit, NeedsEven, after_even, HasCommit, updated_view}
-use Rattle.hash_core.specs.Rule.{Bucket, inside_count, AreCounted, HoldsOther, IsLocked, AreClean, IsFreeOfReaders, HaveOneRole, taken_of, unlinked_of, moved_of, link_of, AreAnswered, WillAnswer, HasNoCommit, IsTurned, AreOwned, AreSeen, BucketRule, MemoryRule}
+use Rattle.hash_core.specs.Rule.{Bucket, inside_count, AreCounted, HoldsOther, IsLocked, AreClean, IsFreeOfReaders, HaveOneRole, taken_of, unlinked_of, moved_of, link_of, AreAnswered, HasNoCommit, IsTurned, AreOwned, AreSeen, BucketRule, MemoryRule, roles_of}
 use Rattle.prcu_model.specs.Dictionary.{WasSaid, updated, map_of, IsUpdateAt, IsLegal}
 use Rattle.prcu_model.proofs.ListFacts.{prefix_self}
 use Rattle.list_laws.proofs.Lists.{each_set, total_set, total_part, only_at, only_here}
-use Rattle.hash_core.proofs.Frames.{SameSlots, SameSection, SameHold, SameView, still_answer, clean_by, same_words, lock_words, front_words, stored_here, same_self, same_is}
+use Rattle.hash_core.proofs.Frames.{SameSlots, SameSection, SameHold, SameView, clean_by, same_words, lock_words, front_words, stored_here, same_self, same_is, WillBeTold, still_told, answered_set, told_of}
 use Rattle.hash_core.proofs.SeatFrames.{Seated, seen_same, seen_whole, apart_same, owned_same, open_same, held_still, turned_same, same_marks, same_section, same_hold, seats_same, section_back, section_forth, tickets_same, no_marks, seat_holds, SeatsRule, after_step, after_quiet, owned_more}
 use Rattle.prcu_marks.specs.declared.mark.Mark.TheVariants.{Done}
 use Rattle.prcu_model.specs.declared.operation.Op.{Op}
@@ -43,24 +42,22 @@ module _ {capacities : List ℕ} {places tickets : ℕ} {m : Memory} {vs : List 
       (λ mine. free p id v section gone seat.at (sym same ∙ mine) class)
       (λ k z far e theirs. free p k z section gone e theirs class) j u there is
 
+  -- readers' answers, where what each will be told stays so
+  pub answered_each : {m' : Memory} {h' : List Mark} {us' : List Update} {chain chain' : List ℕ}
+      → AreAnswered capacities c m h (updates_of h) vs chain
+      → ((j : ℕ) (u : View) (section : Section) → get_elem? vs j ≡ some u → u.section ≡ Some section → section.key % 64 ≡ c
+      → WillBeTold capacities c m h (updates_of h) chain section → WillBeTold capacities c m' h' us' chain' section)
+      → AreAnswered capacities c m' h' us' (set vs id w) chain'
+  answered_each answered step = answered_set vs id w
+      (λ section mine class. let is = sym same ∙ mine in
+      step id v section seat.at is class (told_of answered id v section seat.at is class))
+      (λ j u section there is class. step j u section there is class (told_of answered j u section there is class))
+
   -- in a memory whose slots are the same
   pub answered_still : (m' : Memory) (b : Bucket) → SameSlots capacities c m m' → HaveOneRole capacities c b
       → AreAnswered capacities c m h (updates_of h) vs b.chain → AreAnswered capacities c m' h (updates_of h) (set vs id w) b.chain
   answered_still m' b slots roles answered =
-      let us : List Update = updates_of h in
-      let will : (section : Section) → WillAnswer capacities c m h us b.chain section section.state
-      → WillAnswer capacities c m' h us b.chain section section.state =
-      λ section. still_answer m m' slots (same_marks capacities c h) roles section section.state in
-      record {
-        readers = λ j u section there is class. each_set
-            (λ k z. z.section ≡ Some section → WillAnswer capacities c m' h us b.chain section section.state) vs id w
-            (λ mine. will section (answered.readers id v section seat.at (sym same ∙ mine) class))
-            (λ k z far e theirs. will section (answered.readers k z section e theirs class)) j u there is;
-        loaded = λ j u section value there is class read. each_set
-            (λ k z. z.section ≡ Some section → WasSaid us section.key section.from (Some value)) vs id w
-            (λ mine. answered.loaded id v section value seat.at (sym same ∙ mine) class read)
-            (λ k z far e theirs. answered.loaded k z section value e theirs class read) j u there is;
-      }
+      answered_each answered (λ j u section _ _ _. still_told m m' slots (same_marks capacities c h) roles section)
 
 module _ {capacities : List ℕ} {places tickets : ℕ} {m : Memory} {vs : List View} {h : List Mark} {id : ℕ} {v : View}
     (seat : Seated capacities places tickets m vs h id v) where
@@ -121,9 +118,8 @@ module _ {capacities : List ℕ} {places tickets : ℕ} {m : Memory} {vs : List 
             moved = subst (λ z. IsPath (λ s. m (Chain s)) (link_of (moved_of z)) (seat.rule.bucket c).moved) none b.listed.moved;
           };
           roles = record {
-            once = λ x. subst (λ z. times x (seat.rule.bucket c).chain + times x (seat.rule.bucket c).free + times x (seat.rule.bucket c).retired
-                + times x (seat.rule.bucket c).moved + times x (option_to_list (taken_of z)) + times x (option_to_list (unlinked_of z))
-                ≡ cond (is_slot_of capacities c x) 1 0) none (b.roles.once x);
+            once = λ x. subst (λ z. roles_of (seat.rule.bucket c) (taken_of z) (unlinked_of z) x ≡ cond (is_slot_of capacities c x) 1 0) none
+                (b.roles.once x);
           };
           mapped = record { answers = b.mapped.answers };
           locked = only_here vs id v w_lock seat.at
@@ -192,9 +188,7 @@ module _ {capacities : List ℕ} {places tickets : ℕ} {m : Memory} {vs : List 
             moved = subst (λ z. IsPath (λ s. m (Chain s)) (link_of z) (seat.rule.bucket c).moved) no_moved b.listed.moved;
           };
           roles = record {
-            once = λ x. subst (λ (z : Option ℕ × Option ℕ). times x (seat.rule.bucket c).chain + times x (seat.rule.bucket c).free
-                + times x (seat.rule.bucket c).retired + times x (seat.rule.bucket c).moved + times x (option_to_list z.0) + times x (option_to_list z.1)
-                ≡ cond (is_slot_of capacities c x) 1 0) (λ i. (no_taken i, no_unlinked i)) (b.roles.once x);
+            once = λ x. (λ i. roles_of (seat.rule.bucket c) (sym no_taken i) (sym no_unlinked i) x) ∙ b.roles.once x;
           };
           mapped = record { answers = b.mapped.answers };
           locked = (
@@ -279,9 +273,8 @@ module _ {capacities : List ℕ} {places tickets : ℕ} {m : Memory} {vs : List 
           moved = subst (λ z. IsPath (λ s. m (Chain s)) (link_of (moved_of z)) (seat.rule.bucket c).moved) had b.listed.moved;
         };
         roles = record {
-          once = λ x. subst (λ z. times x (seat.rule.bucket c).chain + times x (seat.rule.bucket c).free + times x (seat.rule.bucket c).retired
-              + times x (seat.rule.bucket c).moved + times x (option_to_list (taken_of z)) + times x (option_to_list (unlinked_of z))
-              ≡ cond (is_slot_of capacities c x) 1 0) had (b.roles.once x);
+          once = λ x. subst (λ z. roles_of (seat.rule.bucket c) (taken_of z) (unlinked_of z) x ≡ cond (is_slot_of capacities c x) 1 0) had
+              (b.roles.once x);
         };
         mapped = b.mapped;
         locked = locked_by hold new mine refl m refl w refl refl;

@@ -26,7 +26,7 @@ use Rattle.list_laws.proofs.Lists.{each_set, total_set, total_part, somewhere_at
 use Rattle.hash_core.proofs.SlotLists.{path_cons, path_none, seek_here, seek_past}
 use Rattle.prcu_marks.proofs.Marks.{open_at-snoc, updates_of-append, entered_at-append, last_unlinked-below, last_unlinked-same}
 use Rattle.hash_core.proofs.SeatFrames.{Seated, marks_snoc, gone_at-same, reuse_more, seen_whole, apart_same, owned_more, held_still, turned_same, same_marks, same_hold, seats_same, tickets_same, SeatsRule, after_step}
-use Rattle.hash_core.proofs.Frames.{SameMarks, SameSection, locked_same, still_said, still_answer, frame_ages_same, clean_by, same_words, readers_words, stored_here, same_self}
+use Rattle.hash_core.proofs.Frames.{SameMarks, SameSection, locked_same, frame_ages_same, clean_by, same_words, readers_words, stored_here, same_self, answered_set, WillBeTold, still_told, told_of}
 
 -- a link that was loaded: the end, or the next slot
 link_case : (P : SearchState → Type 0) (link : ℕ) → (link ≡ 0 → P Ended) → (link ≢ 0 → P (Unread link)) → P (link_stand link)
@@ -204,21 +204,11 @@ module _ {capacities : List ℕ} {places tickets : ℕ} {m : Memory} {vs : List 
           clean = clean_each capacities c h h_enter vs id w_enter (seat.rule.bucket c) (last_unlinked-same h mark_enter tt)
               (λ s p section free was is class. let e : section_enter ≡ section = cc in let l = last_unlinked-below s h p was in
               subst (λ (z : Section). p < z.entered) e l) b.clean;
-          answered = record {
-            readers = λ j u section there is class. each_set
-                (λ k z. z.section ≡ Some section → WillAnswer capacities c m_enter h_enter (updates_of h_enter)
-                (seat.rule.bucket c).chain section section.state) vs id w_enter
-                (λ mine. let e : section_enter ≡ section = cc in
-                subst (λ (z : Section). WillAnswer capacities c m_enter h_enter (updates_of h_enter) (seat.rule.bucket c).chain z z.state) e tt)
-                (λ k z other e theirs. still_answer m m_enter (λ s _. (refl, refl, refl, refl)) marks b.roles section section.state
-                (b.answered.readers k z section e theirs class)) j u there is;
-            loaded = λ j u section value there is class read. each_set
-                (λ k z. z.section ≡ Some section → WasSaid (updates_of h_enter) section.key section.from (Some value)) vs id w_enter
-                (λ mine. absurd (let e : section_enter ≡ section = cc in
-                let none : section.loaded ≡ None = ap (λ (z : Section). z.loaded) (sym e) in cc))
-                (λ k z other e theirs. still_said marks section.key section.from (Some value)
-                (b.answered.loaded k z section value e theirs class read)) j u there is;
-          };
+          answered = answered_set vs id w_enter
+              (λ section mine class. let e : section_enter ≡ section = cc in
+              subst (WillBeTold capacities c m_enter h_enter (updates_of h_enter) (seat.rule.bucket c).chain) e (tt, λ value read. absurd (cc)))
+              (λ j u section there is class. still_told m m_enter (λ s _. (refl, refl, refl, refl)) marks b.roles section
+              (told_of b.answered j u section there is class));
         }
 
     -- H3 keeps the rule
@@ -347,19 +337,9 @@ module _ {capacities : List ℕ} {places tickets : ℕ} {m : Memory} {vs : List 
           };
           clean = clean_each capacities c h h_leave vs id w_leave (seat.rule.bucket c) (last_unlinked-same h mark_leave tt)
               (λ s p other free was is class. absurd (cc)) b.clean;
-          answered = record {
-            readers = λ j u other there is class. each_set
-                (λ k z. z.section ≡ Some other → WillAnswer capacities c m_leave h_leave (updates_of h_leave)
-                (seat.rule.bucket c).chain other other.state) vs id w_leave
-                (λ mine. absurd (cc))
-                (λ k z far e theirs. still_answer m m_leave (λ s _. (refl, refl, refl, refl)) marks b.roles other other.state
-                (b.answered.readers k z other e theirs class)) j u there is;
-            loaded = λ j u other value there is class read. each_set
-                (λ k z. z.section ≡ Some other → WasSaid (updates_of h_leave) other.key other.from (Some value)) vs id w_leave
-                (λ mine. absurd (cc))
-                (λ k z far e theirs. still_said marks other.key other.from (Some value)
-                (b.answered.loaded k z other value e theirs class read)) j u there is;
-          };
+          answered = answered_set vs id w_leave (λ section mine class. absurd (cc))
+              (λ j u other there is class. still_told m m_leave (λ s _. (refl, refl, refl, refl)) marks b.roles other
+              (told_of b.answered j u other there is class));
         }
 
     -- H4 keeps the rule
@@ -551,24 +531,18 @@ module _ {capacities : List ℕ} {places tickets : ℕ} {m : Memory} {vs : List 
                 (λ s p new free was is class. let e : section_load ≡ new = cc in
                 let l = free p id v section was seat.at inside refl in
                 let f : section.entered ≡ new.entered = sym entered_load ∙ ap (λ (z : Section). z.entered) e in omega arith) b.clean;
-            answered = record {
-              readers = λ j u new there is class. each_set
-                  (λ k z. z.section ≡ Some new → WillAnswer capacities c m h (updates_of h) (seat.rule.bucket c).chain new new.state) vs id w_load
-                  (λ mine. let e : section_load ≡ new = cc in
-                  subst (λ (z : Section). WillAnswer capacities c m h (updates_of h) (seat.rule.bucket c).chain z z.state) e
-                  (same_will c section_load section_load.state (searched_same section.state field (m field)).0
-                  (searched_same section.state field (m field)).1 (will_case c small refl field may section.state field may will will)))
-                  (λ k z far e theirs. b.answered.readers k z new e theirs class) j u there is;
-              loaded = λ j u new value there is class read. each_set
-                  (λ k z. z.section ≡ Some new → WasSaid (updates_of h) new.key new.from (Some value)) vs id w_load
-                  (λ mine. let e : section_load ≡ new = cc in
-                  let said = loaded_case c small refl field may section.state field may will
-                  (λ n has. b.answered.loaded id v section n seat.at inside refl has) value (ap (λ (z : Section). z.loaded) e ∙ read) in
-                  let s = searched_same section.state field (m field) in
-                  subst (λ (q : ℕ × ℕ). WasSaid (updates_of h) q.0 q.1 (Some value))
-                  (λ i. ((sym key_load ∙ ap (λ (z : Section). z.key) e) i, (sym s.1 ∙ ap (λ (z : Section). z.from) e) i)) said)
-                  (λ k z far e theirs. b.answered.loaded k z new value e theirs class read) j u there is;
-            };
+            answered = answered_set vs id w_load
+                (λ new mine class. let e : section_load ≡ new = cc in
+                subst (WillBeTold capacities c m h (updates_of h) (seat.rule.bucket c).chain) e (
+                  same_will c section_load section_load.state (searched_same section.state field (m field)).0
+                      (searched_same section.state field (m field)).1 (will_case c small refl field may section.state field may will will),
+                  λ value read.
+                      let said = loaded_case c small refl field may section.state field may will
+                      (λ n has. b.answered.loaded id v section n seat.at inside refl has) value read in
+                      let s = searched_same section.state field (m field) in
+                      subst (λ (q : ℕ × ℕ). WasSaid (updates_of h) q.0 q.1 (Some value)) (λ i. (sym key_load i, sym s.1 i)) said,
+                ))
+                (λ j u. told_of b.answered j u);
           }
         where
           -- what is answered is read of the key, the entry and the front alone

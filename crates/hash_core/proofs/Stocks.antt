@@ -17,14 +17,14 @@ use Rattle.list_laws.specs.Counts.{times, total}
 use Rattle.hash_core.specs.Memory.{IsPath, Memory, same_field, stored, is_slot_of, IsOfClass, ReuseByClass}
 use Rattle.prcu_marks.specs.Marks.{updates_of, Open, open_at, gone_at, IsGone, last_unlinked}
 use Rattle.hash_core.specs.Steps.{known_in, knowing, NeedsTake, after_take, NeedsRefill, after_refill, NeedsMove, after_move, NeedsPush, after_push, NeedsChain, after_chain, IsFieldOf, NeedsWrite, after_write}
-use Rattle.hash_core.specs.Rule.{Bucket, IsKnown, IsFreeOfReaders, taken_of, unlinked_of, moved_of, link_of, AreClean, AreAnswered, WillAnswer, IsTurned, BucketRule, MemoryRule}
+use Rattle.hash_core.specs.Rule.{Bucket, IsKnown, IsFreeOfReaders, taken_of, unlinked_of, moved_of, link_of, AreClean, AreAnswered, IsTurned, BucketRule, MemoryRule, roles_of}
 use Rattle.prcu_model.proofs.ListFacts.{all_map}
-use Rattle.list_laws.proofs.Lists.{past_snoc, each_set, all_change, all_from_times, times_here, at_most_one}
+use Rattle.list_laws.proofs.Lists.{past_snoc, all_change, all_from_times, times_here, at_most_one}
 use Rattle.hash_core.proofs.SlotLists.{path_cons, path_none, IsPath-same, seek-same, HaveDistinctKeys-same, one_class, slot_within, KeepsWays, will_still}
 use Rattle.prcu_marks.proofs.Marks.{updates_of-append, entered_at-append, last_unlinked-same, last_gone}
 use Rattle.hash_core.proofs.SeatFrames.{Seated, marks_snoc, open_at-same, gone_at-given_here, gone_at-given_other, seen_whole, apart_same, owned_same, open_same, held_still, turned_same, same_marks, seats_same, section_back, section_forth, tickets_same, seat_holds, SeatsRule, after_step}
 use Rattle.hash_core.proofs.Frames.{SameMarks, SameLists, free_slot, retired_slot, taken_slot, unlinked_slot, class_words, stored_here, same_self, same_is}
-use Rattle.hash_core.proofs.Locks.{counted_still, free_still, answered_still, holder_of, class_small, works, locked_by, elsewhere_held, clean_still}
+use Rattle.hash_core.proofs.Locks.{counted_still, free_still, answered_still, holder_of, class_small, works, locked_by, elsewhere_held, clean_still, answered_each}
 
 module _ {capacities : List ℕ} {places tickets : ℕ} {m : Memory} {vs : List View} {h : List Mark} {id : ℕ} {v : View}
     (seat : Seated capacities places tickets m vs h id v) {hold : Hold} (mine : v.hold ≡ Some hold) where
@@ -66,12 +66,13 @@ module _ {capacities : List ℕ} {places tickets : ℕ} {m : Memory} {vs : List 
       known_case f n false is e = let k = is_known f n e in (k.0, ap (λ t. cond t number (m f)) is ∙ k.1)
 
   -- the slot roles, by what the holder has in hand
-  pub roles_by : (x : ℕ) → times x (seat.rule.bucket hold.class).chain + times x (seat.rule.bucket hold.class).free + times x (seat.rule.bucket hold.class).retired
-      + times x (seat.rule.bucket hold.class).moved + times x (option_to_list hold.taken) + times x (option_to_list hold.unlinked)
-      ≡ cond (is_slot_of capacities hold.class x) 1 0
-  roles_by x = subst (λ z. times x (seat.rule.bucket hold.class).chain + times x (seat.rule.bucket hold.class).free + times x (seat.rule.bucket hold.class).retired
-      + times x (seat.rule.bucket hold.class).moved + times x (option_to_list (taken_of z)) + times x (option_to_list (unlinked_of z))
+  pub roles_by : (x : ℕ) → roles_of (seat.rule.bucket hold.class) hold.taken hold.unlinked x ≡ cond (is_slot_of capacities hold.class x) 1 0
+  roles_by x = subst (λ z. roles_of (seat.rule.bucket hold.class) (taken_of z) (unlinked_of z) x
       ≡ cond (is_slot_of capacities hold.class x) 1 0) had (rule.roles.once x)
+
+  -- no slot has two
+  pub one_role : (x : ℕ) → roles_of (seat.rule.bucket hold.class) hold.taken hold.unlinked x ≤ 1
+  one_role x = let a = roles_by x in let l = at_most_one (is_slot_of capacities hold.class x) _ a in omega arith
 
   pub moved_by : IsPath (λ s. m (Chain s)) (link_of hold.moved) (seat.rule.bucket hold.class).moved
   moved_by = subst (λ z. IsPath (λ s. m (Chain s)) (link_of (moved_of z)) (seat.rule.bucket hold.class).moved) had rule.listed.moved
@@ -91,22 +92,8 @@ module _ {capacities : List ℕ} {places tickets : ℕ} {m : Memory} {vs : List 
   answered_by : (w : View) → w.section ≡ v.section → (m' : Memory) (chain' : List ℕ)
       → ((section : Section) → KeepsWays capacities hold.class m m' h h (updates_of h) (updates_of h)
       (seat.rule.bucket hold.class).chain chain' section) → AreAnswered capacities hold.class m' h (updates_of h) (set vs id w) chain'
-  answered_by w same m' chain' keeps =
-      let us : List Update = updates_of h in
-      let chain : List ℕ = (seat.rule.bucket hold.class).chain in
-      let will : (section : Section) → WillAnswer capacities hold.class m h us chain section section.state
-      → WillAnswer capacities hold.class m' h us chain' section section.state =
-      λ section. will_still (keeps section) section.state in
-      record {
-        readers = λ j u section there is class. each_set
-            (λ k z. z.section ≡ Some section → WillAnswer capacities hold.class m' h us chain' section section.state) vs id w
-            (λ yes. will section (rule.answered.readers id v section seat.at (sym same ∙ yes) class))
-            (λ k z far e theirs. will section (rule.answered.readers k z section e theirs class)) j u there is;
-        loaded = λ j u section value there is class read. each_set
-            (λ k z. z.section ≡ Some section → WasSaid us section.key section.from (Some value)) vs id w
-            (λ yes. rule.answered.loaded id v section value seat.at (sym same ∙ yes) class read)
-            (λ k z far e theirs. rule.answered.loaded k z section value e theirs class read) j u there is;
-      }
+  answered_by w same m' chain' keeps = answered_each seat hold.class w same rule.answered
+      (λ j u section _ _ _ told. (will_still (keeps section) section.state told.0, told.1))
 
   -- slots that are to be free stay so, where it says nothing new of readers
   clean_held : (new : Hold) → new.clear ≡ hold.clear → AreClean capacities hold.class h (set vs id (record v { hold = Some new }))
@@ -284,13 +271,14 @@ module _ {capacities : List ℕ} {places tickets : ℕ} {m : Memory} {vs : List 
     slot_of_chain = unlinked_slot rule.roles slot (ap unlinked_of had ∙ needs.1)
 
     -- the slot in hand is on no list
-    chain_else : (xs : List ℕ) → ((x : ℕ) → times x xs + times x (option_to_list hold.unlinked) ≤ 1) → (s : ℕ) → 1 ≤ times s xs
-        → m_chain (Chain s) ≡ m (Chain s)
-    chain_else xs once s there = ap (λ t. cond t number (m (Chain s))) (ne_eqb slot s (λ e.
+    chain_else : (first : ℕ) (xs : List ℕ) → ((x : ℕ) → times x xs + times x (option_to_list hold.unlinked) ≤ 1)
+        → IsPath (λ s. m (Chain s)) first xs → IsPath (λ s. m_chain (Chain s)) first xs
+    chain_else first xs once = IsPath-same (λ s. m (Chain s)) (λ s. m_chain (Chain s)) first xs
+        (λ s there. ap (λ t. cond t number (m (Chain s))) (ne_eqb slot s (λ e.
         let a = once slot in
         let b : times slot (option_to_list hold.unlinked) ≡ 1 =
         ap (λ o. times slot (option_to_list o)) needs.1 ∙ (let t = times_here slot [] in omega arith) in
-        let d : 1 ≤ times slot xs = subst (λ z. 1 ≤ times z xs) (sym e) there in omega arith))
+        let d : 1 ≤ times slot xs = subst (λ z. 1 ≤ times z xs) (sym e) there in omega arith)))
 
     pub law_chain : MemoryRule capacities places tickets m_chain (set vs id (after_chain v hold slot number)) h
     law_chain =
@@ -298,16 +286,10 @@ module _ {capacities : List ℕ} {places tickets : ℕ} {m : Memory} {vs : List 
         held_law new_chain refl (Chain slot) number slot_of_chain refl (record (seat.rule.bucket hold.class) { hold = Some new_chain }) (record {
           chained = record { path = rule.chained.path; classes = rule.chained.classes; distinct = rule.chained.distinct };
           listed = record {
-            free = IsPath-same (λ s. m (Chain s)) (λ s. m_chain (Chain s)) (m (Free hold.class)) (seat.rule.bucket hold.class).free
-                (chain_else (seat.rule.bucket hold.class).free (λ x. let a = roles_by x in
-                let l = at_most_one (is_slot_of capacities hold.class x) _ a in omega arith)) rule.listed.free;
-            retired = IsPath-same (λ s. m (Chain s)) (λ s. m_chain (Chain s)) (m (Retired hold.class)) (seat.rule.bucket hold.class).retired
-                (chain_else (seat.rule.bucket hold.class).retired
-                (λ x. let a = roles_by x in let l = at_most_one (is_slot_of capacities hold.class x) _ a in
-                omega arith)) rule.listed.retired;
-            moved = IsPath-same (λ s. m (Chain s)) (λ s. m_chain (Chain s)) (link_of hold.moved) (seat.rule.bucket hold.class).moved
-                (chain_else (seat.rule.bucket hold.class).moved (λ x. let a = roles_by x in
-                let l = at_most_one (is_slot_of capacities hold.class x) _ a in omega arith)) moved_by;
+            free = chain_else (m (Free hold.class)) (seat.rule.bucket hold.class).free (λ x. let a = one_role x in omega arith) rule.listed.free;
+            retired = chain_else (m (Retired hold.class)) (seat.rule.bucket hold.class).retired (λ x. let a = one_role x in omega arith)
+                rule.listed.retired;
+            moved = chain_else (link_of hold.moved) (seat.rule.bucket hold.class).moved (λ x. let a = one_role x in omega arith) moved_by;
           };
           roles = record { once = roles_by };
           mapped = record {
@@ -374,8 +356,7 @@ module _ {capacities : List ℕ} {places tickets : ℕ} {m : Memory} {vs : List 
     -- the slot taken isn't linked
     linked_write : (s : ℕ) → 1 ≤ times s (seat.rule.bucket hold.class).chain → s ≢ slot
     linked_write s there e =
-        let a = roles_by slot in
-        let l = at_most_one (is_slot_of capacities hold.class slot) _ a in
+        let a = one_role slot in
         let b : times slot (option_to_list hold.taken) ≡ 1 =
         ap (λ o. times slot (option_to_list o)) needs.taken ∙ (let t = times_here slot [] in omega arith) in
         let d : 1 ≤ times slot (seat.rule.bucket hold.class).chain = subst (λ z. 1 ≤ times z (seat.rule.bucket hold.class).chain) e there in omega arith
@@ -477,12 +458,13 @@ module _ {capacities : List ℕ} {places tickets : ℕ} {m : Memory} {vs : List 
     last_take s = last_unlinked-same h (Given slot) tt s
 
     -- the slot is in no other list
-    not_take : (xs : List ℕ) → ((x : ℕ) → times x xs + times x (seat.rule.bucket hold.class).free ≤ 1) → (s : ℕ) → 1 ≤ times s xs → s ≢ slot
-    not_take xs once s there e =
+    gone_else : (xs : List ℕ) → ((x : ℕ) → times x xs + times x (seat.rule.bucket hold.class).free ≤ 1) → (s : ℕ) → 1 ≤ times s xs
+        → gone_at s h_take ≡ gone_at s h
+    gone_else xs once s there = gone_take s (λ e.
         let a = once slot in
         let t = times_here slot first_free.0 in
         let f = ap (times slot) first_free.1 in
-        let d : 1 ≤ times slot xs = subst (λ z. 1 ≤ times z xs) e there in omega arith
+        let d : 1 ≤ times slot xs = subst (λ z. 1 ≤ times z xs) e there in omega arith)
 
     still_free_take : (s : ℕ) → IsFreeOfReaders hold.class h vs s → IsFreeOfReaders hold.class h_take (set vs id w_take) s
     still_free_take s free p j u section last there is class =
@@ -538,6 +520,8 @@ module _ {capacities : List ℕ} {places tickets : ℕ} {m : Memory} {vs : List 
     pub law_take : MemoryRule capacities places tickets m_take (set vs id (after_take v hold slot next h)) h_take
     law_take =
         let chain : List ℕ = (seat.rule.bucket hold.class).chain in
+        let retired : List ℕ = (seat.rule.bucket hold.class).retired in
+        let moved : List ℕ = (seat.rule.bucket hold.class).moved in
         let us : List Update = updates_of h in
         let us' : List Update = updates_of h_take in
         let keeps : (section : Section) (j : ℕ) (u : View) → get_elem? vs j ≡ some u → u.section ≡ Some section
@@ -574,32 +558,17 @@ module _ {capacities : List ℕ} {places tickets : ℕ} {m : Memory} {vs : List 
           known = known_after (Free hold.class) next refl new_take refl;
           ages = record {
             chain = all_change (λ s. gone_at s h ≡ None) (λ s. gone_at s h_take ≡ None) chain
-                (λ s there p. gone_take s (not_take chain
-                (λ x. let a = roles_by x in let l = at_most_one (is_slot_of capacities hold.class x) _ a in omega arith) s there)
-                ∙ p) rule.ages.chain;
+                (λ s there p. gone_else chain (λ x. let a = one_role x in omega arith) s there ∙ p) rule.ages.chain;
             taken = λ s is. let e : slot ≡ s = cc in subst (λ z. gone_at z h_take ≡ None) e (gone_at-given_here h slot);
-            retired = all_change (IsGone h) (IsGone h_take) (seat.rule.bucket hold.class).retired
-                (λ s there p. (
-                  p.0,
-                  gone_take s (not_take (seat.rule.bucket hold.class).retired
-                      (λ x. let a = roles_by x in let l = at_most_one (is_slot_of capacities hold.class x) _ a in omega arith) s there)
-                      ∙ p.1,
-                )) rule.ages.retired;
-            moved = all_change (IsGone h) (IsGone h_take) (seat.rule.bucket hold.class).moved
-                (λ s there p. (
-                  p.0,
-                  gone_take s (not_take (seat.rule.bucket hold.class).moved
-                      (λ x. let a = roles_by x in let l = at_most_one (is_slot_of capacities hold.class x) _ a in omega arith) s there)
-                      ∙ p.1,
-                )) rule.ages.moved;
+            retired = all_change (IsGone h) (IsGone h_take) retired
+                (λ s there p. (p.0, gone_else retired (λ x. let a = one_role x in omega arith) s there ∙ p.1)) rule.ages.retired;
+            moved = all_change (IsGone h) (IsGone h_take) moved
+                (λ s there p. (p.0, gone_else moved (λ x. let a = one_role x in omega arith) s there ∙ p.1)) rule.ages.moved;
             unlinked = λ s is.
-                let p = rule.ages.unlinked s (ap unlinked_of had ∙ is) in (
-                  p.0,
-                  gone_take s (not_take (option_to_list hold.unlinked)
-                      (λ x. let a = roles_by x in let l = at_most_one (is_slot_of capacities hold.class x) _ a in omega arith) s
-                      (let e : times s (option_to_list hold.unlinked) ≡ 1 =
-                      ap (λ o. times s (option_to_list o)) is ∙ (let t = times_here s [] in omega arith) in omega arith)) ∙ p.1,
-                );
+                let p = rule.ages.unlinked s (ap unlinked_of had ∙ is) in
+                let there : 1 ≤ times s (option_to_list hold.unlinked) =
+                (let e = ap (λ o. times s (option_to_list o)) is in let t = times_here s [] in omega arith) in
+                (p.0, gone_else (option_to_list hold.unlinked) (λ x. let a = one_role x in omega arith) s there ∙ p.1);
           };
           counted = record { readers = (counted_still seat hold.class w_take refl rule.counted).readers };
           clean = record {
@@ -610,18 +579,9 @@ module _ {capacities : List ℕ} {places tickets : ℕ} {m : Memory} {vs : List 
             clear = λ other is yes s of. let e : new_take ≡ other = cc in
                 still_free_take s (rule.clean.clear hold had (ap (λ (z : Hold). z.clear) e ∙ yes) s of);
           };
-          answered = record {
-            readers = λ j u section there is class. each_set
-                (λ k z. z.section ≡ Some section
-                → WillAnswer capacities hold.class m_take h_take us' chain section section.state) vs id w_take
-                (λ yes. will_still (keeps section id v seat.at yes class) section.state (rule.answered.readers id v section seat.at yes class))
-                (λ k z far e theirs. will_still (keeps section k z e theirs class) section.state (rule.answered.readers k z section e theirs class)) j u there is;
-            loaded = λ j u section value there is class read. each_set
-                (λ k z. z.section ≡ Some section → WasSaid us' section.key section.from (Some value)) vs id w_take
-                (λ yes. (keeps section id v seat.at yes class).said (Some value) (rule.answered.loaded id v section value seat.at yes class read))
-                (λ k z far e theirs. (keeps section k z e theirs class).said (Some value)
-                (rule.answered.loaded k z section value e theirs class read)) j u there is;
-          };
+          answered = answered_each seat hold.class w_take refl rule.answered (λ j u section there is class told.
+              let kept = keeps section j u there is class in
+              (will_still kept section.state told.0, λ value read. kept.said (Some value) (told.1 value read)));
         })
         (λ d _ ne. record {
           words = class_words capacities hold.class d m next ne (Free hold.class) refl;

@@ -2,9 +2,7 @@
 use Rattle.std.proofs.Common.{◌≡◌, ◌≢◌, ℕ, ◌+◌, ◌%◌, ◌<◌, ◌≤◌, ◌==◌, true, false, cond, List, [], ◌∷◌, ◌++◌, length, set, Option, Some, None, is_some, refl, sym, ap, subst, ◌∙◌, inl, inr, arith, eq-eqb, ne_eqb, append_assoc, length-append, option_to_list}
 use Rattle.std.specs.FinMap as finite
 use mathlib.Core.Logic.{dite}
-use mathlib.Core.Option.{some}
 use native.Mathlib.Decide.{dec_le, ℕ_discrete}
-use lib.ListN.{get_elem?}
 use Rattle.prcu_marks.specs.declared.mark.Mark.{Mark}
 use Rattle.prcu_marks.specs.declared.mark.Mark.TheVariants.{Done, Unlinked}
 use Rattle.prcu_model.specs.declared.operation.Op.TheVariants.{Del}
@@ -21,9 +19,9 @@ use Rattle.list_laws.specs.Counts.{times}
 use Rattle.hash_core.specs.Memory.{IsPath, Memory, stored, is_slot_of, IsOfClass, AreMarks, ReuseByClass}
 use Rattle.prcu_marks.specs.Marks.{updates_of, open_at, gone_at, IsGone, entered_at, last_unlinked}
 use Rattle.hash_core.specs.Steps.{known_in, knowing, LinksTo, NeedsUnlink, after_unlink}
-use Rattle.hash_core.specs.Rule.{Bucket, seek, HaveDistinctKeys, IsFreeOfReaders, taken_of, link_of, WillAnswer, IsHeldBack, HasWay, BucketRule, MemoryRule}
+use Rattle.hash_core.specs.Rule.{Bucket, seek, HaveDistinctKeys, IsFreeOfReaders, taken_of, link_of, WillAnswer, IsHeldBack, HasWay, BucketRule, MemoryRule, roles_of}
 use Rattle.prcu_model.proofs.ListFacts.{all_append, all_map}
-use Rattle.list_laws.proofs.Lists.{all_change, all_times, all_from_times, times_here, times_append, at_most_one}
+use Rattle.list_laws.proofs.Lists.{all_change, all_times, all_from_times, times_here, times_append}
 use Rattle.hash_core.proofs.SlotLists.{IsPath-same, path_cons, seek-same, seek_here, seek_past, seek_append, HaveDistinctKeys-same, one_class, path_past, path_back, cut_at, two_cuts, seek_without, distinct_without, seek_some}
 use Rattle.prcu_marks.proofs.Marks.{updates_of-append, entered_at-append, last_unlinked-same, last_unlinked-other}
 use Rattle.hash_core.proofs.SeatFrames.{Seated, marks_snoc, open_at-same, gone_at-same, gone_at-unlinked_here, gone_at-unlinked_other, reuse_more, after_step}
@@ -31,7 +29,7 @@ use Rattle.hash_core.proofs.Frames.{SameLists, chain_slot, class_words, stored_h
 use Rattle.prcu_marks.proofs.Callers.{said_longer}
 use Rattle.hash_core.proofs.Sections.{free_each}
 use Rattle.hash_core.proofs.Locks.{counted_still, locked_by, elsewhere_held, said_after, seats_updated}
-use Rattle.hash_core.proofs.Stocks.{rule, had, is_known, known_after, roles_by, moved_by}
+use Rattle.hash_core.proofs.Stocks.{rule, had, is_known, known_after, roles_by, moved_by, one_role}
 use Rattle.hash_core.proofs.Links.{on_chain, answered_from, marks_elsewhere}
 
 -- A chain from which a slot is unlinked: the slots before it lead on past it.
@@ -180,13 +178,11 @@ module _ {capacities : List ℕ} {places tickets : ℕ} {m : Memory} {vs : List 
   of_class_unlink (Next t) is = chain_slot bucket_rule.roles t (on_chain seat mine t is)
   of_class_unlink _ is = absurd is
 
-  roles_unlink : (x : ℕ) → times x chain_now + times x (seat.rule.bucket hold.class).free + times x (seat.rule.bucket hold.class).retired
-      + times x (seat.rule.bucket hold.class).moved + times x (option_to_list hold.taken) + times x (option_to_list hold.unlinked)
-      ≡ cond (is_slot_of capacities hold.class x) 1 0
+  roles_unlink : (x : ℕ) → roles_of (seat.rule.bucket hold.class) hold.taken hold.unlinked x ≡ cond (is_slot_of capacities hold.class x) 1 0
   roles_unlink = roles_by seat mine
 
   once_unlink : (t : ℕ) → times t chain_now ≤ 1
-  once_unlink t = let a = roles_unlink t in let l = at_most_one (is_slot_of capacities hold.class t) _ a in omega arith
+  once_unlink t = let a = one_role seat mine t in omega arith
 
   cut_by : (l : Field) → LinksTo hold l → known_in hold.known l ≡ Some slot
       → Cut (m (Head hold.class)) (stored m l next (Head hold.class)) (λ s. m (Next s)) (λ s. stored m l next (Next s)) chain_now slot
@@ -469,17 +465,13 @@ module _ {capacities : List ℕ} {places tickets : ℕ} {m : Memory} {vs : List 
       let held : (seat.rule.bucket hold.class).hold ≡ Some hold = had seat mine in
       let words = words_unlink link needs.link_is hold.class in
       let other_free : times slot (seat.rule.bucket hold.class).free ≡ 0 =
-      elsewhere (seat.rule.bucket hold.class).free (λ x. let a = roles_unlink x in let l = at_most_one (is_slot_of capacities hold.class x) _ a in
-      omega arith) in
+      elsewhere (seat.rule.bucket hold.class).free (λ x. let a = one_role seat mine x in omega arith) in
       let other_retired : times slot (seat.rule.bucket hold.class).retired ≡ 0 =
-      elsewhere (seat.rule.bucket hold.class).retired (λ x. let a = roles_unlink x in let l = at_most_one (is_slot_of capacities hold.class x) _ a in
-      omega arith) in
+      elsewhere (seat.rule.bucket hold.class).retired (λ x. let a = one_role seat mine x in omega arith) in
       let other_moved : times slot (seat.rule.bucket hold.class).moved ≡ 0 =
-      elsewhere (seat.rule.bucket hold.class).moved (λ x. let a = roles_unlink x in let l = at_most_one (is_slot_of capacities hold.class x) _ a in
-      omega arith) in
+      elsewhere (seat.rule.bucket hold.class).moved (λ x. let a = one_role seat mine x in omega arith) in
       let other_taken : times slot (option_to_list hold.taken) ≡ 0 =
-      elsewhere (option_to_list hold.taken) (λ x. let a = roles_unlink x in let l = at_most_one (is_slot_of capacities hold.class x) _ a in
-      omega arith) in
+      elsewhere (option_to_list hold.taken) (λ x. let a = one_role seat mine x in omega arith) in
       after_step seat w_unlink (seats_updated seat mine needs.commit (Del key) new_unlink refl m_unlink words.front
       (Unlinked slot ∷ []) longer_unlink (λ p. refl) open_unlink entered_unlink order_unlink reuse_unlink present_unlink)
       hold.class b_unlink
