@@ -25,7 +25,7 @@ use Rattle.hash_core.specs.Steps.{known_in, ComesTo, IsOnWalk, fresh_hold, Stand
 use Rattle.prcu_model.specs.Dictionary.{map_of, IsLegal, WasSaid}
 use Rattle.hash_core.proofs.SlotLists.{seek_slot, path_cons, IsPath-from, slot_within}
 use Rattle.list_laws.proofs.Lists.{at_one, all_times, total_part, times_here, times_append, at_below, only_at}
-use Rattle.hash_core.proofs.SeatFrames.{Seated, marks_begin, reuse_begins, same_marks}
+use Rattle.hash_core.proofs.SeatFrames.{Seated, marks_begin, reuse_begins}
 use Rattle.hash_core.proofs.Frames.{word_inside, way_slot, chain_slot, free_slot, retired_slot, memory-word, memory-stored}
 use Rattle.hash_core.proofs.Locks.{class_small}
 use Rattle.hash_core.proofs.Links.{on_chain, absent_now}
@@ -115,7 +115,7 @@ module _ {V : Type 0} (place : V → ℕ) where
       let one = one_there p (suc p) f vs apart few in
       let rest = few_count p (without p f) vs
       (λ i j v w a b c d s. let x = without_less p f v in let y = without_less p f w in apart i j v w a b (omega arith) (omega arith) s)
-      (λ i v at. let t = few i v at in let t0 = t.0 in let less = without_less p f v in (
+      (λ i v at. let t = few i v at in let most = t.0 in let less = without_less p f v in (
         omega arith,
         λ counts. dite (ℕ_discrete (place v) p)
             (λ e. absurd (let a = without_here p f v e in omega arith))

@@ -59,8 +59,8 @@ held_class bucket v holding = by v.hold holding
 pub held_small : (v : View) → HasPlace v → (hold : Hold) → v.hold ≡ Some hold → (hold_of v).class < 64
 held_small v place hold is = subst (λ (z : Hold). z.class < 64) (sym (hold_is v hold is)) (place.held hold is)
 
-pub class_is : (v : View) (hold : Hold) (class : ℕ) → v.hold ≡ Some hold → class ≡ (hold_of v).class → class ≡ hold.class
-class_is v hold class is same = same ∙ ap (λ (z : Hold). z.class) (hold_is v hold is)
+pub class_is : (v : View) {hold : Hold} {class : ℕ} → v.hold ≡ Some hold → class ≡ (hold_of v).class → class ≡ hold.class
+class_is v {hold} is same = same ∙ ap (λ (z : Hold). z.class) (hold_is v hold is)
 
 -- the key that it remembers is that of its open section
 pub read_class : (key : ℕ) (v : View) → IsInside (Some key) v.section → key ≡ (section_of v).key

@@ -388,11 +388,11 @@ abbrev loaded_next : ℕ → ℕ → StepMade
 loaded_next class retired = record { kind = H9; field = Retired class; number = retired }
 
 -- the steps of a call that loads the lists once
-once : (v u x w s1 s2 : List StepMade) (a b : StepMade) → u ≡ v ++ s1 → x ≡ (u ++ a ∷ []) ++ b ∷ [] → w ≡ x ++ s2
-    → w ≡ v ++ (s1 ++ a ∷ b ∷ s2)
-once v u x w s1 s2 a b first second third =
-    third ∙ ap (λ t. t ++ s2) second ∙ ap (λ t. ((t ++ a ∷ []) ++ b ∷ []) ++ s2) first ∙ append_assoc ((v ++ s1) ++ a ∷ []) (b ∷ []) s2
-    ∙ append_assoc (v ++ s1) (a ∷ []) (b ∷ s2) ∙ append_assoc v s1 (a ∷ b ∷ s2)
+once : (v u x w before after : List StepMade) (a b : StepMade) → u ≡ v ++ before → x ≡ (u ++ a ∷ []) ++ b ∷ [] → w ≡ x ++ after
+    → w ≡ v ++ (before ++ a ∷ b ∷ after)
+once v u x w before after a b first second third =
+    third ∙ ap (λ t. t ++ after) second ∙ ap (λ t. ((t ++ a ∷ []) ++ b ∷ []) ++ after) first ∙ append_assoc ((v ++ before) ++ a ∷ []) (b ∷ []) after
+    ∙ append_assoc (v ++ before) (a ∷ []) (b ∷ after) ∙ append_assoc v before (a ∷ b ∷ after)
 
 module _ (capacities : List ℕ) (v w : View) (key value : ℕ) where
   exactly : (reply : Reply) (number : ℕ) → PutsBy capacities v key value reply number w
