@@ -14,7 +14,7 @@ use Rattle.hash_core.specs.declared.view.Section.{Section}
 use Rattle.hash_core.specs.declared.view.View.{View}
 use Rattle.list_laws.specs.Counts.{times}
 use Rattle.hash_core.specs.Memory.{Memory, is_slot_of, IsPath, capacity, base, same_field, stored}
-use Rattle.hash_core.specs.Steps.{StandsAt, known_in, fresh_hold, after_enter, after_leave, after_search_load, after_unlock, after_readers_load, after_held_load, after_take, after_move, after_refill, after_push, after_chain, after_write, after_link, after_unlink, after_replace, after_even, IsFieldOf, NeedsWrite, LinksTo, IsOnWalk, section_of, hold_of, commit_of, noted, Needs, said, left, done, field_of, marks_of}
+use Rattle.hash_core.specs.Steps.{StandsAt, known_in, fresh_hold, after_leave, after_search_load, after_unlock, after_readers_load, after_held_load, after_take, after_move, after_refill, after_push, after_chain, after_write, after_link, after_unlink, after_replace, after_even, IsFieldOf, NeedsWrite, LinksTo, IsOnWalk, section_of, hold_of, commit_of, noted, Needs, said, left, done, field_of, marks_of}
 use Rattle.hash_core.specs.Rule.{seek, IsHeldBack, HasWay, WillAnswer, BucketRule, MemoryRule, HaveDistinctKeys, link_of, taken_of}
 use Rattle.hash_core.specs.Laws.{ChainsAreMap, SlotsHaveOneRole, ReadersAreCounted, FrontCounts, IsOpenIn, Answers, value_at, SearchesAreAnswered, IsLinked, SearchesStand, MarksAreInOrder, SlotsAreReused, HasPairs, KeepsPast, IsKept, ActsKeep, SplitsKeep, JoinsKeep, FreshHolds, Run, begins, steps, splits, joins, RunsHold}
 use Rattle.list_laws.proofs.Lists.{all_times, all_from_times, times_here, times_append, at_most_one, times_other, at_below, set_twice}
@@ -337,9 +337,9 @@ stored_same m field = λ i other. at other i
     at other = cases other (same_field field other) refl
 
 -- a store at a field that is none of an unlinked slot's
-kept_by : (m : Memory) (h : List Mark) (field : Field) (n : ℕ) → ((s : ℕ) → IsGone h s → IsFieldOf s field → ⊥)
+kept_by : {m : Memory} {h : List Mark} (field : Field) (n : ℕ) → ((s : ℕ) → IsGone h s → IsFieldOf s field → ⊥)
     → KeepsPast m h (stored m field n)
-kept_by m h field n none = record { content = λ s other gone of. kept_case s other gone of (same_field field other) refl }
+kept_by {m} {h} field n none = record { content = λ s other gone of. kept_case s other gone of (same_field field other) refl }
   where
     kept_case : (s : ℕ) (other : Field) → IsGone h s → IsFieldOf s other → (b : Bool) → same_field field other ≡ b
         → stored m field n other ≡ m other
@@ -422,14 +422,12 @@ module _ {capacities : List ℕ} {places tickets : ℕ} {m : Memory} {vs : List 
   keeps act.LoadFront d = quiet act.LoadFront Front
   keeps (act.Enter key) d =
       let a : Act = act.Enter key in let f = Readers (key % 64) in let u : View = noted v a (m f) in
-      marked a (stored m f (m f + 1)) (after_enter u key h) (marks_of v a) (kept_by m h f (m f + 1) (λ s gone of. of))
-      (λ us now. law_enter now key d.0 works d.1.0)
+      marked a _ _ _ (kept_by f (m f + 1) (λ s gone of. of)) (λ us now. law_enter now key d.0 works d.1.0)
   keeps act.Leave d =
       let a : Act = act.Leave in let u : View = noted v a (m (field_of v a)) in let f = Readers (d.0.key % 64) in
       subst (λ (z : Section). Kept (stored m (Readers (z.key % 64)) (m (Readers (z.key % 64)) - 1)) (after_leave u z h)
       (LeftMark v.place z.count ∷ [])) (sym (section_is v d.0 d.1))
-      (marked a (stored m f (m f - 1)) (after_leave u d.0 h) (LeftMark v.place d.0.count ∷ []) (kept_by m h f (m f - 1) (λ s gone of. of))
-      (λ us now. law_leave now d.0 d.1))
+      (marked a _ _ _ (kept_by f (m f - 1) (λ s gone of. of)) (λ us now. law_leave now d.0 d.1))
   keeps (act.SearchLoad f) d =
       let a : Act = act.SearchLoad f in let u : View = noted v a (m f) in
       subst (λ (z : Section). Kept (stored m f (m f)) (after_search_load u z f (m f)) []) (sym (section_is v d.0 d.1))
@@ -438,15 +436,13 @@ module _ {capacities : List ℕ} {places tickets : ℕ} {m : Memory} {vs : List 
       let a : Act = act.Lock c in let n : ℕ = m (Lock c) in let u : View = noted v a n in
       let mine : View = record u { hold = Some (fresh_hold c) } in dite (ℕ_discrete n 0)
       (λ free. subst (λ b. Kept (stored m (Lock c) (cond b (v.place + 1) n)) (cond b mine u) []) (sym (eq-eqb n 0 free))
-      (unmarked a (stored m (Lock c) (v.place + 1)) mine (kept_by m h (Lock c) (v.place + 1) (λ s gone of. of))
-      (λ us now. law_lock now c d.0 d.1 works free)))
+      (unmarked a _ _ (kept_by (Lock c) (v.place + 1) (λ s gone of. of)) (λ us now. law_lock now c d.0 d.1 works free)))
       (λ taken. subst (λ b. Kept (stored m (Lock c) (cond b (v.place + 1) n)) (cond b mine u) []) (sym (ne_eqb n 0 taken))
       (quiet a (Lock c)))
   keeps act.Unlock d =
       let a : Act = act.Unlock in let u : View = noted v a 0 in
       held (λ z. Kept (stored m (Lock z.class) 0) (after_unlock u) []) d.0 d.1.hold_is
-      (unmarked a (stored m (Lock d.0.class) 0) (after_unlock u) (kept_by m h (Lock d.0.class) 0 (λ s gone of. of))
-      (λ us now. law_unlock now d.0 (search rules)))
+      (unmarked a _ _ (kept_by (Lock d.0.class) 0 (λ s gone of. of)) (λ us now. law_unlock now d.0 (search rules)))
   keeps act.LoadReaders d =
       let a : Act = act.LoadReaders in let u : View = noted v a (m (field_of v a)) in
       let f = Readers d.0.class in let clear : View = record u { hold = Some (record d.0 { clear = true }) } in
@@ -462,65 +458,54 @@ module _ {capacities : List ℕ} {places tickets : ℕ} {m : Memory} {vs : List 
   keeps (act.TakeSlot slot next) d =
       let a : Act = act.TakeSlot slot next in let u : View = noted v a next in let f = Free d.0.class in
       held (λ z. Kept (stored m (Free z.class) next) (after_take u z slot next h) (Given slot ∷ [])) d.0 d.1.hold_is
-      (marked a (stored m f next) (after_take u d.0 slot next h) (Given slot ∷ []) (kept_by m h f next (λ s gone of. of))
-      (λ us now. law_take now d.1.hold_is slot next (search rules)))
+      (marked a _ _ _ (kept_by f next (λ s gone of. of)) (λ us now. law_take now d.1.hold_is slot next (search rules)))
   keeps (act.TakeRetired slot) d =
       let a : Act = act.TakeRetired slot in let u : View = noted v a 0 in let f = Retired d.0.class in
       held (λ z. Kept (stored m (Retired z.class) 0) (after_move u z slot) []) d.0 d.1.hold_is
-      (unmarked a (stored m f 0) (after_move u d.0 slot) (kept_by m h f 0 (λ s gone of. of))
-      (λ us now. law_move now d.1.hold_is slot (search rules)))
+      (unmarked a _ _ (kept_by f 0 (λ s gone of. of)) (λ us now. law_move now d.1.hold_is slot (search rules)))
   keeps (act.FreeRetired slot) d =
       let a : Act = act.FreeRetired slot in let u : View = noted v a slot in let f = Free d.0.class in
       held (λ z. Kept (stored m (Free z.class) slot) (after_refill u z slot) []) d.0 d.1.hold_is
-      (unmarked a (stored m f slot) (after_refill u d.0 slot) (kept_by m h f slot (λ s gone of. of))
-      (λ us now. law_refill now d.1.hold_is slot (search rules)))
+      (unmarked a _ _ (kept_by f slot (λ s gone of. of)) (λ us now. law_refill now d.1.hold_is slot (search rules)))
   keeps (act.StoreChain slot number) d =
       let a : Act = act.StoreChain slot number in let u : View = noted v a number in let f = Chain slot in
       held (λ z. Kept (stored m f number) (after_chain u z slot number) []) d.0 d.1.0
-      (unmarked a (stored m f number) (after_chain u d.0 slot number) (kept_by m h f number (λ s gone of. of))
-      (λ us now. law_chain now d.1.0 slot number d.1))
+      (unmarked a _ _ (kept_by f number (λ s gone of. of)) (λ us now. law_chain now d.1.0 slot number d.1))
   keeps (act.Retire slot) d =
       let a : Act = act.Retire slot in let u : View = noted v a slot in let f = Retired d.0.class in
       held (λ z. Kept (stored m (Retired z.class) slot) (after_push u z slot) []) d.0 d.2.hold_is
-      (unmarked a (stored m f slot) (after_push u d.0 slot) (kept_by m h f slot (λ s gone of. of))
-      (λ us now. law_push now d.2.hold_is slot d.1 (search rules)))
+      (unmarked a _ _ (kept_by f slot (λ s gone of. of)) (λ us now. law_push now d.2.hold_is slot d.1 (search rules)))
   keeps (act.Fill f number) d =
       let a : Act = act.Fill f number in let u : View = noted v a number in
       held (λ z. Kept (stored m f number) (after_write u z f number) []) d.0 d.2.hold_is
-      (unmarked a (stored m f number) (after_write u d.0 f number) (kept_by m h f number (written d.0 d.1 f d.2))
-      (λ us now. law_write now d.2.hold_is d.1 f number (search rules)))
+      (unmarked a _ _ (kept_by f number (written d.0 d.1 f d.2)) (λ us now. law_write now d.2.hold_is d.1 f number (search rules)))
   keeps (act.OpenCommit even) d =
       let a : Act = act.OpenCommit even in let n : ℕ = m Front in let u : View = noted v a n in
       let mine : View = record u { commit = Some (record { found = even; stored = false }) } in dite (ℕ_discrete n even)
       (λ free. subst (λ b. Kept (stored m Front (cond b (even + 1) n)) (cond b mine u) []) (sym (eq-eqb n even free))
-      (unmarked a (stored m Front (even + 1)) mine (kept_by m h Front (even + 1) (λ s gone of. of))
-      (λ us now. law_commit now d.0 even d.1 free)))
+      (unmarked a _ _ (kept_by Front (even + 1) (λ s gone of. of)) (λ us now. law_commit now d.0 even d.1 free)))
       (λ taken. subst (λ b. Kept (stored m Front (cond b (even + 1) n)) (cond b mine u) []) (sym (ne_eqb n even taken)) (quiet a Front))
   keeps (act.LinkSlot slot key value) d =
       let a : Act = act.LinkSlot slot key value in let u : View = noted v a slot in let f = Head d.0.class in
       odd (λ z even. Kept (stored m (Head z.class) slot) (after_link u z even slot key value h) (marks_of v a))
       d.0 d.1 d.3.commit.hold_is d.3.commit.commit_is
-      (marked a (stored m f slot) (after_link u d.0 d.1 slot key value h) (marks_of v a) (kept_by m h f slot (λ s gone of. of))
-      (λ us now. law_link now d.3.commit.hold_is d.1 slot key value d.2 (search rules)))
+      (marked a _ _ _ (kept_by f slot (λ s gone of. of)) (λ us now. law_link now d.3.commit.hold_is d.1 slot key value d.2 (search rules)))
   keeps (act.UnlinkSlot f slot key next) d =
       let a : Act = act.UnlinkSlot f slot key next in let u : View = noted v a next in
       odd (λ z even. Kept (stored m f next) (after_unlink u z even f slot key next h) (marks_of v a))
       d.0 d.1 d.2.commit.hold_is d.2.commit.commit_is
-      (marked a (stored m f next) (after_unlink u d.0 d.1 f slot key next h) (marks_of v a)
-      (kept_by m h f next (linked_at d.0 d.2.commit.hold_is f d.2.link_is))
+      (marked a _ _ _ (kept_by f next (linked_at d.0 d.2.commit.hold_is f d.2.link_is))
       (λ us now. law_unlink now d.2.commit.hold_is d.1 f slot key next (search rules)))
   keeps (act.ReplaceValue slot key value) d =
       let a : Act = act.ReplaceValue slot key value in let u : View = noted v a value in let f = Value slot in
       odd (λ z even. Kept (stored m f value) (after_replace u z even slot key value h) (marks_of v a))
       d.0 d.1 d.2.commit.hold_is d.2.commit.commit_is
-      (marked a (stored m f value) (after_replace u d.0 d.1 slot key value h) (marks_of v a)
-      (kept_by m h f value (λ s gone of. walked d.0 d.2.commit.hold_is slot d.2.on_walk s (sym of) gone))
+      (marked a _ _ _ (kept_by f value (λ s gone of. walked d.0 d.2.commit.hold_is slot d.2.on_walk s (sym of) gone))
       (λ us now. law_replace now d.2.commit.hold_is d.1 slot key value (search rules)))
   keeps (act.CloseCommit front) d =
       let a : Act = act.CloseCommit front in let u : View = noted v a front in
       subst (λ z. Kept (stored m Front z) (after_even u) []) (sym d.2)
-      (unmarked a (stored m Front (d.0 + 2)) (after_even u) (kept_by m h Front (d.0 + 2) (λ s gone of. of))
-      (λ us now. law_even now d.0 d.1))
+      (unmarked a _ _ (kept_by Front (d.0 + 2) (λ s gone of. of)) (λ us now. law_even now d.0 d.1))
 
 pub acts_keep : ActsKeep
 acts_keep capacities places tickets m vs h id v a r at works needs = keeps (record { rule = r; at = at }) works a needs

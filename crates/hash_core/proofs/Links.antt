@@ -6,7 +6,6 @@ use mathlib.Core.Option.{some}
 use native.Mathlib.Decide.{ℕ_discrete}
 use lib.ListN.{get_elem?}
 use Rattle.prcu_marks.specs.declared.mark.Mark.{Mark}
-use Rattle.prcu_marks.specs.declared.mark.Mark.TheVariants.{Done}
 use Rattle.prcu_model.specs.declared.operation.Op.{Op}
 use Rattle.prcu_model.specs.declared.operation.Op.TheVariants.{Put, Set}
 use Rattle.prcu_model.specs.declared.operation.Update.{Update}
@@ -21,7 +20,7 @@ use Rattle.hash_core.specs.declared.view.View.{View}
 use Rattle.list_laws.specs.Counts.{times}
 use Rattle.hash_core.specs.Memory.{IsPath, Memory, stored, is_slot_of, AreMarks, ReuseByClass}
 use Rattle.prcu_marks.specs.Marks.{updates_of, open_at, gone_at, IsGone, entered_at, last_unlinked}
-use Rattle.hash_core.specs.Steps.{knowing, ShowsAbsent, IsOnWalk, NeedsLink, after_link, NeedsReplace, after_replace}
+use Rattle.hash_core.specs.Steps.{knowing, ShowsAbsent, IsOnWalk, NeedsLink, after_link, NeedsReplace, after_replace, done_by}
 use Rattle.hash_core.specs.Rule.{Bucket, seek, IsFreeOfReaders, taken_of, unlinked_of, HaveDistinctKeys, AreAnswered, WillAnswer, IsHeldBack, HasWay, open_of, BucketRule, MemoryRule}
 use Rattle.prcu_model.proofs.ListFacts.{all_map}
 use Rattle.list_laws.proofs.Lists.{all_times}
@@ -93,33 +92,33 @@ module _ {capacities : List ℕ} {places tickets : ℕ} {m : Memory} {vs : List 
         ∙ get-updated_other (map_of (updates_of h)) u.op key (λ e. ne (sym of ∙ ap (λ z. z % 64) e ∙ class));
   }
 
-  module _ (even : ℕ) (op : Op) where
+  module _ (op : Op) where
     abbrev update : Update
     update = record { caller = v.place; op = op }
 
     abbrev h_done : List Mark
-    h_done = h ++ Done (record { caller = v.place; op = op }) ∷ []
+    h_done = h ++ done_by v op ∷ []
 
     pub done_longer : updates_of h_done ≡ updates_of h ++ update ∷ []
-    done_longer = updates_of-append h (Done update ∷ [])
+    done_longer = updates_of-append h (done_by v op ∷ [])
 
     pub done_gone : (s : ℕ) → gone_at s h_done ≡ gone_at s h
-    done_gone s = gone_at-same h (Done update) tt s
+    done_gone s = gone_at-same h (done_by v op) tt s
 
     pub done_last : (s : ℕ) → last_unlinked s h_done ≡ last_unlinked s h
-    done_last s = last_unlinked-same h (Done update) tt s
+    done_last s = last_unlinked-same h (done_by v op) tt s
 
     pub done_open : (p : ℕ) → open_at p h_done ≡ open_at p h
-    done_open p = open_at-same h (Done update) tt p
+    done_open p = open_at-same h (done_by v op) tt p
 
     pub done_entered : (p : ℕ) → entered_at p h_done ≡ entered_at p h
-    done_entered p = let a = entered_at-append p h (Done update ∷ []) in omega arith
+    done_entered p = let a = entered_at-append p h (done_by v op ∷ []) in omega arith
 
     pub done_marks : AreMarks places h_done
-    done_marks = marks_snoc places h (Done update) tt seat.rule.marks
+    done_marks = marks_snoc places h (done_by v op) tt seat.rule.marks
 
     pub done_reuse : ReuseByClass capacities h_done
-    done_reuse = reuse_more capacities h (Done update) (λ s e. absurd (cc)) seat.rule.reuse
+    done_reuse = reuse_more capacities h (done_by v op) (λ s e. absurd (cc)) seat.rule.reuse
 
     pub free_done : (w : View) → w.section ≡ v.section → (s : ℕ) → IsFreeOfReaders hold.class h vs s
         → IsFreeOfReaders hold.class h_done (set vs id w) s
@@ -147,7 +146,7 @@ module _ {capacities : List ℕ} {places tickets : ℕ} {m : Memory} {vs : List 
     m_link = stored m (Head hold.class) slot
 
     abbrev h_link : List Mark
-    h_link = h ++ Done (record { caller = v.place; op = Put key value }) ∷ []
+    h_link = h ++ done_by v (Put key value) ∷ []
 
     abbrev w_link : View
     w_link = after_link v hold even slot key value h
@@ -173,9 +172,9 @@ module _ {capacities : List ℕ} {places tickets : ℕ} {m : Memory} {vs : List 
     mapped_link : (k : ℕ) → k % 64 ≡ hold.class → finite.get (map_of (updates_of h_link)) k ≡ seek m_link k (slot ∷ chain_now)
     mapped_link k class = dite (ℕ_discrete k key)
         (λ e. subst (λ z. finite.get (map_of (updates_of h_link)) z ≡ seek m_link z (slot ∷ chain_now)) (sym e)
-        (get_done even (Put key value) key ∙ get-put (map_of (updates_of h)) key value absent_link ∙ ap Some (sym is_value_link)
+        (get_done (Put key value) key ∙ get-put (map_of (updates_of h)) key value absent_link ∙ ap Some (sym is_value_link)
         ∙ sym (seek_here m_link key slot chain_now is_key_link)))
-        (λ ne. get_done_other even (Put key value) k ne ∙ bucket_rule.mapped.answers k class
+        (λ ne. get_done_other (Put key value) k ne ∙ bucket_rule.mapped.answers k class
         ∙ sym (seek-same m m_link k chain_now (λ s _. (refl, refl))) ∙ sym (seek_past m_link k slot chain_now (λ e. ne (sym e ∙ is_key_link))))
 
     distinct_link : HaveDistinctKeys m_link (slot ∷ chain_now)
@@ -188,8 +187,8 @@ module _ {capacities : List ℕ} {places tickets : ℕ} {m : Memory} {vs : List 
     law_link =
         let held : (seat.rule.bucket hold.class).hold ≡ Some hold = had seat mine in
         after_step seat w_link (seats_updated seat mine needs.commit (Put key value) new_link refl m_link refl []
-        (done_longer even (Put key value)) (λ p. refl) (done_open even (Put key value)) (done_entered even (Put key value))
-        (done_marks even (Put key value)) (done_reuse even (Put key value)) absent_link)
+        (done_longer (Put key value)) (λ p. refl) (done_open (Put key value)) (done_entered (Put key value))
+        (done_marks (Put key value)) (done_reuse (Put key value)) absent_link)
         hold.class b_link
         (λ _. record {
           chained = record {
@@ -218,36 +217,36 @@ module _ {capacities : List ℕ} {places tickets : ℕ} {m : Memory} {vs : List 
           known = known_after seat mine (Head hold.class) slot refl new_link refl;
           ages = record {
             chain = (
-              done_gone even (Put key value) slot ∙ bucket_rule.ages.taken slot (ap taken_of held ∙ needs.taken),
+              done_gone (Put key value) slot ∙ bucket_rule.ages.taken slot (ap taken_of held ∙ needs.taken),
               all_map (λ s. gone_at s h ≡ None) (λ s. gone_at s h_link ≡ None) chain_now
-                  (λ s p. done_gone even (Put key value) s ∙ p) bucket_rule.ages.chain,
+                  (λ s p. done_gone (Put key value) s ∙ p) bucket_rule.ages.chain,
             );
             taken = λ s is. absurd (cc);
             retired = all_map (IsGone h) (IsGone h_link) (seat.rule.bucket hold.class).retired
-                (λ s p. (p.0, done_gone even (Put key value) s ∙ p.1)) bucket_rule.ages.retired;
+                (λ s p. (p.0, done_gone (Put key value) s ∙ p.1)) bucket_rule.ages.retired;
             moved = all_map (IsGone h) (IsGone h_link) (seat.rule.bucket hold.class).moved
-                (λ s p. (p.0, done_gone even (Put key value) s ∙ p.1)) bucket_rule.ages.moved;
+                (λ s p. (p.0, done_gone (Put key value) s ∙ p.1)) bucket_rule.ages.moved;
             unlinked = λ s is. let p = bucket_rule.ages.unlinked s (ap unlinked_of held ∙ is) in
-                (p.0, done_gone even (Put key value) s ∙ p.1);
+                (p.0, done_gone (Put key value) s ∙ p.1);
           };
           counted = record { readers = (counted_still seat hold.class w_link refl bucket_rule.counted).readers };
-          clean = clean_by capacities hold.class h h_link vs (set vs id w_link) (seat.rule.bucket hold.class) _ (free_done even (Put key value) w_link refl)
+          clean = clean_by capacities hold.class h h_link vs (set vs id w_link) (seat.rule.bucket hold.class) _ (free_done (Put key value) w_link refl)
               refl refl (λ other is yes s of. let e : new_link ≡ other = cc in
               bucket_rule.clean.clear hold held (ap (λ (z : Hold). z.clear) e ∙ yes) s of) bucket_rule.clean;
           answered = answered_from w_link refl m_link h_link (updates_of h_link) (slot ∷ chain_now)
               (λ section entered from class state. will_still (record {
                 linked = λ t _. (refl, refl, refl);
                 old = λ t _ _. (refl, refl, refl);
-                held = λ t _ p. (p.0, done_gone even (Put key value) t ∙ p.1, p.2);
+                held = λ t _ p. (p.0, done_gone (Put key value) t ∙ p.1, p.2);
                 joins = λ front rest e. (slot ∷ front, ap (λ z. slot ∷ z) e);
-                said = said_done even (Put key value) section;
+                said = said_done (Put key value) section;
               }) state)
-              (said_done even (Put key value));
+              (said_done (Put key value));
         })
         (λ d _ ne. record {
           words = class_words capacities hold.class d m slot ne (Head hold.class) refl;
-          marks = marks_elsewhere d ne (record { caller = v.place; op = Put key value }) needs.class h_link (done_longer even (Put key value))
-              (λ s _. done_gone even (Put key value) s) (λ s _. done_last even (Put key value) s);
+          marks = marks_elsewhere d ne (record { caller = v.place; op = Put key value }) needs.class h_link (done_longer (Put key value))
+              (λ s _. done_gone (Put key value) s) (λ s _. done_last (Put key value) s);
           view = elsewhere_held seat d hold new_link mine refl ne w_link refl refl refl;
         })
 
@@ -260,7 +259,7 @@ module _ {capacities : List ℕ} {places tickets : ℕ} {m : Memory} {vs : List 
     m_replace = stored m (Value slot) value
 
     abbrev h_replace : List Mark
-    h_replace = h ++ Done (record { caller = v.place; op = Set key value }) ∷ []
+    h_replace = h ++ done_by v (Set key value) ∷ []
 
     abbrev w_replace : View
     w_replace = after_replace v hold even slot key value h
@@ -277,9 +276,6 @@ module _ {capacities : List ℕ} {places tickets : ℕ} {m : Memory} {vs : List 
     class_replace : key % 64 ≡ hold.class
     class_replace = ap (λ z. z % 64) (sym is_key_replace) ∙ all_times
         (λ s. m (Key s) % 64 ≡ hold.class) chain_now slot bucket_rule.chained.classes there_replace
-
-    abbrev cut_replace : (ys zs : List ℕ) × (chain_now ≡ ys ++ slot ∷ zs)
-    cut_replace = cut_at slot chain_now there_replace
 
     found_replace : (old : ℕ) × (seek m key chain_now ≡ Some old)
     found_replace = let f = seek_some m key slot (cut_at slot chain_now there_replace).0 (cut_at slot chain_now there_replace).1 is_key_replace in
@@ -310,8 +306,8 @@ module _ {capacities : List ℕ} {places tickets : ℕ} {m : Memory} {vs : List 
     mapped_replace : (k : ℕ) → k % 64 ≡ hold.class → finite.get (map_of (updates_of h_replace)) k ≡ seek m_replace k chain_now
     mapped_replace k class = dite (ℕ_discrete k key)
         (λ e. subst (λ z. finite.get (map_of (updates_of h_replace)) z ≡ seek m_replace z chain_now) (sym e)
-        (get_done even (Set key value) key ∙ get-set (map_of (updates_of h)) key value present_replace ∙ ap Some (sym new_value_replace) ∙ sym now_replace))
-        (λ ne. get_done_other even (Set key value) k ne ∙ bucket_rule.mapped.answers k class
+        (get_done (Set key value) key ∙ get-set (map_of (updates_of h)) key value present_replace ∙ ap Some (sym new_value_replace) ∙ sym now_replace))
+        (λ ne. get_done_other (Set key value) k ne ∙ bucket_rule.mapped.answers k class
         ∙ elim (search_replace k chain_now) [ inl e ↦ sym e | inr e ↦ absurd (ne (sym e.0 ∙ is_key_replace)) ])
       where
         now_replace : seek m_replace key chain_now ≡ Some (m_replace (Value slot))
@@ -325,11 +321,11 @@ module _ {capacities : List ℕ} {places tickets : ℕ} {m : Memory} {vs : List 
         → WasSaid (updates_of h_replace) section.key section.from (seek m_replace section.key xs)
     said_way_replace section from xs said = elim (search_replace section.key xs) [
       | inl e ↦ subst (WasSaid (updates_of h_replace) section.key section.from) (sym e)
-          (said_done even (Set key value) section (seek m section.key xs) said)
+          (said_done (Set key value) section (seek m section.key xs) said)
       | inr e ↦
           let key_is : section.key ≡ key = sym e.0 ∙ is_key_replace in
           subst (WasSaid (updates_of h_replace) section.key section.from) (sym e.1)
-          (subst (λ z. WasSaid z section.key section.from (Some value)) (sym (done_longer even (Set key value)))
+          (subst (λ z. WasSaid z section.key section.from (Some value)) (sym (done_longer (Set key value)))
           (said_after (updates_of h) (record { caller = v.place; op = Set key value }) section.key section.from (Some value) from
           (ap (finite.get (updated (map_of (updates_of h)) (Set key value))) key_is
           ∙ get-set (map_of (updates_of h)) key value present_replace)))
@@ -345,7 +341,7 @@ module _ {capacities : List ℕ} {places tickets : ℕ} {m : Memory} {vs : List 
       some = way.some;
       path = way.path;
       held = all_map (IsHeldBack h section) (IsHeldBack h_replace section) way.olds
-          (λ t p. (p.0, done_gone even (Set key value) t ∙ p.1, p.2)) way.held;
+          (λ t p. (p.0, done_gone (Set key value) t ∙ p.1, p.2)) way.held;
       slots = way.slots;
       joins = way.joins;
       said = said_way_replace section from (way.olds ++ way.rest) way.said;
@@ -358,15 +354,15 @@ module _ {capacities : List ℕ} {places tickets : ℕ} {m : Memory} {vs : List 
     will_replace section from (Unread s) a = way_replace section from s a
     will_replace section from (Passed s) a = (way_replace section from s a.0, a.1)
     will_replace section from (Found s) a = (way_replace section from s a.0, a.1)
-    will_replace section from Ended a = said_done even (Set key value) section None a
+    will_replace section from Ended a = said_done (Set key value) section None a
 
     pub law_replace : MemoryRule capacities places tickets m_replace (set vs id (after_replace v hold even slot key value h)) h_replace
     law_replace =
         let held : (seat.rule.bucket hold.class).hold ≡ Some hold = had seat mine in
-        let gone : (s : ℕ) → gone_at s h_replace ≡ gone_at s h = done_gone even (Set key value) in
+        let gone : (s : ℕ) → gone_at s h_replace ≡ gone_at s h = done_gone (Set key value) in
         after_step seat w_replace (seats_updated seat mine needs.commit (Set key value) new_replace refl m_replace refl []
-        (done_longer even (Set key value)) (λ p. refl) (done_open even (Set key value)) (done_entered even (Set key value))
-        (done_marks even (Set key value)) (done_reuse even (Set key value)) present_replace)
+        (done_longer (Set key value)) (λ p. refl) (done_open (Set key value)) (done_entered (Set key value))
+        (done_marks (Set key value)) (done_reuse (Set key value)) present_replace)
         hold.class (record (seat.rule.bucket hold.class) { hold = Some new_replace })
         (λ _. record {
           chained = record {
@@ -391,15 +387,15 @@ module _ {capacities : List ℕ} {places tickets : ℕ} {m : Memory} {vs : List 
             unlinked = λ s is. let p = bucket_rule.ages.unlinked s (ap unlinked_of held ∙ is) in (p.0, gone s ∙ p.1);
           };
           counted = record { readers = (counted_still seat hold.class w_replace refl bucket_rule.counted).readers };
-          clean = clean_by capacities hold.class h h_replace vs (set vs id w_replace) (seat.rule.bucket hold.class) _ (free_done even (Set key value) w_replace refl)
+          clean = clean_by capacities hold.class h h_replace vs (set vs id w_replace) (seat.rule.bucket hold.class) _ (free_done (Set key value) w_replace refl)
               refl refl (λ other is yes s of. let e : new_replace ≡ other = cc in
               bucket_rule.clean.clear hold held (ap (λ (z : Hold). z.clear) e ∙ yes) s of) bucket_rule.clean;
           answered = answered_from w_replace refl m_replace h_replace (updates_of h_replace) chain_now
-              (λ section entered from class state. will_replace section from state) (said_done even (Set key value));
+              (λ section entered from class state. will_replace section from state) (said_done (Set key value));
         })
         (λ d _ ne. record {
           words = class_words capacities hold.class d m value ne (Value slot) slot_of_replace;
-          marks = marks_elsewhere d ne (record { caller = v.place; op = Set key value }) class_replace h_replace (done_longer even (Set key value))
-              (λ s _. gone s) (λ s _. done_last even (Set key value) s);
+          marks = marks_elsewhere d ne (record { caller = v.place; op = Set key value }) class_replace h_replace (done_longer (Set key value))
+              (λ s _. gone s) (λ s _. done_last (Set key value) s);
           view = elsewhere_held seat d hold new_replace mine refl ne w_replace refl refl refl;
         })

@@ -14,14 +14,13 @@ use Rattle.prcu_marks.specs.declared.commit.Commit.{Commit}
 use Rattle.hash_core.specs.declared.view.View.{View}
 use Rattle.hash_core.specs.Memory.{IsPath, Memory, same_field, stored, is_slot_of, IsOfClass, AreMarks, ReuseByClass}
 use Rattle.prcu_marks.specs.Marks.{updates_of, open_at, own_of, entered_at, updates_by}
-use Rattle.hash_core.specs.Steps.{known_in, knowing, IsQuiet, fresh_hold, NeedsUnlock, after_unlock, NeedsCommit, NeedsEven, after_even, HasCommit, updated_view}
+use Rattle.hash_core.specs.Steps.{done_by, known_in, knowing, IsQuiet, fresh_hold, NeedsUnlock, after_unlock, NeedsCommit, NeedsEven, after_even, HasCommit, updated_view}
 use Rattle.hash_core.specs.Rule.{Bucket, inside_count, AreCounted, HoldsOther, IsLocked, AreClean, IsFreeOfReaders, HaveOneRole, taken_of, unlinked_of, moved_of, link_of, AreAnswered, HasNoCommit, IsTurned, AreOwned, AreSeen, BucketRule, MemoryRule, roles_of}
 use Rattle.prcu_model.specs.Dictionary.{WasSaid, updated, map_of, IsUpdateAt, IsLegal}
 use Rattle.prcu_model.proofs.ListFacts.{prefix_self}
 use Rattle.list_laws.proofs.Lists.{each_set, total_set, total_part, only_at, only_here}
 use Rattle.hash_core.proofs.Frames.{SameSlots, SameSection, SameHold, SameView, clean_by, same_words, lock_words, front_words, stored_here, same_self, same_is, WillBeTold, still_told, answered_set, told_of}
 use Rattle.hash_core.proofs.SeatFrames.{Seated, seen_same, seen_whole, apart_same, owned_same, open_same, held_still, turned_same, same_marks, same_section, same_hold, seats_same, section_back, section_forth, tickets_same, no_marks, seat_holds, SeatsRule, after_step, after_quiet, owned_more}
-use Rattle.prcu_marks.specs.declared.mark.Mark.TheVariants.{Done}
 use Rattle.prcu_model.specs.declared.operation.Op.{Op}
 use Rattle.prcu_model.proofs.Dictionaries.{map_of-push}
 use Rattle.prcu_marks.proofs.Callers.{legal_more, said_now}
@@ -502,29 +501,29 @@ module _ {capacities : List ℕ} {places tickets : ℕ} {m : Memory} {vs : List 
   ]
 
   module _ (op : Op) (new : Hold) (class : new.class ≡ hold.class) (m' : Memory) (front : m' Front ≡ m Front) (more : List Mark)
-      (longer : updates_of (h ++ Done (record { caller = v.place; op = op }) ∷ more) ≡ updates_of h
+      (longer : updates_of (h ++ done_by v op ∷ more) ≡ updates_of h
       ++ record { caller = v.place; op = op } ∷ [])
       (none : (p : ℕ) → own_of p more ≡ [])
-      (opened : (p : ℕ) → open_at p (h ++ Done (record { caller = v.place; op = op }) ∷ more) ≡ open_at p h)
-      (entered : (p : ℕ) → entered_at p (h ++ Done (record { caller = v.place; op = op }) ∷ more) ≡ entered_at p h)
-      (order : AreMarks places (h ++ Done (record { caller = v.place; op = op }) ∷ more))
-      (reuse : ReuseByClass capacities (h ++ Done (record { caller = v.place; op = op }) ∷ more))
+      (opened : (p : ℕ) → open_at p (h ++ done_by v op ∷ more) ≡ open_at p h)
+      (entered : (p : ℕ) → entered_at p (h ++ done_by v op ∷ more) ≡ entered_at p h)
+      (order : AreMarks places (h ++ done_by v op ∷ more))
+      (reuse : ReuseByClass capacities (h ++ done_by v op ∷ more))
       (is_update : IsUpdateAt (map_of (updates_of h)) op)
     where
       abbrev w_new : View
       w_new = updated_view v new even op h more
 
       abbrev h_new : List Mark
-      h_new = h ++ Done (record { caller = v.place; op = op }) ∷ more
+      h_new = h ++ done_by v op ∷ more
 
       one_longer : length (updates_of h_new) ≡ length (updates_of h) + 1
       one_longer = ap length longer ∙ length-append (updates_of h) (record { caller = v.place; op = op } ∷ [])
 
       pub seats_updated : SeatsRule capacities places tickets m' (set vs id w_new) h_new
       seats_updated = record {
-        seen = seen_whole seat w_new h_new refl refl (Done (record { caller = v.place; op = op }) ∷ more, refl);
+        seen = seen_whole seat w_new h_new refl refl (done_by v op ∷ more, refl);
         apart = apart_same seat w_new (record { place = refl; places = refl; joined = refl });
-        owned = owned_more seat w_new more (Done (record { caller = v.place; op = op }))
+        owned = owned_more seat w_new more (done_by v op)
             (record { place = refl; places = refl; joined = refl }) (works seat mine) refl refl
             (eq-eqb v.place v.place refl) (λ p ne. ne_eqb v.place p (λ e. ne (sym e))) none;
         sections = open_same seat w_new h_new refl refl refl (section_back v w_new refl)

@@ -131,9 +131,6 @@ reuse_more capacities h m none reuse j s c i p o given of gone there class =
     past_snoc (λ (past : List Mark) (a : Mark). a ≡ Given s → last_unlinked s past ≡ Some i → open_at p past ≡ Some o → i < o.at) h m
     (Given s) (λ e _ _. absurd (none s e)) (λ n old _ last now. reuse n s c i p o old of last now class) j given refl gone there
 
-pub reuse_nothing : (capacities : List ℕ) (h : List Mark) → ReuseByClass capacities h → ReuseByClass capacities (h ++ [])
-reuse_nothing capacities h reuse = subst (ReuseByClass capacities) (sym (append-nil h)) reuse
-
 -- What keeps the parts of the rule on seats.
 
 -- The rule holds, and this view is one of the list: what the law of a step begins with.

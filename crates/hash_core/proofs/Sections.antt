@@ -357,9 +357,6 @@ module _ {capacities : List ℕ} {places tickets : ℕ} {m : Memory} {vs : List 
 
     -- H5: where the search goes on, its way goes on
     module _ (c : ℕ) (small : c < 64) (class : section.key % 64 ≡ c) where
-      chain_load : List ℕ
-      chain_load = (seat.rule.bucket c).chain
-
       -- what the dictionary says now
       says : (answer : Option ℕ) → seek m section.key (seat.rule.bucket c).chain ≡ answer → WasSaid (updates_of h) section.key section.from answer
       says answer is = subst (WasSaid (updates_of h) section.key section.from) ((seat.rule.buckets c small).mapped.answers section.key class ∙ is)

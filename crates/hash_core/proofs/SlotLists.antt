@@ -43,16 +43,6 @@ pub path_none : (next : ℕ → ℕ) (xs : List ℕ) → IsPath next 0 xs → xs
 path_none next [] path = refl
 path_none next (s ∷ ss) path = absurd (let a = path.0 in let b = path.1 in omega arith)
 
--- from a link there is one path
-pub one_path : (next : ℕ → ℕ) (first : ℕ) (xs ys : List ℕ) → IsPath next first xs → IsPath next first ys → xs ≡ ys
-one_path next first [] [] p q = refl
-one_path next first [] (y ∷ ys) p q = absurd (let a = q.0 in let b = q.1 in omega arith)
-one_path next first (x ∷ xs) [] p q = absurd (let a = p.0 in let b = p.1 in omega arith)
-one_path next first (x ∷ xs) (y ∷ ys) p q =
-    let e : x ≡ y = sym p.0 ∙ q.0 in
-    let rest : xs ≡ ys = one_path next (next x) xs ys p.2 (subst (λ z. IsPath next (next z) ys) (sym e) q.2) in
-    λ i. e i ∷ rest i
-
 -- a search finds the same where no key or value on its way changes
 pub seek-same : (m m' : Memory) (key : ℕ) (xs : List ℕ)
     → ((s : ℕ) → 1 ≤ times s xs → (m' (Key s) ≡ m (Key s)) × (m' (Value s) ≡ m (Value s))) → seek m' key xs ≡ seek m key xs

@@ -17,7 +17,7 @@ use Rattle.list_laws.specs.Counts.{times, total}
 use Rattle.hash_core.specs.Memory.{IsPath, Memory, same_field, stored, is_slot_of, IsOfClass, ReuseByClass}
 use Rattle.prcu_marks.specs.Marks.{updates_of, Open, open_at, gone_at, IsGone, last_unlinked}
 use Rattle.hash_core.specs.Steps.{known_in, knowing, NeedsTake, after_take, NeedsRefill, after_refill, NeedsMove, after_move, NeedsPush, after_push, NeedsChain, after_chain, IsFieldOf, NeedsWrite, after_write}
-use Rattle.hash_core.specs.Rule.{Bucket, IsKnown, IsFreeOfReaders, taken_of, unlinked_of, moved_of, link_of, AreClean, AreAnswered, IsTurned, BucketRule, MemoryRule, roles_of}
+use Rattle.hash_core.specs.Rule.{Bucket, IsKnown, IsFreeOfReaders, taken_of, unlinked_of, moved_of, link_of, AreClean, AreAnswered, IsTurned, BucketRule, MemoryRule, roles_of, HaveAges}
 use Rattle.prcu_model.proofs.ListFacts.{all_map}
 use Rattle.list_laws.proofs.Lists.{past_snoc, all_change, all_from_times, times_here, at_most_one}
 use Rattle.hash_core.proofs.SlotLists.{path_cons, path_none, IsPath-same, seek-same, HaveDistinctKeys-same, one_class, slot_within, KeepsWays, will_still}
@@ -76,6 +76,17 @@ module _ {capacities : List ℕ} {places tickets : ℕ} {m : Memory} {vs : List 
 
   pub moved_by : IsPath (λ s. m (Chain s)) (link_of hold.moved) (seat.rule.bucket hold.class).moved
   moved_by = subst (λ z. IsPath (λ s. m (Chain s)) (link_of (moved_of z)) (seat.rule.bucket hold.class).moved) had rule.listed.moved
+
+  -- when slots were unlinked, where it keeps what it has in hand
+  ages_by : (new : Hold) → new.taken ≡ hold.taken → new.unlinked ≡ hold.unlinked
+      → HaveAges h (record (seat.rule.bucket hold.class) { hold = Some new })
+  ages_by new taken unlinked = record {
+    chain = rule.ages.chain;
+    taken = λ s is. rule.ages.taken s (ap taken_of had ∙ sym taken ∙ is);
+    retired = rule.ages.retired;
+    moved = rule.ages.moved;
+    unlinked = λ s is. rule.ages.unlinked s (ap unlinked_of had ∙ sym unlinked ∙ is);
+  }
 
   -- a step that leaves no mark, and only changes what the holder knows and has in hand
   seats_held : (new : Hold) → new.class ≡ hold.class → (m' : Memory) → m' Front ≡ m Front
@@ -298,13 +309,7 @@ module _ {capacities : List ℕ} {places tickets : ℕ} {m : Memory} {vs : List 
           };
           locked = locked_by seat hold new_chain mine refl m_chain refl w refl refl;
           known = known_after (Chain slot) number slot_of_chain new_chain refl;
-          ages = record {
-            chain = rule.ages.chain;
-            taken = λ s is. rule.ages.taken s (ap taken_of had ∙ is);
-            retired = rule.ages.retired;
-            moved = rule.ages.moved;
-            unlinked = λ s is. rule.ages.unlinked s (ap unlinked_of had ∙ is);
-          };
+          ages = ages_by new_chain refl refl;
           counted = record { readers = (counted_still seat hold.class w refl rule.counted).readers };
           clean = clean_held new_chain refl;
           answered = answered_by w refl m_chain (seat.rule.bucket hold.class).chain (λ section. record {
@@ -395,13 +400,7 @@ module _ {capacities : List ℕ} {places tickets : ℕ} {m : Memory} {vs : List 
           };
           locked = locked_by seat hold new_write mine refl m_write words.lock w refl refl;
           known = known_after field number (of_class_write field f) new_write refl;
-          ages = record {
-            chain = rule.ages.chain;
-            taken = λ s is. rule.ages.taken s (ap taken_of had ∙ is);
-            retired = rule.ages.retired;
-            moved = rule.ages.moved;
-            unlinked = λ s is. rule.ages.unlinked s (ap unlinked_of had ∙ is);
-          };
+          ages = ages_by new_write refl refl;
           counted = record { readers = words.readers ∙ (counted_still seat c w refl rule.counted).readers };
           clean = clean_held new_write refl;
           answered = answered_by w refl m_write chain (λ section. record {
@@ -437,9 +436,6 @@ module _ {capacities : List ℕ} {places tickets : ℕ} {m : Memory} {vs : List 
     first_free = path_cons (λ s. m (Chain s)) slot (seat.rule.bucket hold.class).free needs.some
         (subst (λ z. IsPath (λ s. m (Chain s)) z (seat.rule.bucket hold.class).free)
         (is_known (Free hold.class) slot needs.first).1 rule.listed.free)
-
-    abbrev others_free : List ℕ
-    others_free = first_free.0
 
     slot_of_take : is_slot_of capacities hold.class slot ≡ true
     slot_of_take = free_slot rule.roles slot (let t = times_here slot first_free.0 in let e = ap (times slot) first_free.1 in omega arith)

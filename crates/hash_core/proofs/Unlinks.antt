@@ -4,7 +4,7 @@ use Rattle.std.specs.FinMap as finite
 use mathlib.Core.Logic.{dite}
 use native.Mathlib.Decide.{dec_le, ℕ_discrete}
 use Rattle.prcu_marks.specs.declared.mark.Mark.{Mark}
-use Rattle.prcu_marks.specs.declared.mark.Mark.TheVariants.{Done, Unlinked}
+use Rattle.prcu_marks.specs.declared.mark.Mark.TheVariants.{Unlinked}
 use Rattle.prcu_model.specs.declared.operation.Op.TheVariants.{Del}
 use Rattle.prcu_model.specs.Dictionary.{updated, map_of, WasSaid}
 use Rattle.prcu_model.proofs.Dictionaries.{map_of-push, get-updated_other, get-del}
@@ -18,19 +18,19 @@ use Rattle.hash_core.specs.declared.view.View.{View}
 use Rattle.list_laws.specs.Counts.{times}
 use Rattle.hash_core.specs.Memory.{IsPath, Memory, stored, is_slot_of, IsOfClass, AreMarks, ReuseByClass}
 use Rattle.prcu_marks.specs.Marks.{updates_of, open_at, gone_at, IsGone, entered_at, last_unlinked}
-use Rattle.hash_core.specs.Steps.{known_in, knowing, LinksTo, NeedsUnlink, after_unlink}
+use Rattle.hash_core.specs.Steps.{known_in, knowing, LinksTo, NeedsUnlink, after_unlink, done_by}
 use Rattle.hash_core.specs.Rule.{Bucket, seek, HaveDistinctKeys, IsFreeOfReaders, taken_of, link_of, WillAnswer, IsHeldBack, HasWay, BucketRule, MemoryRule, roles_of}
 use Rattle.prcu_model.proofs.ListFacts.{all_append, all_map}
 use Rattle.list_laws.proofs.Lists.{all_change, all_times, all_from_times, times_here, times_append}
 use Rattle.hash_core.proofs.SlotLists.{IsPath-same, path_cons, seek-same, seek_here, seek_past, seek_append, HaveDistinctKeys-same, one_class, path_past, path_back, cut_at, two_cuts, seek_without, distinct_without, seek_some}
-use Rattle.prcu_marks.proofs.Marks.{updates_of-append, entered_at-append, last_unlinked-same, last_unlinked-other}
-use Rattle.hash_core.proofs.SeatFrames.{Seated, marks_snoc, open_at-same, gone_at-same, gone_at-unlinked_here, gone_at-unlinked_other, reuse_more, after_step}
+use Rattle.prcu_marks.proofs.Marks.{updates_of-append, entered_at-append, last_unlinked-other}
+use Rattle.hash_core.proofs.SeatFrames.{Seated, marks_snoc, open_at-same, gone_at-unlinked_here, gone_at-unlinked_other, reuse_more, after_step}
 use Rattle.hash_core.proofs.Frames.{SameLists, chain_slot, class_words, stored_here, same_self}
 use Rattle.prcu_marks.proofs.Callers.{said_longer}
 use Rattle.hash_core.proofs.Sections.{free_each}
 use Rattle.hash_core.proofs.Locks.{counted_still, locked_by, elsewhere_held, said_after, seats_updated}
 use Rattle.hash_core.proofs.Stocks.{rule, had, is_known, known_after, roles_by, moved_by, one_role}
-use Rattle.hash_core.proofs.Links.{on_chain, answered_from, marks_elsewhere}
+use Rattle.hash_core.proofs.Links.{on_chain, answered_from, marks_elsewhere, done_open, done_gone, done_last, done_marks, done_reuse}
 
 -- A chain from which a slot is unlinked: the slots before it lead on past it.
 pub record Cut (head head' : ℕ) (next next' : ℕ → ℕ) (chain : List ℕ) (slot : ℕ) : Type 0 where
@@ -140,10 +140,10 @@ module _ {capacities : List ℕ} {places tickets : ℕ} {m : Memory} {vs : List 
   m_unlink = stored m link next
 
   abbrev h_done : List Mark
-  h_done = h ++ Done (record { caller = v.place; op = Del key }) ∷ []
+  h_done = h ++ done_by v (Del key) ∷ []
 
   abbrev h_unlink : List Mark
-  h_unlink = h ++ Done (record { caller = v.place; op = Del key }) ∷ Unlinked slot ∷ []
+  h_unlink = h ++ done_by v (Del key) ∷ Unlinked slot ∷ []
 
   abbrev w_unlink : View
   w_unlink = after_unlink v hold even link slot key next h
@@ -202,9 +202,6 @@ module _ {capacities : List ℕ} {places tickets : ℕ} {m : Memory} {vs : List 
   cut : Cut (m (Head hold.class)) (m_unlink (Head hold.class)) (λ s. m (Next s)) (λ s. m_unlink (Next s)) chain_now slot
   cut = cut_by link needs.link_is needs.linked
 
-  abbrev chain_unlink : List ℕ
-  chain_unlink = cut.before ++ cut.after
-
   -- the chain is that list and the slot
   counts : (x : ℕ) → times x chain_now ≡ times x (cut.before ++ cut.after) + times x (slot ∷ [])
   counts x =
@@ -239,38 +236,35 @@ module _ {capacities : List ℕ} {places tickets : ℕ} {m : Memory} {vs : List 
 
   -- the marks
   whole_unlink : h_done ++ Unlinked slot ∷ [] ≡ h_unlink
-  whole_unlink = append_assoc h (Done (record { caller = v.place; op = Del key }) ∷ []) (Unlinked slot ∷ [])
+  whole_unlink = append_assoc h (done_by v (Del key) ∷ []) (Unlinked slot ∷ [])
 
   longer_unlink : updates_of h_unlink ≡ updates_of h ++ record { caller = v.place; op = Del key } ∷ []
-  longer_unlink = updates_of-append h (Done (record { caller = v.place; op = Del key }) ∷ Unlinked slot ∷ [])
+  longer_unlink = updates_of-append h (done_by v (Del key) ∷ Unlinked slot ∷ [])
 
   open_unlink : (p : ℕ) → open_at p h_unlink ≡ open_at p h
-  open_unlink p = ap (open_at p) (sym whole_unlink) ∙ open_at-same h_done (Unlinked slot) tt p
-      ∙ open_at-same h (Done (record { caller = v.place; op = Del key })) tt p
+  open_unlink p = ap (open_at p) (sym whole_unlink) ∙ open_at-same h_done (Unlinked slot) tt p ∙ done_open seat mine (Del key) p
 
   entered_unlink : (p : ℕ) → entered_at p h_unlink ≡ entered_at p h
-  entered_unlink p = let a = entered_at-append p h (Done (record { caller = v.place; op = Del key }) ∷ Unlinked slot ∷ []) in omega arith
+  entered_unlink p = let a = entered_at-append p h (done_by v (Del key) ∷ Unlinked slot ∷ []) in omega arith
 
   reuse_unlink : ReuseByClass capacities h_unlink
   reuse_unlink = subst (ReuseByClass capacities) whole_unlink
-      (reuse_more capacities h_done (Unlinked slot) (λ s e. absurd (cc))
-      (reuse_more capacities h (Done (record { caller = v.place; op = Del key })) (λ s e. absurd (cc)) seat.rule.reuse))
+      (reuse_more capacities h_done (Unlinked slot) (λ s e. absurd (cc)) (done_reuse seat mine (Del key)))
 
   gone_unlink : (s : ℕ) → s ≢ slot → gone_at s h_unlink ≡ gone_at s h
   gone_unlink s ne = ap (gone_at s) (sym whole_unlink) ∙ gone_at-unlinked_other h_done s slot (λ e. ne (sym e))
-      ∙ gone_at-same h (Done (record { caller = v.place; op = Del key })) tt s
+      ∙ done_gone seat mine (Del key) s
 
   last_unlink : (s : ℕ) → s ≢ slot → last_unlinked s h_unlink ≡ last_unlinked s h
   last_unlink s ne = ap (last_unlinked s) (sym whole_unlink) ∙ last_unlinked-other h_done s slot (λ e. ne (sym e))
-      ∙ last_unlinked-same h (Done (record { caller = v.place; op = Del key })) tt s
+      ∙ done_last seat mine (Del key) s
 
   order_unlink : AreMarks places h_unlink
-  order_unlink = subst (AreMarks places) whole_unlink (marks_snoc places h_done (Unlinked slot) tt
-      (marks_snoc places h (Done (record { caller = v.place; op = Del key })) tt seat.rule.marks))
+  order_unlink = subst (AreMarks places) whole_unlink (marks_snoc places h_done (Unlinked slot) tt (done_marks seat mine (Del key)))
 
   gone_here_unlink : gone_at slot h_unlink ≡ Some (length h + 1)
   gone_here_unlink = ap (gone_at slot) (sym whole_unlink) ∙ gone_at-unlinked_here h_done slot
-      ∙ ap Some (length-append h (Done (record { caller = v.place; op = Del key }) ∷ []))
+      ∙ ap Some (length-append h (done_by v (Del key) ∷ []))
 
   -- the dictionary
   found_unlink : (old : ℕ) × (seek m key chain_now ≡ Some old)
