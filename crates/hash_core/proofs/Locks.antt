@@ -15,12 +15,11 @@ use Rattle.hash_core.specs.declared.view.View.{View}
 use Rattle.hash_core.specs.Memory.{IsPath, Memory, same_field, stored, is_slot_of, IsOfClass, AreMarks, ReuseByClass}
 use Rattle.prcu_marks.specs.Marks.{updates_of, open_at, own_of, entered_at, updates_by}
 use Rattle.hash_core.specs.Steps.{done_by, known_in, knowing, IsQuiet, fresh_hold, NeedsUnlock, after_unlock, NeedsCommit, NeedsEven, after_even, HasCommit, updated_view}
-use Rattle.hash_core.specs.Rule.{Bucket, inside_count, AreCounted, HoldsOther, IsLocked, AreClean, IsFreeOfReaders, HaveOneRole, taken_of, unlinked_of, moved_of, link_of, AreAnswered, HasNoCommit, IsTurned, AreOwned, AreSeen, BucketRule, MemoryRule, roles_of}
+use Rattle.hash_core.specs.Rule.{Bucket, inside_count, AreCounted, HoldsOther, IsLocked, AreClean, IsFreeOfReaders, HaveOneRole, taken_of, unlinked_of, moved_of, link_of, AreAnswered, HasNoCommit, IsTurned, AreOwned, BucketRule, MemoryRule, roles_of}
 use Rattle.prcu_model.specs.Dictionary.{WasSaid, updated, map_of, IsUpdateAt, IsLegal}
-use Rattle.prcu_model.proofs.ListFacts.{prefix_self}
 use Rattle.list_laws.proofs.Lists.{each_set, total_set, total_part, only_at, only_here}
 use Rattle.hash_core.proofs.Frames.{SameSlots, SameSection, SameHold, SameView, clean_by, same_words, lock_words, front_words, stored_here, same_self, same_is, WillBeTold, still_told, answered_set, told_of}
-use Rattle.hash_core.proofs.SeatFrames.{Seated, seen_same, seen_whole, apart_same, owned_same, open_same, held_still, turned_same, same_marks, same_section, same_hold, seats_same, section_back, section_forth, tickets_same, no_marks, seat_holds, SeatsRule, after_step, after_quiet, owned_more}
+use Rattle.hash_core.proofs.SeatFrames.{Seated, seen_same, seen_whole, apart_same, owned_same, open_same, held_still, same_marks, same_section, same_hold, seats_same, section_back, section_forth, tickets_same, no_marks, seat_holds, SeatsRule, after_step, after_quiet, owned_more, SameSeat}
 use Rattle.prcu_model.specs.declared.operation.Op.{Op}
 use Rattle.prcu_model.proofs.Dictionaries.{map_of-push}
 use Rattle.prcu_marks.proofs.Callers.{legal_more, said_now}
@@ -75,6 +74,13 @@ module _ {capacities : List ℕ} {places tickets : ℕ} {m : Memory} {vs : List 
   pub works : {hold : Hold} → v.hold ≡ Some hold → 1 ≤ v.places
   works {hold} mine = (seat.rule.held.held id v hold seat.at mine).1
 
+  -- the parts on seats, where a holder stays one
+  pub holder_stays : {hold : Hold} → v.hold ≡ Some hold → (new : Hold) → new.class ≡ hold.class → (seen : List Mark)
+      → SameSeat v (record v { hold = Some new; seen = seen })
+  holder_stays mine new class seen = seat_holds v (Some new) v.trail seen (λ commit held is had. (new, refl))
+      (λ other is. let e : new ≡ other = cc in
+      (subst (λ (z : Hold). z.class < 64) e (subst (λ z. z < 64) (sym class) (class_small mine)), works mine))
+
   -- slots that are to be free stay so
   pub clean_still : (c : ℕ) (w : View) → w.section ≡ v.section → (b : Bucket) → (new : Option Hold)
       → ((hold : Hold) → new ≡ Some hold → hold.clear ≡ true → (s : ℕ) → is_slot_of capacities c s ≡ true → IsFreeOfReaders c h vs s)
@@ -102,8 +108,8 @@ module _ {capacities : List ℕ} {places tickets : ℕ} {m : Memory} {vs : List 
 
     seats_lock : SeatsRule capacities places tickets m_lock (set vs id w_lock) h
     seats_lock = seats_same seat w_lock m_lock
-        (seat_holds v (Some (fresh_hold c)) v.trail (λ commit hold is held. (fresh_hold c, refl))
-        (λ hold is. let e : fresh_hold c ≡ hold = cc in (subst (λ (z : Hold). z.class < 64) e small, place))) refl refl
+        (seat_holds v (Some (fresh_hold c)) v.trail v.seen (λ commit hold is held. (fresh_hold c, refl))
+        (λ hold is. let e : fresh_hold c ≡ hold = cc in (subst (λ (z : Hold). z.class < 64) e small, place))) (inl refl) refl
 
     bucket_lock : c < 64 → BucketRule capacities c m_lock h (updates_of h) (set vs id w_lock) b_lock
     bucket_lock _ =
@@ -167,8 +173,8 @@ module _ {capacities : List ℕ} {places tickets : ℕ} {m : Memory} {vs : List 
 
     seats_unlock : SeatsRule capacities places tickets m_unlock (set vs id w_unlock) h
     seats_unlock = seats_same seat w_unlock m_unlock
-        (seat_holds v None v.trail (λ commit held is mine. absurd (let z : Some commit ≡ None = sym is ∙ needs.even in cc))
-        (λ other is. absurd (cc))) refl refl
+        (seat_holds v None v.trail v.seen (λ commit held is mine. absurd (let z : Some commit ≡ None = sym is ∙ needs.even in cc))
+        (λ other is. absurd (cc))) (inl refl) refl
 
     bucket_unlock : hold.class < 64 → BucketRule capacities hold.class m_unlock h (updates_of h) (set vs id w_unlock) b_unlock
     bucket_unlock small =
@@ -312,10 +318,7 @@ module _ {capacities : List ℕ} {places tickets : ℕ} {m : Memory} {vs : List 
         omega arith
 
     pub law_readers_load : MemoryRule capacities places tickets m (set vs id w_clear) h
-    law_readers_load = after_step seat w_clear (seats_same seat w_clear m
-        (seat_holds v (Some new_clear) v.trail (λ commit held is had. (new_clear, refl))
-        (λ other is. let e : new_clear ≡ other = cc in
-        (subst (λ (z : Hold). z.class < 64) e (class_small mine), works mine))) refl refl)
+    law_readers_load = after_step seat w_clear (seats_same seat w_clear m (holder_stays mine new_clear refl v.seen) (inl refl) refl)
         hold.class (held_bucket hold new_clear)
         (holder_learns hold mine hold.known true v.seen (λ field number old. old field number)
         (λ small yes s of p j u section gone there inside class. absurd (no_section small j u section there inside class)))
@@ -344,35 +347,12 @@ module _ {capacities : List ℕ} {places tickets : ℕ} {m : Memory} {vs : List 
             (subst (IsOfClass capacities hold.class) q of, ap m (sym q) ∙ cc)
         known_case false same e = old other number e
 
-    seen_load : AreSeen (set vs id w_load) h
-    seen_load = seen_case see refl
-      where
-        seen_case : (t : Bool) → see ≡ t → AreSeen (set vs id w_load) h
-        seen_case true is = seen_whole seat w_load h (ap (λ b. cond b h v.seen) is) refl (prefix_self h)
-        seen_case false is = seen_same seat w_load (ap (λ b. cond b h v.seen) is) refl
-
-    met_load : (t : Bool) → see ≡ t → (w_load.seen ≡ v.seen) ⊎ (w_load.seen ≡ h ++ [])
-    met_load true is = inr (ap (λ b. cond b h v.seen) is ∙ sym (append-nil h))
-    met_load false is = inl (ap (λ b. cond b h v.seen) is)
+    sees_load : (t : Bool) → (cond t h v.seen ≡ v.seen) ⊎ (cond t h v.seen ≡ h)
+    sees_load true = inr refl
+    sees_load false = inl refl
 
     seats_load : SeatsRule capacities places tickets m (set vs id w_load) h
-    seats_load =
-        record {
-          seen = seen_load;
-          apart = apart_same seat w_load (record { place = refl; places = refl; joined = refl });
-          owned = subst (AreOwned places (set vs id w_load)) (append-nil h)
-              (owned_same seat w_load [] (record { place = refl; places = refl; joined = refl }) refl
-              (met_load see refl) no_marks);
-          sections = open_same seat w_load h refl refl refl (section_back v w_load refl)
-              (section_forth v w_load refl) (λ p. refl) (λ p. refl) (omega arith);
-          held = held_still seat w_load (λ other is. let e : new_load ≡ other = cc in
-              (subst (λ (z : Hold). z.class < 64) e (class_small mine), works mine));
-          turned = turned_same seat w_load m refl refl (λ commit held is had. (new_load, refl));
-          tickets_are = tickets_same seat w_load refl;
-          legal = seat.rule.legal;
-          marks = seat.rule.marks;
-          reuse = seat.rule.reuse;
-        }
+    seats_load = seats_same seat w_load m (holder_stays mine new_load refl w_load.seen) (sees_load see) refl
 
     pub law_held_load : MemoryRule capacities places tickets m (set vs id w_load) h
     law_held_load = after_step seat w_load seats_load hold.class (held_bucket hold new_load)

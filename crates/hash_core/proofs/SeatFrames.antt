@@ -433,11 +433,11 @@ pub section_forth : (v w : View) → w.section ≡ v.section → (section : Sect
     → (new : Section) × (w.section ≡ Some new) × (open_of section ≡ open_of new)
 section_forth v w same section is = (section, same ∙ is, refl)
 
--- where a step changes what the seat holds, and its trail
-pub seat_holds : (v : View) (new : Option Hold) (trail : List StepMade)
+-- where a step changes what the seat holds and has seen, and its trail
+pub seat_holds : (v : View) (new : Option Hold) (trail : List StepMade) (seen : List Mark)
     → ((commit : Commit) (hold : Hold) → v.commit ≡ Some commit → v.hold ≡ Some hold → (k : Hold) × (new ≡ Some k))
-    → ((hold : Hold) → new ≡ Some hold → (hold.class < 64) × (1 ≤ v.places)) → SameSeat v (record v { hold = new; trail = trail })
-seat_holds v new trail kept held = record {
+    → ((hold : Hold) → new ≡ Some hold → (hold.class < 64) × (1 ≤ v.places)) → SameSeat v (record v { hold = new; trail = trail; seen = seen })
+seat_holds v new trail seen kept held = record {
   places = record { place = refl; places = refl; joined = refl };
   tickets = refl;
   sections = refl;
@@ -472,12 +472,13 @@ same_hold d (Some k) = inl refl
 
 module _ {capacities : List ℕ} {places tickets : ℕ} {m : Memory} {vs : List View} {h : List Mark} {id : ℕ} {v : View}
     (seat : Seated capacities places tickets m vs h id v) (w : View) (m' : Memory) where
-  -- no mark, and nothing more was seen
-  pub seats_same : SameSeat v w → w.seen ≡ v.seen → m' Front ≡ m Front → SeatsRule capacities places tickets m' (set vs id w) h
+  -- no mark, and nothing more was seen, or all
+  pub seats_same : SameSeat v w → (w.seen ≡ v.seen) ⊎ (w.seen ≡ h) → m' Front ≡ m Front → SeatsRule capacities places tickets m' (set vs id w) h
   seats_same same seen front = record {
-    seen = seen_same seat w seen same.heard;
+    seen = elim seen [ inl old ↦ seen_same seat w old same.heard | inr whole ↦ seen_whole seat w h whole same.heard (prefix_self h) ];
     apart = apart_same seat w same.places;
-    owned = subst (λ z. AreOwned places (set vs id w) z) (append-nil h) (owned_same seat w [] same.places same.own (inl seen) no_marks);
+    owned = subst (AreOwned places (set vs id w)) (append-nil h) (owned_same seat w [] same.places same.own
+        (elim seen [ inl old ↦ inl old | inr whole ↦ inr (whole ∙ sym (append-nil h)) ]) no_marks);
     sections = open_same seat w h same.places.place same.places.places same.sections same.back same.forth (λ p. refl) (λ p. refl)
         (omega arith);
     held = held_still seat w same.held;
@@ -495,7 +496,7 @@ pub law_stepped : {capacities : List ℕ} {places tickets : ℕ} {m : Memory} {v
 law_stepped {capacities} {m = m} {h = h} {id = id} {v = v} seat kind field number =
     let w : View = stepped v kind field number in
     after_quiet seat w (seats_same seat w m
-    (seat_holds v v.hold w.trail (λ commit hold is held. (hold, held)) (λ hold is. seat.rule.held.held id v hold seat.at is)) refl refl)
+    (seat_holds v v.hold w.trail v.seen (λ commit hold is held. (hold, held)) (λ hold is. seat.rule.held.held id v hold seat.at is)) (inl refl) refl)
     (λ d small. record {
       words = same_words capacities d m;
       marks = same_marks capacities d h;

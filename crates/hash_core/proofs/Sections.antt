@@ -500,7 +500,7 @@ module _ {capacities : List ℕ} {places tickets : ℕ} {m : Memory} {vs : List 
             held = λ hold is. seat.rule.held.held id v hold seat.at is;
             own = refl;
             heard = refl;
-          }) refl refl
+          }) (inl refl) refl
 
       bucket_load : section.key % 64 < 64 → BucketRule capacities (section.key % 64) m h (updates_of h) (set vs id w_load)
           (seat.rule.bucket (section.key % 64))

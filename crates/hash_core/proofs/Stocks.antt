@@ -1,5 +1,5 @@
 -- The kinds of step on the free list, the retired list and the slot taken.
-use Rattle.std.proofs.Common.{◌≡◌, ◌≢◌, ℕ, ◌+◌, ◌%◌, ◌<◌, ◌≤◌, Bool, true, false, cond, List, [], ◌∷◌, ◌++◌, length, set, Some, None, refl, sym, ap, subst, ◌∙◌, inr, arith, ne_eqb, append-nil, option_to_list}
+use Rattle.std.proofs.Common.{◌≡◌, ◌≢◌, ℕ, ◌+◌, ◌%◌, ◌<◌, ◌≤◌, Bool, true, false, cond, List, [], ◌∷◌, ◌++◌, length, set, Some, None, refl, sym, ap, subst, ◌∙◌, inr, arith, ne_eqb, append-nil, option_to_list, inl}
 use Rattle.std.specs.List.{AllByRecursion}
 use Rattle.std.specs.FinMap as finite
 use mathlib.Core.Option.{some}
@@ -22,9 +22,9 @@ use Rattle.prcu_model.proofs.ListFacts.{all_map}
 use Rattle.list_laws.proofs.Lists.{past_snoc, all_change, all_from_times, times_here, at_most_one}
 use Rattle.hash_core.proofs.SlotLists.{path_cons, path_none, IsPath-same, seek-same, HaveDistinctKeys-same, one_class, slot_within, KeepsWays, will_still}
 use Rattle.prcu_marks.proofs.Marks.{updates_of-append, entered_at-append, last_unlinked-same, last_gone}
-use Rattle.hash_core.proofs.SeatFrames.{Seated, marks_snoc, open_at-same, gone_at-given_here, gone_at-given_other, seen_whole, apart_same, owned_same, open_same, held_still, turned_same, same_marks, seats_same, section_back, section_forth, tickets_same, seat_holds, SeatsRule, after_step}
+use Rattle.hash_core.proofs.SeatFrames.{Seated, marks_snoc, open_at-same, gone_at-given_here, gone_at-given_other, seen_whole, apart_same, owned_same, open_same, held_still, turned_same, same_marks, seats_same, section_back, section_forth, tickets_same, SeatsRule, after_step}
 use Rattle.hash_core.proofs.Frames.{SameMarks, SameLists, free_slot, retired_slot, taken_slot, unlinked_slot, class_words, stored_here, same_self, same_is}
-use Rattle.hash_core.proofs.Locks.{counted_still, free_still, answered_still, holder_of, class_small, works, locked_by, elsewhere_held, clean_still, answered_each}
+use Rattle.hash_core.proofs.Locks.{counted_still, free_still, answered_still, holder_of, class_small, works, locked_by, elsewhere_held, clean_still, answered_each, holder_stays}
 
 module _ {capacities : List ℕ} {places tickets : ℕ} {m : Memory} {vs : List View} {h : List Mark} {id : ℕ} {v : View}
     (seat : Seated capacities places tickets m vs h id v) {hold : Hold} (mine : v.hold ≡ Some hold) where
@@ -92,12 +92,7 @@ module _ {capacities : List ℕ} {places tickets : ℕ} {m : Memory} {vs : List 
   seats_held : (new : Hold) → new.class ≡ hold.class → (m' : Memory) → m' Front ≡ m Front
       → SeatsRule capacities places tickets m' (set vs id (record v { hold = Some new })) h
   seats_held new class m' front =
-      let w : View = record v { hold = Some new } in
-      seats_same seat w m'
-      (seat_holds v (Some new) v.trail (λ commit held is had_it. (new, refl)) (λ other is. let e : new ≡ other = cc in (
-        subst (λ (z : Hold). z.class < 64) e (subst (λ z. z < 64) (sym class) small),
-        works seat mine,
-      ))) refl front
+      seats_same seat (record v { hold = Some new }) m' (holder_stays seat mine new class v.seen) (inl refl) front
 
   -- readers' answers, where the slots on their ways stay
   answered_by : (w : View) → w.section ≡ v.section → (m' : Memory) (chain' : List ℕ)
