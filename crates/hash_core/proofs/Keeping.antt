@@ -16,7 +16,7 @@ use Rattle.list_laws.specs.Counts.{times}
 use Rattle.hash_core.specs.Memory.{Memory, is_slot_of, IsPath, capacity, base, same_field, stored}
 use Rattle.hash_core.specs.Steps.{StandsAt, known_in, fresh_hold, after_leave, after_search_load, after_unlock, after_readers_load, after_held_load, after_take, after_move, after_refill, after_push, after_chain, after_write, after_link, after_unlink, after_replace, after_even, IsFieldOf, NeedsWrite, LinksTo, IsOnWalk, section_of, hold_of, commit_of, noted, Needs, said, left, done, field_of, marks_of}
 use Rattle.hash_core.specs.Rule.{seek, IsHeldBack, HasWay, WillAnswer, BucketRule, MemoryRule, HaveDistinctKeys, link_of, taken_of}
-use Rattle.hash_core.specs.Laws.{ChainsAreMap, SlotsHaveOneRole, ReadersAreCounted, FrontCounts, IsOpenIn, Answers, value_at, SearchesAreAnswered, IsLinked, SearchesStand, MarksAreInOrder, SlotsAreReused, HasPairs, KeepsPast, IsKept, ActsKeep, SplitsKeep, JoinsKeep, FreshHolds, Run, begins, steps, splits, joins, RunsHold}
+use Rattle.hash_core.specs.Laws.{ChainsAreMap, SlotsHaveOneRole, ReadersAreCounted, FrontCounts, IsOpenIn, Answers, value_at, SearchesAreAnswered, IsLinked, SearchesStand, MarksAreInOrder, SlotsAreReused, HasPairs, KeepsPast, IsKept, ActsKeep, SplitsKeep, JoinsKeep, FreshHolds, Run, begins, steps, splits, joins, RunsHold, TableState}
 use Rattle.list_laws.proofs.Lists.{all_times, all_from_times, times_here, times_append, at_most_one, times_other, at_below, set_twice}
 use Rattle.hash_core.proofs.Frames.{chain_slot, same_is}
 use Rattle.hash_core.proofs.SlotLists.{path_cons, seek_here, seek_past, path_none, cut_at}
@@ -39,39 +39,35 @@ use Rattle.std.specs.FinMap as finite
 use Rattle.hash_core.specs.declared.act.Act.TheVariants as act
 
 pub chains_are_map : ChainsAreMap
-chains_are_map capacities places tickets m vs h r c small =
-    let b = r.buckets c small in
+chains_are_map t c small =
+    let bucket = t.rule.bucket c in
+    let b = t.rule.buckets c small in
     record {
-      chain = (r.bucket c).chain;
+      chain = bucket.chain;
       chained = b.chained;
-      slots = all_from_times (λ s. is_slot_of capacities c s ≡ true) (r.bucket c).chain (chain_slot b.roles);
-      once = λ s. let a = b.roles.once s in let l = at_most_one (is_slot_of capacities c s) _ a in omega arith;
+      slots = all_from_times (λ s. is_slot_of t.capacities c s ≡ true) bucket.chain (chain_slot b.roles);
+      once = λ s. let a = b.roles.once s in let l = at_most_one (is_slot_of t.capacities c s) _ a in omega arith;
       mapped = b.mapped;
     }
 
 pub slots_have_one_role : SlotsHaveOneRole
-slots_have_one_role capacities places tickets m vs h r c small =
-    let b = r.buckets c small in record {
-      bucket = r.bucket c;
-      path = b.chained.path;
-      listed = b.listed;
-      holder = b.locked;
-      roles = b.roles;
-    }
+slots_have_one_role t c small =
+    let b = t.rule.buckets c small in
+    record { bucket = t.rule.bucket c; path = b.chained.path; listed = b.listed; holder = b.locked; roles = b.roles }
 
 pub readers_are_counted : ReadersAreCounted
-readers_are_counted capacities places tickets m vs h r c small = (r.buckets c small).counted.readers
+readers_are_counted t c small = (t.rule.buckets c small).counted.readers
 
 pub front_counts : FrontCounts
-front_counts capacities places tickets m vs h r = r.turned
+front_counts t = t.rule.turned
 
 pub marks_are_in_order : MarksAreInOrder
-marks_are_in_order capacities places tickets m vs h r = r.marks
+marks_are_in_order t = t.rule.marks
 
 pub slots_are_reused : SlotsAreReused
-slots_are_reused capacities places tickets m vs h r = r.reuse
+slots_are_reused t = t.rule.reuse
 
-module _ (capacities : List ℕ) (places tickets : ℕ) (m : Memory) (vs : List View) (h : List Mark)
+module _ {capacities : List ℕ} {places tickets : ℕ} {m : Memory} {vs : List View} {h : List Mark}
     (r : MemoryRule capacities places tickets m vs h) (section : Section) (opened : IsOpenIn vs section) where
   c : ℕ
   c = section.key % 64
@@ -164,12 +160,10 @@ module _ (capacities : List ℕ) (places tickets : ℕ) (m : Memory) (vs : List 
   stands Ended w slot at = absurd at
 
 pub searches_are_answered : SearchesAreAnswered
-searches_are_answered capacities places tickets m vs h r section opened =
-    answered capacities places tickets m vs h r section opened section.state (will capacities places tickets m vs h r section opened)
+searches_are_answered t section opened = answered t.rule section opened section.state (will t.rule section opened)
 
 pub searches_stand : SearchesStand
-searches_stand capacities places tickets m vs h r section opened slot at =
-    stands capacities places tickets m vs h r section opened section.state (will capacities places tickets m vs h r section opened) slot at
+searches_stand t section opened slot at = stands t.rule section opened section.state (will t.rule section opened) slot at
 
 -- Where a class has no free slot and no retired one, and its holder has none in hand, it has as many pairs as slots.
 
@@ -357,10 +351,22 @@ one_slot s t _ a b = absurd a
 not_gone : (h : List Mark) (s t : ℕ) → gone_at t h ≡ None → s ≡ t → IsGone h s → ⊥
 not_gone h s t none e gone = let z : None ≡ Some gone.0 = sym none ∙ ap (λ y. gone_at y h) (sym e) ∙ gone.1 in absurd (cc)
 
+abbrev pub state_of : {capacities : List ℕ} {places tickets : ℕ} {m : Memory} {vs : List View} {h : List Mark}
+    → MemoryRule capacities places tickets m vs h → TableState
+state_of {capacities} {places} {tickets} {m} {vs} {h} r = record {
+  capacities = capacities;
+  places = places;
+  tickets = tickets;
+  memory = m;
+  views = vs;
+  marks = h;
+  rule = r;
+}
+
 module _ {capacities : List ℕ} {places tickets : ℕ} {m : Memory} {vs : List View} {h : List Mark} {id : ℕ} {v : View}
     (seat : Seated capacities places tickets m vs h id v) (works : 1 ≤ v.places) where
   abbrev Kept : Memory → View → List Mark → Type 0
-  Kept to w marks = IsKept capacities places tickets m h to (set vs id w) (h ++ marks)
+  Kept to w marks = IsKept (state_of seat.rule) to (set vs id w) (h ++ marks)
 
   -- A law makes the step from any views of which this is one, with the step in its trail.
   abbrev Law : Act → Memory → View → List Mark → Type 0
@@ -508,14 +514,14 @@ module _ {capacities : List ℕ} {places tickets : ℕ} {m : Memory} {vs : List 
       (unmarked a _ _ (kept_by Front (d.0 + 2) (λ s gone of. of)) (λ us now. law_even now d.0 d.1))
 
 pub acts_keep : ActsKeep
-acts_keep capacities places tickets m vs h id v a r at works needs = keeps (record { rule = r; at = at }) works a needs
+acts_keep t id v a at works needs = keeps (record { rule = t.rule; at = at }) works a needs
 
 pub splits_keep : SplitsKeep
-splits_keep capacities places tickets m vs h id away given v r at needs = law_split (record { rule = r; at = at }) away given needs
+splits_keep t id away given v at needs = law_split (record { rule = t.rule; at = at }) away given needs
 
 pub joins_keep : JoinsKeep
-joins_keep capacities places tickets m vs h id other_id v other r at there two quiet quiet_other =
-    law_join (record { rule = r; at = at }) other_id other there two quiet quiet_other
+joins_keep t id other_id v other at there two quiet quiet_other =
+    law_join (record { rule = t.rule; at = at }) other_id other there two quiet quiet_other
 
 pub fresh_holds : FreshHolds
 fresh_holds capacities places tickets m shape fresh = starts capacities places tickets shape m fresh
@@ -527,7 +533,7 @@ runs_hold capacities places tickets m vs h shape run = holds m vs h run
         → MemoryRule capacities places tickets m vs h
     holds m vs h (begins {m = n} fresh) = starts capacities places tickets shape n fresh
     holds m vs h (steps {m = n} {vs = us} {h = g} id v a run there works needs) =
-        (acts_keep capacities places tickets n us g id v a (holds n us g run) there works needs).rule
+        (keeps (record { rule = holds n us g run; at = there }) works a needs).rule
     holds m vs h (splits {m = n} {vs = us} {h = g} id away given v run there needs) =
         law_split (record { rule = holds n us g run; at = there }) away given needs
     holds m vs h (joins {m = n} {vs = us} {h = g} id other_id v other run at there two quiet quiet_other) =
