@@ -29,7 +29,7 @@ use Rattle.hash_core.proofs.SeatFrames.{Seated, marks_begin, reuse_begins}
 use Rattle.hash_core.proofs.Frames.{word_inside, way_slot, chain_slot, free_slot, retired_slot, memory-word, memory-stored}
 use Rattle.hash_core.proofs.Locks.{class_small}
 use Rattle.hash_core.proofs.Links.{on_chain, absent_now}
-use Rattle.hash_core.proofs.Keeping.{full_class, section_is, hold_is, acts_keep}
+use Rattle.hash_core.proofs.Keeping.{full_class, section_is, hold_is, acts_keep, state_of}
 use Rattle.hash_core.specs.Laws.{HasPairs}
 use Rattle.hash_core.proofs.Stocks.{rule as held_rule, is_known, roles_by}
 use Rattle.hash_core.specs.declared.act.Act.{Act}
@@ -117,8 +117,7 @@ module _ {V : Type 0} (place : V → ℕ) where
       (λ i j v w a b c d s. let x = without_less p f v in let y = without_less p f w in apart i j v w a b (omega arith) (omega arith) s)
       (λ i v at. let t = few i v at in let most = t.0 in let less = without_less p f v in (
         omega arith,
-        λ counts. dite (ℕ_discrete (place v) p)
-            (λ e. absurd (let a = without_here p f v e in omega arith))
+        λ counts. dite (ℕ_discrete (place v) p) (λ e. absurd (let a = without_here p f v e in omega arith))
             (λ ne. let z = t.1 (omega arith) in omega arith),
       )) in
       omega arith
@@ -496,7 +495,7 @@ module _ {capacities : List ℕ} {places tickets : ℕ} {m : Memory} {vs : List 
   seat_after : (a : Act) → Needs capacities v a → let n = m (field_of v a) in let w = done v a h n in
       Seated capacities places tickets (stored m (field_of v a) (left v a n)) (set vs id w) (h ++ marks_of v a) id w
   seat_after a needs = record {
-    rule = (acts_keep capacities places tickets m vs h id v a seat.rule seat.at works needs).rule;
+    rule = (acts_keep (state_of seat.rule) id v a seat.at works needs).rule;
     at = set_here vs id (done v a h (m (field_of v a))) (at_below vs id v seat.at);
   }
 
@@ -521,8 +520,7 @@ module _ {capacities : List ℕ} {places tickets : ℕ} {m : Memory} {vs : List 
       (stands_in_class (seat_after (SearchLoad field) d) (section_of w) refl)
   gains t of_table at_places (LockAct class) d = record {
     even = quiet_turn m vs _ seat.rule.turned id v seat.at d.1.1;
-    other = subst (λ n. IsHeldByOther n v (m (Lock class))) (sym at_places)
-        (held_by_other seat class d.0 d.1.1);
+    other = subst (λ n. IsHeldByOther n v (m (Lock class))) (sym at_places) (held_by_other seat class d.0 d.1.1);
   }
   gains t of_table at_places Unlock d = tt
   gains t of_table at_places LoadReaders d = tt
@@ -531,8 +529,7 @@ module _ {capacities : List ℕ} {places tickets : ℕ} {m : Memory} {vs : List 
       let tells : TellsWord capacities d.0 field (m field) w = record {
         link = link_of seat d.1 field d.2;
         same = λ number is. (is_known seat d.1 field number is).1;
-        full = λ f. full_now seat d.1 field (m field) w.seen refl
-            (ap (λ b. cond b h v.seen) (eq-eqb (m field) 0 f.none)) f;
+        full = λ f. full_now seat d.1 field (m field) w.seen refl (ap (λ b. cond b h v.seen) (eq-eqb (m field) 0 f.none)) f;
       } in
       subst (λ (z : List ℕ × Hold). TellsWord z.0 z.1 field (m field) w) (λ i. (sym of_table i, sym (hold_is v d.0 d.1) i)) tells
   gains t of_table at_places (TakeSlot slot next) d = subst (λ (z : Hold). IsOnWalk z slot → ⊥) (sym (hold_is v d.0 d.1.hold_is))
@@ -610,8 +607,7 @@ module _ (k : Shape) (t : TableAt) (slots id : ℕ) (me : Me Nothing View) (a : 
 pub allowed : {k : Shape} {t picked_table : TableAt} {picked act : Act} {table here : TableId} {id : ℕ} {me : Me Nothing View}
     {word : ℕ} {access : Access} (a : Access) → access ≡ a → here ≡ table → table.words ≡ word_count t.capacities
     → t.capacities ≡ k.capacities.items → t.places ≡ k.places → (picked_table ≡ t) × (picked ≡ act) → Touches t me.0 act access word
-    → (here ≡ table) × (word < table.words)
-    × Allows (λ (s : State Nothing View). Rule k s.words s.views) table.slots id me word (made_by a)
+    → (here ≡ table) × (word < table.words) × Allows (λ (s : State Nothing View). Rule k s.words s.views) table.slots id me word (made_by a)
     (λ n. tells picked_table picked me (said_by a n))
 allowed {k} {t} {picked_table} {picked} {act} {table} {here} {id} {me} {word} {access} a by mine counts capacities places picks asks =
     let needs : Needs k.capacities.items me.0 act = subst (λ cs. Needs cs me.0 act) capacities asks.asks in

@@ -17,7 +17,7 @@ use Rattle.hash_core.proofs.SlotLists.{slot_within}
 use Rattle.class_hash.specs.declared.bucket.Poll.TheVariants.{NotYet}
 use Rattle.class_hash.specs.Seats.{TableAt}
 use Rattle.class_hash.specs.Calls.{Told, HasFinished, Lists, MayPoll, Refilled, Polls, polled, AddsNoLists, HasLoaded, KnowsMore, Unlocks}
-use Rattle.class_hash.proofs.Walking.{goes_by, goes_on, known_here, lacks_still, avoids_zero, whole_kept, lacks_kept, adds_none, adds_step, adds_both, loaded_first, loaded_second, knows_second}
+use Rattle.class_hash.proofs.Walking.{goes_by, goes_on, known_here, lacks_still, avoids_zero, whole_kept, lacks_kept, adds_none, adds_step, adds_both, loaded_first, loaded_second, knows_second, kept_absent}
 use Rattle.class_hash.specs.Updates.{HasStepped, HasPolled, HasFree, MayFill, Filled, HasTurned, with_update, MayAdd, MayLink, Linked, Added}
 use Rattle.prcu_model.proofs.ListFacts.{prefix_trans}
 use Rattle.prcu_model.specs.declared.operation.Op.TheVariants.{Put}
@@ -51,30 +51,6 @@ absent_still old known key more shows = record {
   head = more (Head old.class) shows.first shows.head;
   whole = whole_still old.known known more shows.first shows.walk shows.whole;
   lacks = lacks_still old.known known more key shows.walk shows.lacks;
-}
-
--- and after stores in the lists
-listed_absent : (hold : Hold) (free retired key : ℕ) → ShowsAbsent hold key
-    → ShowsAbsent (knowing (knowing hold (Free hold.class) free) (Retired hold.class) retired) key
-listed_absent hold free retired key shows = record {
-  first = shows.first;
-  walk = shows.walk;
-  head = shows.head;
-  whole = whole_kept hold.known (knowing (knowing hold (Free hold.class) free) (Retired hold.class) retired).known 0 (λ s _. refl)
-      (λ s _. refl) shows.first shows.walk (avoids_zero hold.known shows.first shows.walk shows.whole) shows.whole;
-  lacks = lacks_kept hold.known (knowing (knowing hold (Free hold.class) free) (Retired hold.class) retired).known 0 (λ s _. refl)
-      (λ s _. refl) key shows.walk (avoids_zero hold.known shows.first shows.walk shows.whole) shows.lacks;
-}
-
-polled_absent : (hold : Hold) (first key : ℕ) → ShowsAbsent hold key → ShowsAbsent (polled hold first) key
-polled_absent hold first key shows = record {
-  first = shows.first;
-  walk = shows.walk;
-  head = shows.head;
-  whole = whole_kept hold.known (polled hold first).known 0 (λ s _. refl) (λ s _. refl) shows.first shows.walk
-      (avoids_zero hold.known shows.first shows.walk shows.whole) shows.whole;
-  lacks = lacks_kept hold.known (polled hold first).known 0 (λ s _. refl) (λ s _. refl) key shows.walk
-      (avoids_zero hold.known shows.first shows.walk shows.whole) shows.lacks;
 }
 
 -- the slot was taken from the free list, and a pair and a next stored in it
@@ -186,7 +162,7 @@ module _ (capacities : List ℕ) (v : View) (f : HasFinished v) (free retired : 
     class = refl;
     first = free_is;
     slot_is = l.free_link ne;
-    absent = λ key shows. listed_absent l.hold free retired key shows;
+    absent = λ key. kept_absent l.hold listed_hold key refl (λ s. refl) (λ s. refl);
     room = record { listed = x; free = free; retired = retired; lists = l; some = λ none. absurd (ne none); trail = adds_none x.trail };
     seen = l.seen;
     view = l.rest;
@@ -226,7 +202,7 @@ module _ (capacities : List ℕ) (v : View) (f : HasFinished v) (free retired : 
         class = refl;
         first = known_here (knowing listed_hold (Retired l.hold.class) 0) (Free l.hold.class) retired;
         slot_is = l.retired_link ne;
-        absent = λ key shows. polled_absent listed_hold retired key (listed_absent l.hold free retired key shows);
+        absent = λ key. kept_absent l.hold (polled listed_hold retired) key refl (λ s. refl) (λ s. refl);
         room = record { listed = x; free = free; retired = retired; lists = l; some = λ _. ne; trail = p.trail };
         seen = subst (IsPrefix v.seen) (sym (ap (λ (u : View). u.seen) whole)) l.seen;
         view = whole ∙ sym (ap (λ (u : View). record v { hold = Some (polled listed_hold retired); trail = y.trail; seen = u.seen }) whole);

@@ -138,8 +138,7 @@ module _ (capacities : List ℕ) (places : ℕ) (v : View) (away tickets : ℕ) 
 pub base_le : (capacities : List ℕ) (c : ℕ) → base capacities c ≤ sum capacities
 base_le capacities c = sum_by-take-le (λ (n : ℕ). n) capacities c
 
-pub base_more : (capacities : List ℕ) (c : ℕ) → c < length capacities
-    → base capacities (c + 1) ≡ base capacities c + capacity capacities c
+pub base_more : (capacities : List ℕ) (c : ℕ) → c < length capacities → base capacities (c + 1) ≡ base capacities c + capacity capacities c
 base_more capacities c small = sum_by_more (λ (n : ℕ). n) capacities c 0 small
 
 pub base_room : (capacities : List ℕ) (c : ℕ) → c < length capacities → base capacities c + capacity capacities c ≤ sum capacities

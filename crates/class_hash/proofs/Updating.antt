@@ -238,10 +238,8 @@ module _ {table : TableAt} {v : View} {previous : Option ℕ} {slot key : ℕ} (
         seen = w_both.seen;
       }) both_loaded.view
 
-      link_by : (p : Option ℕ) → IsLinkedFrom may.hold p slot
-          → LinksTo hold_both (link_after may.hold.class p)
-          × (known_in hold_both.known (link_after may.hold.class p)
-          ≡ Some slot)
+      link_by : (p : Option ℕ) → IsLinkedFrom may.hold p slot → LinksTo hold_both (link_after may.hold.class p)
+          × (known_in hold_both.known (link_after may.hold.class p) ≡ Some slot)
       link_by None f = (refl, both_loaded.more (Head may.hold.class) slot f)
       link_by (Some p) f = (
         record {
@@ -254,8 +252,7 @@ module _ {table : TableAt} {v : View} {previous : Option ℕ} {slot key : ℕ} (
         both_loaded.more (Next p) slot f.1,
       )
 
-      needs_cut : NeedsUnlink w_odd hold_both even
-          (link_after may.hold.class previous) slot key next
+      needs_cut : NeedsUnlink w_odd hold_both even (link_after may.hold.class previous) slot key next
       needs_cut = record {
         commit = record {
           hold_is = ap (λ (z : View). z.hold) turned_is;
@@ -278,16 +275,14 @@ module _ {table : TableAt} {v : View} {previous : Option ℕ} {slot key : ℕ} (
       may_cut at = (
         hold_both,
         even,
-        subst (λ z. NeedsUnlink w_odd hold_both even z slot key next)
-            (same_link ∙ sym at) needs_cut,
+        subst (λ z. NeedsUnlink w_odd hold_both even z slot key next) (same_link ∙ sym at) needs_cut,
         subst (λ z. IsOfClass table.capacities may.hold.class z) (same_link ∙ sym at) may.link,
       )
 
       module _ {link : Field} (at : link ≡ link_after class previous) {w_cut : View}
           (c : Told table w_odd (act.UnlinkSlot link slot key next) next w_cut) where
         abbrev hold_cut : Hold
-        hold_cut = record (knowing hold_both link next)
-            { clear = false; unlinked = Some slot }
+        hold_cut = record (knowing hold_both link next) { clear = false; unlinked = Some slot }
 
         abbrev unlinked_view : View
         unlinked_view = goes_by (act.UnlinkSlot link slot key next) c.marks next turned_view

@@ -526,8 +526,7 @@ avoids_zero known first (s ∷ ss) w = (w.1, avoids_zero known w.2.0 ss w.2.2)
 -- what stays known of a walk where another slot is stored in
 module _ (before after : List Known) (slot : ℕ) (nexts : (s : ℕ) → s ≢ slot → known_in after (Next s) ≡ known_in before (Next s))
     (keys : (s : ℕ) → s ≢ slot → known_in after (Key s) ≡ known_in before (Key s)) where
-  pub whole_kept : (first : ℕ) (ss : List ℕ) → AllByRecursion (λ s. s ≢ slot) ss → IsWholeWalk before first ss
-      → IsWholeWalk after first ss
+  pub whole_kept : (first : ℕ) (ss : List ℕ) → AllByRecursion (λ s. s ≢ slot) ss → IsWholeWalk before first ss → IsWholeWalk after first ss
   whole_kept first [] a w = w
   whole_kept first (s ∷ ss) a w = (w.0, w.1, (w.2.0, nexts s a.0 ∙ w.2.1, whole_kept w.2.0 ss a.1 w.2.2))
 
@@ -535,17 +534,19 @@ module _ (before after : List Known) (slot : ℕ) (nexts : (s : ℕ) → s ≢ s
   lacks_kept key [] a l = tt
   lacks_kept key (s ∷ ss) a l = ((l.0.0, keys s a.0 ∙ l.0.1, l.0.2), lacks_kept key ss a.1 l.1)
 
--- so a key that is known to be absent is so whatever the free list is
-pub free_absent : (hold : Hold) (free key : ℕ) → ShowsAbsent hold key → ShowsAbsent (knowing hold (Free hold.class) free) key
-free_absent hold free key shows = record {
-  first = shows.first;
-  walk = shows.walk;
-  head = shows.head;
-  whole = whole_kept hold.known (knowing hold (Free hold.class) free).known 0 (λ s _. refl) (λ s _. refl) shows.first shows.walk
-      (avoids_zero hold.known shows.first shows.walk shows.whole) shows.whole;
-  lacks = lacks_kept hold.known (knowing hold (Free hold.class) free).known 0 (λ s _. refl) (λ s _. refl) key shows.walk
-      (avoids_zero hold.known shows.first shows.walk shows.whole) shows.lacks;
-}
+-- so a key that is known to be absent is so where nothing more is known of keys, links and the head
+pub kept_absent : (hold new : Hold) (key : ℕ) → known_in new.known (Head new.class) ≡ known_in hold.known (Head hold.class)
+    → ((s : ℕ) → known_in new.known (Next s) ≡ known_in hold.known (Next s))
+    → ((s : ℕ) → known_in new.known (Key s) ≡ known_in hold.known (Key s)) → ShowsAbsent hold key → ShowsAbsent new key
+kept_absent hold new key head nexts keys shows =
+    let away : AllByRecursion (λ s. s ≢ 0) shows.walk = avoids_zero hold.known shows.first shows.walk shows.whole in
+    record {
+      first = shows.first;
+      walk = shows.walk;
+      head = head ∙ shows.head;
+      whole = whole_kept hold.known new.known 0 (λ s _. nexts s) (λ s _. keys s) shows.first shows.walk away shows.whole;
+      lacks = lacks_kept hold.known new.known 0 (λ s _. nexts s) (λ s _. keys s) key shows.walk away shows.lacks;
+    }
 
 -- What a few steps leave together.
 
@@ -592,7 +593,8 @@ listed_at table v mid w free retired hold done a b =
           }) in
           let g : IsFull table.capacities (knowing hold (Free hold.class) free) w.seen =
           subst (λ (k : Hold). IsFull table.capacities k w.seen) two f in
-          record { pairs = g.pairs; absent = λ key class shows. g.absent key class (free_absent hold free key shows) };
+          record { pairs = g.pairs; absent = λ key class shows. g.absent key class
+              (kept_absent hold (knowing hold (Free hold.class) free) key refl (λ s. refl) (λ s. refl) shows) };
       trail = ap (λ (z : View). z.trail) whole;
       seen = subst (IsPrefix v.seen) (sym (ap (λ (z : View). z.seen) whole)) (prefix_trans v.seen _ _ seen_first seen_second);
       rest = whole ∙ sym (ap (λ (z : View). record v {
