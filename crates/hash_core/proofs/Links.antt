@@ -35,20 +35,23 @@ use Rattle.hash_core.proofs.Stocks.{rule, had, is_known, known_after, roles_by, 
 
 module _ {capacities : List ℕ} {places tickets : ℕ} {m : Memory} {vs : List View} {h : List Mark} {id : ℕ} {v : View}
     (seat : Seated capacities places tickets m vs h id v) {hold : Hold} (mine : v.hold ≡ Some hold) where
-  abbrev bucket_rule : BucketRule capacities hold.class m h (updates_of h) vs (seat.rule.bucket hold.class)
+  abbrev bucket : Bucket
+  bucket = seat.rule.bucket hold.class
+
+  abbrev bucket_rule : BucketRule capacities hold.class m h (updates_of h) vs bucket
   bucket_rule = rule seat mine
 
   abbrev chain_now : List ℕ
-  chain_now = (seat.rule.bucket hold.class).chain
+  chain_now = bucket.chain
 
   -- a slot on the known walk is linked
-  pub on_chain : (slot : ℕ) → IsOnWalk hold slot → 1 ≤ times slot (seat.rule.bucket hold.class).chain
+  pub on_chain : (slot : ℕ) → IsOnWalk hold slot → 1 ≤ times slot bucket.chain
   on_chain slot on = comes_on hold.known m (λ s n e. (is_known seat mine (Next s) n e).1) on.first on.before chain_now slot on.comes
       (subst (λ z. IsPath (λ s. m (Next s)) z chain_now)
       (is_known seat mine (Head hold.class) on.first on.head).1 bucket_rule.chained.path)
 
   -- a key that the known walk lacks is absent
-  pub absent_now : (key : ℕ) → ShowsAbsent hold key → seek m key (seat.rule.bucket hold.class).chain ≡ None
+  pub absent_now : (key : ℕ) → ShowsAbsent hold key → seek m key bucket.chain ≡ None
   absent_now key shows =
       let walk_is : chain_now ≡ shows.walk = whole_path hold.known m
       (λ s n e. (is_known seat mine
@@ -69,7 +72,7 @@ module _ {capacities : List ℕ} {places tickets : ℕ} {m : Memory} {vs : List 
   -- readers' answers after a step of a view that stays in its section
   pub answered_from : (w : View) → w.section ≡ v.section → (m' : Memory) (h' : List Mark) (us' : List Update) (chain' : List ℕ)
       → ((section : Section) → section.entered < length h → section.from ≤ length (updates_of h) → section.key % 64 ≡ hold.class
-      → (state : SearchState) → WillAnswer capacities hold.class m h (updates_of h) (seat.rule.bucket hold.class).chain section state
+      → (state : SearchState) → WillAnswer capacities hold.class m h (updates_of h) bucket.chain section state
       → WillAnswer capacities hold.class m' h' us' chain' section state)
       → ((section : Section) (answer : Option ℕ) → WasSaid (updates_of h) section.key section.from answer
       → WasSaid us' section.key section.from answer) → AreAnswered capacities hold.class m' h' us' (set vs id w) chain'
@@ -167,7 +170,7 @@ module _ {capacities : List ℕ} {places tickets : ℕ} {m : Memory} {vs : List 
     slot_of_link = taken_slot bucket_rule.roles slot (ap taken_of (had seat mine) ∙ needs.taken)
 
     abbrev b_link : Bucket
-    b_link = record (seat.rule.bucket hold.class) { chain = slot ∷ (seat.rule.bucket hold.class).chain; hold = Some new_link }
+    b_link = record bucket { chain = slot ∷ bucket.chain; hold = Some new_link }
 
     mapped_link : (k : ℕ) → k % 64 ≡ hold.class → finite.get (map_of (updates_of h_link)) k ≡ seek m_link k (slot ∷ chain_now)
     mapped_link k class = dite (ℕ_discrete k key)
@@ -185,7 +188,7 @@ module _ {capacities : List ℕ} {places tickets : ℕ} {m : Memory} {vs : List 
 
     pub law_link : MemoryRule capacities places tickets m_link (set vs id (after_link v hold even slot key value h)) h_link
     law_link =
-        let held : (seat.rule.bucket hold.class).hold ≡ Some hold = had seat mine in
+        let held : bucket.hold ≡ Some hold = had seat mine in
         after_step seat w_link (seats_updated seat mine needs.commit (Put key value) new_link refl m_link refl []
         (done_longer (Put key value)) (λ p. refl) (done_open (Put key value)) (done_entered (Put key value))
         (done_marks (Put key value)) (done_reuse (Put key value)) absent_link)
@@ -222,15 +225,15 @@ module _ {capacities : List ℕ} {places tickets : ℕ} {m : Memory} {vs : List 
                   (λ s p. done_gone (Put key value) s ∙ p) bucket_rule.ages.chain,
             );
             taken = λ s is. absurd (cc);
-            retired = all_map (IsGone h) (IsGone h_link) (seat.rule.bucket hold.class).retired
+            retired = all_map (IsGone h) (IsGone h_link) bucket.retired
                 (λ s p. (p.0, done_gone (Put key value) s ∙ p.1)) bucket_rule.ages.retired;
-            moved = all_map (IsGone h) (IsGone h_link) (seat.rule.bucket hold.class).moved
+            moved = all_map (IsGone h) (IsGone h_link) bucket.moved
                 (λ s p. (p.0, done_gone (Put key value) s ∙ p.1)) bucket_rule.ages.moved;
             unlinked = λ s is. let p = bucket_rule.ages.unlinked s (ap unlinked_of held ∙ is) in
                 (p.0, done_gone (Put key value) s ∙ p.1);
           };
           counted = record { readers = (counted_still seat hold.class w_link refl bucket_rule.counted).readers };
-          clean = clean_by capacities hold.class h h_link vs (set vs id w_link) (seat.rule.bucket hold.class) _ (free_done (Put key value) w_link refl)
+          clean = clean_by capacities hold.class h h_link vs (set vs id w_link) bucket _ (free_done (Put key value) w_link refl)
               refl refl (λ other is yes s of. let e : new_link ≡ other = cc in
               bucket_rule.clean.clear hold held (ap (λ (z : Hold). z.clear) e ∙ yes) s of) bucket_rule.clean;
           answered = answered_from w_link refl m_link h_link (updates_of h_link) (slot ∷ chain_now)
@@ -358,12 +361,12 @@ module _ {capacities : List ℕ} {places tickets : ℕ} {m : Memory} {vs : List 
 
     pub law_replace : MemoryRule capacities places tickets m_replace (set vs id (after_replace v hold even slot key value h)) h_replace
     law_replace =
-        let held : (seat.rule.bucket hold.class).hold ≡ Some hold = had seat mine in
+        let held : bucket.hold ≡ Some hold = had seat mine in
         let gone : (s : ℕ) → gone_at s h_replace ≡ gone_at s h = done_gone (Set key value) in
         after_step seat w_replace (seats_updated seat mine needs.commit (Set key value) new_replace refl m_replace refl []
         (done_longer (Set key value)) (λ p. refl) (done_open (Set key value)) (done_entered (Set key value))
         (done_marks (Set key value)) (done_reuse (Set key value)) present_replace)
-        hold.class (record (seat.rule.bucket hold.class) { hold = Some new_replace })
+        hold.class (record bucket { hold = Some new_replace })
         (λ _. record {
           chained = record {
             path = bucket_rule.chained.path;
@@ -382,12 +385,12 @@ module _ {capacities : List ℕ} {places tickets : ℕ} {m : Memory} {vs : List 
           ages = record {
             chain = all_map (λ s. gone_at s h ≡ None) (λ s. gone_at s h_replace ≡ None) chain_now (λ s p. gone s ∙ p) bucket_rule.ages.chain;
             taken = λ s is. gone s ∙ bucket_rule.ages.taken s (ap taken_of held ∙ is);
-            retired = all_map (IsGone h) (IsGone h_replace) (seat.rule.bucket hold.class).retired (λ s p. (p.0, gone s ∙ p.1)) bucket_rule.ages.retired;
-            moved = all_map (IsGone h) (IsGone h_replace) (seat.rule.bucket hold.class).moved (λ s p. (p.0, gone s ∙ p.1)) bucket_rule.ages.moved;
+            retired = all_map (IsGone h) (IsGone h_replace) bucket.retired (λ s p. (p.0, gone s ∙ p.1)) bucket_rule.ages.retired;
+            moved = all_map (IsGone h) (IsGone h_replace) bucket.moved (λ s p. (p.0, gone s ∙ p.1)) bucket_rule.ages.moved;
             unlinked = λ s is. let p = bucket_rule.ages.unlinked s (ap unlinked_of held ∙ is) in (p.0, gone s ∙ p.1);
           };
           counted = record { readers = (counted_still seat hold.class w_replace refl bucket_rule.counted).readers };
-          clean = clean_by capacities hold.class h h_replace vs (set vs id w_replace) (seat.rule.bucket hold.class) _ (free_done (Set key value) w_replace refl)
+          clean = clean_by capacities hold.class h h_replace vs (set vs id w_replace) bucket _ (free_done (Set key value) w_replace refl)
               refl refl (λ other is yes s of. let e : new_replace ≡ other = cc in
               bucket_rule.clean.clear hold held (ap (λ (z : Hold). z.clear) e ∙ yes) s of) bucket_rule.clean;
           answered = answered_from w_replace refl m_replace h_replace (updates_of h_replace) chain_now

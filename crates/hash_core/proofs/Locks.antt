@@ -88,6 +88,44 @@ module _ {capacities : List ℕ} {places tickets : ℕ} {m : Memory} {vs : List 
   clean_still c w section b new = clean_by capacities c h h vs (set vs id w) b (record b { hold = new })
       (free_still seat c w section) refl refl
 
+  -- A class's bucket where its lock is stored: who holds it now knows nothing yet, and has in hand what the last holder had.
+  bucket_passed : (c n : ℕ) (small : c < 64) (new : Option Hold) → ((hold : Hold) → new ≡ Some hold → fresh_hold c ≡ hold)
+      → taken_of (seat.rule.bucket c).hold ≡ taken_of new → unlinked_of (seat.rule.bucket c).hold ≡ unlinked_of new
+      → moved_of (seat.rule.bucket c).hold ≡ moved_of new
+      → IsLocked c (stored m (Lock c) n) (set vs id (record v { hold = new })) new
+      → BucketRule capacities c (stored m (Lock c) n) h (updates_of h) (set vs id (record v { hold = new }))
+      (record (seat.rule.bucket c) { hold = new })
+  bucket_passed c n small new fresh taken unlinked moved locked =
+      let bucket : Bucket = seat.rule.bucket c in
+      let b = seat.rule.buckets c small in
+      let w : View = record v { hold = new } in
+      record {
+        chained = record { path = b.chained.path; classes = b.chained.classes; distinct = b.chained.distinct };
+        listed = record {
+          free = b.listed.free;
+          retired = b.listed.retired;
+          moved = subst (λ z. IsPath (λ s. m (Chain s)) (link_of z) bucket.moved) moved b.listed.moved;
+        };
+        roles = record { once = λ x. (λ i. roles_of bucket (sym taken i) (sym unlinked i) x) ∙ b.roles.once x };
+        mapped = record { answers = b.mapped.answers };
+        locked = locked;
+        known = record {
+          known = λ hold field number is found. absurd
+              (let z : known_in hold.known field ≡ None = ap (λ (y : Hold). known_in y.known field) (sym (fresh hold is)) in cc);
+        };
+        ages = record {
+          chain = b.ages.chain;
+          taken = λ s is. b.ages.taken s (taken ∙ is);
+          retired = b.ages.retired;
+          moved = b.ages.moved;
+          unlinked = λ s is. b.ages.unlinked s (unlinked ∙ is);
+        };
+        counted = record { readers = (counted_still seat c w refl b.counted).readers };
+        clean = clean_still c w refl bucket new (λ hold is yes s of. absurd
+            (let z : hold.clear ≡ false = ap (λ (y : Hold). y.clear) (sym (fresh hold is)) in cc)) b.clean;
+        answered = answered_still seat c w refl (stored m (Lock c) n) bucket (λ s _. (refl, refl, refl, refl)) b.roles b.answered;
+      }
+
   -- H6, where the lock was free
   module _ (c : ℕ) (small : c < 64) (quiet : IsQuiet v) (place : 1 ≤ v.places) (free : m (Lock c) ≡ 0) where
     abbrev w_lock : View
@@ -112,41 +150,10 @@ module _ {capacities : List ℕ} {places tickets : ℕ} {m : Memory} {vs : List 
         (λ hold is. let e : fresh_hold c ≡ hold = cc in (subst (λ (z : Hold). z.class < 64) e small, place))) (inl refl) refl
 
     bucket_lock : c < 64 → BucketRule capacities c m_lock h (updates_of h) (set vs id w_lock) b_lock
-    bucket_lock _ =
-        let b = seat.rule.buckets c small in
-        let none : (seat.rule.bucket c).hold ≡ None = nobody in
-        record {
-          chained = record { path = b.chained.path; classes = b.chained.classes; distinct = b.chained.distinct };
-          listed = record {
-            free = b.listed.free;
-            retired = b.listed.retired;
-            moved = subst (λ z. IsPath (λ s. m (Chain s)) (link_of (moved_of z)) (seat.rule.bucket c).moved) none b.listed.moved;
-          };
-          roles = record {
-            once = λ x. subst (λ z. roles_of (seat.rule.bucket c) (taken_of z) (unlinked_of z) x ≡ cond (is_slot_of capacities c x) 1 0) none
-                (b.roles.once x);
-          };
-          mapped = record { answers = b.mapped.answers };
-          locked = only_here vs id v w_lock seat.at
-              (record { holds = refl; class = refl; word = stored_here m (Lock c) (v.place + 1) (same_self (Lock c)) })
-              (λ j u _ e. (subst (IsLocked c m vs) none b.locked).1 j u e);
-          known = record {
-            known = λ hold field number is found. absurd
-                (let e : fresh_hold c ≡ hold = cc in let z : known_in hold.known field ≡ None =
-                ap (λ (y : Hold). known_in y.known field) (sym e) in cc);
-          };
-          ages = record {
-            chain = b.ages.chain;
-            taken = λ s is. absurd (cc);
-            retired = b.ages.retired;
-            moved = b.ages.moved;
-            unlinked = λ s is. absurd (cc);
-          };
-          counted = record { readers = (counted_still seat c w_lock refl b.counted).readers };
-          clean = clean_still c w_lock refl (seat.rule.bucket c) (Some (fresh_hold c)) (λ hold is yes s of. absurd (let e : fresh_hold c ≡ hold = cc in
-              let z : hold.clear ≡ false = ap (λ (y : Hold). y.clear) (sym e) in cc)) b.clean;
-          answered = answered_still seat c w_lock refl m_lock (seat.rule.bucket c) (λ s _. (refl, refl, refl, refl)) b.roles b.answered;
-        }
+    bucket_lock _ = bucket_passed c (v.place + 1) small (Some (fresh_hold c)) (λ hold is. cc) (ap taken_of nobody) (ap unlinked_of nobody)
+        (ap moved_of nobody) (only_here vs id v w_lock seat.at
+        (record { holds = refl; class = refl; word = stored_here m (Lock c) (v.place + 1) (same_self (Lock c)) })
+        (λ j u _ e. (subst (IsLocked c m vs) nobody (seat.rule.buckets c small).locked).1 j u e))
 
     pub law_lock : MemoryRule capacities places tickets m_lock (set vs id w_lock) h
     law_lock = after_step seat w_lock seats_lock c b_lock bucket_lock
@@ -179,42 +186,16 @@ module _ {capacities : List ℕ} {places tickets : ℕ} {m : Memory} {vs : List 
     bucket_unlock : hold.class < 64 → BucketRule capacities hold.class m_unlock h (updates_of h) (set vs id w_unlock) b_unlock
     bucket_unlock small =
         let c : ℕ = hold.class in
-        let b = seat.rule.buckets c small in
         let mine : (seat.rule.bucket c).hold ≡ Some hold = holder_of c small hold needs.hold_is refl in
-        let no_taken : taken_of (seat.rule.bucket c).hold ≡ None = ap taken_of mine ∙ needs.taken in
-        let no_unlinked : unlinked_of (seat.rule.bucket c).hold ≡ None = ap unlinked_of mine ∙ needs.unlinked in
-        let no_moved : moved_of (seat.rule.bucket c).hold ≡ None = ap moved_of mine ∙ needs.moved in
-        let locked = subst (IsLocked c m vs) mine b.locked in
-        record {
-          chained = record { path = b.chained.path; classes = b.chained.classes; distinct = b.chained.distinct };
-          listed = record {
-            free = b.listed.free;
-            retired = b.listed.retired;
-            moved = subst (λ z. IsPath (λ s. m (Chain s)) (link_of z) (seat.rule.bucket c).moved) no_moved b.listed.moved;
-          };
-          roles = record {
-            once = λ x. (λ i. roles_of (seat.rule.bucket c) (sym no_taken i) (sym no_unlinked i) x) ∙ b.roles.once x;
-          };
-          mapped = record { answers = b.mapped.answers };
-          locked = (
-            stored_here m (Lock c) 0 (same_self (Lock c)),
-            each_set (λ k z. HoldsOther c z) vs id w_unlock (λ other is. absurd (cc)) (elim (only_at vs id v seat.at locked) [
-              | inl o ↦ o.1
-              | inr free ↦ absurd (free hold needs.hold_is refl)
-            ]),
-          );
-          known = record { known = λ other field number is found. absurd (cc) };
-          ages = record {
-            chain = b.ages.chain;
-            taken = λ s is. absurd (cc);
-            retired = b.ages.retired;
-            moved = b.ages.moved;
-            unlinked = λ s is. absurd (cc);
-          };
-          counted = record { readers = (counted_still seat c w_unlock refl b.counted).readers };
-          clean = clean_still c w_unlock refl (seat.rule.bucket c) None (λ other is yes s of. absurd (cc)) b.clean;
-          answered = answered_still seat c w_unlock refl m_unlock (seat.rule.bucket c) (λ s _. (refl, refl, refl, refl)) b.roles b.answered;
-        }
+        let locked = subst (IsLocked c m vs) mine (seat.rule.buckets c small).locked in
+        bucket_passed c 0 small None (λ other is. absurd (cc)) (ap taken_of mine ∙ needs.taken) (ap unlinked_of mine ∙ needs.unlinked)
+        (ap moved_of mine ∙ needs.moved) (
+          stored_here m (Lock c) 0 (same_self (Lock c)),
+          each_set (λ k z. HoldsOther c z) vs id w_unlock (λ other is. absurd (cc)) (elim (only_at vs id v seat.at locked) [
+            | inl o ↦ o.1
+            | inr free ↦ absurd (free hold needs.hold_is refl)
+          ]),
+        )
 
     pub law_unlock : MemoryRule capacities places tickets m_unlock (set vs id w_unlock) h
     law_unlock = after_step seat w_unlock seats_unlock hold.class b_unlock bucket_unlock

@@ -37,10 +37,10 @@ module _ {capacities : List ℕ} {places tickets : ℕ} {m : Memory} {vs : List 
   small : hold.class < 64
   small = class_small seat mine
 
-  pub rule : BucketRule capacities hold.class m h (updates_of h) vs (seat.rule.bucket hold.class)
+  pub rule : BucketRule capacities hold.class m h (updates_of h) vs bucket
   rule = seat.rule.buckets hold.class small
 
-  pub had : (seat.rule.bucket hold.class).hold ≡ Some hold
+  pub had : bucket.hold ≡ Some hold
   had = holder_of seat hold.class small hold mine refl
 
   -- what the holder knows is so
@@ -66,20 +66,19 @@ module _ {capacities : List ℕ} {places tickets : ℕ} {m : Memory} {vs : List 
       known_case f n false is e = let k = is_known f n e in (k.0, ap (λ t. cond t number (m f)) is ∙ k.1)
 
   -- the slot roles, by what the holder has in hand
-  pub roles_by : (x : ℕ) → roles_of (seat.rule.bucket hold.class) hold.taken hold.unlinked x ≡ cond (is_slot_of capacities hold.class x) 1 0
-  roles_by x = subst (λ z. roles_of (seat.rule.bucket hold.class) (taken_of z) (unlinked_of z) x
+  pub roles_by : (x : ℕ) → roles_of bucket hold.taken hold.unlinked x ≡ cond (is_slot_of capacities hold.class x) 1 0
+  roles_by x = subst (λ z. roles_of bucket (taken_of z) (unlinked_of z) x
       ≡ cond (is_slot_of capacities hold.class x) 1 0) had (rule.roles.once x)
 
   -- no slot has two
-  pub one_role : (x : ℕ) → roles_of (seat.rule.bucket hold.class) hold.taken hold.unlinked x ≤ 1
+  pub one_role : (x : ℕ) → roles_of bucket hold.taken hold.unlinked x ≤ 1
   one_role x = let a = roles_by x in let l = at_most_one (is_slot_of capacities hold.class x) _ a in omega arith
 
-  pub moved_by : IsPath (λ s. m (Chain s)) (link_of hold.moved) (seat.rule.bucket hold.class).moved
-  moved_by = subst (λ z. IsPath (λ s. m (Chain s)) (link_of (moved_of z)) (seat.rule.bucket hold.class).moved) had rule.listed.moved
+  pub moved_by : IsPath (λ s. m (Chain s)) (link_of hold.moved) bucket.moved
+  moved_by = subst (λ z. IsPath (λ s. m (Chain s)) (link_of (moved_of z)) bucket.moved) had rule.listed.moved
 
   -- when slots were unlinked, where it keeps what it has in hand
-  ages_by : (new : Hold) → new.taken ≡ hold.taken → new.unlinked ≡ hold.unlinked
-      → HaveAges h (record (seat.rule.bucket hold.class) { hold = Some new })
+  ages_by : (new : Hold) → new.taken ≡ hold.taken → new.unlinked ≡ hold.unlinked → HaveAges h (record bucket { hold = Some new })
   ages_by new taken unlinked = record {
     chain = rule.ages.chain;
     taken = λ s is. rule.ages.taken s (ap taken_of had ∙ sym taken ∙ is);
@@ -97,15 +96,15 @@ module _ {capacities : List ℕ} {places tickets : ℕ} {m : Memory} {vs : List 
   -- readers' answers, where the slots on their ways stay
   answered_by : (w : View) → w.section ≡ v.section → (m' : Memory) (chain' : List ℕ)
       → ((section : Section) → KeepsWays capacities hold.class m m' h h (updates_of h) (updates_of h)
-      (seat.rule.bucket hold.class).chain chain' section) → AreAnswered capacities hold.class m' h (updates_of h) (set vs id w) chain'
+      bucket.chain chain' section) → AreAnswered capacities hold.class m' h (updates_of h) (set vs id w) chain'
   answered_by w same m' chain' keeps = answered_each seat hold.class w same rule.answered
       (λ j u section _ _ _ told. (will_still (keeps section) section.state told.0, told.1))
 
   -- slots that are to be free stay so, where it says nothing new of readers
   clean_held : (new : Hold) → new.clear ≡ hold.clear → AreClean capacities hold.class h (set vs id (record v { hold = Some new }))
-      (record (seat.rule.bucket hold.class) { hold = Some new })
+      (record bucket { hold = Some new })
   clean_held new same = clean_still seat hold.class (record v { hold = Some new }) refl
-      (seat.rule.bucket hold.class) (Some new) (λ other is yes s of. let e : new ≡ other = cc in
+      bucket (Some new) (λ other is yes s of. let e : new ≡ other = cc in
       rule.clean.clear hold had (sym same ∙ ap (λ (z : Hold). z.clear) e ∙ yes) s of) rule.clean
 
   -- such a step that stores in a field of the class, by the rule of the bucket after it
@@ -113,10 +112,10 @@ module _ {capacities : List ℕ} {places tickets : ℕ} {m : Memory} {vs : List 
       → stored m field number Front ≡ m Front → (b : Bucket)
       → BucketRule capacities hold.class (stored m field number) h (updates_of h) (set vs id (record v { hold = Some new })) b
       → MemoryRule capacities places tickets (stored m field number) (set vs id (record v { hold = Some new })) h
-  held_law new class field number of front b bucket =
+  held_law new class field number of front b rule_after =
       let w : View = record v { hold = Some new } in
       let m' : Memory = stored m field number in
-      after_step seat w (seats_held new class m' front) hold.class b (λ _. bucket)
+      after_step seat w (seats_held new class m' front) hold.class b (λ _. rule_after)
       (λ d _ ne. record {
         words = class_words capacities hold.class d m number ne field of;
         marks = same_marks capacities d h;
@@ -131,12 +130,12 @@ module _ {capacities : List ℕ} {places tickets : ℕ} {m : Memory} {vs : List 
     abbrev m_refill : Memory
     m_refill = stored m (Free hold.class) slot
 
-    no_free : (seat.rule.bucket hold.class).free ≡ []
-    no_free = path_none (λ s. m (Chain s)) (seat.rule.bucket hold.class).free
-        (subst (λ z. IsPath (λ s. m (Chain s)) z (seat.rule.bucket hold.class).free) (is_known (Free hold.class) 0 needs.empty).1 rule.listed.free)
+    no_free : bucket.free ≡ []
+    no_free = path_none (λ s. m (Chain s)) bucket.free
+        (subst (λ z. IsPath (λ s. m (Chain s)) z bucket.free) (is_known (Free hold.class) 0 needs.empty).1 rule.listed.free)
 
     abbrev b_refill : Bucket
-    b_refill = record (seat.rule.bucket hold.class) { free = (seat.rule.bucket hold.class).moved; moved = []; hold = Some new_refill }
+    b_refill = record bucket { free = bucket.moved; moved = []; hold = Some new_refill }
 
     pub law_refill : MemoryRule capacities places tickets m_refill (set vs id (after_refill v hold slot)) h
     law_refill =
@@ -144,7 +143,7 @@ module _ {capacities : List ℕ} {places tickets : ℕ} {m : Memory} {vs : List 
         held_law new_refill refl (Free hold.class) slot refl refl b_refill (record {
           chained = record { path = rule.chained.path; classes = rule.chained.classes; distinct = rule.chained.distinct };
           listed = record {
-            free = subst (λ z. IsPath (λ s. m (Chain s)) z (seat.rule.bucket hold.class).moved)
+            free = subst (λ z. IsPath (λ s. m (Chain s)) z bucket.moved)
                 (ap link_of needs.moved ∙ sym (stored_here m (Free hold.class) slot (same_self (Free hold.class)))) moved_by;
             retired = rule.listed.retired;
             moved = refl;
@@ -162,8 +161,7 @@ module _ {capacities : List ℕ} {places tickets : ℕ} {m : Memory} {vs : List 
           };
           counted = record { readers = (counted_still seat hold.class w refl rule.counted).readers };
           clean = (let still = clean_held new_refill refl in record { free = still.moved; moved = tt; clear = still.clear });
-          answered = answered_still seat hold.class w refl m_refill (seat.rule.bucket hold.class)
-              (λ s _. (refl, refl, refl, refl)) rule.roles rule.answered;
+          answered = answered_still seat hold.class w refl m_refill bucket (λ s _. (refl, refl, refl, refl)) rule.roles rule.answered;
         })
 
   -- H10, move
@@ -174,12 +172,12 @@ module _ {capacities : List ℕ} {places tickets : ℕ} {m : Memory} {vs : List 
     abbrev m_move : Memory
     m_move = stored m (Retired hold.class) 0
 
-    no_moved : (seat.rule.bucket hold.class).moved ≡ []
-    no_moved = path_none (λ s. m (Chain s)) (seat.rule.bucket hold.class).moved
-        (subst (λ z. IsPath (λ s. m (Chain s)) (link_of z) (seat.rule.bucket hold.class).moved) needs.empty moved_by)
+    no_moved : bucket.moved ≡ []
+    no_moved = path_none (λ s. m (Chain s)) bucket.moved
+        (subst (λ z. IsPath (λ s. m (Chain s)) (link_of z) bucket.moved) needs.empty moved_by)
 
     abbrev b_move : Bucket
-    b_move = record (seat.rule.bucket hold.class) { retired = []; moved = (seat.rule.bucket hold.class).retired; hold = Some new_move }
+    b_move = record bucket { retired = []; moved = bucket.retired; hold = Some new_move }
 
     pub law_move : MemoryRule capacities places tickets m_move (set vs id (after_move v hold slot)) h
     law_move =
@@ -189,7 +187,7 @@ module _ {capacities : List ℕ} {places tickets : ℕ} {m : Memory} {vs : List 
           listed = record {
             free = rule.listed.free;
             retired = stored_here m (Retired hold.class) 0 (same_self (Retired hold.class));
-            moved = subst (λ z. IsPath (λ s. m (Chain s)) z (seat.rule.bucket hold.class).retired)
+            moved = subst (λ z. IsPath (λ s. m (Chain s)) z bucket.retired)
                 (is_known (Retired hold.class) slot needs.first).1 rule.listed.retired;
           };
           roles = record { once = λ x. let a = roles_by x in let n = ap (times x) no_moved in omega arith };
@@ -204,18 +202,17 @@ module _ {capacities : List ℕ} {places tickets : ℕ} {m : Memory} {vs : List 
             unlinked = λ s is. rule.ages.unlinked s (ap unlinked_of had ∙ is);
           };
           counted = record { readers = (counted_still seat hold.class w refl rule.counted).readers };
-          clean = (let still = clean_still seat hold.class w refl (seat.rule.bucket hold.class)
+          clean = (let still = clean_still seat hold.class w refl bucket
               (Some new_move) (λ other is yes s of. rule.clean.clear hold had needs.clear s of) rule.clean in
               record {
                 free = still.free;
-                moved = all_from_times (IsFreeOfReaders hold.class h (set vs id w)) (seat.rule.bucket hold.class).retired
+                moved = all_from_times (IsFreeOfReaders hold.class h (set vs id w)) bucket.retired
                     (λ s there. free_still seat hold.class w refl s
                     (rule.clean.clear hold had needs.clear s
                     (retired_slot rule.roles s there)));
                 clear = still.clear;
               });
-          answered = answered_still seat hold.class w refl m_move (seat.rule.bucket hold.class)
-              (λ s _. (refl, refl, refl, refl)) rule.roles rule.answered;
+          answered = answered_still seat hold.class w refl m_move bucket (λ s _. (refl, refl, refl, refl)) rule.roles rule.answered;
         })
 
   -- H10, push
@@ -230,7 +227,7 @@ module _ {capacities : List ℕ} {places tickets : ℕ} {m : Memory} {vs : List 
     slot_of_push = unlinked_slot rule.roles slot (ap unlinked_of had ∙ needs.unlinked)
 
     abbrev b_push : Bucket
-    b_push = record (seat.rule.bucket hold.class) { retired = slot ∷ (seat.rule.bucket hold.class).retired; hold = Some new_push }
+    b_push = record bucket { retired = slot ∷ bucket.retired; hold = Some new_push }
 
     pub law_push : MemoryRule capacities places tickets m_push (set vs id (after_push v hold slot)) h
     law_push =
@@ -242,7 +239,7 @@ module _ {capacities : List ℕ} {places tickets : ℕ} {m : Memory} {vs : List 
             retired = (
               stored_here m (Retired hold.class) slot (same_self (Retired hold.class)),
               (slot_within capacities hold.class slot slot_of_push).0,
-              subst (λ z. IsPath (λ s. m (Chain s)) z (seat.rule.bucket hold.class).retired)
+              subst (λ z. IsPath (λ s. m (Chain s)) z bucket.retired)
                   ((is_known (Retired hold.class) first needs.first_is).1
                   ∙ sym (is_known (Chain slot) first needs.chained).1) rule.listed.retired,
             );
@@ -261,8 +258,7 @@ module _ {capacities : List ℕ} {places tickets : ℕ} {m : Memory} {vs : List 
           };
           counted = record { readers = (counted_still seat hold.class w refl rule.counted).readers };
           clean = (let still = clean_held new_push refl in record { free = still.free; moved = still.moved; clear = still.clear });
-          answered = answered_still seat hold.class w refl m_push (seat.rule.bucket hold.class)
-              (λ s _. (refl, refl, refl, refl)) rule.roles rule.answered;
+          answered = answered_still seat hold.class w refl m_push bucket (λ s _. (refl, refl, refl, refl)) rule.roles rule.answered;
         })
 
   -- H10, chain
@@ -289,25 +285,23 @@ module _ {capacities : List ℕ} {places tickets : ℕ} {m : Memory} {vs : List 
     pub law_chain : MemoryRule capacities places tickets m_chain (set vs id (after_chain v hold slot number)) h
     law_chain =
         let w : View = after_chain v hold slot number in
-        held_law new_chain refl (Chain slot) number slot_of_chain refl (record (seat.rule.bucket hold.class) { hold = Some new_chain }) (record {
+        held_law new_chain refl (Chain slot) number slot_of_chain refl (record bucket { hold = Some new_chain }) (record {
           chained = record { path = rule.chained.path; classes = rule.chained.classes; distinct = rule.chained.distinct };
           listed = record {
-            free = chain_else (m (Free hold.class)) (seat.rule.bucket hold.class).free (λ x. let a = one_role x in omega arith) rule.listed.free;
-            retired = chain_else (m (Retired hold.class)) (seat.rule.bucket hold.class).retired (λ x. let a = one_role x in omega arith)
-                rule.listed.retired;
-            moved = chain_else (link_of hold.moved) (seat.rule.bucket hold.class).moved (λ x. let a = one_role x in omega arith) moved_by;
+            free = chain_else (m (Free hold.class)) bucket.free (λ x. let a = one_role x in omega arith) rule.listed.free;
+            retired = chain_else (m (Retired hold.class)) bucket.retired (λ x. let a = one_role x in omega arith) rule.listed.retired;
+            moved = chain_else (link_of hold.moved) bucket.moved (λ x. let a = one_role x in omega arith) moved_by;
           };
           roles = record { once = roles_by };
           mapped = record {
-            answers = λ key class. rule.mapped.answers key class
-                ∙ sym (seek-same m m_chain key (seat.rule.bucket hold.class).chain (λ s _. (refl, refl)));
+            answers = λ key class. rule.mapped.answers key class ∙ sym (seek-same m m_chain key bucket.chain (λ s _. (refl, refl)));
           };
           locked = locked_by seat hold new_chain mine refl m_chain refl w refl refl;
           known = known_after (Chain slot) number slot_of_chain new_chain refl;
           ages = ages_by new_chain refl refl;
           counted = record { readers = (counted_still seat hold.class w refl rule.counted).readers };
           clean = clean_held new_chain refl;
-          answered = answered_by w refl m_chain (seat.rule.bucket hold.class).chain (λ section. record {
+          answered = answered_by w refl m_chain bucket.chain (λ section. record {
             linked = λ t _. (refl, refl, refl);
             old = λ t _ _. (refl, refl, refl);
             held = λ t _ p. p;
@@ -354,21 +348,21 @@ module _ {capacities : List ℕ} {places tickets : ℕ} {m : Memory} {vs : List 
     words_write _ is d = absurd is
 
     -- the slot taken isn't linked
-    linked_write : (s : ℕ) → 1 ≤ times s (seat.rule.bucket hold.class).chain → s ≢ slot
+    linked_write : (s : ℕ) → 1 ≤ times s bucket.chain → s ≢ slot
     linked_write s there e =
         let a = one_role slot in
         let b : times slot (option_to_list hold.taken) ≡ 1 =
         ap (λ o. times slot (option_to_list o)) needs.taken ∙ (let t = times_here slot [] in omega arith) in
-        let d : 1 ≤ times slot (seat.rule.bucket hold.class).chain = subst (λ z. 1 ≤ times z (seat.rule.bucket hold.class).chain) e there in omega arith
+        let d : 1 ≤ times slot bucket.chain = subst (λ z. 1 ≤ times z bucket.chain) e there in omega arith
 
     pub law_write : MemoryRule capacities places tickets m_write (set vs id (after_write v hold field number)) h
     law_write =
         let w : View = after_write v hold field number in
         let f = needs.field_is in
         let c : ℕ = hold.class in
-        let chain : List ℕ = (seat.rule.bucket hold.class).chain in
+        let chain : List ℕ = bucket.chain in
         let (words, head) = words_write field f c in
-        held_law new_write refl field number (of_class_write field f) words.front (record (seat.rule.bucket hold.class) { hold = Some new_write }) (record {
+        held_law new_write refl field number (of_class_write field f) words.front (record bucket { hold = Some new_write }) (record {
           chained = record {
             path = subst (λ z. IsPath (λ s. m_write (Next s)) z chain) (sym head)
                 (IsPath-same (λ s. m (Next s)) (λ s. m_write (Next s)) (m (Head c)) chain
@@ -427,9 +421,9 @@ module _ {capacities : List ℕ} {places tickets : ℕ} {m : Memory} {vs : List 
     same_updates_take : updates_of h_take ≡ updates_of h
     same_updates_take = updates_of-append h (Given slot ∷ []) ∙ append-nil (updates_of h)
 
-    first_free : (ss : List ℕ) × ((seat.rule.bucket hold.class).free ≡ slot ∷ ss) × IsPath (λ s. m (Chain s)) (m (Chain slot)) ss
-    first_free = path_cons (λ s. m (Chain s)) slot (seat.rule.bucket hold.class).free needs.some
-        (subst (λ z. IsPath (λ s. m (Chain s)) z (seat.rule.bucket hold.class).free)
+    first_free : (ss : List ℕ) × (bucket.free ≡ slot ∷ ss) × IsPath (λ s. m (Chain s)) (m (Chain slot)) ss
+    first_free = path_cons (λ s. m (Chain s)) slot bucket.free needs.some
+        (subst (λ z. IsPath (λ s. m (Chain s)) z bucket.free)
         (is_known (Free hold.class) slot needs.first).1 rule.listed.free)
 
     slot_of_take : is_slot_of capacities hold.class slot ≡ true
@@ -449,8 +443,7 @@ module _ {capacities : List ℕ} {places tickets : ℕ} {m : Memory} {vs : List 
     last_take s = last_unlinked-same h (Given slot) tt s
 
     -- the slot is in no other list
-    gone_else : (xs : List ℕ) → ((x : ℕ) → times x xs + times x (seat.rule.bucket hold.class).free ≤ 1) → (s : ℕ) → 1 ≤ times s xs
-        → gone_at s h_take ≡ gone_at s h
+    gone_else : (xs : List ℕ) → ((x : ℕ) → times x xs + times x bucket.free ≤ 1) → (s : ℕ) → 1 ≤ times s xs → gone_at s h_take ≡ gone_at s h
     gone_else xs once s there = gone_take s (λ e.
         let a = once slot in
         let t = times_here slot first_free.0 in
@@ -506,13 +499,13 @@ module _ {capacities : List ℕ} {places tickets : ℕ} {m : Memory} {vs : List 
     }
 
     abbrev b_take : Bucket
-    b_take = record (seat.rule.bucket hold.class) { free = first_free.0; hold = Some new_take }
+    b_take = record bucket { free = first_free.0; hold = Some new_take }
 
     pub law_take : MemoryRule capacities places tickets m_take (set vs id (after_take v hold slot next h)) h_take
     law_take =
-        let chain : List ℕ = (seat.rule.bucket hold.class).chain in
-        let retired : List ℕ = (seat.rule.bucket hold.class).retired in
-        let moved : List ℕ = (seat.rule.bucket hold.class).moved in
+        let chain : List ℕ = bucket.chain in
+        let retired : List ℕ = bucket.retired in
+        let moved : List ℕ = bucket.moved in
         let us : List Update = updates_of h in
         let us' : List Update = updates_of h_take in
         let keeps : (section : Section) (j : ℕ) (u : View) → get_elem? vs j ≡ some u → u.section ≡ Some section
@@ -566,7 +559,7 @@ module _ {capacities : List ℕ} {places tickets : ℕ} {m : Memory} {vs : List 
             free = all_map (IsFreeOfReaders hold.class h vs)
                 (IsFreeOfReaders hold.class h_take (set vs id w_take)) first_free.0 still_free_take others_clean;
             moved = all_map (IsFreeOfReaders hold.class h vs) (IsFreeOfReaders hold.class h_take (set vs id w_take))
-                (seat.rule.bucket hold.class).moved still_free_take rule.clean.moved;
+                bucket.moved still_free_take rule.clean.moved;
             clear = λ other is yes s of. let e : new_take ≡ other = cc in
                 still_free_take s (rule.clean.clear hold had (ap (λ (z : Hold). z.clear) e ∙ yes) s of);
           };

@@ -130,11 +130,14 @@ cut_next head next next' chain p slot once some_slot is is' same there path =
 module _ {capacities : List ℕ} {places tickets : ℕ} {m : Memory} {vs : List View} {h : List Mark} {id : ℕ} {v : View}
     (seat : Seated capacities places tickets m vs h id v) {hold : Hold} (mine : v.hold ≡ Some hold)
     (even : ℕ) (link : Field) (slot key next : ℕ) (needs : NeedsUnlink v hold even link slot key next) where
-  abbrev bucket_rule : BucketRule capacities hold.class m h (updates_of h) vs (seat.rule.bucket hold.class)
+  abbrev bucket : Bucket
+  bucket = seat.rule.bucket hold.class
+
+  abbrev bucket_rule : BucketRule capacities hold.class m h (updates_of h) vs bucket
   bucket_rule = rule seat mine
 
   abbrev chain_now : List ℕ
-  chain_now = (seat.rule.bucket hold.class).chain
+  chain_now = bucket.chain
 
   abbrev m_unlink : Memory
   m_unlink = stored m link next
@@ -178,7 +181,7 @@ module _ {capacities : List ℕ} {places tickets : ℕ} {m : Memory} {vs : List 
   of_class_unlink (Next t) is = chain_slot bucket_rule.roles t (on_chain seat mine t is)
   of_class_unlink _ is = absurd is
 
-  roles_unlink : (x : ℕ) → roles_of (seat.rule.bucket hold.class) hold.taken hold.unlinked x ≡ cond (is_slot_of capacities hold.class x) 1 0
+  roles_unlink : (x : ℕ) → roles_of bucket hold.taken hold.unlinked x ≡ cond (is_slot_of capacities hold.class x) 1 0
   roles_unlink = roles_by seat mine
 
   once_unlink : (t : ℕ) → times t chain_now ≤ 1
@@ -451,19 +454,19 @@ module _ {capacities : List ℕ} {places tickets : ℕ} {m : Memory} {vs : List 
   chains_unlink first xs path = IsPath-same (λ s. m (Chain s)) (λ s. m_unlink (Chain s)) first xs (λ s _. (slots_unlink link needs.link_is s).2) path
 
   abbrev b_unlink : Bucket
-  b_unlink = record (seat.rule.bucket hold.class) { chain = cut.before ++ cut.after; hold = Some new_unlink }
+  b_unlink = record bucket { chain = cut.before ++ cut.after; hold = Some new_unlink }
 
   -- H14
   pub law_unlink : MemoryRule capacities places tickets m_unlink (set vs id (after_unlink v hold even link slot key next h)) h_unlink
   law_unlink =
-      let held : (seat.rule.bucket hold.class).hold ≡ Some hold = had seat mine in
+      let held : bucket.hold ≡ Some hold = had seat mine in
       let words = words_unlink link needs.link_is hold.class in
-      let other_free : times slot (seat.rule.bucket hold.class).free ≡ 0 =
-      elsewhere (seat.rule.bucket hold.class).free (λ x. let a = one_role seat mine x in omega arith) in
-      let other_retired : times slot (seat.rule.bucket hold.class).retired ≡ 0 =
-      elsewhere (seat.rule.bucket hold.class).retired (λ x. let a = one_role seat mine x in omega arith) in
-      let other_moved : times slot (seat.rule.bucket hold.class).moved ≡ 0 =
-      elsewhere (seat.rule.bucket hold.class).moved (λ x. let a = one_role seat mine x in omega arith) in
+      let other_free : times slot bucket.free ≡ 0 =
+      elsewhere bucket.free (λ x. let a = one_role seat mine x in omega arith) in
+      let other_retired : times slot bucket.retired ≡ 0 =
+      elsewhere bucket.retired (λ x. let a = one_role seat mine x in omega arith) in
+      let other_moved : times slot bucket.moved ≡ 0 =
+      elsewhere bucket.moved (λ x. let a = one_role seat mine x in omega arith) in
       let other_taken : times slot (option_to_list hold.taken) ≡ 0 =
       elsewhere (option_to_list hold.taken) (λ x. let a = one_role seat mine x in omega arith) in
       after_step seat w_unlink (seats_updated seat mine needs.commit (Del key) new_unlink refl m_unlink words.front
@@ -479,11 +482,11 @@ module _ {capacities : List ℕ} {places tickets : ℕ} {m : Memory} {vs : List 
               (λ s _. let q = slots_unlink link needs.link_is s in (q.0, q.1)) without.0;
         };
         listed = record {
-          free = subst (λ z. IsPath (λ s. m_unlink (Chain s)) z (seat.rule.bucket hold.class).free) (sym words.free)
-              (chains_unlink (m (Free hold.class)) (seat.rule.bucket hold.class).free bucket_rule.listed.free);
-          retired = subst (λ z. IsPath (λ s. m_unlink (Chain s)) z (seat.rule.bucket hold.class).retired) (sym words.retired)
-              (chains_unlink (m (Retired hold.class)) (seat.rule.bucket hold.class).retired bucket_rule.listed.retired);
-          moved = chains_unlink (link_of hold.moved) (seat.rule.bucket hold.class).moved (moved_by seat mine);
+          free = subst (λ z. IsPath (λ s. m_unlink (Chain s)) z bucket.free) (sym words.free)
+              (chains_unlink (m (Free hold.class)) bucket.free bucket_rule.listed.free);
+          retired = subst (λ z. IsPath (λ s. m_unlink (Chain s)) z bucket.retired) (sym words.retired)
+              (chains_unlink (m (Retired hold.class)) bucket.retired bucket_rule.listed.retired);
+          moved = chains_unlink (link_of hold.moved) bucket.moved (moved_by seat mine);
         };
         roles = record {
           once = λ x. let a = roles_unlink x in let b = counts x in let n = ap (λ o. times x (option_to_list o)) needs.empty in
@@ -500,20 +503,20 @@ module _ {capacities : List ℕ} {places tickets : ℕ} {m : Memory} {vs : List 
               (let e : times s (option_to_list hold.taken) ≡ 1 =
               ap (λ o. times s (option_to_list o)) is ∙ (let t = times_here s [] in omega arith) in omega arith))
               ∙ bucket_rule.ages.taken s (ap taken_of held ∙ is);
-          retired = all_change (IsGone h) (IsGone h_unlink) (seat.rule.bucket hold.class).retired
-              (λ s is p. (p.0, gone_unlink s (not_slot (seat.rule.bucket hold.class).retired other_retired s is) ∙ p.1)) bucket_rule.ages.retired;
-          moved = all_change (IsGone h) (IsGone h_unlink) (seat.rule.bucket hold.class).moved
-              (λ s is p. (p.0, gone_unlink s (not_slot (seat.rule.bucket hold.class).moved other_moved s is) ∙ p.1)) bucket_rule.ages.moved;
+          retired = all_change (IsGone h) (IsGone h_unlink) bucket.retired
+              (λ s is p. (p.0, gone_unlink s (not_slot bucket.retired other_retired s is) ∙ p.1)) bucket_rule.ages.retired;
+          moved = all_change (IsGone h) (IsGone h_unlink) bucket.moved
+              (λ s is p. (p.0, gone_unlink s (not_slot bucket.moved other_moved s is) ∙ p.1)) bucket_rule.ages.moved;
           unlinked = λ s is. let e : slot ≡ s = cc in (length h + 1, ap (λ z. gone_at z h_unlink) (sym e) ∙ gone_here_unlink);
         };
         counted = record {
           readers = words.readers ∙ (counted_still seat hold.class w_unlink refl bucket_rule.counted).readers;
         };
         clean = record {
-          free = all_change (IsFreeOfReaders hold.class h vs) (IsFreeOfReaders hold.class h_unlink (set vs id w_unlink)) (seat.rule.bucket hold.class).free
-              (λ s is. free_unlink s (not_slot (seat.rule.bucket hold.class).free other_free s is)) bucket_rule.clean.free;
-          moved = all_change (IsFreeOfReaders hold.class h vs) (IsFreeOfReaders hold.class h_unlink (set vs id w_unlink)) (seat.rule.bucket hold.class).moved
-              (λ s is. free_unlink s (not_slot (seat.rule.bucket hold.class).moved other_moved s is)) bucket_rule.clean.moved;
+          free = all_change (IsFreeOfReaders hold.class h vs) (IsFreeOfReaders hold.class h_unlink (set vs id w_unlink)) bucket.free
+              (λ s is. free_unlink s (not_slot bucket.free other_free s is)) bucket_rule.clean.free;
+          moved = all_change (IsFreeOfReaders hold.class h vs) (IsFreeOfReaders hold.class h_unlink (set vs id w_unlink)) bucket.moved
+              (λ s is. free_unlink s (not_slot bucket.moved other_moved s is)) bucket_rule.clean.moved;
           clear = λ other is yes s of. absurd (let e : new_unlink ≡ other = cc in let z : false ≡ true = ap (λ (k : Hold). k.clear) e ∙ yes in
               cc);
         };
