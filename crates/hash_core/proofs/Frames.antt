@@ -242,8 +242,7 @@ module _ {capacities : List ℕ} {c : ℕ} (m m' : Memory) {h h' : List Mark} {u
   still_answer section (Found s) a = (still_way section s a.0, (slots s (way_slot m roles section s a.0)).0 ∙ a.1)
   still_answer section Ended a = still_said marks section.key section.from None a
 
-  pub still_told : (section : Section) → WillBeTold capacities c m h us b.chain section
-      → WillBeTold capacities c m' h' us' b.chain section
+  pub still_told : (section : Section) → WillBeTold capacities c m h us b.chain section → WillBeTold capacities c m' h' us' b.chain section
   still_told section told = (
     still_answer section section.state told.0,
     λ value read. still_said marks section.key section.from (Some value) (told.1 value read),
@@ -358,11 +357,9 @@ module _ (capacities : List ℕ) (c : ℕ) (m m' : Memory) (h h' : List Mark) (u
   frame_clean : AreClean capacities c h' (set vs id w) b
   frame_clean = record {
     free = all_change (IsFreeOfReaders c h vs) (IsFreeOfReaders c h' (set vs id w)) b.free
-        (λ s there p. still_free capacities c h h' vs id v w at marks.last view.section s
-        (free_slot r.roles s there) p) r.clean.free;
+        (λ s there p. still_free capacities c h h' vs id v w at marks.last view.section s (free_slot r.roles s there) p) r.clean.free;
     moved = all_change (IsFreeOfReaders c h vs) (IsFreeOfReaders c h' (set vs id w)) b.moved
-        (λ s there p. still_free capacities c h h' vs id v w at marks.last view.section s
-        (moved_slot r.roles s there) p) r.clean.moved;
+        (λ s there p. still_free capacities c h h' vs id v w at marks.last view.section s (moved_slot r.roles s there) p) r.clean.moved;
     clear = λ hold is clear s of. still_free capacities c h h' vs id v w at marks.last view.section s of (r.clean.clear hold is clear s of);
   }
 

@@ -272,8 +272,7 @@ module _ {capacities : List ℕ} {places tickets : ℕ} {m : Memory} {vs : List 
       (subst (λ z. IsPath (λ s. m (Chain s)) z (seat.rule.bucket hold.class).retired) retired_is b.listed.retired) in
       let none_moved : (seat.rule.bucket hold.class).moved ≡ [] =
       path_none (λ s. m (Chain s)) (seat.rule.bucket hold.class).moved
-      (subst (λ z. IsPath (λ s. m (Chain s)) (link_of z) (seat.rule.bucket hold.class).moved) no_moved
-      (moved_by seat mine)) in
+      (subst (λ z. IsPath (λ s. m (Chain s)) (link_of z) (seat.rule.bucket hold.class).moved) no_moved (moved_by seat mine)) in
       let once : (x : ℕ) → times x (seat.rule.bucket hold.class).chain ≡ cond (is_slot_of capacities hold.class x) 1 0 = λ x.
       let a = roles_by seat mine x in
       let free = ap (times x) no_free in let retired = ap (times x) no_retired in let moved = ap (times x) none_moved in

@@ -47,18 +47,15 @@ module _ {capacities : List ℕ} {places tickets : ℕ} {m : Memory} {vs : List 
   -- a slot on the known walk is linked
   pub on_chain : (slot : ℕ) → IsOnWalk hold slot → 1 ≤ times slot bucket.chain
   on_chain slot on = comes_on hold.known m (λ s n e. (is_known seat mine (Next s) n e).1) on.first on.before chain_now slot on.comes
-      (subst (λ z. IsPath (λ s. m (Next s)) z chain_now)
-      (is_known seat mine (Head hold.class) on.first on.head).1 bucket_rule.chained.path)
+      (subst (λ z. IsPath (λ s. m (Next s)) z chain_now) (is_known seat mine (Head hold.class) on.first on.head).1 bucket_rule.chained.path)
 
   -- a key that the known walk lacks is absent
   pub absent_now : (key : ℕ) → ShowsAbsent hold key → seek m key bucket.chain ≡ None
   absent_now key shows =
       let walk_is : chain_now ≡ shows.walk = whole_path hold.known m
-      (λ s n e. (is_known seat mine
-      (Next s) n e).1) shows.first shows.walk chain_now shows.whole
+      (λ s n e. (is_known seat mine (Next s) n e).1) shows.first shows.walk chain_now shows.whole
       (subst (λ z. IsPath (λ s. m (Next s)) z chain_now)
-      (is_known seat mine
-      (Head hold.class) shows.first shows.head).1 bucket_rule.chained.path) in
+      (is_known seat mine (Head hold.class) shows.first shows.head).1 bucket_rule.chained.path) in
       ap (seek m key) walk_is ∙ lacks_none hold.known m
       (λ s n e. (is_known seat mine (Key s) n e).1) key shows.walk shows.lacks
 
@@ -200,8 +197,7 @@ module _ {capacities : List ℕ} {places tickets : ℕ} {m : Memory} {vs : List 
               (slot_within capacities hold.class slot slot_of_link).0,
               subst (λ z. IsPath (λ s. m (Next s)) z chain_now)
                   ((is_known seat mine (Head hold.class) first needs.head_is).1
-                  ∙ sym (is_known seat mine
-                  (Next slot) first needs.next_is).1) bucket_rule.chained.path,
+                  ∙ sym (is_known seat mine (Next slot) first needs.next_is).1) bucket_rule.chained.path,
             );
             classes = (ap (λ z. z % 64) is_key_link ∙ needs.class, bucket_rule.chained.classes);
             distinct = distinct_link;
@@ -309,7 +305,8 @@ module _ {capacities : List ℕ} {places tickets : ℕ} {m : Memory} {vs : List 
     mapped_replace : (k : ℕ) → k % 64 ≡ hold.class → finite.get (map_of (updates_of h_replace)) k ≡ seek m_replace k chain_now
     mapped_replace k class = dite (ℕ_discrete k key)
         (λ e. subst (λ z. finite.get (map_of (updates_of h_replace)) z ≡ seek m_replace z chain_now) (sym e)
-        (get_done (Set key value) key ∙ get-set (map_of (updates_of h)) key value present_replace ∙ ap Some (sym new_value_replace) ∙ sym now_replace))
+        (get_done (Set key value) key ∙ get-set (map_of (updates_of h)) key value present_replace ∙ ap Some (sym new_value_replace)
+        ∙ sym now_replace))
         (λ ne. get_done_other (Set key value) k ne ∙ bucket_rule.mapped.answers k class
         ∙ elim (search_replace k chain_now) [ inl e ↦ sym e | inr e ↦ absurd (ne (sym e.0 ∙ is_key_replace)) ])
       where
@@ -317,7 +314,8 @@ module _ {capacities : List ℕ} {places tickets : ℕ} {m : Memory} {vs : List 
         now_replace =
             let cut = cut_at slot chain_now there_replace in
             ap (λ z. seek m_replace z chain_now) (sym is_key_replace) ∙ ap (seek m_replace (m (Key slot))) cut.2
-            ∙ seek_slot m_replace slot cut.0 cut.1 (subst (HaveDistinctKeys m_replace) cut.2 (distinct_replace chain_now bucket_rule.chained.distinct))
+            ∙ seek_slot m_replace slot cut.0 cut.1 (subst (HaveDistinctKeys m_replace) cut.2
+            (distinct_replace chain_now bucket_rule.chained.distinct))
 
     said_way_replace : (section : Section) → section.from ≤ length (updates_of h) → (xs : List ℕ)
         → WasSaid (updates_of h) section.key section.from (seek m section.key xs)

@@ -91,8 +91,7 @@ module _ {capacities : List ℕ} {places tickets : ℕ} {m : Memory} {vs : List 
   -- A class's bucket where its lock is stored: who holds it now knows nothing yet, and has in hand what the last holder had.
   bucket_passed : (c n : ℕ) (small : c < 64) (new : Option Hold) → ((hold : Hold) → new ≡ Some hold → fresh_hold c ≡ hold)
       → taken_of (seat.rule.bucket c).hold ≡ taken_of new → unlinked_of (seat.rule.bucket c).hold ≡ unlinked_of new
-      → moved_of (seat.rule.bucket c).hold ≡ moved_of new
-      → IsLocked c (stored m (Lock c) n) (set vs id (record v { hold = new })) new
+      → moved_of (seat.rule.bucket c).hold ≡ moved_of new → IsLocked c (stored m (Lock c) n) (set vs id (record v { hold = new })) new
       → BucketRule capacities c (stored m (Lock c) n) h (updates_of h) (set vs id (record v { hold = new }))
       (record (seat.rule.bucket c) { hold = new })
   bucket_passed c n small new fresh taken unlinked moved locked =
@@ -462,8 +461,7 @@ module _ {capacities : List ℕ} {places tickets : ℕ} {m : Memory} {vs : List 
   ]
 
   module _ (op : Op) (new : Hold) (class : new.class ≡ hold.class) (m' : Memory) (front : m' Front ≡ m Front) (more : List Mark)
-      (longer : updates_of (h ++ done_by v op ∷ more) ≡ updates_of h
-      ++ record { caller = v.place; op = op } ∷ [])
+      (longer : updates_of (h ++ done_by v op ∷ more) ≡ updates_of h ++ record { caller = v.place; op = op } ∷ [])
       (none : (p : ℕ) → own_of p more ≡ [])
       (opened : (p : ℕ) → open_at p (h ++ done_by v op ∷ more) ≡ open_at p h)
       (entered : (p : ℕ) → entered_at p (h ++ done_by v op ∷ more) ≡ entered_at p h)

@@ -161,7 +161,8 @@ module _ {capacities : List ℕ} {places tickets : ℕ} {m : Memory} {vs : List 
     heard = each_set (λ j u. HasHeard u) vs id w
         (subst (λ (z : List Mark × List (List Mark)). AllByRecursion (λ seen. IsPrefix seen z.0) z.1) (λ i. (sym new i, sym heard i))
         (all_map (λ seen. IsPrefix seen v.seen) (λ seen. IsPrefix seen h') v.heard
-        (λ seen p. prefix_trans seen v.seen h' p (prefix_trans v.seen h h' (seat.rule.seen.begins id v seat.at) longer)) (seat.rule.seen.heard id v seat.at)))
+        (λ seen p. prefix_trans seen v.seen h' p (prefix_trans v.seen h h' (seat.rule.seen.begins id v seat.at) longer))
+        (seat.rule.seen.heard id v seat.at)))
         (λ j u other e. seat.rule.seen.heard j u e);
     begins = each_set (λ j u. IsPrefix u.seen h') vs id w (subst (λ z. IsPrefix z h') (sym new) (prefix_self h'))
         (λ j u other e. prefix_trans u.seen h h' (seat.rule.seen.begins j u e) longer);
@@ -266,7 +267,8 @@ module _ {capacities : List ℕ} {places tickets : ℕ} {m : Memory} {vs : List 
         met = λ j u p there a. each_set (λ k z. AnswersFor z p → own_of p z.seen ≡ own_of p z.own) vs id w
             (λ mine. ap (own_of p) seen ∙ own_now p mine)
             (λ k z other e theirs. seat.rule.owned.met k z p e theirs) j u there a;
-        within = λ p far. h_else p (λ e. let below = seat.rule.apart.within id v v.place seat.at at_place in omega arith) ∙ seat.rule.owned.within p far;
+        within = λ p far. h_else p (λ e. let below = seat.rule.apart.within id v v.place seat.at at_place in omega arith)
+            ∙ seat.rule.owned.within p far;
         none = λ j u p there a. each_set (λ k z. (AnswersFor z p → ⊥) → own_of p z.own ≡ []) vs id w
             (λ mine. own_else p (λ e. mine (answers_forth p same (subst (AnswersFor v) (sym e) at_place)))
             ∙ seat.rule.owned.none id v p seat.at (λ b. mine (answers_forth p same b)))
@@ -401,7 +403,8 @@ module _ {capacities : List ℕ} {places tickets : ℕ} {m : Memory} {vs : List 
       (λ e. let here : b ≡ cond (d == c) b (seat.rule.bucket d) = ap (λ t. cond t b (seat.rule.bucket d)) (sym (eq-eqb d c e)) in
       subst (BucketRule capacities d m' h' (updates_of h') (set vs id w)) here
       (subst (λ z. BucketRule capacities z m' h' (updates_of h') (set vs id w) b) (sym e) (mine (subst (λ z. z < 64) e small))))
-      (λ ne. let there : seat.rule.bucket d ≡ cond (d == c) b (seat.rule.bucket d) = ap (λ t. cond t b (seat.rule.bucket d)) (sym (ne_eqb d c ne)) in
+      (λ ne. let there : seat.rule.bucket d ≡ cond (d == c) b (seat.rule.bucket d) = ap (λ t. cond t b (seat.rule.bucket d))
+      (sym (ne_eqb d c ne)) in
       subst (BucketRule capacities d m' h' (updates_of h') (set vs id w)) there (still d small (others d small ne))))
 
   -- a step that no class is concerned with
@@ -496,7 +499,8 @@ pub law_stepped : {capacities : List ℕ} {places tickets : ℕ} {m : Memory} {v
 law_stepped {capacities} {m = m} {h = h} {id = id} {v = v} seat kind field number =
     let w : View = stepped v kind field number in
     after_quiet seat w (seats_same seat w m
-    (seat_holds v v.hold w.trail v.seen (λ commit hold is held. (hold, held)) (λ hold is. seat.rule.held.held id v hold seat.at is)) (inl refl) refl)
+    (seat_holds v v.hold w.trail v.seen (λ commit hold is held. (hold, held)) (λ hold is. seat.rule.held.held id v hold seat.at is))
+    (inl refl) refl)
     (λ d small. record {
       words = same_words capacities d m;
       marks = same_marks capacities d h;

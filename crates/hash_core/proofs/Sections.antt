@@ -105,10 +105,12 @@ module _ {capacities : List ℕ} {places tickets : ℕ} {m : Memory} {vs : List 
     }
 
     open_here_enter : open_at v.place h_enter ≡ Some (open_of section_enter)
-    open_here_enter = open_at-snoc v.place h mark_enter ∙ ap (λ b. cond b (Some (open_of section_enter)) (open_at v.place h)) (eq-eqb v.place v.place refl)
+    open_here_enter = open_at-snoc v.place h mark_enter ∙ ap (λ b. cond b (Some (open_of section_enter)) (open_at v.place h))
+        (eq-eqb v.place v.place refl)
 
     open_else_enter : (p : ℕ) → p ≢ v.place → open_at p h_enter ≡ open_at p h
-    open_else_enter p ne = open_at-snoc p h mark_enter ∙ ap (λ b. cond b (Some (open_of section_enter)) (open_at p h)) (ne_eqb v.place p (λ e. ne (sym e)))
+    open_else_enter p ne = open_at-snoc p h mark_enter ∙ ap (λ b. cond b (Some (open_of section_enter)) (open_at p h))
+        (ne_eqb v.place p (λ e. ne (sym e)))
 
     -- no section is open at the place
     closed_enter : open_at v.place h ≡ None
@@ -178,7 +180,8 @@ module _ {capacities : List ℕ} {places tickets : ℕ} {m : Memory} {vs : List 
       reuse = reuse_more capacities h mark_enter (λ s e. absurd (cc)) seat.rule.reuse;
     }
 
-    bucket_enter : key % 64 < 64 → BucketRule capacities (key % 64) m_enter h_enter (updates_of h_enter) (set vs id w_enter) (seat.rule.bucket (key % 64))
+    bucket_enter : key % 64 < 64 → BucketRule capacities (key % 64) m_enter h_enter (updates_of h_enter) (set vs id w_enter)
+        (seat.rule.bucket (key % 64))
     bucket_enter small =
         let c : ℕ = key % 64 in
         let b = seat.rule.buckets c small in

@@ -298,8 +298,7 @@ one_class capacities c d s of_c of_d =
     let in_c = slot_bounds capacities c s of_c in
     let in_d = slot_bounds capacities d s of_d in
     let low_c = in_c.0 in let high_c = in_c.1 in let low_d = in_d.0 in let high_d = in_d.1 in
-    dite (ℕ_discrete c d) (λ e. e) (λ ne. dite (dec_le (suc c) d)
-    (λ less. let z = class_before capacities c d less in absurd (omega arith))
+    dite (ℕ_discrete c d) (λ e. e) (λ ne. dite (dec_le (suc c) d) (λ less. let z = class_before capacities c d less in absurd (omega arith))
     (λ not_less. let z = class_before capacities d c (omega arith) in absurd (omega arith)))
 
 -- and lies in the table

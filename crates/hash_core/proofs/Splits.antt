@@ -210,9 +210,11 @@ module _ {capacities : List ℕ} {places tickets : ℕ} {m : Memory} {vs : List 
 
     seen_split : AreSeen vs_split h
     seen_split = record {
-      begins = each_half (λ j u. IsPrefix u.seen h) (seat.rule.seen.begins id v seat.at) (seat.rule.seen.begins id v seat.at) (λ j u _ e. seat.rule.seen.begins j u e);
+      begins = each_half (λ j u. IsPrefix u.seen h) (seat.rule.seen.begins id v seat.at) (seat.rule.seen.begins id v seat.at)
+          (λ j u _ e. seat.rule.seen.begins j u e);
       heard = each_half (λ j u. HasHeard u) (seat.rule.seen.heard id v seat.at) tt (λ j u _ e. seat.rule.seen.heard j u e);
-      longest = somewhere_longer (set vs id first_split) (second_split ∷ []) (somewhere_still vs id v first_split seat.at (λ all. all) seat.rule.seen.longest);
+      longest = somewhere_longer (set vs id first_split) (second_split ∷ [])
+          (somewhere_still vs id v first_split seat.at (λ all. all) seat.rule.seen.longest);
     }
 
     apart_split : AreApart places vs_split
@@ -245,14 +247,17 @@ module _ {capacities : List ℕ} {places tickets : ℕ} {m : Memory} {vs : List 
           | inl f ↦ not_first f
           | inr s ↦ past (let below = (second_place q s).0.1 in let less = some_first in omega arith)
         ])))
-        (λ before. seat.rule.owned.none id v q seat.at (λ a. elim (split_answers q a) [ inl f ↦ not_first f | inr s ↦ before (second_place q s).2 ]))
+        (λ before. seat.rule.owned.none id v q seat.at (λ a. elim
+        (split_answers q a) [ inl f ↦ not_first f | inr s ↦ before (second_place q s).2 ]))
 
     owned_split : AreOwned places vs_split h
     owned_split = record {
       own = λ j u q there a. each_half (λ k z. AnswersFor z q → own_of q h ≡ own_of q z.own)
-          (λ f. seat.rule.owned.own id v q seat.at (first_answers q f)) (λ s. (second_own q s).1) (λ k z _ e o. seat.rule.owned.own k z q e o) j u there a;
+          (λ f. seat.rule.owned.own id v q seat.at (first_answers q f)) (λ s. (second_own q s).1)
+          (λ k z _ e o. seat.rule.owned.own k z q e o) j u there a;
       met = λ j u q there a. each_half (λ k z. AnswersFor z q → own_of q z.seen ≡ own_of q z.own)
-          (λ f. seat.rule.owned.met id v q seat.at (first_answers q f)) (λ s. seat.rule.owned.met id v q seat.at (second_answers q s) ∙ (second_own q s).0)
+          (λ f. seat.rule.owned.met id v q seat.at (first_answers q f))
+          (λ s. seat.rule.owned.met id v q seat.at (second_answers q s) ∙ (second_own q s).0)
           (λ k z _ e o. seat.rule.owned.met k z q e o) j u there a;
       within = seat.rule.owned.within;
       none = λ j u q there a. each_half (λ k z. (AnswersFor z q → ⊥) → own_of q z.own ≡ [])
@@ -367,7 +372,8 @@ module _ {capacities : List ℕ} {places tickets : ℕ} {m : Memory} {vs : List 
 
   longest_join : Somewhere vs_join (λ u. u.seen ≡ h)
   longest_join =
-      let ours : both_join.seen ≡ h → Somewhere vs_join (λ u. u.seen ≡ h) = (λ all. record { id = id; view = both_join; there = both_at; has = all }) in
+      let ours : both_join.seen ≡ h → Somewhere vs_join (λ u. u.seen ≡ h) =
+      (λ all. record { id = id; view = both_join; there = both_at; has = all }) in
       ⊎_elim (λ (whole : v.seen ≡ h). ours (longer_whole_first v.seen other.seen h mine_seen theirs_seen whole))
       (λ (rest : Somewhere (set vs id both_join) (λ u. u.seen ≡ h)). ⊎_elim
       (λ (whole : other.seen ≡ h). ours (longer_whole_second v.seen other.seen h mine_seen theirs_seen whole)) (λ left. left)
@@ -449,7 +455,8 @@ module _ {capacities : List ℕ} {places tickets : ℕ} {m : Memory} {vs : List 
         (λ s. absurd (spent_none q s)) (λ l y _ _ g o. seat.rule.owned.own l y q g o) k u e a;
     met = λ k u q e a. each_join (λ l y. AnswersFor y q → own_of q y.seen ≡ own_of q y.own)
         (λ b. elim (from_both q b) [
-          | inl mine ↦ met_longer q v (seat.rule.owned.met id v q seat.at mine) (seat.rule.owned.own id v q seat.at mine) longer_mine ∙ sym (own_mine q mine)
+          | inl mine ↦ met_longer q v (seat.rule.owned.met id v q seat.at mine) (seat.rule.owned.own id v q seat.at mine) longer_mine
+              ∙ sym (own_mine q mine)
           | inr theirs ↦ met_longer q other (seat.rule.owned.met j other q there theirs) (seat.rule.owned.own j other q there theirs) longer_theirs
               ∙ sym (own_theirs q theirs)
         ])
@@ -474,7 +481,8 @@ module _ {capacities : List ℕ} {places tickets : ℕ} {m : Memory} {vs : List 
   busy_join : SameBusy vs vs_join
   busy_join = record {
     back = each_join (λ k u. (get_elem? vs k ≡ some u) ⊎ (IsQuiet u × HasNoCommit u))
-        (inr (quiet, quiet_turn m vs (length (updates_of h)) seat.rule.turned id v seat.at quiet.1)) (inr ((refl, refl), refl)) (λ k u _ _ e. inl e);
+        (inr (quiet, quiet_turn m vs (length (updates_of h)) seat.rule.turned id v seat.at quiet.1)) (inr ((refl, refl), refl))
+        (λ k u _ _ e. inl e);
     forth = λ k u e. dite (ℕ_discrete k id)
         (λ same. inr (subst IsQuiet (at_one vs id v u seat.at (subst (λ l. get_elem? vs l ≡ some u) same e)) quiet))
         (λ not_id. dite (ℕ_discrete k j)

@@ -208,8 +208,7 @@ module _ {capacities : List ℕ} {places tickets : ℕ} {m : Memory} {vs : List 
                 free = still.free;
                 moved = all_from_times (IsFreeOfReaders hold.class h (set vs id w)) bucket.retired
                     (λ s there. free_still seat hold.class w refl s
-                    (rule.clean.clear hold had needs.clear s
-                    (retired_slot rule.roles s there)));
+                    (rule.clean.clear hold had needs.clear s (retired_slot rule.roles s there)));
                 clear = still.clear;
               });
           answered = answered_still seat hold.class w refl m_move bucket (λ s _. (refl, refl, refl, refl)) rule.roles rule.answered;
@@ -423,8 +422,7 @@ module _ {capacities : List ℕ} {places tickets : ℕ} {m : Memory} {vs : List 
 
     first_free : (ss : List ℕ) × (bucket.free ≡ slot ∷ ss) × IsPath (λ s. m (Chain s)) (m (Chain slot)) ss
     first_free = path_cons (λ s. m (Chain s)) slot bucket.free needs.some
-        (subst (λ z. IsPath (λ s. m (Chain s)) z bucket.free)
-        (is_known (Free hold.class) slot needs.first).1 rule.listed.free)
+        (subst (λ z. IsPath (λ s. m (Chain s)) z bucket.free) (is_known (Free hold.class) slot needs.first).1 rule.listed.free)
 
     slot_of_take : is_slot_of capacities hold.class slot ≡ true
     slot_of_take = free_slot rule.roles slot (let t = times_here slot first_free.0 in let e = ap (times slot) first_free.1 in omega arith)

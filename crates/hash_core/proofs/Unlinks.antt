@@ -451,7 +451,8 @@ module _ {capacities : List ℕ} {places tickets : ℕ} {m : Memory} {vs : List 
       (λ p section was is class. free p id v section was seat.at is class) free
 
   chains_unlink : (first : ℕ) (xs : List ℕ) → IsPath (λ s. m (Chain s)) first xs → IsPath (λ s. m_unlink (Chain s)) first xs
-  chains_unlink first xs path = IsPath-same (λ s. m (Chain s)) (λ s. m_unlink (Chain s)) first xs (λ s _. (slots_unlink link needs.link_is s).2) path
+  chains_unlink first xs path = IsPath-same (λ s. m (Chain s)) (λ s. m_unlink (Chain s)) first xs
+      (λ s _. (slots_unlink link needs.link_is s).2) path
 
   abbrev b_unlink : Bucket
   b_unlink = record bucket { chain = cut.before ++ cut.after; hold = Some new_unlink }
