@@ -177,7 +177,8 @@ first_slot capacities c next first xs of path there =
 module _ {capacities : List ℕ} {places tickets : ℕ} {m : Memory} {vs : List View} {h : List Mark} {id : ℕ} {v : View}
     (seat : Seated capacities places tickets m vs h id v) where
   pub few_tickets : v.tickets ≤ most_tickets
-  few_tickets = let a = total_part (λ (u : View). u.tickets) vs id v seat.at in let b = seat.rule.tickets_are in let c = seat.rule.shape.few_tickets in
+  few_tickets = let a = total_part (λ (u : View). u.tickets) vs id v seat.at in let b = seat.rule.tickets_are in let c =
+      seat.rule.shape.few_tickets in
       omega arith
 
   pub few_updates : length (updates_of h) ≤ most_tickets

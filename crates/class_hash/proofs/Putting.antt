@@ -302,7 +302,8 @@ module _ {table : TableAt} {v : View} {slot key : ℕ} (value : ℕ) (may : MayF
                   head_is = subst (λ z. known_in hold_both.known (Head z) ≡ Some first) is
                       (known_here (knowing may.hold (Chain slot) next) (Head class) first);
                   class = may.class;
-                  absent = filled_absent hold_both slot next key value first key off (absent_still may.hold hold_both.known key both_loaded.more may.absent);
+                  absent = filled_absent hold_both slot next key value first key off
+                      (absent_still may.hold hold_both.known key both_loaded.more may.absent);
                   ticket = subst (λ n. 1 ≤ n) (sym (ap (λ (z : View). z.tickets) filled_is)) may.ticket;
                 };
                 trail = subst (λ (z : View). AddsNoLists v.trail z.trail) (sym filled_is)

@@ -289,6 +289,5 @@ rule_starts k cs ws same classes slots places tickets fresh =
       marks = [];
       long = all.long;
       holds = starts k.capacities.items k.places k.tickets shape (memory_of k.capacities.items ws)
-          (fresh_memory k.capacities.items ws all.front all.classes
-          (λ c i small room. (all.slots c i small room).chain_is));
+          (fresh_memory k.capacities.items ws all.front all.classes (λ c i small room. (all.slots c i small room).chain_is));
     }

@@ -212,7 +212,8 @@ module _ {table : TableAt} {v : View} {previous : Option ℕ} {slot key : ℕ} (
   pub may_load_retired : {class : ℕ} → class ≡ may.hold.class → (hold : Hold) × (w_next.hold ≡ Some hold) × (class ≡ hold.class)
   may_load_retired is = (knowing may.hold (Next slot) next, ap (λ (z : View). z.hold) (loaded_first may.finished.hold_is a refl).view, is)
 
-  module _ {class first : ℕ} (is : class ≡ may.hold.class) {w_both : View} (b : Told table w_next (act.LockedLoad (Retired class)) first w_both) where
+  module _ {class first : ℕ} (is : class ≡ may.hold.class) {w_both : View}
+      (b : Told table w_next (act.LockedLoad (Retired class)) first w_both) where
     abbrev hold_both : Hold
     hold_both = knowing (knowing may.hold (Next slot) next) (Retired class) first
 
@@ -320,7 +321,8 @@ module _ {table : TableAt} {v : View} {previous : Option ℕ} {slot key : ℕ} (
             record {
               hold_is = ap (λ (z : View). z.hold) chained_is;
               unlinked = refl;
-              first_is = subst (λ l. known_in (knowing (knowing hold_both l next) (Chain slot) first).known (Retired may.hold.class) ≡ Some first) (sym at) (past_link previous);
+              first_is = subst (λ l. known_in (knowing (knowing hold_both l next) (Chain slot) first).known
+                  (Retired may.hold.class) ≡ Some first) (sym at) (past_link previous);
               chained = known_here hold_cut (Chain slot) first;
             },
           )

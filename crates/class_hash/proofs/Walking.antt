@@ -250,7 +250,8 @@ module _ (v : View) (key : ℕ) (t : TableAt) where
           → IsSearching v key (Found slot) (Some value) w_further
       turn_found value w_further is then = read_value v key t slot value w_key w_further (found_key v key t slot k w_link w_key is unread s) then
 
-      pub turn_past : (next : ℕ) (w_further : View) → k ≢ key → Told t w_key (SearchLoad (Next slot)) next w_further → IsAtLink t.capacities v key next w_further
+      pub turn_past : (next : ℕ) (w_further : View) → k ≢ key → Told t w_key (SearchLoad (Next slot)) next w_further
+          → IsAtLink t.capacities v key next w_further
       turn_past next w_further not then = next_link v key t slot next w_key w_further (passed_key v key t slot k w_link w_key not unread s) then
 
 module _ (v : View) (key : ℕ) (w : View) where
@@ -593,8 +594,11 @@ listed_at table v mid w free retired hold done a b =
           }) in
           let g : IsFull table.capacities (knowing hold (Free hold.class) free) w.seen =
           subst (λ (k : Hold). IsFull table.capacities k w.seen) two f in
-          record { pairs = g.pairs; absent = λ key class shows. g.absent key class
-              (kept_absent hold (knowing hold (Free hold.class) free) key refl (λ s. refl) (λ s. refl) shows) };
+          record {
+            pairs = g.pairs;
+            absent = λ key class shows. g.absent key class
+                (kept_absent hold (knowing hold (Free hold.class) free) key refl (λ s. refl) (λ s. refl) shows);
+          };
       trail = ap (λ (z : View). z.trail) whole;
       seen = subst (IsPrefix v.seen) (sym (ap (λ (z : View). z.seen) whole)) (prefix_trans v.seen _ _ seen_first seen_second);
       rest = whole ∙ sym (ap (λ (z : View). record v {
