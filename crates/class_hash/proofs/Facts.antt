@@ -21,15 +21,15 @@ use Rattle.prcu_marks.specs.declared.commit.Commit.{Commit}
 use Rattle.prcu_marks.specs.Marks.{updates_of, own_of, most_tickets, most_front, updates_by, StaysWord, left_by, said_by}
 use Rattle.prcu_marks.proofs.Marks.{updates_of-append, own_of-append}
 use Rattle.prcu_model.proofs.Dictionaries.{AreUpdatesFrom-front}
-use Rattle.hash_core.specs.Steps.{known_in, ComesTo, IsOnWalk, fresh_hold, StandsAt, section_of, hold_of, field_of, access_of, noted, Needs, done, commit_of, marks_of, said}
+use Rattle.hash_core.specs.Steps.{known_in, ComesTo, IsOnWalk, fresh_hold, StandsAt, section_of, hold_of, field_of, access_of, noted, Needs, done, commit_of, marks_of, said, left}
 use Rattle.prcu_model.specs.Dictionary.{map_of, IsLegal, WasSaid}
 use Rattle.hash_core.proofs.SlotLists.{seek_slot, path_cons, IsPath-from, slot_within}
 use Rattle.list_laws.proofs.Lists.{at_one, all_times, total_part, times_here, times_append, at_below, only_at}
-use Rattle.hash_core.proofs.SeatFrames.{marks_begin, reuse_begins, same_marks}
+use Rattle.hash_core.proofs.SeatFrames.{Seated, marks_begin, reuse_begins}
 use Rattle.hash_core.proofs.Frames.{word_inside, way_slot, chain_slot, free_slot, retired_slot, memory-word, memory-stored}
 use Rattle.hash_core.proofs.Locks.{class_small}
 use Rattle.hash_core.proofs.Links.{on_chain, absent_now}
-use Rattle.hash_core.proofs.Keeping.{full_class, section_is, hold_is, acts_keep}
+use Rattle.hash_core.proofs.Keeping.{full_class, section_is, hold_is, acts_keep, state_of}
 use Rattle.hash_core.specs.Laws.{HasPairs}
 use Rattle.hash_core.proofs.Stocks.{rule as held_rule, is_known, roles_by}
 use Rattle.hash_core.specs.declared.act.Act.{Act}
@@ -115,10 +115,9 @@ module _ {V : Type 0} (place : V → ℕ) where
       let one = one_there p (suc p) f vs apart few in
       let rest = few_count p (without p f) vs
       (λ i j v w a b c d s. let x = without_less p f v in let y = without_less p f w in apart i j v w a b (omega arith) (omega arith) s)
-      (λ i v at. let t = few i v at in let t0 = t.0 in let less = without_less p f v in (
+      (λ i v at. let t = few i v at in let most = t.0 in let less = without_less p f v in (
         omega arith,
-        λ counts. dite (ℕ_discrete (place v) p)
-            (λ e. absurd (let a = without_here p f v e in omega arith))
+        λ counts. dite (ℕ_discrete (place v) p) (λ e. absurd (let a = without_here p f v e in omega arith))
             (λ ne. let z = t.1 (omega arith) in omega arith),
       )) in
       omega arith
@@ -132,9 +131,9 @@ inside_some c None counts = absurd (omega arith)
 inside_some c (Some s) counts = (s, refl)
 
 -- the readers word is at most the number of places
-pub few_readers : (capacities : List ℕ) (places tickets : ℕ) (m : Memory) (vs : List View) (h : List Mark)
+pub few_readers : {capacities : List ℕ} {places tickets : ℕ} {m : Memory} {vs : List View} {h : List Mark}
     → MemoryRule capacities places tickets m vs h → (c : ℕ) → total (λ (v : View). inside_count c v.section) vs ≤ places
-few_readers capacities places tickets m vs h r c = few_count (λ (v : View). v.place) places (λ (v : View). inside_count c v.section) vs
+few_readers {places = places} {vs = vs} r c = few_count (λ (v : View). v.place) places (λ (v : View). inside_count c v.section) vs
     (λ i j v w a b x y same.
     let s = inside_some c v.section x in let t = inside_some c w.section y in
     let live = (r.sections.open_here i v s.0 a s.1).0 in let live' = (r.sections.open_here j w t.0 b t.1).0 in
@@ -175,30 +174,31 @@ first_slot capacities c next first xs of path there =
     let p = path_cons next first xs there path in
     of first (let e = ap (times first) p.1 in let t = times_here first p.0 in omega arith)
 
-module _ (capacities : List ℕ) (places tickets : ℕ) (m : Memory) (vs : List View) (h : List Mark)
-    (r : MemoryRule capacities places tickets m vs h) (id : ℕ) (v : View) (at : get_elem? vs id ≡ some v) where
+module _ {capacities : List ℕ} {places tickets : ℕ} {m : Memory} {vs : List View} {h : List Mark} {id : ℕ} {v : View}
+    (seat : Seated capacities places tickets m vs h id v) where
   pub few_tickets : v.tickets ≤ most_tickets
-  few_tickets = let a = total_part (λ (u : View). u.tickets) vs id v at in let b = r.tickets_are in let c = r.shape.few_tickets in
+  few_tickets = let a = total_part (λ (u : View). u.tickets) vs id v seat.at in let b = seat.rule.tickets_are in let c =
+      seat.rule.shape.few_tickets in
       omega arith
 
   pub few_updates : length (updates_of h) ≤ most_tickets
-  few_updates = let b = r.tickets_are in let c = r.shape.few_tickets in omega arith
+  few_updates = let b = seat.rule.tickets_are in let c = seat.rule.shape.few_tickets in omega arith
 
   -- what the view has seen
   pub informed : 1 ≤ v.places → IsInformed capacities places v
   informed works =
-      let more = r.seen.begins id v at in
+      let more = seat.rule.seen.begins id v seat.at in
       record {
         works = works;
-        heard = r.seen.heard id v at;
+        heard = seat.rule.seen.heard id v seat.at;
         legal = AreUpdatesFrom-front finite.empty (updates_of v.seen) (updates_of more.0)
-            (subst IsLegal (ap updates_of (sym more.1) ∙ updates_of-append v.seen more.0) r.legal);
-        marks = marks_begin places v.seen h more r.marks;
-        reuse = reuse_begins capacities v.seen h more r.reuse;
-        met = λ p answers. r.owned.met id v p at answers;
-        unused = λ p has far. r.owned.unused id v p at has far;
+            (subst IsLegal (ap updates_of (sym more.1) ∙ updates_of-append v.seen more.0) seat.rule.legal);
+        marks = marks_begin places v.seen h more seat.rule.marks;
+        reuse = reuse_begins capacities v.seen h more seat.rule.reuse;
+        met = λ p answers. seat.rule.owned.met id v p seat.at answers;
+        unused = λ p has far. seat.rule.owned.unused id v p seat.at has far;
         within = λ p far. front_none (own_of p v.seen) (own_of p more.0)
-            (sym (own_of-append p v.seen more.0) ∙ ap (own_of p) more.1 ∙ r.owned.within p far);
+            (sym (own_of-append p v.seen more.0) ∙ ap (own_of p) more.1 ∙ seat.rule.owned.within p far);
       }
     where
       front_none : (xs ys : List Mark) → xs ++ ys ≡ [] → xs ≡ []
@@ -207,65 +207,64 @@ module _ (capacities : List ℕ) (places tickets : ℕ) (m : Memory) (vs : List 
 
   -- who holds a lock, where this view holds none
   pub held_by_other : (c : ℕ) → c < 64 → v.hold ≡ None → IsHeldByOther places v (m (Lock c))
-  held_by_other c below quiet = by (r.bucket c).hold (r.buckets c below).locked
+  held_by_other c below quiet = by (seat.rule.bucket c).hold (seat.rule.buckets c below).locked
     where
       by : (held : Option Hold) → IsLocked c m vs held → IsHeldByOther places v (m (Lock c))
       by None locked = λ some_holder. absurd (some_holder locked.0)
       by (Some hold) locked = λ some_holder.
           let u : View = locked.view in
           let mine : AnswersFor u u.place =
-          (let works = (r.held.held locked.id u hold locked.there locked.has.holds).1 in inl (omega arith, omega arith)) in (
+          (let works = (seat.rule.held.held locked.id u hold locked.there locked.has.holds).1 in inl (omega arith, omega arith)) in (
             u.place,
             locked.has.word,
-            r.apart.within locked.id u u.place locked.there mine,
+            seat.rule.apart.within locked.id u u.place locked.there mine,
             λ also.
-                let same : id ≡ locked.id = r.apart.apart id locked.id u.place v u at locked.there also mine in
-                let one : v ≡ u = at_one vs id v u at (subst (λ z. get_elem? vs z ≡ some u) (sym same) locked.there) in
+                let same : id ≡ locked.id = seat.rule.apart.apart id locked.id u.place v u seat.at locked.there also mine in
+                let one : v ≡ u = at_one vs id v u seat.at (subst (λ z. get_elem? vs z ≡ some u) (sym same) locked.there) in
                 let e : Some hold ≡ None = sym locked.has.holds ∙ ap (λ (z : View). z.hold) (sym one) ∙ quiet in
                 absurd (cc),
           )
 
   pub gives_answer : (section : Section) → v.section ≡ Some section → GivesAnswer h section
   gives_answer section inside =
-      let b = (r.buckets (section.key % 64) (key_small section.key)).answered in
+      let b = (seat.rule.buckets (section.key % 64) (key_small section.key)).answered in
       record {
         absent = λ ended. subst (WillAnswer capacities (section.key % 64) m h (updates_of h)
-            (r.bucket (section.key % 64)).chain section) ended (b.readers id v section at inside refl);
-        present = λ value is. b.loaded id v section value at inside refl is;
+            (seat.rule.bucket (section.key % 64)).chain section) ended (b.readers id v section seat.at inside refl);
+        present = λ value is. b.loaded id v section value seat.at inside refl is;
       }
 
   pub stands_in_class : (section : Section) → v.section ≡ Some section → StandsInClass capacities section
   stands_in_class section inside =
       let c : ℕ = section.key % 64 in
-      let rule = r.buckets c (key_small section.key) in
-      stand_case section.state (rule.answered.readers id v section at inside refl)
+      let rule = seat.rule.buckets c (key_small section.key) in
+      stand_case section.state (rule.answered.readers id v section seat.at inside refl)
     where
-      at_slot : (s slot : ℕ) → HasWay capacities (section.key % 64) m h (updates_of h) (r.bucket (section.key % 64)).chain section s
+      at_slot : (s slot : ℕ) → HasWay capacities (section.key % 64) m h (updates_of h) (seat.rule.bucket (section.key % 64)).chain section s
           → s ≡ slot → is_slot_of capacities (section.key % 64) slot ≡ true
       at_slot s slot way e =
           let c : ℕ = section.key % 64 in
           subst (λ z. is_slot_of capacities c z ≡ true) e
-          (way_slot capacities c m m h h (updates_of h) (updates_of h) (r.bucket c) (λ t _. (refl, refl, refl, refl))
-          (same_marks capacities c h) (r.buckets c (key_small section.key)).roles section s way)
+          (way_slot m (seat.rule.buckets c (key_small section.key)).roles section s way)
 
       stand_case : (state : SearchState)
-          → WillAnswer capacities (section.key % 64) m h (updates_of h) (r.bucket (section.key % 64)).chain section state → (slot : ℕ)
+          → WillAnswer capacities (section.key % 64) m h (updates_of h) (seat.rule.bucket (section.key % 64)).chain section state → (slot : ℕ)
           → StandsAt state slot → is_slot_of capacities (section.key % 64) slot ≡ true
       stand_case (Unread s) will slot stands = at_slot s slot will stands
       stand_case (Passed s) will slot stands = at_slot s slot will.0 stands
       stand_case (Found s) will slot stands = at_slot s slot will.0 stands
       stand_case _ will slot stands = absurd stands
 
-  module _ (hold : Hold) (mine : v.hold ≡ Some hold) where
+  module _ {hold : Hold} (mine : v.hold ≡ Some hold) where
     small : hold.class < 64
-    small = class_small capacities places tickets m vs h r id v at hold mine
+    small = class_small seat mine
 
-    rule : BucketRule capacities hold.class m h (updates_of h) vs (r.bucket hold.class)
-    rule = held_rule capacities places tickets m vs h r id v at hold mine
+    rule : BucketRule capacities hold.class m h (updates_of h) vs (seat.rule.bucket hold.class)
+    rule = held_rule seat mine
 
     known : (field : Field) (number : ℕ) → known_in hold.known field ≡ Some number
         → IsOfClass capacities hold.class field × (m field ≡ number)
-    known = is_known capacities places tickets m vs h r id v at hold mine
+    known = is_known seat mine
 
     -- the slot on the known walk is linked
     comes : (first : ℕ) (before : List ℕ) (slot : ℕ) (xs : List ℕ) → ComesTo hold.known first before slot
@@ -283,21 +282,21 @@ module _ (capacities : List ℕ) (places tickets : ℕ) (m : Memory) (vs : List 
 
     pub link_of : (field : Field) → IsOfClass capacities hold.class field → IsLinkOf capacities hold field (m field)
     link_of (Head d) of = subst (λ z. IsLink capacities hold.class (m (Head z))) (sym of)
-        (first_slot capacities hold.class (λ s. m (Next s)) (m (Head hold.class)) (r.bucket hold.class).chain
-        (chain_slot capacities hold.class (r.bucket hold.class) rule.roles) rule.chained.path)
+        (first_slot capacities hold.class (λ s. m (Next s)) (m (Head hold.class)) (seat.rule.bucket hold.class).chain
+        (chain_slot rule.roles) rule.chained.path)
     link_of (Free d) of = subst (λ z. IsLink capacities hold.class (m (Free z))) (sym of)
-        (first_slot capacities hold.class (λ s. m (Chain s)) (m (Free hold.class)) (r.bucket hold.class).free
-        (free_slot capacities hold.class (r.bucket hold.class) rule.roles) rule.listed.free)
+        (first_slot capacities hold.class (λ s. m (Chain s)) (m (Free hold.class)) (seat.rule.bucket hold.class).free
+        (free_slot rule.roles) rule.listed.free)
     link_of (Retired d) of = subst (λ z. IsLink capacities hold.class (m (Retired z))) (sym of)
-        (first_slot capacities hold.class (λ s. m (Chain s)) (m (Retired hold.class)) (r.bucket hold.class).retired
-        (retired_slot capacities hold.class (r.bucket hold.class) rule.roles) rule.listed.retired)
+        (first_slot capacities hold.class (λ s. m (Chain s)) (m (Retired hold.class)) (seat.rule.bucket hold.class).retired
+        (retired_slot rule.roles) rule.listed.retired)
     link_of (Next slot) of = λ on.
-        let head : IsPath (λ s. m (Next s)) on.first (r.bucket hold.class).chain =
-        IsPath-from (λ s. m (Next s)) (m (Head hold.class)) on.first (r.bucket hold.class).chain
+        let head : IsPath (λ s. m (Next s)) on.first (seat.rule.bucket hold.class).chain =
+        IsPath-from (λ s. m (Next s)) (m (Head hold.class)) on.first (seat.rule.bucket hold.class).chain
         (known (Head hold.class) on.first on.head).1 rule.chained.path in
-        let q = comes on.first on.before slot (r.bucket hold.class).chain on.comes head in
+        let q = comes on.first on.before slot (seat.rule.bucket hold.class).chain on.comes head in
         first_slot capacities hold.class (λ s. m (Next s)) (m (Next slot)) q.1
-        (λ x there. chain_slot capacities hold.class (r.bucket hold.class) rule.roles x
+        (λ x there. chain_slot rule.roles x
         (let e = ap (times x) q.2 in let a = times_append x q.0 (slot ∷ q.1) in
         let b : times x (slot ∷ q.1) ≡ (cond (lib.Dec.eqb slot x) 1 0) + times x q.1 = refl in omega arith)) q.3
     link_of (Key slot) of = tt
@@ -309,31 +308,31 @@ module _ (capacities : List ℕ) (places tickets : ℕ) (m : Memory) (vs : List 
     pub value_now : (slot key : ℕ) → IsOnWalk hold slot → known_in hold.known (Key slot) ≡ Some key
         → finite.get (map_of (updates_of h)) key ≡ Some (m (Value slot))
     value_now slot key on key_is =
-        let chain : List ℕ = (r.bucket hold.class).chain in
-        let head : IsPath (λ s. m (Next s)) on.first (r.bucket hold.class).chain =
-        IsPath-from (λ s. m (Next s)) (m (Head hold.class)) on.first (r.bucket hold.class).chain
+        let chain : List ℕ = (seat.rule.bucket hold.class).chain in
+        let head : IsPath (λ s. m (Next s)) on.first (seat.rule.bucket hold.class).chain =
+        IsPath-from (λ s. m (Next s)) (m (Head hold.class)) on.first (seat.rule.bucket hold.class).chain
         (known (Head hold.class) on.first on.head).1 rule.chained.path in
-        let q = comes on.first on.before slot (r.bucket hold.class).chain on.comes head in
+        let q = comes on.first on.before slot (seat.rule.bucket hold.class).chain on.comes head in
         let is : m (Key slot) ≡ key = (known (Key slot) key key_is).1 in
-        let there : 1 ≤ times slot (r.bucket hold.class).chain =
+        let there : 1 ≤ times slot (seat.rule.bucket hold.class).chain =
         (let e = ap (times slot) q.2 in let a = times_append slot q.0 (slot ∷ q.1) in let b = times_here slot q.1 in omega arith) in
         let class : key % 64 ≡ hold.class = ap (λ z. z % 64) (sym is)
-        ∙ all_times (λ s. m (Key s) % 64 ≡ hold.class) (r.bucket hold.class).chain slot rule.chained.classes there in
-        let found : seek m (m (Key slot)) (r.bucket hold.class).chain ≡ Some (m (Value slot)) =
+        ∙ all_times (λ s. m (Key s) % 64 ≡ hold.class) (seat.rule.bucket hold.class).chain slot rule.chained.classes there in
+        let found : seek m (m (Key slot)) (seat.rule.bucket hold.class).chain ≡ Some (m (Value slot)) =
         ap (seek m (m (Key slot))) q.2 ∙ seek_slot m slot q.0 q.1 (subst (HaveDistinctKeys m) q.2 rule.chained.distinct) in
-        rule.mapped.answers key class ∙ subst (λ z. seek m z (r.bucket hold.class).chain ≡ Some (m (Value slot))) is found
+        rule.mapped.answers key class ∙ subst (λ z. seek m z (seat.rule.bucket hold.class).chain ≡ Some (m (Value slot))) is found
 
     -- a free slot isn't on the known walk
     pub free_off : (slot : ℕ) → slot ≢ 0 → known_in hold.known (Free hold.class) ≡ Some slot → IsOnWalk hold slot → ⊥
     free_off slot ne first_is on =
-        let there : 1 ≤ times slot (r.bucket hold.class).chain = on_chain capacities places tickets m vs h r id v at hold mine slot on in
-        let p = path_cons (λ s. m (Chain s)) slot (r.bucket hold.class).free ne
-        (subst (λ z. IsPath (λ s. m (Chain s)) z (r.bucket hold.class).free)
+        let there : 1 ≤ times slot (seat.rule.bucket hold.class).chain = on_chain seat mine slot on in
+        let p = path_cons (λ s. m (Chain s)) slot (seat.rule.bucket hold.class).free ne
+        (subst (λ z. IsPath (λ s. m (Chain s)) z (seat.rule.bucket hold.class).free)
         (known (Free hold.class) slot first_is).1 rule.listed.free) in
-        let free : 1 ≤ times slot (r.bucket hold.class).free =
+        let free : 1 ≤ times slot (seat.rule.bucket hold.class).free =
         (let e = ap (times slot) p.1 in let t = times_here slot p.0 in omega arith) in
-        in_both _ _ _ _ _ _ _ (roles_by capacities places tickets m vs h r id v at hold mine slot)
-        (ap (λ b. cond b 1 0) (free_slot capacities hold.class (r.bucket hold.class) rule.roles slot free)) there free
+        in_both _ _ _ _ _ _ _ (roles_by seat mine slot)
+        (ap (λ b. cond b 1 0) (free_slot rule.roles slot free)) there free
       where
         in_both : (a b c d e f t : ℕ) → a + b + c + d + e + f ≡ t → t ≡ 1 → 1 ≤ a → 1 ≤ b → ⊥
         in_both a b c d e f t all one first second = absurd (omega arith)
@@ -345,9 +344,9 @@ module _ (capacities : List ℕ) (places tickets : ℕ) (m : Memory) (vs : List 
         let none : m (Retired hold.class) ≡ 0 = ap m (sym f.field_is) ∙ found ∙ f.none in
         record {
           pairs = subst (λ z. HasPairs hold.class (map_of (updates_of z)) (capacity capacities hold.class)) (sym same)
-              (full_class capacities places tickets m vs h r id v at hold mine f.free none f.taken f.unlinked f.moved);
+              (full_class seat mine f.free none f.taken f.unlinked f.moved);
           absent = λ key class shows. subst (λ z. finite.get (map_of (updates_of z)) key ≡ None) (sym same)
-              (rule.mapped.answers key class ∙ absent_now capacities places tickets m vs h r id v at hold mine key shows);
+              (rule.mapped.answers key class ∙ absent_now seat mine key shows);
         }
 
     pub old_value : (slot key old : ℕ) → IsOnWalk hold slot → known_in hold.known (Key slot) ≡ Some key
@@ -356,7 +355,7 @@ module _ (capacities : List ℕ) (places tickets : ℕ) (m : Memory) (vs : List 
 
   -- the front is never large
   pub front_small : m Front ≤ most_front
-  front_small = turn_case r.turned
+  front_small = turn_case seat.rule.turned
     where
       turn_case : IsTurned m vs (length (updates_of h)) → m Front ≤ most_front
       turn_case (inl free) = let a = free.0 in let b = few_updates in omega arith
@@ -368,11 +367,11 @@ module _ (capacities : List ℕ) (places tickets : ℕ) (m : Memory) (vs : List 
 
   -- after an update the front shows how many there are
   pub position : (commit : Commit) → v.commit ≡ Some commit → updates_by commit ≡ 2 * length (updates_of h)
-  position commit is = turn_case r.turned
+  position commit is = turn_case seat.rule.turned
     where
       turn_case : IsTurned m vs (length (updates_of h)) → updates_by commit ≡ 2 * length (updates_of h)
-      turn_case (inl free) = absurd (let z : Some commit ≡ None = sym is ∙ free.1 id v at in cc)
-      turn_case (inr odd) = elim (only_at vs id v at odd) [
+      turn_case (inl free) = absurd (let z : Some commit ≡ None = sym is ∙ free.1 id v seat.at in cc)
+      turn_case (inr odd) = elim (only_at vs id v seat.at odd) [
         | inl o ↦ let e : Some commit ≡ Some o.0.commit = sym is ∙ o.0.has in let t : commit ≡ o.0.commit = cc in ap updates_by t ∙ o.0.updates
         | inr none ↦ absurd (let z : Some commit ≡ None = sym is ∙ none in cc)
       ]
@@ -382,24 +381,24 @@ module _ (capacities : List ℕ) (places tickets : ℕ) (m : Memory) (vs : List 
   has_room works = record {
     place = record {
       works = works;
-      few = (let last : ℕ = v.place + v.places - 1 in let below = r.apart.within id v last at (inl (omega arith, omega arith)) in
-          let few = r.shape.few_places in omega arith);
-      held = λ hold mine. small hold mine;
+      few = (let last : ℕ = v.place + v.places - 1 in let below = seat.rule.apart.within id v last seat.at (inl (omega arith, omega arith)) in
+          let few = seat.rule.shape.few_places in omega arith);
+      held = λ hold mine. small mine;
     };
     few_tickets = few_tickets;
   }
 
-module _ (capacities : List ℕ) (places tickets : ℕ) (m : Memory) (vs : List View) (h : List Mark)
-    (r : MemoryRule capacities places tickets m vs h) (id : ℕ) (v : View) (at : get_elem? vs id ≡ some v) where
+module _ {capacities : List ℕ} {places tickets : ℕ} {m : Memory} {vs : List View} {h : List Mark} {id : ℕ} {v : View}
+    (seat : Seated capacities places tickets m vs h id v) where
   -- a section's class has its reader
   one_reader : (section : Section) → v.section ≡ Some section → 1 ≤ m (Readers (section.key % 64))
-  one_reader section inside = some_reader capacities places tickets m vs h r id v at section inside (key_small section.key)
+  one_reader section inside = some_reader seat section inside (key_small section.key)
 
   pub fits : (a : Act) → Needs capacities v a → StaysWord (access_of v a) (m (field_of v a))
   fits (act.Enter key) d =
-      let few = few_readers capacities places tickets m vs h r (key % 64) in
-      let counted = (r.buckets (key % 64) (key_small key)).counted.readers in
-      let most = r.shape.few_places in
+      let few = few_readers seat.rule (key % 64) in
+      let counted = (seat.rule.buckets (key % 64) (key_small key)).counted.readers in
+      let most = seat.rule.shape.few_places in
       omega arith
   fits act.Leave d = subst (λ (z : Section). 1 ≤ m (Readers (z.key % 64))) (sym (section_is v d.0 d.1)) (one_reader d.0 d.1)
   fits act.LoadFront d = tt
@@ -491,65 +490,65 @@ left_answer section h place count gives =
       present = λ value is. subst (λ us. WasSaid us section.key section.from (Some value)) (sym same) (gives.present value is);
     }
 
-module _ (capacities : List ℕ) (places tickets : ℕ) (t : TableAt) (of_table : t.capacities ≡ capacities) (at_places : t.places ≡ places)
-    (m : Memory) (vs : List View) (h : List Mark) (r : MemoryRule capacities places tickets m vs h) (id : ℕ) (v : View)
-    (at : get_elem? vs id ≡ some v) where
-  -- after an update
-  counted : (a : Act) → 1 ≤ v.places → Needs capacities v a → let w = done v a h (m (field_of v a)) in
-      w.commit ≡ Some (record { found = (commit_of v).found; stored = true }) → w.seen ≡ h ++ marks_of v a → IsCounted v w
-  counted a works needs made seen =
-      let n : ℕ = m (field_of v a) in
-      let kept = (acts_keep capacities places tickets m vs h id v a r at works needs).rule in
-      record {
-        position = position capacities places tickets _ _ _ kept id (done v a h n)
-            (set_here vs id (done v a h n) (at_below vs id v at)) (record { found = (commit_of v).found; stored = true }) made
-            ∙ ap (λ z. 2 * length (updates_of z)) (sym seen);
-      }
-
-  pub gains : (a : Act) → 1 ≤ v.places → Needs capacities v a
-      → Gains t v a h (said v a (m (field_of v a))) (done v a h (m (field_of v a)))
-  gains LoadFront works d = tt
-  gains (Enter key) works d = tt
-  gains Leave works d =
-      subst (GivesAnswer (h ++ Left v.place (section_of v).count ∷ [])) (sym (section_is v d.0 d.1))
-      (left_answer d.0 h v.place (section_of v).count (gives_answer capacities places tickets m vs h r id v at d.0 d.1))
-  gains (SearchLoad field) works d =
-      let w : View = done v (SearchLoad field) h (m field) in
-      let kept = (acts_keep capacities places tickets m vs h id v (SearchLoad field) r at works d).rule in
-      subst (λ cs. StandsInClass cs (section_of w)) (sym of_table)
-      (stands_in_class capacities places tickets _ _ _ kept id w (set_here vs id w (at_below vs id v at)) (section_of w) refl)
-  gains (LockAct class) works d = record {
-    even = quiet_turn m vs _ r.turned id v at d.1.1;
-    other = subst (λ n. IsHeldByOther n v (m (Lock class))) (sym at_places)
-        (held_by_other capacities places tickets m vs h r id v at class d.0 d.1.1);
+module _ {capacities : List ℕ} {places tickets : ℕ} {m : Memory} {vs : List View} {h : List Mark} {id : ℕ} {v : View}
+    (seat : Seated capacities places tickets m vs h id v) (works : 1 ≤ v.places) where
+  -- the seat after the act
+  seat_after : (a : Act) → Needs capacities v a → let n = m (field_of v a) in let w = done v a h n in
+      Seated capacities places tickets (stored m (field_of v a) (left v a n)) (set vs id w) (h ++ marks_of v a) id w
+  seat_after a needs = record {
+    rule = (acts_keep (state_of seat.rule) id v a seat.at works needs).rule;
+    at = set_here vs id (done v a h (m (field_of v a))) (at_below vs id v seat.at);
   }
-  gains Unlock works d = tt
-  gains LoadReaders works d = tt
-  gains (LockedLoad field) works d =
+
+  -- after an update
+  counted : (a : Act) → Needs capacities v a → let w = done v a h (m (field_of v a)) in
+      w.commit ≡ Some (record { found = (commit_of v).found; stored = true }) → w.seen ≡ h ++ marks_of v a → IsCounted v w
+  counted a needs made seen = record {
+    position = position (seat_after a needs) (record { found = (commit_of v).found; stored = true }) made
+        ∙ ap (λ z. 2 * length (updates_of z)) (sym seen);
+  }
+
+  pub gains : (t : TableAt) → t.capacities ≡ capacities → t.places ≡ places → (a : Act) → Needs capacities v a
+      → Gains t v a h (said v a (m (field_of v a))) (done v a h (m (field_of v a)))
+  gains t of_table at_places LoadFront d = tt
+  gains t of_table at_places (Enter key) d = tt
+  gains t of_table at_places Leave d =
+      subst (GivesAnswer (h ++ Left v.place (section_of v).count ∷ [])) (sym (section_is v d.0 d.1))
+      (left_answer d.0 h v.place (section_of v).count (gives_answer seat d.0 d.1))
+  gains t of_table at_places (SearchLoad field) d =
+      let w : View = done v (SearchLoad field) h (m field) in
+      subst (λ cs. StandsInClass cs (section_of w)) (sym of_table)
+      (stands_in_class (seat_after (SearchLoad field) d) (section_of w) refl)
+  gains t of_table at_places (LockAct class) d = record {
+    even = quiet_turn m vs _ seat.rule.turned id v seat.at d.1.1;
+    other = subst (λ n. IsHeldByOther n v (m (Lock class))) (sym at_places) (held_by_other seat class d.0 d.1.1);
+  }
+  gains t of_table at_places Unlock d = tt
+  gains t of_table at_places LoadReaders d = tt
+  gains t of_table at_places (LockedLoad field) d =
       let w : View = done v (LockedLoad field) h (m field) in
       let tells : TellsWord capacities d.0 field (m field) w = record {
-        link = link_of capacities places tickets m vs h r id v at d.0 d.1 field d.2;
-        same = λ number is. (is_known capacities places tickets m vs h r id v at d.0 d.1 field number is).1;
-        full = λ f. full_now capacities places tickets m vs h r id v at d.0 d.1 field (m field) w.seen refl
-            (ap (λ b. cond b h v.seen) (eq-eqb (m field) 0 f.none)) f;
+        link = link_of seat d.1 field d.2;
+        same = λ number is. (is_known seat d.1 field number is).1;
+        full = λ f. full_now seat d.1 field (m field) w.seen refl (ap (λ b. cond b h v.seen) (eq-eqb (m field) 0 f.none)) f;
       } in
       subst (λ (z : List ℕ × Hold). TellsWord z.0 z.1 field (m field) w) (λ i. (sym of_table i, sym (hold_is v d.0 d.1) i)) tells
-  gains (TakeSlot slot next) works d = subst (λ (z : Hold). IsOnWalk z slot → ⊥) (sym (hold_is v d.0 d.1.hold_is))
-      (free_off capacities places tickets m vs h r id v at d.0 d.1.hold_is slot d.1.some d.1.first)
-  gains (TakeRetired slot) works d = tt
-  gains (FreeRetired slot) works d = tt
-  gains (StoreChain slot number) works d = tt
-  gains (Retire slot) works d = tt
-  gains (Fill field number) works d = tt
-  gains (OpenCommit even) works d = front_small capacities places tickets m vs h r id v at
-  gains (LinkSlot slot key value) works d = counted (LinkSlot slot key value) works d refl refl
-  gains (UnlinkSlot link slot key next) works d = counted (UnlinkSlot link slot key next) works d refl refl
-  gains (ReplaceValue slot key value) works d = record {
-    counted = counted (ReplaceValue slot key value) works d refl refl;
-    was = λ old is. old_value capacities places tickets m vs h r id v at d.0 d.2.commit.hold_is slot key old d.2.on_walk d.2.key_is
+  gains t of_table at_places (TakeSlot slot next) d = subst (λ (z : Hold). IsOnWalk z slot → ⊥) (sym (hold_is v d.0 d.1.hold_is))
+      (free_off seat d.1.hold_is slot d.1.some d.1.first)
+  gains t of_table at_places (TakeRetired slot) d = tt
+  gains t of_table at_places (FreeRetired slot) d = tt
+  gains t of_table at_places (StoreChain slot number) d = tt
+  gains t of_table at_places (Retire slot) d = tt
+  gains t of_table at_places (Fill field number) d = tt
+  gains t of_table at_places (OpenCommit even) d = front_small seat
+  gains t of_table at_places (LinkSlot slot key value) d = counted (LinkSlot slot key value) d refl refl
+  gains t of_table at_places (UnlinkSlot link slot key next) d = counted (UnlinkSlot link slot key next) d refl refl
+  gains t of_table at_places (ReplaceValue slot key value) d = record {
+    counted = counted (ReplaceValue slot key value) d refl refl;
+    was = λ old is. old_value seat d.2.commit.hold_is slot key old d.2.on_walk d.2.key_is
         (subst (λ (z : Hold). known_in z.known (Value slot) ≡ Some old) (hold_is v d.0 d.2.commit.hold_is) is);
   }
-  gains (CloseCommit front) works d = tt
+  gains t of_table at_places (CloseCommit front) d = tt
 
 -- The one border: where a law keeps the rule, an act is a step that the table allows.
 
@@ -575,28 +574,27 @@ module _ (k : Shape) (t : TableAt) (slots id : ℕ) (me : Me Nothing View) (a : 
       let w : View = done me.0 a h (m field) in
       let vs' : List View = set s.views id w in
       let h' : List Mark = h ++ marks_of me.0 a in
-      let kept : MemoryRule k.capacities.items k.places k.tickets (stored m field left) vs' h' =
-      (acts_keep k.capacities.items k.places k.tickets m s.views h id me.0 a r.holds at works needs).rule in
+      let seat : Seated k.capacities.items k.places k.tickets m s.views h id me.0 = record { rule = r.holds; at = at } in
+      let after = seat_after seat works a needs in
       let leaves : made_by access (slice_index s.words (word_of field)) ≡ left =
       ap (made_by access) (sym found) ∙ makes access (m field) (subst (λ z. z < 18446744073709551616) (sym found) below)
-      (fits k.capacities.items k.places k.tickets m s.views h r.holds id me.0 at a needs) in
+      (fits seat a needs) in
       let rule : Rule k (set s.words (word_of field) left) vs' = record {
         marks = h';
         long = length-set s.words (word_of field) left ∙ r.long;
         holds = subst (λ z. MemoryRule k.capacities.items k.places k.tickets z vs' h')
-            (sym (memory-stored k.capacities.items s.words field left is r.long)) kept;
+            (sym (memory-stored k.capacities.items s.words field left is r.long)) after.rule;
       } in
-      let there : get_elem? vs' id ≡ some w = set_here s.views id w (at_below s.views id me.0 at) in
       let still : 1 ≤ w.places = subst (λ n. 1 ≤ n) (sym (still_places me.0 a h (m field))) works in
       let telling : tells here a me (said_by access (m field)) (w, me.1) = (
         refl,
-        has_room k.capacities.items k.places k.tickets (stored m field left) vs' h' kept id w there still,
+        has_room after still,
         record {
           marks = h;
           begins = r.holds.seen.begins id me.0 at;
           goes = refl;
-          informed = informed k.capacities.items k.places k.tickets (stored m field left) vs' h' kept id w there still;
-          gains = gains k.capacities.items k.places k.tickets here refl refl m s.views h r.holds id me.0 at a works needs;
+          informed = informed after still;
+          gains = gains seat works here refl refl a needs;
         },
       ) in (
         w,
@@ -610,8 +608,7 @@ module _ (k : Shape) (t : TableAt) (slots id : ℕ) (me : Me Nothing View) (a : 
 pub allowed : {k : Shape} {t picked_table : TableAt} {picked act : Act} {table here : TableId} {id : ℕ} {me : Me Nothing View}
     {word : ℕ} {access : Access} (a : Access) → access ≡ a → here ≡ table → table.words ≡ word_count t.capacities
     → t.capacities ≡ k.capacities.items → t.places ≡ k.places → (picked_table ≡ t) × (picked ≡ act) → Touches t me.0 act access word
-    → (here ≡ table) × (word < table.words)
-    × Allows (λ (s : State Nothing View). Rule k s.words s.views) table.slots id me word (made_by a)
+    → (here ≡ table) × (word < table.words) × Allows (λ (s : State Nothing View). Rule k s.words s.views) table.slots id me word (made_by a)
     (λ n. tells picked_table picked me (said_by a n))
 allowed {k} {t} {picked_table} {picked} {act} {table} {here} {id} {me} {word} {access} a by mine counts capacities places picks asks =
     let needs : Needs k.capacities.items me.0 act = subst (λ cs. Needs cs me.0 act) capacities asks.asks in

@@ -17,7 +17,7 @@ use Rattle.hash_core.proofs.SlotLists.{slot_within}
 use Rattle.class_hash.specs.declared.bucket.Poll.TheVariants.{NotYet}
 use Rattle.class_hash.specs.Seats.{TableAt}
 use Rattle.class_hash.specs.Calls.{Told, HasFinished, Lists, MayPoll, Refilled, Polls, polled, AddsNoLists, HasLoaded, KnowsMore, Unlocks}
-use Rattle.class_hash.proofs.Walking.{goes_by, goes_on, not_loaded, loaded_more, knows_more, known_here, lacks_still, avoids_zero, whole_kept, lacks_kept, adds_none, adds_step, adds_both}
+use Rattle.class_hash.proofs.Walking.{goes_by, goes_on, known_here, lacks_still, avoids_zero, whole_kept, lacks_kept, adds_none, adds_step, adds_both, loaded_first, loaded_second, knows_second, kept_absent}
 use Rattle.class_hash.specs.Updates.{HasStepped, HasPolled, HasFree, MayFill, Filled, HasTurned, with_update, MayAdd, MayLink, Linked, Added}
 use Rattle.prcu_model.proofs.ListFacts.{prefix_trans}
 use Rattle.prcu_model.specs.declared.operation.Op.TheVariants.{Put}
@@ -51,30 +51,6 @@ absent_still old known key more shows = record {
   head = more (Head old.class) shows.first shows.head;
   whole = whole_still old.known known more shows.first shows.walk shows.whole;
   lacks = lacks_still old.known known more key shows.walk shows.lacks;
-}
-
--- and after stores in the lists
-listed_absent : (hold : Hold) (free retired key : ℕ) → ShowsAbsent hold key
-    → ShowsAbsent (knowing (knowing hold (Free hold.class) free) (Retired hold.class) retired) key
-listed_absent hold free retired key shows = record {
-  first = shows.first;
-  walk = shows.walk;
-  head = shows.head;
-  whole = whole_kept hold.known (knowing (knowing hold (Free hold.class) free) (Retired hold.class) retired).known 0 (λ s _. refl)
-      (λ s _. refl) shows.first shows.walk (avoids_zero hold.known shows.first shows.walk shows.whole) shows.whole;
-  lacks = lacks_kept hold.known (knowing (knowing hold (Free hold.class) free) (Retired hold.class) retired).known 0 (λ s _. refl)
-      (λ s _. refl) key shows.walk (avoids_zero hold.known shows.first shows.walk shows.whole) shows.lacks;
-}
-
-polled_absent : (hold : Hold) (first key : ℕ) → ShowsAbsent hold key → ShowsAbsent (polled hold first) key
-polled_absent hold first key shows = record {
-  first = shows.first;
-  walk = shows.walk;
-  head = shows.head;
-  whole = whole_kept hold.known (polled hold first).known 0 (λ s _. refl) (λ s _. refl) shows.first shows.walk
-      (avoids_zero hold.known shows.first shows.walk shows.whole) shows.whole;
-  lacks = lacks_kept hold.known (polled hold first).known 0 (λ s _. refl) (λ s _. refl) key shows.walk
-      (avoids_zero hold.known shows.first shows.walk shows.whole) shows.lacks;
 }
 
 -- the slot was taken from the free list, and a pair and a next stored in it
@@ -186,7 +162,7 @@ module _ (capacities : List ℕ) (v : View) (f : HasFinished v) (free retired : 
     class = refl;
     first = free_is;
     slot_is = l.free_link ne;
-    absent = λ key shows. listed_absent l.hold free retired key shows;
+    absent = λ key. kept_absent l.hold listed_hold key refl (λ s. refl) (λ s. refl);
     room = record { listed = x; free = free; retired = retired; lists = l; some = λ none. absurd (ne none); trail = adds_none x.trail };
     seen = l.seen;
     view = l.rest;
@@ -226,138 +202,124 @@ module _ (capacities : List ℕ) (v : View) (f : HasFinished v) (free retired : 
         class = refl;
         first = known_here (knowing listed_hold (Retired l.hold.class) 0) (Free l.hold.class) retired;
         slot_is = l.retired_link ne;
-        absent = λ key shows. polled_absent listed_hold retired key (listed_absent l.hold free retired key shows);
+        absent = λ key. kept_absent l.hold (polled listed_hold retired) key refl (λ s. refl) (λ s. refl);
         room = record { listed = x; free = free; retired = retired; lists = l; some = λ _. ne; trail = p.trail };
         seen = subst (IsPrefix v.seen) (sym (ap (λ (u : View). u.seen) whole)) l.seen;
         view = whole ∙ sym (ap (λ (u : View). record v { hold = Some (polled listed_hold retired); trail = y.trail; seen = u.seen }) whole);
       }
 
 -- the chain of the slot and the head were loaded
-module _ {table : TableAt} {v : View} {slot key : ℕ} (value : ℕ) (may : MayFill table.capacities v slot key) {next : ℕ} {x1 : View}
-    (a : Told table v (act.LockedLoad (Chain slot)) next x1) where
-  none_loaded : HasLoaded v may.hold v may.hold
-  none_loaded = not_loaded v may.hold may.finished.hold_is
+module _ {table : TableAt} {v : View} {slot key : ℕ} (value : ℕ) (may : MayFill table.capacities v slot key) {next : ℕ}
+    {w_chain : View} (a : Told table v (act.LockedLoad (Chain slot)) next w_chain) where
+  pub may_load_head : {class : ℕ} → class ≡ may.hold.class → (hold : Hold) × (w_chain.hold ≡ Some hold) × (class ≡ hold.class)
+  may_load_head is = (knowing may.hold (Chain slot) next, ap (λ (z : View). z.hold) (loaded_first may.finished.hold_is a refl).view, is)
 
-  loaded1 : HasLoaded v may.hold x1 (knowing may.hold (Chain slot) next)
-  loaded1 = loaded_more table v may.hold v may.hold none_loaded (Chain slot) next x1 a refl
+  module _ {class first : ℕ} (is : class ≡ may.hold.class) {w_both : View} (b : Told table w_chain (act.LockedLoad (Head class)) first w_both) where
+    abbrev hold_both : Hold
+    hold_both = knowing (knowing may.hold (Chain slot) next) (Head class) first
 
-  more1 : KnowsMore may.hold.known (knowing may.hold (Chain slot) next).known
-  more1 = knows_more table v may.hold v may.hold none_loaded (Chain slot) next x1 a
-
-  pub may_load_head : {class : ℕ} → class ≡ may.hold.class → (hold : Hold) × (x1.hold ≡ Some hold) × (class ≡ hold.class)
-  may_load_head is = (knowing may.hold (Chain slot) next, ap (λ (z : View). z.hold) loaded1.view, is)
-
-  module _ {class first : ℕ} (is : class ≡ may.hold.class) {x2 : View} (b : Told table x1 (act.LockedLoad (Head class)) first x2) where
-    abbrev k2 : Hold
-    k2 = knowing (knowing may.hold (Chain slot) next) (Head class) first
-
-    loaded2 : HasLoaded v may.hold x2 (knowing (knowing may.hold (Chain slot) next) (Head class) first)
-    loaded2 = loaded_more table v may.hold x1 (knowing may.hold (Chain slot) next) loaded1 (Head class) first x2 b refl
-
-    step2 : KnowsMore (knowing may.hold (Chain slot) next).known (knowing (knowing may.hold (Chain slot) next) (Head class) first).known
-    step2 = knows_more table v may.hold x1 (knowing may.hold (Chain slot) next) loaded1 (Head class) first x2 b
-
-    more2 : KnowsMore may.hold.known (knowing (knowing may.hold (Chain slot) next) (Head class) first).known
-    more2 f n e = step2 f n (more1 f n e)
+    both_loaded : HasLoaded v may.hold w_both hold_both
+    both_loaded = loaded_second may.finished.hold_is a refl b refl
 
     some_slot : slot ≢ 0
     some_slot e = let w = slot_within table.capacities may.hold.class slot may.slot_is in let p : 1 ≤ slot = w.0 in absurd (omega arith)
 
-    pub may_take : (hold : Hold) × NeedsTake x2 hold slot next
+    pub may_take : (hold : Hold) × NeedsTake w_both hold slot next
     may_take = (
-      k2,
+      hold_both,
       record {
-        hold_is = ap (λ (z : View). z.hold) loaded2.view;
+        hold_is = ap (λ (z : View). z.hold) both_loaded.view;
         some = some_slot;
-        first = more2 (Free may.hold.class) slot may.first;
-        next_is = step2 (Chain slot) next (known_here may.hold (Chain slot) next);
+        first = both_loaded.more (Free may.hold.class) slot may.first;
+        next_is = knows_second may.finished.hold_is a refl b (Chain slot) next (known_here may.hold (Chain slot) next);
         empty = may.finished.taken;
       },
     )
 
     abbrev loaded_view : View
-    loaded_view = record v { hold = Some k2; trail = x2.trail; seen = x2.seen }
+    loaded_view = record v { hold = Some hold_both; trail = w_both.trail; seen = w_both.seen }
 
-    module _ {x3 : View} (t : Told table x2 (act.TakeSlot slot next) next x3) where
-      abbrev k3 : Hold
-      k3 = taken_hold k2 slot next
+    module _ {w_taken : View} (t : Told table w_both (act.TakeSlot slot next) next w_taken) where
+      abbrev hold_taken : Hold
+      hold_taken = taken_hold hold_both slot next
 
       abbrev taken_view : View
       taken_view = goes_by (act.TakeSlot slot next) t.marks next loaded_view
 
-      taken_is : x3 ≡ taken_view
-      taken_is = goes_on loaded2.view t
+      taken_is : w_taken ≡ taken_view
+      taken_is = goes_on both_loaded.view t
 
-      pub may_write_key : (hold : Hold) × (other : ℕ) × NeedsWrite x3 hold other (Key slot)
+      pub may_write_key : (hold : Hold) × (other : ℕ) × NeedsWrite w_taken hold other (Key slot)
           × (is_slot_of table.capacities hold.class slot ≡ true)
-      may_write_key = (k3, slot, record { hold_is = ap (λ (z : View). z.hold) taken_is; taken = refl; field_is = refl }, may.slot_is)
+      may_write_key = (hold_taken, slot, record { hold_is = ap (λ (z : View). z.hold) taken_is; taken = refl; field_is = refl }, may.slot_is)
 
-      module _ {x4 : View} (d : Told table x3 (act.Fill (Key slot) key) key x4) where
-        abbrev k4 : Hold
-        k4 = knowing k3 (Key slot) key
+      module _ {w_keyed : View} (d : Told table w_taken (act.Fill (Key slot) key) key w_keyed) where
+        abbrev hold_keyed : Hold
+        hold_keyed = knowing hold_taken (Key slot) key
 
         abbrev keyed_view : View
         keyed_view = goes_by (act.Fill (Key slot) key) d.marks key taken_view
 
-        keyed_is : x4 ≡ keyed_view
+        keyed_is : w_keyed ≡ keyed_view
         keyed_is = goes_on taken_is d
 
-        pub may_write_value : (hold : Hold) × (other : ℕ) × NeedsWrite x4 hold other (Value slot)
+        pub may_write_value : (hold : Hold) × (other : ℕ) × NeedsWrite w_keyed hold other (Value slot)
             × (is_slot_of table.capacities hold.class slot ≡ true)
-        may_write_value = (k4, slot, record { hold_is = ap (λ (z : View). z.hold) keyed_is; taken = refl; field_is = refl }, may.slot_is)
+        may_write_value = (hold_keyed, slot, record { hold_is = ap (λ (z : View). z.hold) keyed_is; taken = refl; field_is = refl }, may.slot_is)
 
-        module _ {x5 : View} (e : Told table x4 (act.Fill (Value slot) value) value x5) where
-          abbrev k5 : Hold
-          k5 = knowing k4 (Value slot) value
+        module _ {w_valued : View} (e : Told table w_keyed (act.Fill (Value slot) value) value w_valued) where
+          abbrev hold_valued : Hold
+          hold_valued = knowing hold_keyed (Value slot) value
 
           abbrev valued_view : View
           valued_view = goes_by (act.Fill (Value slot) value) e.marks value keyed_view
 
-          valued_is : x5 ≡ valued_view
+          valued_is : w_valued ≡ valued_view
           valued_is = goes_on keyed_is e
 
-          pub may_write_next : (hold : Hold) × (other : ℕ) × NeedsWrite x5 hold other (Next slot)
+          pub may_write_next : (hold : Hold) × (other : ℕ) × NeedsWrite w_valued hold other (Next slot)
               × (is_slot_of table.capacities hold.class slot ≡ true)
-          may_write_next = (k5, slot, record { hold_is = ap (λ (z : View). z.hold) valued_is; taken = refl; field_is = refl }, may.slot_is)
+          may_write_next = (hold_valued, slot, record { hold_is = ap (λ (z : View). z.hold) valued_is; taken = refl; field_is = refl }, may.slot_is)
 
-          pub filled : {x6 : View} → Told table x5 (act.Fill (Next slot) first) first x6 → Filled v slot key value x6
-          filled {x6} g =
-              let view6 : x6 ≡ goes_by (act.Fill (Next slot) first) g.marks first valued_view = goes_on valued_is g in
-              let off : IsOnWalk k2 slot → ⊥ = subst (λ (k : Hold). IsOnWalk k slot → ⊥) (ap hold_of loaded2.view) t.gains in
+          pub filled : {w_filled : View} → Told table w_valued (act.Fill (Next slot) first) first w_filled → Filled v slot key value w_filled
+          filled {w_filled} g =
+              let filled_is : w_filled ≡ goes_by (act.Fill (Next slot) first) g.marks first valued_view = goes_on valued_is g in
+              let off : IsOnWalk hold_both slot → ⊥ = subst (λ (k : Hold). IsOnWalk k slot → ⊥) (ap hold_of both_loaded.view) t.gains in
               record {
                 before = t.marks;
-                since = prefix_trans v.seen x2.seen t.marks loaded2.seen t.begins;
+                since = prefix_trans v.seen w_both.seen t.marks both_loaded.seen t.begins;
                 may = record {
-                  hold = knowing k5 (Next slot) first;
+                  hold = knowing hold_valued (Next slot) first;
                   first = first;
-                  is = ap (λ (z : View). z.hold) view6;
+                  is = ap (λ (z : View). z.hold) filled_is;
                   taken = refl;
                   unlinked = may.finished.unlinked;
                   moved = may.finished.moved;
-                  commit = ap (λ (z : View). z.commit) view6 ∙ may.finished.even;
-                  key_is = known_here k3 (Key slot) key;
-                  value_is = known_here k4 (Value slot) value;
-                  next_is = known_here k5 (Next slot) first;
-                  head_is = subst (λ z. known_in k2.known (Head z) ≡ Some first) is
+                  commit = ap (λ (z : View). z.commit) filled_is ∙ may.finished.even;
+                  key_is = known_here hold_taken (Key slot) key;
+                  value_is = known_here hold_keyed (Value slot) value;
+                  next_is = known_here hold_valued (Next slot) first;
+                  head_is = subst (λ z. known_in hold_both.known (Head z) ≡ Some first) is
                       (known_here (knowing may.hold (Chain slot) next) (Head class) first);
                   class = may.class;
-                  absent = filled_absent k2 slot next key value first key off (absent_still may.hold k2.known key more2 may.absent);
-                  ticket = subst (λ n. 1 ≤ n) (sym (ap (λ (z : View). z.tickets) view6)) may.ticket;
+                  absent = filled_absent hold_both slot next key value first key off
+                      (absent_still may.hold hold_both.known key both_loaded.more may.absent);
+                  ticket = subst (λ n. 1 ≤ n) (sym (ap (λ (z : View). z.tickets) filled_is)) may.ticket;
                 };
-                trail = subst (λ (z : View). AddsNoLists v.trail z.trail) (sym view6)
+                trail = subst (λ (z : View). AddsNoLists v.trail z.trail) (sym filled_is)
                     (adds_step v.trail _ H11 (Next slot) first refl
                     (adds_step v.trail _ H11 (Value slot) value refl
                     (adds_step v.trail _ H11 (Key slot) key refl
-                    (adds_step v.trail x2.trail H10 (Free may.hold.class) next refl loaded2.trail))));
-                view = view6 ∙ sym (ap (λ (z : View). record v
-                    { hold = z.hold; trail = z.trail; seen = t.marks ++ Given slot ∷ [] }) view6);
+                    (adds_step v.trail w_both.trail H10 (Free may.hold.class) next refl both_loaded.trail))));
+                view = filled_is ∙ sym (ap (λ (z : View). record v
+                    { hold = z.hold; trail = z.trail; seen = t.marks ++ Given slot ∷ [] }) filled_is);
               }
 
 -- A slot linked under a bucket's lock.
 
 -- the front was made odd, the slot linked, the front made even, and the lock given up
-module _ {v : View} {slot key value : ℕ} (may : MayLink v slot key value) {even : ℕ} {x1 : View} (t : HasTurned v even x1) where
-  pub may_link : (hold : Hold) × (e first : ℕ) × NeedsLink x1 hold e slot key value first
+module _ {v : View} {slot key value : ℕ} (may : MayLink v slot key value) {even : ℕ} {w_odd : View} (t : HasTurned v even w_odd) where
+  pub may_link : (hold : Hold) × (e first : ℕ) × NeedsLink w_odd hold e slot key value first
   may_link = (
     may.hold,
     even,
@@ -378,61 +340,61 @@ module _ {v : View} {slot key value : ℕ} (may : MayLink v slot key value) {eve
     },
   )
 
-  abbrev v1 : View
-  v1 = record v { commit = Some (record { found = even; stored = false }); trail = x1.trail }
+  abbrev odd_view : View
+  odd_view = record v { commit = Some (record { found = even; stored = false }); trail = w_odd.trail }
 
-  module _ {table : TableAt} {x2 : View} (c : Told table x1 (act.LinkSlot slot key value) slot x2) where
-    abbrev v2 : View
-    v2 = after_link (stepped v1 H13 (Head may.hold.class) slot) may.hold even slot key value c.marks
+  module _ {table : TableAt} {w_linked : View} (c : Told table w_odd (act.LinkSlot slot key value) slot w_linked) where
+    abbrev linked_view : View
+    linked_view = after_link (stepped odd_view H13 (Head may.hold.class) slot) may.hold even slot key value c.marks
 
-    view2 : x2 ≡ v2
-    view2 = goes_on t.view c ∙ ap (λ (k : Hold). after_link (stepped v1 H13 (Head k.class) slot) k even slot key value c.marks)
+    linked_is : w_linked ≡ linked_view
+    linked_is = goes_on t.view c ∙ ap (λ (k : Hold). after_link (stepped odd_view H13 (Head k.class) slot) k even slot key value c.marks)
         (hold_is v may.hold may.is)
 
-    pub may_even : (e : ℕ) × NeedsEven x2 e × (even + 2 ≡ e + 2)
-    may_even = (even, ap (λ (z : View). z.commit) view2, refl)
+    pub may_even : (e : ℕ) × NeedsEven w_linked e × (even + 2 ≡ e + 2)
+    may_even = (even, ap (λ (z : View). z.commit) linked_is, refl)
 
-    module _ {x3 : View} (d : Told table x2 (act.CloseCommit (even + 2)) (even + 2) x3) where
-      abbrev v3 : View
-      v3 = goes_by (act.CloseCommit (even + 2)) d.marks (even + 2) v2
+    module _ {w_closed : View} (d : Told table w_linked (act.CloseCommit (even + 2)) (even + 2) w_closed) where
+      abbrev closed_view : View
+      closed_view = goes_by (act.CloseCommit (even + 2)) d.marks (even + 2) linked_view
 
-      view3 : x3 ≡ v3
-      view3 = goes_on view2 d
+      closed_is : w_closed ≡ closed_view
+      closed_is = goes_on linked_is d
 
-      pub may_unlock : (hold : Hold) × NeedsUnlock x3 hold
+      pub may_unlock : (hold : Hold) × NeedsUnlock w_closed hold
       may_unlock = (
         record (knowing may.hold (Head may.hold.class) slot) { taken = None },
         record {
-          hold_is = ap (λ (z : View). z.hold) view3;
+          hold_is = ap (λ (z : View). z.hold) closed_is;
           taken = refl;
           unlinked = may.unlinked;
           moved = may.moved;
-          even = ap (λ (z : View). z.commit) view3;
+          even = ap (λ (z : View). z.commit) closed_is;
         },
       )
 
-      pub linked : {x4 : View} → Unlocks x3 x4 → Linked v key value (even / 2 + 1) x4
-      linked {x4} e =
-          let last : x4 ≡ goes_by act.Unlock [] 0 v3 = e ∙ ap (goes_by act.Unlock [] 0) view3 in
-          let front1 : (commit_of x1).found ≡ even = ap (λ (z : View). (commit_of z).found) t.view in
-          let p : (commit_of x1).found + 2 ≡ 2 * length (updates_of x2.seen) = c.gains.position in
-          let seen4 : x4.seen ≡ x2.seen = ap (λ (z : View). z.seen) last ∙ sym (ap (λ (z : View). z.seen) view2) in
+      pub linked : {w_left : View} → Unlocks w_closed w_left → Linked v key value (even / 2 + 1) w_left
+      linked {w_left} e =
+          let last : w_left ≡ goes_by act.Unlock [] 0 closed_view = e ∙ ap (goes_by act.Unlock [] 0) closed_is in
+          let front_odd : (commit_of w_odd).found ≡ even = ap (λ (z : View). (commit_of z).found) t.view in
+          let p : (commit_of w_odd).found + 2 ≡ 2 * length (updates_of w_linked.seen) = c.gains.position in
+          let seen_left : w_left.seen ≡ w_linked.seen = ap (λ (z : View). z.seen) last ∙ sym (ap (λ (z : View). z.seen) linked_is) in
           record {
             before = c.marks;
             since = subst (λ (z : View). IsPrefix z.seen c.marks) t.view c.begins;
-            legal = subst (λ z. IsLegal (updates_of z)) (sym seen4) c.informed.legal;
-            number_is = (let half : even / 2 + 1 ≡ length (updates_of x2.seen) = omega arith in half)
-                ∙ ap (λ z. length (updates_of z)) (sym seen4);
-            view = last ∙ ap (λ (q : Option Commit). record (goes_by act.Unlock [] 0 v3) { commit = q }) (sym may.commit)
+            legal = subst (λ z. IsLegal (updates_of z)) (sym seen_left) c.informed.legal;
+            number_is = (let half : even / 2 + 1 ≡ length (updates_of w_linked.seen) = omega arith in half)
+                ∙ ap (λ z. length (updates_of z)) (sym seen_left);
+            view = last ∙ ap (λ (q : Option Commit). record (goes_by act.Unlock [] 0 closed_view) { commit = q }) (sym may.commit)
                 ∙ sym (ap (λ (z : View). with_update v (Put key value) c.marks [] z.trail) last);
           }
 
-      pub linked_trail : {x4 : View} → Unlocks x3 x4 → AddsNoLists v.trail x4.trail
-      linked_trail {x4} e =
-          let last : x4 ≡ goes_by act.Unlock [] 0 v3 = e ∙ ap (goes_by act.Unlock [] 0) view3 in
+      pub linked_trail : {w_left : View} → Unlocks w_closed w_left → AddsNoLists v.trail w_left.trail
+      linked_trail {w_left} e =
+          let last : w_left ≡ goes_by act.Unlock [] 0 closed_view = e ∙ ap (goes_by act.Unlock [] 0) closed_is in
           subst (λ (z : View). AddsNoLists v.trail z.trail) (sym last)
           (adds_step v.trail _ H7 (Lock may.hold.class) 0 refl
-          (adds_step v.trail _ H16 Front (even + 2) refl (adds_step v.trail x1.trail H13 (Head may.hold.class) slot refl t.trail)))
+          (adds_step v.trail _ H16 Front (even + 2) refl (adds_step v.trail w_odd.trail H13 (Head may.hold.class) slot refl t.trail)))
 
 -- a slot that is free may be filled
 pub may_fill : (capacities : List ℕ) (v x : View) (key free slot : ℕ) → MayAdd v key → HasFree capacities v free x → slot ≡ free

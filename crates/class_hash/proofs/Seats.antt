@@ -7,7 +7,7 @@ use Rattle.hash_core.specs.declared.view.View.{View}
 use Rattle.hash_core.specs.Rule.{Rule, HasPlace as OwnsPlace, AnswersFor, IsShape}
 use Rattle.hash_core.specs.Steps.{IsQuiet, NeedsSplit, fresh_hold, first_of, second_of, both_of, spent, section_of, hold_of, new_view}
 use Rattle.atomic_table.proofs.Lists.{set_else}
-use Rattle.hash_core.proofs.Splits.{law1, law2, starts, fresh_memory}
+use Rattle.hash_core.proofs.Splits.{law_split, law_join, starts, fresh_memory}
 use Rattle.hash_core.specs.declared.view.SearchState.TheVariants.{Start}
 use Rattle.hash_core.specs.declared.view.Section.{Section}
 use Rattle.hash_core.specs.declared.view.Hold.{Hold}
@@ -37,14 +37,14 @@ module _ (k : Shape) (id : ℕ) (v : View) where
   splits places tickets needs s r at = record {
     marks = r.marks;
     long = r.long;
-    holds = law1 k.capacities.items k.places k.tickets _ s.views r.marks r.holds id v at places tickets needs;
+    holds = law_split (record { rule = r.holds; at = at }) places tickets needs;
   }
 
   pub joins : (other : ℕ) (w : View) → IsQuiet v → IsQuiet w → Joins Keeps id v other w (both_of v w) spent
   joins other w quiet empty s r at apart there = record {
     marks = r.marks;
     long = r.long;
-    holds = law2 k.capacities.items k.places k.tickets _ s.views r.marks r.holds id v at other w
+    holds = law_join (record { rule = r.holds; at = at }) other w
         (sym (set_else s.views id other (both_of v w) apart) ∙ there) (λ e. apart (sym e)) quiet empty;
   }
 
@@ -59,8 +59,8 @@ held_class bucket v holding = by v.hold holding
 pub held_small : (v : View) → HasPlace v → (hold : Hold) → v.hold ≡ Some hold → (hold_of v).class < 64
 held_small v place hold is = subst (λ (z : Hold). z.class < 64) (sym (hold_is v hold is)) (place.held hold is)
 
-pub class_is : (v : View) (hold : Hold) (class : ℕ) → v.hold ≡ Some hold → class ≡ (hold_of v).class → class ≡ hold.class
-class_is v hold class is same = same ∙ ap (λ (z : Hold). z.class) (hold_is v hold is)
+pub class_is : (v : View) {hold : Hold} {class : ℕ} → v.hold ≡ Some hold → class ≡ (hold_of v).class → class ≡ hold.class
+class_is v {hold} is same = same ∙ ap (λ (z : Hold). z.class) (hold_is v hold is)
 
 -- the key that it remembers is that of its open section
 pub read_class : (key : ℕ) (v : View) → IsInside (Some key) v.section → key ≡ (section_of v).key
@@ -138,8 +138,7 @@ module _ (capacities : List ℕ) (places : ℕ) (v : View) (away tickets : ℕ) 
 pub base_le : (capacities : List ℕ) (c : ℕ) → base capacities c ≤ sum capacities
 base_le capacities c = sum_by-take-le (λ (n : ℕ). n) capacities c
 
-pub base_more : (capacities : List ℕ) (c : ℕ) → c < length capacities
-    → base capacities (c + 1) ≡ base capacities c + capacity capacities c
+pub base_more : (capacities : List ℕ) (c : ℕ) → c < length capacities → base capacities (c + 1) ≡ base capacities c + capacity capacities c
 base_more capacities c small = sum_by_more (λ (n : ℕ). n) capacities c 0 small
 
 pub base_room : (capacities : List ℕ) (c : ℕ) → c < length capacities → base capacities c + capacity capacities c ≤ sum capacities
@@ -290,6 +289,5 @@ rule_starts k cs ws same classes slots places tickets fresh =
       marks = [];
       long = all.long;
       holds = starts k.capacities.items k.places k.tickets shape (memory_of k.capacities.items ws)
-          (fresh_memory k.capacities.items ws all.front all.classes
-          (λ c i small room. (all.slots c i small room).chain_is));
+          (fresh_memory k.capacities.items ws all.front all.classes (λ c i small room. (all.slots c i small room).chain_is));
     }

@@ -77,6 +77,10 @@ module _ {v w x y z : View} {key class : ℕ} {answer : Option ℕ} {new : Hold}
       ∙ (λ j. record (x_is j) { hold = Some new; trail = z.trail; seen = z.seen })
       ∙ (λ j. record (after_section (t.view j)) { hold = Some new; trail = z.trail; seen = z.seen })
 
+  -- a view outside a section and without a lock is so as the first was
+  as_quiet : (u : View) → ◌≡◌ {A = View} (record u { section = None; hold = None }) (record u { section = v.section; hold = v.hold })
+  as_quiet u = λ i. record u { section = sym quiet.0 i; hold = sym quiet.1 i }
+
   same_place : w.place ≡ v.place
   same_place = ap (λ (u : View). u.place) t.view
 
@@ -144,9 +148,7 @@ module _ {v w x y z : View} {key class : ℕ} {answer : Option ℕ} {new : Hold}
   tried_again u e =
       let F : View → View = goes_by act.Unlock [] 0 in
       let u_is : u ≡ F walked = e ∙ ap F z_is in
-      let whole : u ≡ record (F walked) { section = v.section; hold = v.hold } =
-      u_is ∙ ap (λ (q : Option Section × Option Hold). record (F walked) { section = q.0; hold = q.1 })
-      (λ i. (sym quiet.0 i, sym quiet.1 i)) in
+      let whole : u ≡ record (F walked) { section = v.section; hold = v.hold } = u_is ∙ as_quiet (F walked) in
       record {
         marks = t.marks ++ Entered w.place w.sections key ∷ Left w.place w.sections ∷ [];
         plain = plain_z;
@@ -168,8 +170,7 @@ module _ {v w x y z : View} {key class : ℕ} {answer : Option ℕ} {new : Hold}
 
   -- the update that was made after the walk is the one of the call
   updated_by : (op : Op) (before more : List Mark) (number : ℕ) (u : View) → key_of op ≡ key → IsPrefix z.seen before
-      → IsLegal (updates_of u.seen) → number ≡ length (updates_of u.seen)
-      → u ≡ with_update z op before more u.trail
+      → IsLegal (updates_of u.seen) → number ≡ length (updates_of u.seen) → u ≡ with_update z op before more u.trail
       → HasUpdated v op before more number u
   updated_by op before more number u key_is since legal number_is view =
       let place : z.place ≡ v.place = ap (λ (y : View). y.place) z_is in
@@ -181,9 +182,7 @@ module _ {v w x y z : View} {key class : ℕ} {answer : Option ℕ} {new : Hold}
         seen = before ++ Done (record { caller = z.place; op = op }) ∷ more;
       } in
       let u_is : u ≡ F walked = view ∙ ap F z_is in
-      let whole : u ≡ record (F walked) { section = v.section; hold = v.hold } =
-      u_is ∙ ap (λ (q : Option Section × Option Hold). record (F walked) { section = q.0; hold = q.1 })
-      (λ i. (sym quiet.0 i, sym quiet.1 i)) in record {
+      let whole : u ≡ record (F walked) { section = v.section; hold = v.hold } = u_is ∙ as_quiet (F walked) in record {
         marks = t.marks ++ Entered w.place w.sections key ∷ Left w.place w.sections ∷ [];
         plain = subst (λ x. AllByRecursion (IsOfSection v.place x)
             (t.marks ++ Entered w.place w.sections key ∷ Left w.place w.sections ∷ [])) (sym key_is) plain_z;
@@ -287,9 +286,7 @@ module _ {v w x y z : View} {key class : ℕ} {answer : Option ℕ} {new : Hold}
       let first : u ≡ record left.listed { hold = None; trail = u.trail } =
       e ∙ sym (ap (λ (q : View). record left.listed { hold = None; trail = q.trail }) e) in
       let u_is : u ≡ F walked = first ∙ ap F l.rest ∙ ap F z_is in
-      let whole : u ≡ record (F walked) { section = v.section; hold = v.hold } =
-      u_is ∙ ap (λ (q : Option Section × Option Hold). record (F walked) { section = q.0; hold = q.1 })
-      (λ i. (sym quiet.0 i, sym quiet.1 i)) in
+      let whole : u ≡ record (F walked) { section = v.section; hold = v.hold } = u_is ∙ as_quiet (F walked) in
       let same : l.hold ≡ new = (let q : Some l.hold ≡ Some new = sym l.is ∙ ap (λ (q : View). q.hold) n.view in cc) in
       let class_new : new.class ≡ key % 64 = ap (λ (h : Hold). h.class) n.only ∙ sym of in
       let full : IsFull capacities new u.seen = subst (λ s. IsFull capacities new s) (sym (ap (λ (q : View). q.seen) first))
@@ -388,11 +385,11 @@ abbrev loaded_next : ℕ → ℕ → StepMade
 loaded_next class retired = record { kind = H9; field = Retired class; number = retired }
 
 -- the steps of a call that loads the lists once
-once : (v u x w s1 s2 : List StepMade) (a b : StepMade) → u ≡ v ++ s1 → x ≡ (u ++ a ∷ []) ++ b ∷ [] → w ≡ x ++ s2
-    → w ≡ v ++ (s1 ++ a ∷ b ∷ s2)
-once v u x w s1 s2 a b first second third =
-    third ∙ ap (λ t. t ++ s2) second ∙ ap (λ t. ((t ++ a ∷ []) ++ b ∷ []) ++ s2) first ∙ append_assoc ((v ++ s1) ++ a ∷ []) (b ∷ []) s2
-    ∙ append_assoc (v ++ s1) (a ∷ []) (b ∷ s2) ∙ append_assoc v s1 (a ∷ b ∷ s2)
+once : (v u x w before after : List StepMade) (a b : StepMade) → u ≡ v ++ before → x ≡ (u ++ a ∷ []) ++ b ∷ [] → w ≡ x ++ after
+    → w ≡ v ++ (before ++ a ∷ b ∷ after)
+once v u x w before after a b first second third =
+    third ∙ ap (λ t. t ++ after) second ∙ ap (λ t. ((t ++ a ∷ []) ++ b ∷ []) ++ after) first ∙ append_assoc ((v ++ before) ++ a ∷ []) (b ∷ []) after
+    ∙ append_assoc (v ++ before) (a ∷ []) (b ∷ after) ∙ append_assoc v before (a ∷ b ∷ after)
 
 module _ (capacities : List ℕ) (v w : View) (key value : ℕ) where
   exactly : (reply : Reply) (number : ℕ) → PutsBy capacities v key value reply number w

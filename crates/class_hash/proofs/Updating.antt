@@ -17,7 +17,7 @@ use Rattle.hash_core.specs.Memory.{is_slot_of, IsOfClass}
 use Rattle.class_hash.specs.Seats.{TableAt}
 use Rattle.class_hash.specs.Calls.{Told, loads_free, AddsNoLists, HasFinished, Unlocks, HasLoaded, KnowsMore, IsLinkedFrom}
 use Rattle.class_hash.specs.Updates.{HasStepped, HasLocked, HasTurned, MayReplace, Replaced, with_update, link_after, MayUnlink, Removed}
-use Rattle.class_hash.proofs.Walking.{not_loaded, loaded_more, knows_more, known_here, comes_to_still, goes_by, goes_on, adds_none, adds_step, adds_both}
+use Rattle.class_hash.proofs.Walking.{known_here, comes_to_still, goes_by, goes_on, adds_none, adds_step, adds_both, loaded_first, loaded_second, knows_second}
 use Rattle.prcu_model.proofs.ListFacts.{prefix_trans}
 use Rattle.prcu_marks.specs.declared.mark.Mark.TheVariants.{Unlinked}
 use Rattle.hash_core.specs.declared.act.Act.TheVariants as act
@@ -95,39 +95,38 @@ pub still_held : (v w : View) (hold : Hold) → v.hold ≡ Some hold → HasStep
 still_held v w hold is idle = ap (λ (z : View). z.hold) idle.view ∙ is
 
 -- after the load of the value
-pub holds_loaded : {table : TableAt} {v x1 : View} {slot key old : ℕ} → MayReplace table.capacities v slot key
-    → Told table v (act.LockedLoad (Value slot)) old x1 → (hold : Hold) × (x1.hold ≡ Some hold)
-holds_loaded {table} {v} {x1} {slot} {key} {old} may a = (
+pub holds_loaded : {table : TableAt} {v w_read : View} {slot key old : ℕ} → MayReplace table.capacities v slot key
+    → Told table v (act.LockedLoad (Value slot)) old w_read → (hold : Hold) × (w_read.hold ≡ Some hold)
+holds_loaded {table} {v} {w_read} {slot} {key} {old} may a = (
   knowing may.hold (Value slot) old,
-  ap (λ (z : View). z.hold)
-      (loaded_more table v may.hold v may.hold (not_loaded v may.hold may.finished.hold_is) (Value slot) old x1 a refl).view,
+  ap (λ (z : View). z.hold) (loaded_first may.finished.hold_is a refl).view,
 )
 
 -- the value was loaded, the front made odd, the value replaced, the front made even, the lock given up
-module _ {table : TableAt} {v x1 x2 : View} {slot key old even : ℕ} (value : ℕ) (may : MayReplace table.capacities v slot key)
-    (a : Told table v (act.LockedLoad (Value slot)) old x1) (b : HasTurned x1 even x2) where
-  value_loaded : HasLoaded v may.hold x1 (knowing may.hold (Value slot) old)
-  value_loaded = loaded_more table v may.hold v may.hold (not_loaded v may.hold may.finished.hold_is) (Value slot) old x1 a refl
+module _ {table : TableAt} {v w_read w_odd : View} {slot key old even : ℕ} (value : ℕ) (may : MayReplace table.capacities v slot key)
+    (a : Told table v (act.LockedLoad (Value slot)) old w_read) (b : HasTurned w_read even w_odd) where
+  value_loaded : HasLoaded v may.hold w_read (knowing may.hold (Value slot) old)
+  value_loaded = loaded_first may.finished.hold_is a refl
 
   value_known : KnowsMore may.hold.known (knowing may.hold (Value slot) old).known
-  value_known = knows_more table v may.hold v may.hold (not_loaded v may.hold may.finished.hold_is) (Value slot) old x1 a
+  value_known = value_loaded.more
 
   abbrev odd_view : View
   odd_view = record v {
     hold = Some (knowing may.hold (Value slot) old);
     commit = Some (record { found = even; stored = false });
-    trail = x2.trail;
-    seen = x1.seen;
+    trail = w_odd.trail;
+    seen = w_read.seen;
   }
 
-  odd_is : x2 ≡ odd_view
+  odd_is : w_odd ≡ odd_view
   odd_is = b.view ∙ ap (λ (z : View). record z {
     commit = Some (record { found = even; stored = false });
-    trail = x2.trail;
-    seen = x1.seen;
+    trail = w_odd.trail;
+    seen = w_read.seen;
   }) value_loaded.view
 
-  pub may_store : (hold : Hold) × (e : ℕ) × NeedsReplace x2 hold e slot key × (is_slot_of table.capacities hold.class slot ≡ true)
+  pub may_store : (hold : Hold) × (e : ℕ) × NeedsReplace w_odd hold e slot key × (is_slot_of table.capacities hold.class slot ≡ true)
   may_store = (
     knowing may.hold (Value slot) old,
     even,
@@ -149,24 +148,24 @@ module _ {table : TableAt} {v x1 x2 : View} {slot key old even : ℕ} (value : �
     may.slot_is,
   )
 
-  module _ {x3 : View} (c : Told table x2 (act.ReplaceValue slot key value) value x3) where
+  module _ {w_stored : View} (c : Told table w_odd (act.ReplaceValue slot key value) value w_stored) where
     abbrev replaced_view : View
     replaced_view = goes_by (act.ReplaceValue slot key value) c.marks value odd_view
 
-    replaced_is : x3 ≡ replaced_view
+    replaced_is : w_stored ≡ replaced_view
     replaced_is = goes_on odd_is c
 
-    pub may_even_replaced : (e : ℕ) × NeedsEven x3 e × (even + 2 ≡ e + 2)
+    pub may_even_replaced : (e : ℕ) × NeedsEven w_stored e × (even + 2 ≡ e + 2)
     may_even_replaced = (even, ap (λ (z : View). z.commit) replaced_is, refl)
 
-    module _ {x4 : View} (d : Told table x3 (act.CloseCommit (even + 2)) (even + 2) x4) where
+    module _ {w_closed : View} (d : Told table w_stored (act.CloseCommit (even + 2)) (even + 2) w_closed) where
       abbrev even_view : View
       even_view = goes_by (act.CloseCommit (even + 2)) d.marks (even + 2) replaced_view
 
-      even_is : x4 ≡ even_view
+      even_is : w_closed ≡ even_view
       even_is = goes_on replaced_is d
 
-      pub may_unlock_replaced : (hold : Hold) × NeedsUnlock x4 hold
+      pub may_unlock_replaced : (hold : Hold) × NeedsUnlock w_closed hold
       may_unlock_replaced = (
         knowing (knowing may.hold (Value slot) old) (Value slot) value,
         record {
@@ -178,112 +177,84 @@ module _ {table : TableAt} {v x1 x2 : View} {slot key old even : ℕ} (value : �
         },
       )
 
-      pub replaced : {x5 : View} → Unlocks x4 x5 → Replaced v key value old (even / 2 + 1) x5
-      replaced {x5} e =
-          let last : x5 ≡ goes_by act.Unlock [] 0 even_view = e ∙ ap (goes_by act.Unlock [] 0) even_is in
-          let seen5 : x5.seen ≡ x3.seen = ap (λ (z : View). z.seen) last ∙ sym (ap (λ (z : View). z.seen) replaced_is) in
-          let known2 : hold_of x2 ≡ knowing may.hold (Value slot) old = ap hold_of odd_is in
-          let front2 : (commit_of x2).found ≡ even = ap (λ (z : View). (commit_of z).found) odd_is in
-          let p : (commit_of x2).found + 2 ≡ 2 * length (updates_of x3.seen) = c.gains.counted.position in
-          let from1 : IsPrefix x1.seen c.marks = subst (λ (z : View). IsPrefix z.seen c.marks) odd_is c.begins in
+      pub replaced : {w_left : View} → Unlocks w_closed w_left → Replaced v key value old (even / 2 + 1) w_left
+      replaced {w_left} e =
+          let last : w_left ≡ goes_by act.Unlock [] 0 even_view = e ∙ ap (goes_by act.Unlock [] 0) even_is in
+          let seen_left : w_left.seen ≡ w_stored.seen = ap (λ (z : View). z.seen) last ∙ sym (ap (λ (z : View). z.seen) replaced_is) in
+          let known_odd : hold_of w_odd ≡ knowing may.hold (Value slot) old = ap hold_of odd_is in
+          let front_odd : (commit_of w_odd).found ≡ even = ap (λ (z : View). (commit_of z).found) odd_is in
+          let p : (commit_of w_odd).found + 2 ≡ 2 * length (updates_of w_stored.seen) = c.gains.counted.position in
+          let from_read : IsPrefix w_read.seen c.marks = subst (λ (z : View). IsPrefix z.seen c.marks) odd_is c.begins in
           record {
             before = c.marks;
-            since = prefix_trans v.seen x1.seen c.marks value_loaded.seen from1;
-            was = c.gains.was old (subst (λ (k : Hold). known_in k.known (Value slot) ≡ Some old) (sym known2)
+            since = prefix_trans v.seen w_read.seen c.marks value_loaded.seen from_read;
+            was = c.gains.was old (subst (λ (k : Hold). known_in k.known (Value slot) ≡ Some old) (sym known_odd)
                 (known_here may.hold (Value slot) old));
-            legal = subst (λ z. IsLegal (updates_of z)) (sym seen5) c.informed.legal;
-            number_is = (let half : even / 2 + 1 ≡ length (updates_of x3.seen) = omega arith in half)
-                ∙ ap (λ z. length (updates_of z)) (sym seen5);
+            legal = subst (λ z. IsLegal (updates_of z)) (sym seen_left) c.informed.legal;
+            number_is = (let half : even / 2 + 1 ≡ length (updates_of w_stored.seen) = omega arith in half)
+                ∙ ap (λ z. length (updates_of z)) (sym seen_left);
             view = last ∙ ap (λ (t : Option Commit). record (goes_by act.Unlock [] 0 even_view) { commit = t }) (sym may.finished.even)
                 ∙ sym (ap (λ (z : View). with_update v (Set key value) c.marks [] z.trail) last);
           }
 
-      pub replaced_trail : {x5 : View} → Unlocks x4 x5 → AddsNoLists v.trail x5.trail
-      replaced_trail {x5} e =
-          let last : x5 ≡ goes_by act.Unlock [] 0 even_view = e ∙ ap (goes_by act.Unlock [] 0) even_is in
+      pub replaced_trail : {w_left : View} → Unlocks w_closed w_left → AddsNoLists v.trail w_left.trail
+      replaced_trail {w_left} e =
+          let last : w_left ≡ goes_by act.Unlock [] 0 even_view = e ∙ ap (goes_by act.Unlock [] 0) even_is in
           subst (λ (z : View). AddsNoLists v.trail z.trail) (sym last)
           (adds_step v.trail _ H7 (Lock may.hold.class) 0 refl (adds_step v.trail _ H16 Front (even + 2) refl
-          (adds_step v.trail x2.trail H15 (Value slot) value refl (adds_both v.trail x1.trail x2.trail value_loaded.trail b.trail))))
+          (adds_step v.trail w_odd.trail H15 (Value slot) value refl (adds_both v.trail w_read.trail w_odd.trail value_loaded.trail b.trail))))
 
 -- A slot unlinked under a bucket's lock.
 
 -- the next of the slot and the first retired slot were loaded
 module _ {table : TableAt} {v : View} {previous : Option ℕ} {slot key : ℕ} (may : MayUnlink table.capacities v previous slot key) {next : ℕ}
-    {x1 : View} (a : Told table v (act.LockedLoad (Next slot)) next x1) where
-  abbrev k0 : Hold
-  k0 = may.hold
+    {w_next : View} (a : Told table v (act.LockedLoad (Next slot)) next w_next) where
+  pub may_load_retired : {class : ℕ} → class ≡ may.hold.class → (hold : Hold) × (w_next.hold ≡ Some hold) × (class ≡ hold.class)
+  may_load_retired is = (knowing may.hold (Next slot) next, ap (λ (z : View). z.hold) (loaded_first may.finished.hold_is a refl).view, is)
 
-  abbrev k1 : Hold
-  k1 = knowing may.hold (Next slot) next
+  module _ {class first : ℕ} (is : class ≡ may.hold.class) {w_both : View}
+      (b : Told table w_next (act.LockedLoad (Retired class)) first w_both) where
+    abbrev hold_both : Hold
+    hold_both = knowing (knowing may.hold (Next slot) next) (Retired class) first
 
-  none_loaded : HasLoaded v may.hold v may.hold
-  none_loaded = not_loaded v may.hold may.finished.hold_is
+    both_loaded : HasLoaded v may.hold w_both hold_both
+    both_loaded = loaded_second may.finished.hold_is a refl b refl
 
-  next_loaded : HasLoaded v may.hold x1 (knowing may.hold (Next slot) next)
-  next_loaded = loaded_more table v may.hold v may.hold none_loaded (Next slot) next x1 a refl
+    pub holds_both : (hold : Hold) × (w_both.hold ≡ Some hold)
+    holds_both = (hold_both, ap (λ (z : View). z.hold) both_loaded.view)
 
-  next_known : KnowsMore may.hold.known (knowing may.hold (Next slot) next).known
-  next_known = knows_more table v may.hold v may.hold none_loaded (Next slot) next x1 a
-
-  pub may_load_retired : {class : ℕ} → class ≡ may.hold.class → (hold : Hold) × (x1.hold ≡ Some hold) × (class ≡ hold.class)
-  may_load_retired is = (knowing may.hold (Next slot) next, ap (λ (z : View). z.hold) next_loaded.view, is)
-
-  module _ {class first : ℕ} (is : class ≡ may.hold.class) {x2 : View} (b : Told table x1 (act.LockedLoad (Retired class)) first x2) where
-    abbrev k2 : Hold
-    k2 = knowing (knowing may.hold (Next slot) next) (Retired class) first
-
-    loaded2 : HasLoaded v may.hold x2 (knowing (knowing may.hold (Next slot) next) (Retired class) first)
-    loaded2 = loaded_more table v may.hold x1 (knowing may.hold (Next slot) next) next_loaded (Retired class) first x2 b refl
-
-    step2 : KnowsMore (knowing may.hold (Next slot) next).known (knowing (knowing may.hold (Next slot) next) (Retired class) first).known
-    step2 = knows_more table v may.hold x1 (knowing may.hold (Next slot) next) next_loaded (Retired class) first x2 b
-
-    more2 : KnowsMore may.hold.known (knowing (knowing may.hold (Next slot) next) (Retired class) first).known
-    more2 f n e = step2 f n (next_known f n e)
-
-    pub holds2 : (hold : Hold) × (x2.hold ≡ Some hold)
-    holds2 = (knowing (knowing may.hold (Next slot) next) (Retired class) first, ap (λ (z : View). z.hold) loaded2.view)
-
-    module _ {even : ℕ} {x3 : View} (t : HasTurned x2 even x3) where
+    module _ {even : ℕ} {w_odd : View} (t : HasTurned w_both even w_odd) where
       abbrev turned_view : View
       turned_view = record v {
-        hold = Some (knowing (knowing may.hold (Next slot) next) (Retired class) first);
+        hold = Some hold_both;
         commit = Some (record { found = even; stored = false });
-        trail = x3.trail;
-        seen = x2.seen;
+        trail = w_odd.trail;
+        seen = w_both.seen;
       }
 
-      turned_is : x3 ≡ record v {
-        hold = Some (knowing (knowing may.hold (Next slot) next) (Retired class) first);
-        commit = Some (record { found = even; stored = false });
-        trail = x3.trail;
-        seen = x2.seen;
-      }
+      turned_is : w_odd ≡ turned_view
       turned_is = t.view ∙ ap (λ (z : View). record z {
         commit = Some (record { found = even; stored = false });
-        trail = x3.trail;
-        seen = x2.seen;
-      }) loaded2.view
+        trail = w_odd.trail;
+        seen = w_both.seen;
+      }) both_loaded.view
 
-      link_by : (p : Option ℕ) → IsLinkedFrom may.hold p slot
-          → LinksTo (knowing (knowing may.hold (Next slot) next) (Retired class) first) (link_after may.hold.class p)
-          × (known_in (knowing (knowing may.hold (Next slot) next) (Retired class) first).known (link_after may.hold.class p)
-          ≡ Some slot)
-      link_by None f = (refl, more2 (Head may.hold.class) slot f)
+      link_by : (p : Option ℕ) → IsLinkedFrom may.hold p slot → LinksTo hold_both (link_after may.hold.class p)
+          × (known_in hold_both.known (link_after may.hold.class p) ≡ Some slot)
+      link_by None f = (refl, both_loaded.more (Head may.hold.class) slot f)
       link_by (Some p) f = (
         record {
           first = f.0.first;
           before = f.0.before;
-          head = more2 (Head may.hold.class) f.0.first f.0.head;
+          head = both_loaded.more (Head may.hold.class) f.0.first f.0.head;
           comes = comes_to_still may.hold.known (knowing (knowing may.hold (Next slot) next)
-              (Retired class) first).known more2 f.0.first f.0.before p f.0.comes;
+              (Retired class) first).known both_loaded.more f.0.first f.0.before p f.0.comes;
         },
-        more2 (Next p) slot f.1,
+        both_loaded.more (Next p) slot f.1,
       )
 
-      needs14 : NeedsUnlink x3 (knowing (knowing may.hold (Next slot) next) (Retired class) first) even
-          (link_after may.hold.class previous) slot key next
-      needs14 = record {
+      needs_cut : NeedsUnlink w_odd hold_both even (link_after may.hold.class previous) slot key next
+      needs_cut = record {
         commit = record {
           hold_is = ap (λ (z : View). z.hold) turned_is;
           commit_is = ap (λ (z : View). z.commit) turned_is;
@@ -293,94 +264,92 @@ module _ {table : TableAt} {v : View} {previous : Option ℕ} {slot key : ℕ} (
         link_is = (link_by previous may.found.from).0;
         linked = (link_by previous may.found.from).1;
         some = may.found.some;
-        key_is = more2 (Key slot) key may.found.key_is;
-        next_is = step2 (Next slot) next (known_here may.hold (Next slot) next);
+        key_is = both_loaded.more (Key slot) key may.found.key_is;
+        next_is = knows_second may.finished.hold_is a refl b (Next slot) next (known_here may.hold (Next slot) next);
       }
 
       same_link : link_after may.hold.class previous ≡ link_after class previous
       same_link = ap (λ c. link_after c previous) (sym is)
 
       pub may_cut : {link : Field} → link ≡ link_after class previous
-          → (hold : Hold) × (e : ℕ) × NeedsUnlink x3 hold e link slot key next × IsOfClass table.capacities hold.class link
+          → (hold : Hold) × (e : ℕ) × NeedsUnlink w_odd hold e link slot key next × IsOfClass table.capacities hold.class link
       may_cut at = (
-        knowing (knowing may.hold (Next slot) next) (Retired class) first,
+        hold_both,
         even,
-        subst (λ z. NeedsUnlink x3 (knowing (knowing may.hold (Next slot) next) (Retired class) first) even z slot key next)
-            (same_link ∙ sym at) needs14,
+        subst (λ z. NeedsUnlink w_odd hold_both even z slot key next) (same_link ∙ sym at) needs_cut,
         subst (λ z. IsOfClass table.capacities may.hold.class z) (same_link ∙ sym at) may.link,
       )
 
-      module _ {link : Field} (at : link ≡ link_after class previous) {x4 : View}
-          (c : Told table x3 (act.UnlinkSlot link slot key next) next x4) where
-        abbrev k4 : Hold
-        k4 = record (knowing (knowing (knowing may.hold (Next slot) next) (Retired class) first) link next)
-            { clear = false; unlinked = Some slot }
+      module _ {link : Field} (at : link ≡ link_after class previous) {w_cut : View}
+          (c : Told table w_odd (act.UnlinkSlot link slot key next) next w_cut) where
+        abbrev hold_cut : Hold
+        hold_cut = record (knowing hold_both link next) { clear = false; unlinked = Some slot }
 
         abbrev unlinked_view : View
         unlinked_view = goes_by (act.UnlinkSlot link slot key next) c.marks next turned_view
 
-        unlinked_is : x4 ≡ unlinked_view
+        unlinked_is : w_cut ≡ unlinked_view
         unlinked_is = goes_on turned_is c
 
-        pub may_chain : (hold : Hold) × ((x4.hold ≡ Some hold) × (hold.unlinked ≡ Some slot))
+        pub may_chain : (hold : Hold) × ((w_cut.hold ≡ Some hold) × (hold.unlinked ≡ Some slot))
             × (is_slot_of table.capacities hold.class slot ≡ true)
-        may_chain = (k4, (ap (λ (z : View). z.hold) unlinked_is, refl), may.slot_is)
+        may_chain = (hold_cut, (ap (λ (z : View). z.hold) unlinked_is, refl), may.slot_is)
 
-        module _ {x5 : View} (d : Told table x4 (act.StoreChain slot first) first x5) where
-          abbrev k5 : Hold
-          k5 = knowing k4 (Chain slot) first
+        module _ {w_chained : View} (d : Told table w_cut (act.StoreChain slot first) first w_chained) where
+          abbrev hold_chained : Hold
+          hold_chained = knowing hold_cut (Chain slot) first
 
           abbrev chained_view : View
           chained_view = goes_by (act.StoreChain slot first) d.marks first unlinked_view
 
-          chained_is : x5 ≡ chained_view
+          chained_is : w_chained ≡ chained_view
           chained_is = goes_on unlinked_is d
 
           -- the retired word is known past the link and the chain
           past_link : (p : Option ℕ)
-              → known_in (knowing (knowing (knowing (knowing may.hold (Next slot) next) (Retired class) first) (link_after class p) next)
+              → known_in (knowing (knowing hold_both (link_after class p) next)
               (Chain slot) first).known (Retired may.hold.class) ≡ Some first
-          past_link None = subst (λ z. known_in (knowing (knowing may.hold (Next slot) next) (Retired class) first).known (Retired z)
+          past_link None = subst (λ z. known_in hold_both.known (Retired z)
               ≡ Some first) is (known_here (knowing may.hold (Next slot) next) (Retired class) first)
-          past_link (Some p) = subst (λ z. known_in (knowing (knowing may.hold (Next slot) next) (Retired class) first).known (Retired z)
+          past_link (Some p) = subst (λ z. known_in hold_both.known (Retired z)
               ≡ Some first) is (known_here (knowing may.hold (Next slot) next) (Retired class) first)
 
-          pub may_push : (hold : Hold) × (other : ℕ) × NeedsPush x5 hold slot other
+          pub may_push : (hold : Hold) × (other : ℕ) × NeedsPush w_chained hold slot other
           may_push = (
-            k5,
+            hold_chained,
             first,
             record {
               hold_is = ap (λ (z : View). z.hold) chained_is;
               unlinked = refl;
-              first_is = subst (λ l. known_in (knowing (knowing (knowing (knowing may.hold (Next slot) next) (Retired class) first) l next)
-                  (Chain slot) first).known (Retired may.hold.class) ≡ Some first) (sym at) (past_link previous);
-              chained = known_here k4 (Chain slot) first;
+              first_is = subst (λ l. known_in (knowing (knowing hold_both l next) (Chain slot) first).known
+                  (Retired may.hold.class) ≡ Some first) (sym at) (past_link previous);
+              chained = known_here hold_cut (Chain slot) first;
             },
           )
 
-          module _ {x6 : View} (e : Told table x5 (act.Retire slot) slot x6) where
-            abbrev k6 : Hold
-            k6 = record (knowing k5 (Retired may.hold.class) slot) { unlinked = None }
+          module _ {w_pushed : View} (e : Told table w_chained (act.Retire slot) slot w_pushed) where
+            abbrev hold_pushed : Hold
+            hold_pushed = record (knowing hold_chained (Retired may.hold.class) slot) { unlinked = None }
 
             abbrev retired_view : View
             retired_view = goes_by (act.Retire slot) e.marks slot chained_view
 
-            retired_is : x6 ≡ retired_view
+            retired_is : w_pushed ≡ retired_view
             retired_is = goes_on chained_is e
 
-            pub may_even_unlinked : (n : ℕ) × NeedsEven x6 n × (even + 2 ≡ n + 2)
+            pub may_even_unlinked : (n : ℕ) × NeedsEven w_pushed n × (even + 2 ≡ n + 2)
             may_even_unlinked = (even, ap (λ (z : View). z.commit) retired_is, refl)
 
-            module _ {x7 : View} (f : Told table x6 (act.CloseCommit (even + 2)) (even + 2) x7) where
+            module _ {w_closed : View} (f : Told table w_pushed (act.CloseCommit (even + 2)) (even + 2) w_closed) where
               abbrev closed_view : View
               closed_view = goes_by (act.CloseCommit (even + 2)) f.marks (even + 2) retired_view
 
-              closed_is : x7 ≡ closed_view
+              closed_is : w_closed ≡ closed_view
               closed_is = goes_on retired_is f
 
-              pub may_unlock_unlinked : (hold : Hold) × NeedsUnlock x7 hold
+              pub may_unlock_unlinked : (hold : Hold) × NeedsUnlock w_closed hold
               may_unlock_unlinked = (
-                k6,
+                hold_pushed,
                 record {
                   hold_is = ap (λ (z : View). z.hold) closed_is;
                   taken = may.finished.taken;
@@ -390,29 +359,29 @@ module _ {table : TableAt} {v : View} {previous : Option ℕ} {slot key : ℕ} (
                 },
               )
 
-              pub removed : {x8 : View} → Unlocks x7 x8 → Removed v key (even / 2 + 1) x8
-              removed {x8} g =
-                  let last : x8 ≡ goes_by act.Unlock [] 0 closed_view = g ∙ ap (goes_by act.Unlock [] 0) closed_is in
-                  let front3 : (commit_of x3).found ≡ even = ap (λ (z : View). (commit_of z).found) turned_is in
-                  let p : (commit_of x3).found + 2 ≡ 2 * length (updates_of x4.seen) = c.gains.position in
-                  let seen8 : x8.seen ≡ x4.seen = ap (λ (z : View). z.seen) last ∙ sym (ap (λ (z : View). z.seen) unlinked_is) in
-                  let from2 : IsPrefix x2.seen c.marks = subst (λ (z : View). IsPrefix z.seen c.marks) turned_is c.begins in
+              pub removed : {w_left : View} → Unlocks w_closed w_left → Removed v key (even / 2 + 1) w_left
+              removed {w_left} g =
+                  let last : w_left ≡ goes_by act.Unlock [] 0 closed_view = g ∙ ap (goes_by act.Unlock [] 0) closed_is in
+                  let front_odd : (commit_of w_odd).found ≡ even = ap (λ (z : View). (commit_of z).found) turned_is in
+                  let p : (commit_of w_odd).found + 2 ≡ 2 * length (updates_of w_cut.seen) = c.gains.position in
+                  let seen_left : w_left.seen ≡ w_cut.seen = ap (λ (z : View). z.seen) last ∙ sym (ap (λ (z : View). z.seen) unlinked_is) in
+                  let from_both : IsPrefix w_both.seen c.marks = subst (λ (z : View). IsPrefix z.seen c.marks) turned_is c.begins in
                   record {
                     before = c.marks;
                     slot = slot;
-                    since = prefix_trans v.seen x2.seen c.marks loaded2.seen from2;
-                    legal = subst (λ z. IsLegal (updates_of z)) (sym seen8) c.informed.legal;
-                    number_is = (let half : even / 2 + 1 ≡ length (updates_of x4.seen) = omega arith in half)
-                        ∙ ap (λ z. length (updates_of z)) (sym seen8);
+                    since = prefix_trans v.seen w_both.seen c.marks both_loaded.seen from_both;
+                    legal = subst (λ z. IsLegal (updates_of z)) (sym seen_left) c.informed.legal;
+                    number_is = (let half : even / 2 + 1 ≡ length (updates_of w_cut.seen) = omega arith in half)
+                        ∙ ap (λ z. length (updates_of z)) (sym seen_left);
                     view = last ∙ ap (λ (q : Option Commit). record (goes_by act.Unlock [] 0 closed_view) { commit = q }) (sym may.finished.even)
                         ∙ sym (ap (λ (z : View). with_update v (Del key) c.marks (Unlinked slot ∷ []) z.trail) last);
                   }
 
-              pub removed_trail : {x8 : View} → Unlocks x7 x8 → AddsNoLists v.trail x8.trail
-              removed_trail {x8} g =
-                  let last : x8 ≡ goes_by act.Unlock [] 0 closed_view = g ∙ ap (goes_by act.Unlock [] 0) closed_is in
+              pub removed_trail : {w_left : View} → Unlocks w_closed w_left → AddsNoLists v.trail w_left.trail
+              removed_trail {w_left} g =
+                  let last : w_left ≡ goes_by act.Unlock [] 0 closed_view = g ∙ ap (goes_by act.Unlock [] 0) closed_is in
                   subst (λ (z : View). AddsNoLists v.trail z.trail) (sym last)
                   (adds_step v.trail _ H7 (Lock may.hold.class) 0 refl (adds_step v.trail _ H16 Front (even + 2) refl
                   (adds_step v.trail _ H10 (Retired may.hold.class) slot refl
-                  (adds_step v.trail _ H10 (Chain slot) first refl (adds_step v.trail x3.trail H14 link next refl
-                  (adds_both v.trail x2.trail x3.trail loaded2.trail t.trail))))))
+                  (adds_step v.trail _ H10 (Chain slot) first refl (adds_step v.trail w_odd.trail H14 link next refl
+                  (adds_both v.trail w_both.trail w_odd.trail both_loaded.trail t.trail))))))

@@ -167,26 +167,12 @@ module _ (v : View) (key : ℕ) where
   pub found_key : (t : TableAt) (slot n : ℕ) (w x : View) → n ≡ key → IsSearching v key (Unread slot) None w
       → Told t w (SearchLoad (Key slot)) n x → IsSearching v key (Found slot) None x
   found_key t slot n w x e i s = moved t (Unread slot) (Found slot) None None (Key slot) n w x
-      (λ entered from j. record {
-        key = key;
-        count = v.sections;
-        entered = entered;
-        from = from;
-        state = ap (λ b. cond b (Found slot) (Passed slot)) (eq-eqb n key e) j;
-        loaded = None;
-      }) i s
+      (λ entered from. ap (λ b. at entered from (cond b (Found slot) (Passed slot)) None) (eq-eqb n key e)) i s
 
   pub passed_key : (t : TableAt) (slot n : ℕ) (w x : View) → n ≢ key → IsSearching v key (Unread slot) None w
       → Told t w (SearchLoad (Key slot)) n x → IsSearching v key (Passed slot) None x
   passed_key t slot n w x ne i s = moved t (Unread slot) (Passed slot) None None (Key slot) n w x
-      (λ entered from j. record {
-        key = key;
-        count = v.sections;
-        entered = entered;
-        from = from;
-        state = ap (λ b. cond b (Found slot) (Passed slot)) (ne_eqb n key ne) j;
-        loaded = None;
-      }) i s
+      (λ entered from. ap (λ b. at entered from (cond b (Found slot) (Passed slot)) None) (ne_eqb n key ne)) i s
 
   pub read_value : (t : TableAt) (slot n : ℕ) (w x : View) → IsSearching v key (Found slot) None w
       → Told t w (SearchLoad (Value slot)) n x → IsSearching v key (Found slot) (Some n) x
@@ -228,80 +214,54 @@ module _ (v : View) (key : ℕ) where
 module _ (v : View) (key : ℕ) (t : TableAt) where
   pub may_load_head : (w : View) → IsSearching v key Start None w
       → (x : Section) × (w.section ≡ Some x) × (x.key % 64 ≡ key % 64) × (key % 64 ≡ x.key % 64)
-  may_load_head w i = (
-    record {
-      key = key;
-      count = v.sections;
-      entered = length i.before;
-      from = length (updates_of i.before);
-      state = Start;
-      loaded = None;
-    },
-    section_at v key Start None w i,
-    refl,
-    refl,
-  )
+  may_load_head w i =
+      (at v key (length i.before) (length (updates_of i.before)) Start None, section_at v key Start None w i, refl, refl)
 
   may_load : (state : SearchState) (slot n : ℕ) (w : View) → n ≡ slot → StandsAt state slot
       → is_slot_of t.capacities (key % 64) slot ≡ true → IsSearching v key state None w
       → (x : Section) × (w.section ≡ Some x) × StandsAt x.state n × (is_slot_of t.capacities (x.key % 64) n ≡ true)
   may_load state slot n w e stands of i = (
-    record { key = key; count = v.sections; entered = length i.before; from = length (updates_of i.before); state = state; loaded = None },
+    at v key (length i.before) (length (updates_of i.before)) state None,
     section_at v key state None w i,
     subst (StandsAt state) (sym e) stands,
     subst (λ z. is_slot_of t.capacities (key % 64) z ≡ true) (sym e) of,
   )
 
-  module _ (link slot k : ℕ) (e : slot ≡ link) (ne : link ≢ 0) (w1 : View) (a : IsAtLink t.capacities v key link w1) where
-    unread : IsSearching v key (Unread slot) None w1
-    unread = subst (λ z. IsSearching v key (Unread z) None w1) (sym e) (at_slot v key link w1 ne a.searching)
+  module _ (link slot k : ℕ) (e : slot ≡ link) (ne : link ≢ 0) (w_link : View) (a : IsAtLink t.capacities v key link w_link) where
+    unread : IsSearching v key (Unread slot) None w_link
+    unread = subst (λ z. IsSearching v key (Unread z) None w_link) (sym e) (at_slot v key link w_link ne a.searching)
 
     of_class : is_slot_of t.capacities (key % 64) slot ≡ true
     of_class = subst (λ z. is_slot_of t.capacities (key % 64) z ≡ true) (sym e) (a.slot ne)
 
-    pub may_load_key : (x : Section) × (w1.section ≡ Some x) × StandsAt x.state slot × (is_slot_of t.capacities (x.key % 64) slot ≡ true)
-    may_load_key = may_load (Unread slot) slot slot w1 refl refl of_class unread
+    pub may_load_key : (x : Section) × (w_link.section ≡ Some x) × StandsAt x.state slot × (is_slot_of t.capacities (x.key % 64) slot ≡ true)
+    may_load_key = may_load (Unread slot) slot slot w_link refl refl of_class unread
 
-    module _ (w2 : View) (s : Told t w1 (SearchLoad (Key slot)) k w2) where
+    module _ (w_key : View) (s : Told t w_link (SearchLoad (Key slot)) k w_key) where
       pub may_load_value : k ≡ key
-          → (x : Section) × (w2.section ≡ Some x) × StandsAt x.state slot × (is_slot_of t.capacities (x.key % 64) slot ≡ true)
-      may_load_value is = may_load (Found slot) slot slot w2 refl refl of_class (found_key v key t slot k w1 w2 is unread s)
+          → (x : Section) × (w_key.section ≡ Some x) × StandsAt x.state slot × (is_slot_of t.capacities (x.key % 64) slot ≡ true)
+      may_load_value is = may_load (Found slot) slot slot w_key refl refl of_class (found_key v key t slot k w_link w_key is unread s)
 
       pub may_load_next : k ≢ key
-          → (x : Section) × (w2.section ≡ Some x) × StandsAt x.state slot × (is_slot_of t.capacities (x.key % 64) slot ≡ true)
-      may_load_next not = may_load (Passed slot) slot slot w2 refl refl of_class (passed_key v key t slot k w1 w2 not unread s)
+          → (x : Section) × (w_key.section ≡ Some x) × StandsAt x.state slot × (is_slot_of t.capacities (x.key % 64) slot ≡ true)
+      may_load_next not = may_load (Passed slot) slot slot w_key refl refl of_class (passed_key v key t slot k w_link w_key not unread s)
 
-      pub turn_found : (value : ℕ) (w3 : View) → k ≡ key → Told t w2 (SearchLoad (Value slot)) value w3
-          → IsSearching v key (Found slot) (Some value) w3
-      turn_found value w3 is then = read_value v key t slot value w2 w3 (found_key v key t slot k w1 w2 is unread s) then
+      pub turn_found : (value : ℕ) (w_further : View) → k ≡ key → Told t w_key (SearchLoad (Value slot)) value w_further
+          → IsSearching v key (Found slot) (Some value) w_further
+      turn_found value w_further is then = read_value v key t slot value w_key w_further (found_key v key t slot k w_link w_key is unread s) then
 
-      pub turn_past : (next : ℕ) (w3 : View) → k ≢ key → Told t w2 (SearchLoad (Next slot)) next w3 → IsAtLink t.capacities v key next w3
-      turn_past next w3 not then = next_link v key t slot next w2 w3 (passed_key v key t slot k w1 w2 not unread s) then
+      pub turn_past : (next : ℕ) (w_further : View) → k ≢ key → Told t w_key (SearchLoad (Next slot)) next w_further
+          → IsAtLink t.capacities v key next w_further
+      turn_past next w_further not then = next_link v key t slot next w_key w_further (passed_key v key t slot k w_link w_key not unread s) then
 
 module _ (v : View) (key : ℕ) (w : View) where
   pub in_section : (answer : Option ℕ) → (answer ≡ None → IsSearching v key Ended None w)
       → ((value : ℕ) → answer ≡ Some value → (slot : ℕ) × IsSearching v key (Found slot) (Some value) w)
       → (x : Section) × (w.section ≡ Some x)
-  in_section None ended found = let i = ended refl in (
-    record {
-      key = key;
-      count = v.sections;
-      entered = length i.before;
-      from = length (updates_of i.before);
-      state = Ended;
-      loaded = None;
-    },
-    section_at v key Ended None w i,
-  )
+  in_section None ended found = let i = ended refl in
+      (at v key (length i.before) (length (updates_of i.before)) Ended None, section_at v key Ended None w i)
   in_section (Some value) ended found = let f = found value refl in (
-    record {
-      key = key;
-      count = v.sections;
-      entered = length f.1.before;
-      from = length (updates_of f.1.before);
-      state = Found f.0;
-      loaded = Some value;
-    },
+    at v key (length f.1.before) (length (updates_of f.1.before)) (Found f.0) (Some value),
     section_at v key (Found f.0) (Some value) w f.1,
   )
 
@@ -363,8 +323,8 @@ comes_to known first [] slot ne c = (c, ne)
 comes_to known first (s ∷ ss) slot ne c = (c.0, c.1, (c.2.0, c.2.1, comes_to known c.2.0 ss slot ne c.2.2))
 
 -- nothing was loaded yet
-pub not_loaded : (v : View) (hold : Hold) → v.hold ≡ Some hold → HasLoaded v hold v hold
-not_loaded v hold was = record {
+pub not_loaded : {v : View} {hold : Hold} → v.hold ≡ Some hold → HasLoaded v hold v hold
+not_loaded {v} was = record {
   was = was;
   more = λ f n is. is;
   only = refl;
@@ -374,8 +334,8 @@ not_loaded v hold was = record {
 }
 
 -- one more load
-module _ (table : TableAt) (v : View) (hold : Hold) (w : View) (now : Hold) (loaded : HasLoaded v hold w now) (field : Field) (n : ℕ)
-    (x : View) (s : Told table w (LockedLoad field) n x) where
+module _ {table : TableAt} {v : View} {hold : Hold} {w : View} {now : Hold} (loaded : HasLoaded v hold w now) {field : Field} {n : ℕ}
+    {x : View} (s : Told table w (LockedLoad field) n x) where
   holds_now : w.hold ≡ Some now
   holds_now = ap (λ (z : View). z.hold) loaded.view
 
@@ -415,16 +375,28 @@ module _ (table : TableAt) (v : View) (hold : Hold) (w : View) (now : Hold) (loa
   pub holds_then : x.hold ≡ Some (knowing now field n)
   holds_then = ap (λ (z : View). z.hold) load_is
 
+-- a first load and another
+module _ {table : TableAt} {v : View} {hold : Hold} (was : v.hold ≡ Some hold) {field : Field} {n : ℕ} {w : View}
+    (s : Told table v (LockedLoad field) n w) (plain : loads_free H9 field ≡ false) where
+  pub loaded_first : HasLoaded v hold w (knowing hold field n)
+  loaded_first = loaded_more (not_loaded was) s plain
+
+  module _ {next : Field} {k : ℕ} {x : View} (t : Told table w (LockedLoad next) k x) where
+    pub loaded_second : loads_free H9 next ≡ false → HasLoaded v hold x (knowing (knowing hold field n) next k)
+    loaded_second = loaded_more loaded_first t
+
+    pub knows_second : KnowsMore (knowing hold field n).known (knowing (knowing hold field n) next k).known
+    knows_second = knows_more loaded_first t
+
 -- the walk at its start
 pub walk_begins : {table : TableAt} (key : ℕ) {v : View} {hold : Hold} → v.hold ≡ Some hold → {class : ℕ} → class ≡ hold.class
     → {link : ℕ} {x : View} → Told table v (LockedLoad (Head class)) link x
     → (new : Hold) × HasLoaded v hold x new × IsWalking table.capacities key new None link
 walk_begins {table} key {v} {hold} was {class} same {link} {x} s =
-    let none : HasLoaded v hold v hold = not_loaded v hold was in
     let head : known_in (knowing hold (Head class) link).known (Head hold.class) ≡ Some link =
     subst (λ z. known_in (knowing hold (Head class) link).known (Head z) ≡ Some link) same (known_here hold (Head class) link) in (
       knowing hold (Head class) link,
-      loaded_more table v hold v hold none (Head class) link x s refl,
+      loaded_first was s refl,
       record {
         first = link;
         passed = [];
@@ -432,7 +404,7 @@ walk_begins {table} key {v} {hold} was {class} same {link} {x} s =
         comes = refl;
         lacks = tt;
         from = head;
-        slot = link_now table v hold v hold none (Head class) link x s;
+        slot = link_now (not_loaded was) s;
         before = tt;
       },
     )
@@ -463,7 +435,7 @@ module _ {table : TableAt} {key : ℕ} {v : View} {hold : Hold} {w : View} {now 
   some_slot e = ne (sym is ∙ e)
 
   more : KnowsMore now.known (knowing now (Key slot) k).known
-  more = knows_more table v hold w now loaded (Key slot) k x s
+  more = knows_more loaded s
 
   comes : ComesOver now.known walk.first walk.passed slot
   comes = subst (ComesOver now.known walk.first walk.passed) (sym is) walk.comes
@@ -498,7 +470,7 @@ module _ {table : TableAt} {key : ℕ} {v : View} {hold : Hold} {w : View} {now 
   pub walk_found : k ≡ key → WalksTo table.capacities key v hold previous slot x
   walk_found e = record {
     new = knowing now (Key slot) k;
-    loaded = loaded_more table v hold w now loaded (Key slot) k x s refl;
+    loaded = loaded_more loaded s refl;
     found = record {
       some = some_slot;
       on = on_then;
@@ -511,19 +483,19 @@ module _ {table : TableAt} {key : ℕ} {v : View} {hold : Hold} {w : View} {now 
 
   -- what the load of the next link asks for
   pub may_walk_on : (new : Hold) × (x.hold ≡ Some new) × (is_slot_of table.capacities new.class slot ≡ true)
-  may_walk_on = (knowing now (Key slot) k, holds_then table v hold w now loaded (Key slot) k x s, walked_of_class)
+  may_walk_on = (knowing now (Key slot) k, holds_then loaded s, walked_of_class)
 
   pub walk_passes : k ≢ key → {next : ℕ} {y : View} → Told table x (LockedLoad (Next slot)) next y
       → (new : Hold) × HasLoaded v hold y new × IsWalking table.capacities key new (Some slot) next
   walk_passes not {next} {y} t =
-      let here : HasLoaded v hold x (knowing now (Key slot) k) = loaded_more table v hold w now loaded (Key slot) k x s refl in
+      let here : HasLoaded v hold x (knowing now (Key slot) k) = loaded_more loaded s refl in
       let further : KnowsMore (knowing now (Key slot) k).known (knowing (knowing now (Key slot) k) (Next slot) next).known =
-      knows_more table v hold x (knowing now (Key slot) k) here (Next slot) next y t in
+      knows_more here t in
       let next_is : known_in (knowing (knowing now (Key slot) k) (Next slot) next).known (Next slot) ≡ Some next =
       known_here (knowing now (Key slot) k) (Next slot) next in
       let both : KnowsMore now.known (knowing (knowing now (Key slot) k) (Next slot) next).known = (λ f n e. further f n (more f n e)) in (
         knowing (knowing now (Key slot) k) (Next slot) next,
-        loaded_more table v hold x (knowing now (Key slot) k) here (Next slot) next y t refl,
+        loaded_more here t refl,
         record {
           first = walk.first;
           passed = walk.passed ++ slot ∷ [];
@@ -542,7 +514,7 @@ module _ {table : TableAt} {key : ℕ} {v : View} {hold : Hold} {w : View} {now 
             },
             next_is,
           );
-          slot = link_now table v hold x (knowing now (Key slot) k) here (Next slot) next y t on_then;
+          slot = link_now here t on_then;
           before = walked_of_class;
         },
       )
@@ -555,8 +527,7 @@ avoids_zero known first (s ∷ ss) w = (w.1, avoids_zero known w.2.0 ss w.2.2)
 -- what stays known of a walk where another slot is stored in
 module _ (before after : List Known) (slot : ℕ) (nexts : (s : ℕ) → s ≢ slot → known_in after (Next s) ≡ known_in before (Next s))
     (keys : (s : ℕ) → s ≢ slot → known_in after (Key s) ≡ known_in before (Key s)) where
-  pub whole_kept : (first : ℕ) (ss : List ℕ) → AllByRecursion (λ s. s ≢ slot) ss → IsWholeWalk before first ss
-      → IsWholeWalk after first ss
+  pub whole_kept : (first : ℕ) (ss : List ℕ) → AllByRecursion (λ s. s ≢ slot) ss → IsWholeWalk before first ss → IsWholeWalk after first ss
   whole_kept first [] a w = w
   whole_kept first (s ∷ ss) a w = (w.0, w.1, (w.2.0, nexts s a.0 ∙ w.2.1, whole_kept w.2.0 ss a.1 w.2.2))
 
@@ -564,17 +535,19 @@ module _ (before after : List Known) (slot : ℕ) (nexts : (s : ℕ) → s ≢ s
   lacks_kept key [] a l = tt
   lacks_kept key (s ∷ ss) a l = ((l.0.0, keys s a.0 ∙ l.0.1, l.0.2), lacks_kept key ss a.1 l.1)
 
--- so a key that is known to be absent is so whatever the free list is
-pub free_absent : (hold : Hold) (free key : ℕ) → ShowsAbsent hold key → ShowsAbsent (knowing hold (Free hold.class) free) key
-free_absent hold free key shows = record {
-  first = shows.first;
-  walk = shows.walk;
-  head = shows.head;
-  whole = whole_kept hold.known (knowing hold (Free hold.class) free).known 0 (λ s _. refl) (λ s _. refl) shows.first shows.walk
-      (avoids_zero hold.known shows.first shows.walk shows.whole) shows.whole;
-  lacks = lacks_kept hold.known (knowing hold (Free hold.class) free).known 0 (λ s _. refl) (λ s _. refl) key shows.walk
-      (avoids_zero hold.known shows.first shows.walk shows.whole) shows.lacks;
-}
+-- so a key that is known to be absent is so where nothing more is known of keys, links and the head
+pub kept_absent : (hold new : Hold) (key : ℕ) → known_in new.known (Head new.class) ≡ known_in hold.known (Head hold.class)
+    → ((s : ℕ) → known_in new.known (Next s) ≡ known_in hold.known (Next s))
+    → ((s : ℕ) → known_in new.known (Key s) ≡ known_in hold.known (Key s)) → ShowsAbsent hold key → ShowsAbsent new key
+kept_absent hold new key head nexts keys shows =
+    let away : AllByRecursion (λ s. s ≢ 0) shows.walk = avoids_zero hold.known shows.first shows.walk shows.whole in
+    record {
+      first = shows.first;
+      walk = shows.walk;
+      head = head ∙ shows.head;
+      whole = whole_kept hold.known new.known 0 (λ s _. nexts s) (λ s _. keys s) shows.first shows.walk away shows.whole;
+      lacks = lacks_kept hold.known new.known 0 (λ s _. nexts s) (λ s _. keys s) key shows.walk away shows.lacks;
+    }
 
 -- What a few steps leave together.
 
@@ -601,8 +574,8 @@ listed_at table v mid w free retired hold done a b =
     let two : hold_of mid ≡ knowing hold (Free hold.class) free = ap hold_of mid_is in
     let F : View → View = goes_by (LockedLoad (Retired hold.class)) b.marks retired in
     let whole : w ≡ F (M hold) = b.goes ∙ ap F mid_is in
-    let seen1 : IsPrefix v.seen (M hold).seen = seen_more v.seen a.marks (free == 0) a.begins in
-    let seen2 : IsPrefix (M hold).seen (F (M hold)).seen =
+    let seen_first : IsPrefix v.seen (M hold).seen = seen_more v.seen a.marks (free == 0) a.begins in
+    let seen_second : IsPrefix (M hold).seen (F (M hold)).seen =
     seen_more (M hold).seen b.marks (retired == 0) (subst (λ (z : View). IsPrefix z.seen b.marks) mid_is b.begins) in
     record {
       hold = hold;
@@ -621,9 +594,13 @@ listed_at table v mid w free retired hold done a b =
           }) in
           let g : IsFull table.capacities (knowing hold (Free hold.class) free) w.seen =
           subst (λ (k : Hold). IsFull table.capacities k w.seen) two f in
-          record { pairs = g.pairs; absent = λ key class shows. g.absent key class (free_absent hold free key shows) };
+          record {
+            pairs = g.pairs;
+            absent = λ key class shows. g.absent key class
+                (kept_absent hold (knowing hold (Free hold.class) free) key refl (λ s. refl) (λ s. refl) shows);
+          };
       trail = ap (λ (z : View). z.trail) whole;
-      seen = subst (IsPrefix v.seen) (sym (ap (λ (z : View). z.seen) whole)) (prefix_trans v.seen _ _ seen1 seen2);
+      seen = subst (IsPrefix v.seen) (sym (ap (λ (z : View). z.seen) whole)) (prefix_trans v.seen _ _ seen_first seen_second);
       rest = whole ∙ sym (ap (λ (z : View). record v {
         hold = Some (knowing (knowing hold (Free hold.class) free) (Retired hold.class) retired);
         trail = z.trail;

@@ -126,7 +126,7 @@ hold_same c (Some j) (Some l) k same is class =
     elim same [ inl q ↦ ap Some (sym q ∙ e) | inr n ↦ absurd (n.0 (ap (λ (z : Hold). z.class) e ∙ class)) ]
 
 -- a slot that stands in one of the class's lists is one of the class
-module _ (capacities : List ℕ) (c : ℕ) (b : Bucket) (roles : HaveOneRole capacities c b) where
+module _ {capacities : List ℕ} {c : ℕ} {b : Bucket} (roles : HaveOneRole capacities c b) where
   slot_case : (t : Bool) (n : ℕ) → n ≡ cond t 1 0 → 1 ≤ n → t ≡ true
   slot_case true n e there = refl
   slot_case false n e there = absurd (omega arith)
@@ -158,12 +158,54 @@ module _ (capacities : List ℕ) (c : ℕ) (b : Bucket) (roles : HaveOneRole cap
       slot_case (is_slot_of capacities c x) _ r (omega arith)
 
 -- What readers of a class will answer, where its slots and marks are the same.
-module _ (capacities : List ℕ) (c : ℕ) (m m' : Memory) (h h' : List Mark) (us us' : List Update) (b : Bucket)
-    (slots : SameSlots capacities c m m') (marks : SameMarks capacities c h h' us us') (roles : HaveOneRole capacities c b) where
-  pub still_said : (key from : ℕ) (answer : Option ℕ) → WasSaid us key from answer → WasSaid us' key from answer
-  still_said key from answer said = subst (λ z. WasSaid z key from answer) (sym marks.longer)
-      (said_longer us marks.more key from answer said)
+-- What an open section will be told: what its search will answer, and the value that it has loaded.
+abbrev pub WillBeTold : List ℕ → ℕ → Memory → List Mark → List Update → List ℕ → Section → Type 0
+WillBeTold capacities c m h us chain section = WillAnswer capacities c m h us chain section section.state
+    × ((value : ℕ) → section.loaded ≡ Some value → WasSaid us section.key section.from (Some value))
 
+pub told_of : {capacities : List ℕ} {c : ℕ} {m : Memory} {h : List Mark} {us : List Update} {vs : List View} {chain : List ℕ}
+    → AreAnswered capacities c m h us vs chain → (j : ℕ) (u : View) (section : Section) → get_elem? vs j ≡ some u
+    → u.section ≡ Some section → section.key % 64 ≡ c → WillBeTold capacities c m h us chain section
+told_of answered j u section there is class = (
+  answered.readers j u section there is class,
+  λ value. answered.loaded j u section value there is class,
+)
+
+-- it is so of all after a step, where it is so of the stepping view's and of the others'
+pub answered_set : {capacities : List ℕ} {c : ℕ} {m : Memory} {h : List Mark} {us : List Update} {chain : List ℕ} (vs : List View) (id : ℕ)
+    (w : View) → ((section : Section) → w.section ≡ Some section → section.key % 64 ≡ c → WillBeTold capacities c m h us chain section)
+    → ((j : ℕ) (u : View) (section : Section) → get_elem? vs j ≡ some u → u.section ≡ Some section → section.key % 64 ≡ c
+    → WillBeTold capacities c m h us chain section) → AreAnswered capacities c m h us (set vs id w) chain
+answered_set {capacities} {c} {m} {h} {us} {chain} vs id w mine others =
+    let each : (j : ℕ) (u : View) → get_elem? (set vs id w) j ≡ some u → (section : Section) → u.section ≡ Some section
+    → section.key % 64 ≡ c → WillBeTold capacities c m h us chain section =
+    each_set (λ k z. (section : Section) → z.section ≡ Some section → section.key % 64 ≡ c
+    → WillBeTold capacities c m h us chain section) vs id w mine (λ k z far e section. others k z section e) in
+    record {
+      readers = λ j u section there is class. (each j u there section is class).0;
+      loaded = λ j u section value there is class. (each j u there section is class).1 value;
+    }
+
+pub still_said : {capacities : List ℕ} {c : ℕ} {h h' : List Mark} {us us' : List Update} → SameMarks capacities c h h' us us'
+    → (key from : ℕ) (answer : Option ℕ) → WasSaid us key from answer → WasSaid us' key from answer
+still_said {us = us} marks key from answer said = subst (λ z. WasSaid z key from answer) (sym marks.longer)
+    (said_longer us marks.more key from answer said)
+
+module _ {capacities : List ℕ} {c : ℕ} (m : Memory) {h : List Mark} {us : List Update} {b : Bucket} (roles : HaveOneRole capacities c b) where
+  -- the first slot of a way is one of the class
+  pub way_slot : (section : Section) (slot : ℕ) → HasWay capacities c m h us b.chain section slot → is_slot_of capacities c slot ≡ true
+  way_slot section slot way =
+      let first = path_cons (λ s. m (Next s)) slot (way.olds ++ way.rest) way.some way.path in
+      let there : 1 ≤ times slot (way.olds ++ way.rest) =
+      (let t = times_here slot first.0 in let e = ap (times slot) first.1 in omega arith) in
+      let sum = times_append slot way.olds way.rest in
+      dite (dec_le 1 (times slot way.olds))
+      (λ in_olds. all_times (λ t. is_slot_of capacities c t ≡ true) way.olds slot way.slots in_olds)
+      (λ not_olds. let cut = times_append slot way.front way.rest in let whole = ap (times slot) way.joins in
+      chain_slot roles slot (omega arith))
+
+module _ {capacities : List ℕ} {c : ℕ} (m m' : Memory) {h h' : List Mark} {us us' : List Update} {b : Bucket}
+    (slots : SameSlots capacities c m m') (marks : SameMarks capacities c h h' us us') (roles : HaveOneRole capacities c b) where
   pub still_way : (section : Section) (slot : ℕ) → HasWay capacities c m h us b.chain section slot
       → HasWay capacities c m' h' us' b.chain section slot
   still_way section slot way =
@@ -172,7 +214,7 @@ module _ (capacities : List ℕ) (c : ℕ) (m m' : Memory) (h h' : List Mark) (u
       dite (dec_le 1 (times s way.olds))
       (λ in_olds. all_times (λ t. is_slot_of capacities c t ≡ true) way.olds s way.slots in_olds)
       (λ not_olds. let cut = times_append s way.front way.rest in let whole = ap (times s) way.joins in
-      chain_slot capacities c b roles s (omega arith)) in
+      chain_slot roles s (omega arith)) in
       record {
         olds = way.olds;
         front = way.front;
@@ -189,31 +231,25 @@ module _ (capacities : List ℕ) (c : ℕ) (m m' : Memory) (h h' : List Mark) (u
         joins = way.joins;
         said = subst (WasSaid us' section.key section.from)
             (sym (seek-same m m' section.key (way.olds ++ way.rest) (λ s there. let q = slots s (of s there) in (q.0, q.1))))
-            (still_said section.key section.from _ way.said);
+            (still_said marks section.key section.from _ way.said);
       }
-
-  -- the first slot of a way is one of the class
-  pub way_slot : (section : Section) (slot : ℕ) → HasWay capacities c m h us b.chain section slot → is_slot_of capacities c slot ≡ true
-  way_slot section slot way =
-      let first = path_cons (λ s. m (Next s)) slot (way.olds ++ way.rest) way.some way.path in
-      let there : 1 ≤ times slot (way.olds ++ way.rest) =
-      (let t = times_here slot first.0 in let e = ap (times slot) first.1 in omega arith) in
-      let sum = times_append slot way.olds way.rest in
-      dite (dec_le 1 (times slot way.olds))
-      (λ in_olds. all_times (λ t. is_slot_of capacities c t ≡ true) way.olds slot way.slots in_olds)
-      (λ not_olds. let cut = times_append slot way.front way.rest in let whole = ap (times slot) way.joins in
-      chain_slot capacities c b roles slot (omega arith))
 
   pub still_answer : (section : Section) (state : SearchState) → WillAnswer capacities c m h us b.chain section state
       → WillAnswer capacities c m' h' us' b.chain section state
   still_answer section Start a = tt
   still_answer section (Unread s) a = still_way section s a
-  still_answer section (Passed s) a = (still_way section s a.0, λ e. a.1 (sym (slots s (way_slot section s a.0)).0 ∙ e))
-  still_answer section (Found s) a = (still_way section s a.0, (slots s (way_slot section s a.0)).0 ∙ a.1)
-  still_answer section Ended a = still_said section.key section.from None a
+  still_answer section (Passed s) a = (still_way section s a.0, λ e. a.1 (sym (slots s (way_slot m roles section s a.0)).0 ∙ e))
+  still_answer section (Found s) a = (still_way section s a.0, (slots s (way_slot m roles section s a.0)).0 ∙ a.1)
+  still_answer section Ended a = still_said marks section.key section.from None a
+
+  pub still_told : (section : Section) → WillBeTold capacities c m h us b.chain section → WillBeTold capacities c m' h' us' b.chain section
+  still_told section told = (
+    still_answer section section.state told.0,
+    λ value read. still_said marks section.key section.from (Some value) (told.1 value read),
+  )
 
 -- where slots were unlinked, where that is the same
-module _ (capacities : List ℕ) (c : ℕ) (h h' : List Mark) (b : Bucket)
+module _ {capacities : List ℕ} {c : ℕ} (h h' : List Mark) {b : Bucket}
     (gone : (s : ℕ) → is_slot_of capacities c s ≡ true → gone_at s h' ≡ gone_at s h) (roles : HaveOneRole capacities c b) where
   still_gone : (s : ℕ) → is_slot_of capacities c s ≡ true → IsGone h s → IsGone h' s
   still_gone s of was = (was.0, gone s of ∙ was.1)
@@ -221,12 +257,11 @@ module _ (capacities : List ℕ) (c : ℕ) (h h' : List Mark) (b : Bucket)
   pub frame_ages_same : HaveAges h b → HaveAges h' b
   frame_ages_same ages = record {
     chain = all_change (λ s. gone_at s h ≡ None) (λ s. gone_at s h' ≡ None) b.chain
-        (λ s there p. gone s (chain_slot capacities c b roles s there) ∙ p) ages.chain;
-    taken = λ s is. gone s (taken_slot capacities c b roles s is) ∙ ages.taken s is;
-    retired = all_change (IsGone h) (IsGone h') b.retired
-        (λ s there p. still_gone s (retired_slot capacities c b roles s there) p) ages.retired;
-    moved = all_change (IsGone h) (IsGone h') b.moved (λ s there p. still_gone s (moved_slot capacities c b roles s there) p) ages.moved;
-    unlinked = λ s is. still_gone s (unlinked_slot capacities c b roles s is) (ages.unlinked s is);
+        (λ s there p. gone s (chain_slot roles s there) ∙ p) ages.chain;
+    taken = λ s is. gone s (taken_slot roles s is) ∙ ages.taken s is;
+    retired = all_change (IsGone h) (IsGone h') b.retired (λ s there p. still_gone s (retired_slot roles s there) p) ages.retired;
+    moved = all_change (IsGone h) (IsGone h') b.moved (λ s there p. still_gone s (moved_slot roles s there) p) ages.moved;
+    unlinked = λ s is. still_gone s (unlinked_slot roles s is) (ages.unlinked s is);
   }
 
 -- who holds the lock, where that is the same
@@ -261,7 +296,7 @@ module _ (capacities : List ℕ) (c : ℕ) (m m' : Memory) (h h' : List Mark) (u
     (at : get_elem? vs id ≡ some v) (words : SameWords capacities c m m') (marks : SameMarks capacities c h h' us us')
     (view : SameView c v w) (r : BucketRule capacities c m h us vs b) where
   slot_chain : (x : ℕ) → 1 ≤ times x b.chain → is_slot_of capacities c x ≡ true
-  slot_chain = chain_slot capacities c b r.roles
+  slot_chain = chain_slot r.roles
 
   frame_chained : IsChained c m' b.chain
   frame_chained =
@@ -280,12 +315,12 @@ module _ (capacities : List ℕ) (c : ℕ) (m m' : Memory) (h h' : List Mark) (u
   frame_listed = record {
     free = IsPath-from (λ s. m' (Chain s)) (m (Free c)) (m' (Free c)) b.free (sym words.free)
         (IsPath-same (λ s. m (Chain s)) (λ s. m' (Chain s)) (m (Free c)) b.free
-        (λ s there. (words.slots s (free_slot capacities c b r.roles s there)).3) r.listed.free);
+        (λ s there. (words.slots s (free_slot r.roles s there)).3) r.listed.free);
     retired = IsPath-from (λ s. m' (Chain s)) (m (Retired c)) (m' (Retired c)) b.retired (sym words.retired)
         (IsPath-same (λ s. m (Chain s)) (λ s. m' (Chain s)) (m (Retired c)) b.retired
-        (λ s there. (words.slots s (retired_slot capacities c b r.roles s there)).3) r.listed.retired);
+        (λ s there. (words.slots s (retired_slot r.roles s there)).3) r.listed.retired);
     moved = IsPath-same (λ s. m (Chain s)) (λ s. m' (Chain s)) (link_of (moved_of b.hold)) b.moved
-        (λ s there. (words.slots s (moved_slot capacities c b r.roles s there)).3) r.listed.moved;
+        (λ s there. (words.slots s (moved_slot r.roles s there)).3) r.listed.moved;
   }
 
   frame_mapped : IsMapped c m' us' b.chain
@@ -322,29 +357,17 @@ module _ (capacities : List ℕ) (c : ℕ) (m m' : Memory) (h h' : List Mark) (u
   frame_clean : AreClean capacities c h' (set vs id w) b
   frame_clean = record {
     free = all_change (IsFreeOfReaders c h vs) (IsFreeOfReaders c h' (set vs id w)) b.free
-        (λ s there p. still_free capacities c h h' vs id v w at marks.last view.section s
-        (free_slot capacities c b r.roles s there) p) r.clean.free;
+        (λ s there p. still_free capacities c h h' vs id v w at marks.last view.section s (free_slot r.roles s there) p) r.clean.free;
     moved = all_change (IsFreeOfReaders c h vs) (IsFreeOfReaders c h' (set vs id w)) b.moved
-        (λ s there p. still_free capacities c h h' vs id v w at marks.last view.section s
-        (moved_slot capacities c b r.roles s there) p) r.clean.moved;
+        (λ s there p. still_free capacities c h h' vs id v w at marks.last view.section s (moved_slot r.roles s there) p) r.clean.moved;
     clear = λ hold is clear s of. still_free capacities c h h' vs id v w at marks.last view.section s of (r.clean.clear hold is clear s of);
   }
 
   frame_answered : AreAnswered capacities c m' h' us' (set vs id w) b.chain
-  frame_answered = record {
-    readers = λ j u section there is class.
-        each_set (λ k z. z.section ≡ Some section → WillAnswer capacities c m' h' us' b.chain section section.state) vs id w
-        (λ mine. still_answer capacities c m m' h h' us us' b words.slots marks r.roles section section.state
-        (r.answered.readers id v section at (section_back c v.section w.section section view.section mine class) class))
-        (λ k z other e theirs. still_answer capacities c m m' h h' us us' b words.slots marks r.roles section section.state
-        (r.answered.readers k z section e theirs class)) j u there is;
-    loaded = λ j u section value there is class read.
-        each_set (λ k z. z.section ≡ Some section → WasSaid us' section.key section.from (Some value)) vs id w
-        (λ mine. still_said capacities c m m' h h' us us' b words.slots marks r.roles section.key section.from (Some value)
-        (r.answered.loaded id v section value at (section_back c v.section w.section section view.section mine class) class read))
-        (λ k z other e theirs. still_said capacities c m m' h h' us us' b words.slots marks r.roles section.key section.from (Some value)
-        (r.answered.loaded k z section value e theirs class read)) j u there is;
-  }
+  frame_answered = answered_set vs id w
+      (λ section mine class. still_told m m' words.slots marks r.roles section (told_of r.answered id v section at
+      (section_back c v.section w.section section view.section mine class) class))
+      (λ j u section e theirs class. still_told m m' words.slots marks r.roles section (told_of r.answered j u section e theirs class))
 
   -- the whole rule on a class, where a step was made elsewhere
   pub bucket_frame : BucketRule capacities c m' h' us' (set vs id w) b
@@ -355,7 +378,7 @@ module _ (capacities : List ℕ) (c : ℕ) (m m' : Memory) (h h' : List Mark) (u
     mapped = frame_mapped;
     locked = locked_same c m m' vs id v w at words.lock view.place view.hold b.hold r.locked;
     known = frame_known;
-    ages = frame_ages_same capacities c h h' b marks.gone r.roles r.ages;
+    ages = frame_ages_same h h' marks.gone r.roles r.ages;
     counted = frame_counted;
     clean = frame_clean;
     answered = frame_answered;
@@ -459,8 +482,7 @@ module _ (capacities : List ℕ) (c d : ℕ) (m : Memory) (n : ℕ) (other : d �
   far_field _ _ of there = refl
 
   -- and not how many read the other, nor who has its lock
-  far_words : (field : Field) → IsOfClass capacities c field
-      → (same_field field (Lock d) ≡ false) × (same_field field (Readers d) ≡ false)
+  far_words : (field : Field) → IsOfClass capacities c field → (same_field field (Lock d) ≡ false) × (same_field field (Readers d) ≡ false)
   far_words (Lock e) of = absurd of
   far_words (Readers e) of = absurd of
   far_words _ of = (refl, refl)

@@ -14,66 +14,60 @@ use Rattle.hash_core.specs.declared.view.Section.{Section}
 use Rattle.hash_core.specs.declared.view.View.{View}
 use Rattle.list_laws.specs.Counts.{times}
 use Rattle.hash_core.specs.Memory.{Memory, is_slot_of, IsPath, capacity, base, same_field, stored}
-use Rattle.hash_core.specs.Steps.{StandsAt, known_in, fresh_hold, after_enter, after_leave, after_search_load, after_unlock, after_readers_load, after_held_load, after_take, after_move, after_refill, after_push, after_chain, after_write, after_link, after_unlink, after_replace, after_even, IsFieldOf, NeedsWrite, LinksTo, IsOnWalk, section_of, hold_of, commit_of, noted, Needs, said, left, done, field_of, marks_of}
+use Rattle.hash_core.specs.Steps.{StandsAt, known_in, fresh_hold, after_leave, after_search_load, after_unlock, after_readers_load, after_held_load, after_take, after_move, after_refill, after_push, after_chain, after_write, after_link, after_unlink, after_replace, after_even, IsFieldOf, NeedsWrite, LinksTo, IsOnWalk, section_of, hold_of, commit_of, noted, Needs, said, left, done, field_of, marks_of}
 use Rattle.hash_core.specs.Rule.{seek, IsHeldBack, HasWay, WillAnswer, BucketRule, MemoryRule, HaveDistinctKeys, link_of, taken_of}
-use Rattle.hash_core.specs.Laws.{ChainsAreMap, SlotsHaveOneRole, ReadersAreCounted, FrontCounts, IsOpenIn, Answers, value_at, SearchesAreAnswered, IsLinked, SearchesStand, MarksAreInOrder, SlotsAreReused, HasPairs, KeepsPast, IsKept, ActsKeep, SplitsKeep, JoinsKeep, FreshHolds, Run, begins, steps, splits, joins, RunsHold}
+use Rattle.hash_core.specs.Laws.{ChainsAreMap, SlotsHaveOneRole, ReadersAreCounted, FrontCounts, IsOpenIn, Answers, value_at, SearchesAreAnswered, IsLinked, SearchesStand, MarksAreInOrder, SlotsAreReused, HasPairs, KeepsPast, IsKept, ActsKeep, SplitsKeep, JoinsKeep, FreshHolds, Run, begins, steps, splits, joins, RunsHold, TableState}
 use Rattle.list_laws.proofs.Lists.{all_times, all_from_times, times_here, times_append, at_most_one, times_other, at_below, set_twice}
 use Rattle.hash_core.proofs.Frames.{chain_slot, same_is}
 use Rattle.hash_core.proofs.SlotLists.{path_cons, seek_here, seek_past, path_none, cut_at}
 use Rattle.std.proofs.lemmas.Bool.{lt-ltb, le-leb, le-ltb, lt-leb}
 use Rattle.std.specs.List.{AllByRecursion}
-use mathlib.Core.Option.{some}
-use lib.ListN.{get_elem?}
 use Rattle.hash_core.specs.declared.view.Hold.{Hold}
-use Rattle.hash_core.proofs.Stocks.{rule, is_known, roles_by, moved_by, had, law_take, law_refill, law_move, law_push, law_chain, law11}
+use Rattle.hash_core.proofs.Stocks.{rule, is_known, roles_by, moved_by, had, law_take, law_refill, law_move, law_push, law_chain, law_write}
 use Rattle.atomic_table.proofs.Lists.{set_here, set_again}
 use Rattle.prcu_marks.specs.declared.commit.Commit.{Commit}
 use Rattle.prcu_marks.specs.declared.mark.Mark.TheVariants.{Left as LeftMark, Given}
 use Rattle.hash_core.specs.declared.act.Act.{Act}
 use Rattle.hash_core.specs.declared.words.Field.{Field}
-use Rattle.hash_core.proofs.SeatFrames.{law_stepped}
-use Rattle.hash_core.proofs.Sections.{law3, law4, law5}
-use Rattle.hash_core.proofs.Locks.{law6, law7, law8, law9, law12, law16}
-use Rattle.hash_core.proofs.Links.{on_chain, law13, law15}
-use Rattle.hash_core.proofs.Unlinks.{law14}
-use Rattle.hash_core.proofs.Splits.{law1, law2, starts}
+use Rattle.hash_core.proofs.SeatFrames.{Seated, law_stepped}
+use Rattle.hash_core.proofs.Sections.{law_enter, law_leave, law_search_load}
+use Rattle.hash_core.proofs.Locks.{law_lock, law_unlock, law_readers_load, law_held_load, law_commit, law_even}
+use Rattle.hash_core.proofs.Links.{on_chain, law_link, law_replace}
+use Rattle.hash_core.proofs.Unlinks.{law_unlink}
+use Rattle.hash_core.proofs.Splits.{law_split, law_join, starts}
 use Rattle.std.specs.FinMap as finite
 use Rattle.hash_core.specs.declared.act.Act.TheVariants as act
 
 pub chains_are_map : ChainsAreMap
-chains_are_map capacities places tickets m vs h r c small =
-    let b = r.buckets c small in
+chains_are_map t c small =
+    let bucket = t.rule.bucket c in
+    let b = t.rule.buckets c small in
     record {
-      chain = (r.bucket c).chain;
+      chain = bucket.chain;
       chained = b.chained;
-      slots = all_from_times (λ s. is_slot_of capacities c s ≡ true) (r.bucket c).chain (chain_slot capacities c (r.bucket c) b.roles);
-      once = λ s. let a = b.roles.once s in let l = at_most_one (is_slot_of capacities c s) _ a in omega arith;
+      slots = all_from_times (λ s. is_slot_of t.capacities c s ≡ true) bucket.chain (chain_slot b.roles);
+      once = λ s. let a = b.roles.once s in let l = at_most_one (is_slot_of t.capacities c s) _ a in omega arith;
       mapped = b.mapped;
     }
 
 pub slots_have_one_role : SlotsHaveOneRole
-slots_have_one_role capacities places tickets m vs h r c small =
-    let b = r.buckets c small in record {
-      bucket = r.bucket c;
-      path = b.chained.path;
-      listed = b.listed;
-      holder = b.locked;
-      roles = b.roles;
-    }
+slots_have_one_role t c small =
+    let b = t.rule.buckets c small in
+    record { bucket = t.rule.bucket c; path = b.chained.path; listed = b.listed; holder = b.locked; roles = b.roles }
 
 pub readers_are_counted : ReadersAreCounted
-readers_are_counted capacities places tickets m vs h r c small = (r.buckets c small).counted.readers
+readers_are_counted t c small = (t.rule.buckets c small).counted.readers
 
 pub front_counts : FrontCounts
-front_counts capacities places tickets m vs h r = r.turned
+front_counts t = t.rule.turned
 
 pub marks_are_in_order : MarksAreInOrder
-marks_are_in_order capacities places tickets m vs h r = r.marks
+marks_are_in_order t = t.rule.marks
 
 pub slots_are_reused : SlotsAreReused
-slots_are_reused capacities places tickets m vs h r = r.reuse
+slots_are_reused t = t.rule.reuse
 
-module _ (capacities : List ℕ) (places tickets : ℕ) (m : Memory) (vs : List View) (h : List Mark)
+module _ {capacities : List ℕ} {places tickets : ℕ} {m : Memory} {vs : List View} {h : List Mark}
     (r : MemoryRule capacities places tickets m vs h) (section : Section) (opened : IsOpenIn vs section) where
   c : ℕ
   c = section.key % 64
@@ -152,7 +146,7 @@ module _ (capacities : List ℕ) (places tickets : ℕ) (m : Memory) (vs : List 
       let cut = times_append slot way.front way.rest in
       let whole = ap (times slot) way.joins in
       let linked : 1 ≤ times slot chain = omega arith in (
-        chain_slot capacities (section.key % 64) (r.bucket (section.key % 64)) bucket_rule.roles slot linked,
+        chain_slot bucket_rule.roles slot linked,
         inl (record { chain = chain; path = bucket_rule.chained.path; there = linked }),
       ))
 
@@ -166,12 +160,10 @@ module _ (capacities : List ℕ) (places tickets : ℕ) (m : Memory) (vs : List 
   stands Ended w slot at = absurd at
 
 pub searches_are_answered : SearchesAreAnswered
-searches_are_answered capacities places tickets m vs h r section opened =
-    answered capacities places tickets m vs h r section opened section.state (will capacities places tickets m vs h r section opened)
+searches_are_answered t section opened = answered t.rule section opened section.state (will t.rule section opened)
 
 pub searches_stand : SearchesStand
-searches_stand capacities places tickets m vs h r section opened slot at =
-    stands capacities places tickets m vs h r section opened section.state (will capacities places tickets m vs h r section opened) slot at
+searches_stand t section opened slot at = stands t.rule section opened section.state (will t.rule section opened) slot at
 
 -- Where a class has no free slot and no retired one, and its holder has none in hand, it has as many pairs as slots.
 
@@ -228,8 +220,7 @@ not_found m key (s ∷ ss) none = dite (ℕ_discrete (m (Key s)) key)
 
 found_there : (m : Memory) (key : ℕ) (ss : List ℕ) → 1 ≤ times key (keys_on m ss) → is_some (seek m key ss) ≡ true
 found_there m key [] there = absurd (let z : times key [] ≡ 0 = refl in omega arith)
-found_there m key (s ∷ ss) there = dite (ℕ_discrete (m (Key s)) key)
-    (λ e. ap is_some (seek_here m key s ss e))
+found_there m key (s ∷ ss) there = dite (ℕ_discrete (m (Key s)) key) (λ e. ap is_some (seek_here m key s ss e))
     (λ ne. ap is_some (seek_past m key s ss ne) ∙ found_there m key ss
     (let t = times_other key (m (Key s)) (keys_on m ss) ne in omega arith))
 
@@ -263,31 +254,30 @@ keys_once m (s ∷ ss) d key = dite (ℕ_discrete (m (Key s)) key)
     let n : times key (keys_on m ss) ≡ 0 = ap (λ z. times z (keys_on m ss)) (sym e) ∙ none in omega arith)
     (λ ne. let t = times_other key (m (Key s)) (keys_on m ss) ne in let r = keys_once m ss d.1 key in omega arith)
 
-module _ (capacities : List ℕ) (places tickets : ℕ) (m : Memory) (vs : List View) (h : List Mark)
-    (r : MemoryRule capacities places tickets m vs h) (id : ℕ) (v : View) (at : get_elem? vs id ≡ some v) (hold : Hold)
-    (mine : v.hold ≡ Some hold) where
+module _ {capacities : List ℕ} {places tickets : ℕ} {m : Memory} {vs : List View} {h : List Mark} {id : ℕ} {v : View}
+    (seat : Seated capacities places tickets m vs h id v) {hold : Hold} (mine : v.hold ≡ Some hold) where
   -- the holder has nothing in hand, and both lists are empty
   pub full_class : known_in hold.known (Free hold.class) ≡ Some 0 → m (Retired hold.class) ≡ 0 → hold.taken ≡ None → hold.unlinked ≡ None
       → hold.moved ≡ None → HasPairs hold.class (map_of (updates_of h)) (capacity capacities hold.class)
   full_class free_is retired_is no_taken no_unlinked no_moved =
-      let b : BucketRule capacities hold.class m h (updates_of h) vs (r.bucket hold.class) =
-      rule capacities places tickets m vs h r id v at hold mine in
-      let chain : List ℕ = (r.bucket hold.class).chain in
-      let no_free : (r.bucket hold.class).free ≡ [] =
-      path_none (λ s. m (Chain s)) (r.bucket hold.class).free
-      (subst (λ z. IsPath (λ s. m (Chain s)) z (r.bucket hold.class).free)
-      (is_known capacities places tickets m vs h r id v at hold mine (Free hold.class) 0 free_is).1 b.listed.free) in
-      let no_retired : (r.bucket hold.class).retired ≡ [] =
-      path_none (λ s. m (Chain s)) (r.bucket hold.class).retired
-      (subst (λ z. IsPath (λ s. m (Chain s)) z (r.bucket hold.class).retired) retired_is b.listed.retired) in
-      let none_moved : (r.bucket hold.class).moved ≡ [] =
-      path_none (λ s. m (Chain s)) (r.bucket hold.class).moved
-      (subst (λ z. IsPath (λ s. m (Chain s)) (link_of z) (r.bucket hold.class).moved) no_moved
-      (moved_by capacities places tickets m vs h r id v at hold mine)) in
-      let once : (x : ℕ) → times x (r.bucket hold.class).chain ≡ cond (is_slot_of capacities hold.class x) 1 0 = λ x.
-      let a = roles_by capacities places tickets m vs h r id v at hold mine x in
-      let e1 = ap (times x) no_free in let e2 = ap (times x) no_retired in let e3 = ap (times x) none_moved in
-      let e4 = ap (λ o. times x (option_to_list o)) no_taken in let e5 = ap (λ o. times x (option_to_list o)) no_unlinked in
+      let b : BucketRule capacities hold.class m h (updates_of h) vs (seat.rule.bucket hold.class) =
+      rule seat mine in
+      let chain : List ℕ = (seat.rule.bucket hold.class).chain in
+      let no_free : (seat.rule.bucket hold.class).free ≡ [] =
+      path_none (λ s. m (Chain s)) (seat.rule.bucket hold.class).free
+      (subst (λ z. IsPath (λ s. m (Chain s)) z (seat.rule.bucket hold.class).free)
+      (is_known seat mine (Free hold.class) 0 free_is).1 b.listed.free) in
+      let no_retired : (seat.rule.bucket hold.class).retired ≡ [] =
+      path_none (λ s. m (Chain s)) (seat.rule.bucket hold.class).retired
+      (subst (λ z. IsPath (λ s. m (Chain s)) z (seat.rule.bucket hold.class).retired) retired_is b.listed.retired) in
+      let none_moved : (seat.rule.bucket hold.class).moved ≡ [] =
+      path_none (λ s. m (Chain s)) (seat.rule.bucket hold.class).moved
+      (subst (λ z. IsPath (λ s. m (Chain s)) (link_of z) (seat.rule.bucket hold.class).moved) no_moved (moved_by seat mine)) in
+      let once : (x : ℕ) → times x (seat.rule.bucket hold.class).chain ≡ cond (is_slot_of capacities hold.class x) 1 0 = λ x.
+      let a = roles_by seat mine x in
+      let free = ap (times x) no_free in let retired = ap (times x) no_retired in let moved = ap (times x) none_moved in
+      let taken = ap (λ o. times x (option_to_list o)) no_taken in
+      let unlinked = ap (λ o. times x (option_to_list o)) no_unlinked in
       let z : times x [] ≡ 0 = refl in omega arith in
       let first : ℕ = base capacities hold.class in
       let n : ℕ = capacity capacities hold.class in
@@ -296,17 +286,17 @@ module _ (capacities : List ℕ) (places tickets : ℕ) (m : Memory) (vs : List 
       λ x lo hi. ap (λ t. t && nat_le x (base capacities hold.class + capacity capacities hold.class))
       (lt-ltb (base capacities hold.class) x lo) ∙ le-leb x (base capacities hold.class + capacity capacities hold.class) hi in
       record {
-        keys = keys_on m (r.bucket hold.class).chain;
-        as_many = keys_length m (r.bucket hold.class).chain
-            ∙ counted_length (base capacities hold.class) (capacity capacities hold.class) (r.bucket hold.class).chain
+        keys = keys_on m (seat.rule.bucket hold.class).chain;
+        as_many = keys_length m (seat.rule.bucket hold.class).chain
+            ∙ counted_length (base capacities hold.class) (capacity capacities hold.class) (seat.rule.bucket hold.class).chain
             (λ x lo hi. once x ∙ ap (λ t. cond t 1 0) (is_in x lo hi))
             (λ x le. once x ∙ ap (λ t. cond t 1 0) (outside_below (base capacities hold.class) (capacity capacities hold.class) x le))
             (λ x gt. once x ∙ ap (λ t. cond t 1 0) (outside_above (base capacities hold.class) (capacity capacities hold.class) x gt));
-        once = keys_once m (r.bucket hold.class).chain b.chained.distinct;
-        of_class = keys_class m hold.class (r.bucket hold.class).chain b.chained.classes;
+        once = keys_once m (seat.rule.bucket hold.class).chain b.chained.distinct;
+        of_class = keys_class m hold.class (seat.rule.bucket hold.class).chain b.chained.classes;
         there = λ key class. (
-          (λ is. there_found m key (r.bucket hold.class).chain (ap is_some (sym (b.mapped.answers key class)) ∙ is)),
-          (λ is. ap is_some (b.mapped.answers key class) ∙ found_there m key (r.bucket hold.class).chain is),
+          (λ is. there_found m key (seat.rule.bucket hold.class).chain (ap is_some (sym (b.mapped.answers key class)) ∙ is)),
+          (λ is. ap is_some (b.mapped.answers key class) ∙ found_there m key (seat.rule.bucket hold.class).chain is),
         );
       }
     where
@@ -340,9 +330,9 @@ stored_same m field = λ i other. at other i
     at other = cases other (same_field field other) refl
 
 -- a store at a field that is none of an unlinked slot's
-kept_by : (m : Memory) (h : List Mark) (field : Field) (n : ℕ) → ((s : ℕ) → IsGone h s → IsFieldOf s field → ⊥)
+kept_by : {m : Memory} {h : List Mark} (field : Field) (n : ℕ) → ((s : ℕ) → IsGone h s → IsFieldOf s field → ⊥)
     → KeepsPast m h (stored m field n)
-kept_by m h field n none = record { content = λ s other gone of. kept_case s other gone of (same_field field other) refl }
+kept_by {m} {h} field n none = record { content = λ s other gone of. kept_case s other gone of (same_field field other) refl }
   where
     kept_case : (s : ℕ) (other : Field) → IsGone h s → IsFieldOf s other → (b : Bool) → same_field field other ≡ b
         → stored m field n other ≡ m other
@@ -360,35 +350,49 @@ one_slot s t _ a b = absurd a
 not_gone : (h : List Mark) (s t : ℕ) → gone_at t h ≡ None → s ≡ t → IsGone h s → ⊥
 not_gone h s t none e gone = let z : None ≡ Some gone.0 = sym none ∙ ap (λ y. gone_at y h) (sym e) ∙ gone.1 in absurd (cc)
 
-module _ (capacities : List ℕ) (places tickets : ℕ) (m : Memory) (vs : List View) (h : List Mark) (id : ℕ) (v : View)
-    (r : MemoryRule capacities places tickets m vs h) (at : get_elem? vs id ≡ some v) (works : 1 ≤ v.places) where
+abbrev pub state_of : {capacities : List ℕ} {places tickets : ℕ} {m : Memory} {vs : List View} {h : List Mark}
+    → MemoryRule capacities places tickets m vs h → TableState
+state_of {capacities} {places} {tickets} {m} {vs} {h} r = record {
+  capacities = capacities;
+  places = places;
+  tickets = tickets;
+  memory = m;
+  views = vs;
+  marks = h;
+  rule = r;
+}
+
+module _ {capacities : List ℕ} {places tickets : ℕ} {m : Memory} {vs : List View} {h : List Mark} {id : ℕ} {v : View}
+    (seat : Seated capacities places tickets m vs h id v) (works : 1 ≤ v.places) where
   abbrev Kept : Memory → View → List Mark → Type 0
-  Kept to w marks = IsKept capacities places tickets m h to (set vs id w) (h ++ marks)
+  Kept to w marks = IsKept (state_of seat.rule) to (set vs id w) (h ++ marks)
 
   -- A law makes the step from any views of which this is one, with the step in its trail.
   abbrev Law : Act → Memory → View → List Mark → Type 0
-  Law a to w h' = (us : List View) → MemoryRule capacities places tickets m us h
-      → get_elem? us id ≡ some (noted v a (said v a (m (field_of v a)))) → MemoryRule capacities places tickets to (set us id w) h'
+  Law a to w h' = (us : List View) → Seated capacities places tickets m us h id (noted v a (said v a (m (field_of v a))))
+      → MemoryRule capacities places tickets to (set us id w) h'
 
   marked : (a : Act) (to : Memory) (w : View) (marks : List Mark) → KeepsPast m h to → Law a to w (h ++ marks) → Kept to w marks
   marked a to w marks past law =
       let u : View = noted v a (said v a (m (field_of v a))) in record {
         rule = subst (λ z. MemoryRule capacities places tickets to z (h ++ marks)) (set_twice vs id u w)
-            (law (set vs id u) (law_stepped capacities places tickets m vs h r id v at _ (field_of v a) (said v a (m (field_of v a))))
-            (set_here vs id u (at_below vs id v at)));
+            (law (set vs id u) (record {
+              rule = law_stepped seat _ (field_of v a) (said v a (m (field_of v a)));
+              at = set_here vs id u (at_below vs id v seat.at);
+            }));
         past = past;
       }
 
   unmarked : (a : Act) (to : Memory) (w : View) → KeepsPast m h to → Law a to w h → Kept to w []
-  unmarked a to w past law = marked a to w [] past (λ us r' at'. subst (λ z. MemoryRule capacities places tickets to (set us id w) z)
-      (sym (append-nil h)) (law us r' at'))
+  unmarked a to w past law = marked a to w [] past (λ us now. subst (λ z. MemoryRule capacities places tickets to (set us id w) z)
+      (sym (append-nil h)) (law us now))
 
   loaded : (a : Act) (field : Field) (w : View) → Law a m w h → Kept (stored m field (m field)) w []
   loaded a field w law = subst (λ z. Kept z w []) (sym (stored_same m field)) (unmarked a m w (record { content = λ s other gone of. refl }) law)
 
   quiet : (a : Act) (field : Field) → Kept (stored m field (m field)) (noted v a (said v a (m (field_of v a)))) []
   quiet a field = let u : View = noted v a (said v a (m (field_of v a))) in
-      loaded a field u (λ us r' at'. subst (λ z. MemoryRule capacities places tickets m z h) (sym (set_again us id u at')) r')
+      loaded a field u (λ us now. subst (λ z. MemoryRule capacities places tickets m z h) (sym (set_again us id u now.at)) now.rule)
 
   -- what holds of the hold that is there holds of the one that the act speaks of; and with the front that is odd by it
   held : (P : Hold → Type 0) (hold : Hold) → v.hold ≡ Some hold → P hold → P (hold_of v)
@@ -402,16 +406,16 @@ module _ (capacities : List ℕ) (places tickets : ℕ) (m : Memory) (vs : List 
   -- the slot that is written is taken, so it isn't unlinked
   written : (hold : Hold) (slot : ℕ) (field : Field) → NeedsWrite v hold slot field → (s : ℕ) → IsGone h s → IsFieldOf s field → ⊥
   written hold slot field needs s gone of =
-      let b = rule capacities places tickets m vs h r id v at hold needs.hold_is in
-      not_gone h s slot (b.ages.taken slot (ap taken_of (had capacities places tickets m vs h r id v at hold needs.hold_is) ∙ needs.taken))
+      let b = rule seat needs.hold_is in
+      not_gone h s slot (b.ages.taken slot (ap taken_of (had seat needs.hold_is) ∙ needs.taken))
       (one_slot s slot field of needs.field_is) gone
 
   -- a slot on the known walk is linked, so it isn't unlinked
   walked : (hold : Hold) → v.hold ≡ Some hold → (slot : ℕ) → IsOnWalk hold slot → (s : ℕ) → s ≡ slot → IsGone h s → ⊥
   walked hold mine slot on s e gone =
-      let b = rule capacities places tickets m vs h r id v at hold mine in
-      not_gone h s slot (all_times (λ t. gone_at t h ≡ None) (r.bucket hold.class).chain slot b.ages.chain
-      (on_chain capacities places tickets m vs h r id v at hold mine slot on)) e gone
+      let b = rule seat mine in
+      not_gone h s slot (all_times (λ t. gone_at t h ≡ None) (seat.rule.bucket hold.class).chain slot b.ages.chain
+      (on_chain seat mine slot on)) e gone
 
   linked_at : (hold : Hold) → v.hold ≡ Some hold → (link : Field) → LinksTo hold link → (s : ℕ) → IsGone h s → IsFieldOf s link → ⊥
   linked_at hold mine (Head c) is s gone of = of
@@ -423,115 +427,100 @@ module _ (capacities : List ℕ) (places tickets : ℕ) (m : Memory) (vs : List 
   keeps act.LoadFront d = quiet act.LoadFront Front
   keeps (act.Enter key) d =
       let a : Act = act.Enter key in let f = Readers (key % 64) in let u : View = noted v a (m f) in
-      marked a (stored m f (m f + 1)) (after_enter u key h) (marks_of v a) (kept_by m h f (m f + 1) (λ s gone of. of))
-      (λ us r' at'. law3 capacities places tickets m us h r' id u at' key d.0 works d.1.0)
+      marked a _ _ _ (kept_by f (m f + 1) (λ s gone of. of)) (λ us now. law_enter now key d.0 works d.1.0)
   keeps act.Leave d =
       let a : Act = act.Leave in let u : View = noted v a (m (field_of v a)) in let f = Readers (d.0.key % 64) in
       subst (λ (z : Section). Kept (stored m (Readers (z.key % 64)) (m (Readers (z.key % 64)) - 1)) (after_leave u z h)
       (LeftMark v.place z.count ∷ [])) (sym (section_is v d.0 d.1))
-      (marked a (stored m f (m f - 1)) (after_leave u d.0 h) (LeftMark v.place d.0.count ∷ []) (kept_by m h f (m f - 1) (λ s gone of. of))
-      (λ us r' at'. law4 capacities places tickets m us h r' id u at' d.0 d.1))
+      (marked a _ _ _ (kept_by f (m f - 1) (λ s gone of. of)) (λ us now. law_leave now d.0 d.1))
   keeps (act.SearchLoad f) d =
       let a : Act = act.SearchLoad f in let u : View = noted v a (m f) in
       subst (λ (z : Section). Kept (stored m f (m f)) (after_search_load u z f (m f)) []) (sym (section_is v d.0 d.1))
-      (loaded a f (after_search_load u d.0 f (m f)) (λ us r' at'. law5 capacities places tickets m us h r' id u at' d.0 d.1 f d.2))
+      (loaded a f (after_search_load u d.0 f (m f)) (λ us now. law_search_load now d.0 d.1 f d.2))
   keeps (act.Lock c) d =
       let a : Act = act.Lock c in let n : ℕ = m (Lock c) in let u : View = noted v a n in
       let mine : View = record u { hold = Some (fresh_hold c) } in dite (ℕ_discrete n 0)
       (λ free. subst (λ b. Kept (stored m (Lock c) (cond b (v.place + 1) n)) (cond b mine u) []) (sym (eq-eqb n 0 free))
-      (unmarked a (stored m (Lock c) (v.place + 1)) mine (kept_by m h (Lock c) (v.place + 1) (λ s gone of. of))
-      (λ us r' at'. law6 capacities places tickets m us h r' id u at' c d.0 d.1 works free)))
+      (unmarked a _ _ (kept_by (Lock c) (v.place + 1) (λ s gone of. of)) (λ us now. law_lock now c d.0 d.1 works free)))
       (λ taken. subst (λ b. Kept (stored m (Lock c) (cond b (v.place + 1) n)) (cond b mine u) []) (sym (ne_eqb n 0 taken))
       (quiet a (Lock c)))
   keeps act.Unlock d =
       let a : Act = act.Unlock in let u : View = noted v a 0 in
       held (λ z. Kept (stored m (Lock z.class) 0) (after_unlock u) []) d.0 d.1.hold_is
-      (unmarked a (stored m (Lock d.0.class) 0) (after_unlock u) (kept_by m h (Lock d.0.class) 0 (λ s gone of. of))
-      (λ us r' at'. law7 capacities places tickets m us h r' id u at' d.0 (search rules)))
+      (unmarked a _ _ (kept_by (Lock d.0.class) 0 (λ s gone of. of)) (λ us now. law_unlock now d.0 (search rules)))
   keeps act.LoadReaders d =
       let a : Act = act.LoadReaders in let u : View = noted v a (m (field_of v a)) in
       let f = Readers d.0.class in let clear : View = record u { hold = Some (record d.0 { clear = true }) } in
       held (λ z. Kept (stored m (Readers z.class) (m (Readers z.class))) (after_readers_load u z (m (Readers z.class))) []) d.0 d.1
       (dite (ℕ_discrete (m f) 0)
       (λ none. subst (λ b. Kept (stored m f (m f)) (cond b clear u) []) (sym (eq-eqb (m f) 0 none))
-      (loaded a f clear (λ us r' at'. law8 capacities places tickets m us h r' id u at' d.0 d.1 none)))
+      (loaded a f clear (λ us now. law_readers_load now d.0 d.1 none)))
       (λ some. subst (λ b. Kept (stored m f (m f)) (cond b clear u) []) (sym (ne_eqb (m f) 0 some)) (quiet a f)))
   keeps (act.LockedLoad f) d =
       let a : Act = act.LockedLoad f in let u : View = noted v a (m f) in
       held (λ z. Kept (stored m f (m f)) (after_held_load u z f (m f) h) []) d.0 d.1
-      (loaded a f (after_held_load u d.0 f (m f) h) (λ us r' at'. law9 capacities places tickets m us h r' id u at' d.0 d.1 f d.2 (m f == 0)))
+      (loaded a f (after_held_load u d.0 f (m f) h) (λ us now. law_held_load now d.0 d.1 f d.2 (m f == 0)))
   keeps (act.TakeSlot slot next) d =
       let a : Act = act.TakeSlot slot next in let u : View = noted v a next in let f = Free d.0.class in
       held (λ z. Kept (stored m (Free z.class) next) (after_take u z slot next h) (Given slot ∷ [])) d.0 d.1.hold_is
-      (marked a (stored m f next) (after_take u d.0 slot next h) (Given slot ∷ []) (kept_by m h f next (λ s gone of. of))
-      (λ us r' at'. law_take capacities places tickets m us h r' id u at' d.0 d.1.hold_is slot next (search rules)))
+      (marked a _ _ _ (kept_by f next (λ s gone of. of)) (λ us now. law_take now d.1.hold_is slot next (search rules)))
   keeps (act.TakeRetired slot) d =
       let a : Act = act.TakeRetired slot in let u : View = noted v a 0 in let f = Retired d.0.class in
       held (λ z. Kept (stored m (Retired z.class) 0) (after_move u z slot) []) d.0 d.1.hold_is
-      (unmarked a (stored m f 0) (after_move u d.0 slot) (kept_by m h f 0 (λ s gone of. of))
-      (λ us r' at'. law_move capacities places tickets m us h r' id u at' d.0 d.1.hold_is slot (search rules)))
+      (unmarked a _ _ (kept_by f 0 (λ s gone of. of)) (λ us now. law_move now d.1.hold_is slot (search rules)))
   keeps (act.FreeRetired slot) d =
       let a : Act = act.FreeRetired slot in let u : View = noted v a slot in let f = Free d.0.class in
       held (λ z. Kept (stored m (Free z.class) slot) (after_refill u z slot) []) d.0 d.1.hold_is
-      (unmarked a (stored m f slot) (after_refill u d.0 slot) (kept_by m h f slot (λ s gone of. of))
-      (λ us r' at'. law_refill capacities places tickets m us h r' id u at' d.0 d.1.hold_is slot (search rules)))
+      (unmarked a _ _ (kept_by f slot (λ s gone of. of)) (λ us now. law_refill now d.1.hold_is slot (search rules)))
   keeps (act.StoreChain slot number) d =
       let a : Act = act.StoreChain slot number in let u : View = noted v a number in let f = Chain slot in
       held (λ z. Kept (stored m f number) (after_chain u z slot number) []) d.0 d.1.0
-      (unmarked a (stored m f number) (after_chain u d.0 slot number) (kept_by m h f number (λ s gone of. of))
-      (λ us r' at'. law_chain capacities places tickets m us h r' id u at' d.0 d.1.0 slot number d.1))
+      (unmarked a _ _ (kept_by f number (λ s gone of. of)) (λ us now. law_chain now d.1.0 slot number d.1))
   keeps (act.Retire slot) d =
       let a : Act = act.Retire slot in let u : View = noted v a slot in let f = Retired d.0.class in
       held (λ z. Kept (stored m (Retired z.class) slot) (after_push u z slot) []) d.0 d.2.hold_is
-      (unmarked a (stored m f slot) (after_push u d.0 slot) (kept_by m h f slot (λ s gone of. of))
-      (λ us r' at'. law_push capacities places tickets m us h r' id u at' d.0 d.2.hold_is slot d.1 (search rules)))
+      (unmarked a _ _ (kept_by f slot (λ s gone of. of)) (λ us now. law_push now d.2.hold_is slot d.1 (search rules)))
   keeps (act.Fill f number) d =
       let a : Act = act.Fill f number in let u : View = noted v a number in
       held (λ z. Kept (stored m f number) (after_write u z f number) []) d.0 d.2.hold_is
-      (unmarked a (stored m f number) (after_write u d.0 f number) (kept_by m h f number (written d.0 d.1 f d.2))
-      (λ us r' at'. law11 capacities places tickets m us h r' id u at' d.0 d.2.hold_is d.1 f number (search rules)))
+      (unmarked a _ _ (kept_by f number (written d.0 d.1 f d.2)) (λ us now. law_write now d.2.hold_is d.1 f number (search rules)))
   keeps (act.OpenCommit even) d =
       let a : Act = act.OpenCommit even in let n : ℕ = m Front in let u : View = noted v a n in
       let mine : View = record u { commit = Some (record { found = even; stored = false }) } in dite (ℕ_discrete n even)
       (λ free. subst (λ b. Kept (stored m Front (cond b (even + 1) n)) (cond b mine u) []) (sym (eq-eqb n even free))
-      (unmarked a (stored m Front (even + 1)) mine (kept_by m h Front (even + 1) (λ s gone of. of))
-      (λ us r' at'. law12 capacities places tickets m us h r' id u at' d.0 even d.1 free)))
+      (unmarked a _ _ (kept_by Front (even + 1) (λ s gone of. of)) (λ us now. law_commit now d.0 even d.1 free)))
       (λ taken. subst (λ b. Kept (stored m Front (cond b (even + 1) n)) (cond b mine u) []) (sym (ne_eqb n even taken)) (quiet a Front))
   keeps (act.LinkSlot slot key value) d =
       let a : Act = act.LinkSlot slot key value in let u : View = noted v a slot in let f = Head d.0.class in
       odd (λ z even. Kept (stored m (Head z.class) slot) (after_link u z even slot key value h) (marks_of v a))
       d.0 d.1 d.3.commit.hold_is d.3.commit.commit_is
-      (marked a (stored m f slot) (after_link u d.0 d.1 slot key value h) (marks_of v a) (kept_by m h f slot (λ s gone of. of))
-      (λ us r' at'. law13 capacities places tickets m us h r' id u at' d.0 d.3.commit.hold_is d.1 slot key value d.2 (search rules)))
+      (marked a _ _ _ (kept_by f slot (λ s gone of. of)) (λ us now. law_link now d.3.commit.hold_is d.1 slot key value d.2 (search rules)))
   keeps (act.UnlinkSlot f slot key next) d =
       let a : Act = act.UnlinkSlot f slot key next in let u : View = noted v a next in
       odd (λ z even. Kept (stored m f next) (after_unlink u z even f slot key next h) (marks_of v a))
       d.0 d.1 d.2.commit.hold_is d.2.commit.commit_is
-      (marked a (stored m f next) (after_unlink u d.0 d.1 f slot key next h) (marks_of v a)
-      (kept_by m h f next (linked_at d.0 d.2.commit.hold_is f d.2.link_is))
-      (λ us r' at'. law14 capacities places tickets m us h r' id u at' d.0 d.2.commit.hold_is d.1 f slot key next (search rules)))
+      (marked a _ _ _ (kept_by f next (linked_at d.0 d.2.commit.hold_is f d.2.link_is))
+      (λ us now. law_unlink now d.2.commit.hold_is d.1 f slot key next (search rules)))
   keeps (act.ReplaceValue slot key value) d =
       let a : Act = act.ReplaceValue slot key value in let u : View = noted v a value in let f = Value slot in
       odd (λ z even. Kept (stored m f value) (after_replace u z even slot key value h) (marks_of v a))
       d.0 d.1 d.2.commit.hold_is d.2.commit.commit_is
-      (marked a (stored m f value) (after_replace u d.0 d.1 slot key value h) (marks_of v a)
-      (kept_by m h f value (λ s gone of. walked d.0 d.2.commit.hold_is slot d.2.on_walk s (sym of) gone))
-      (λ us r' at'. law15 capacities places tickets m us h r' id u at' d.0 d.2.commit.hold_is d.1 slot key value (search rules)))
+      (marked a _ _ _ (kept_by f value (λ s gone of. walked d.0 d.2.commit.hold_is slot d.2.on_walk s (sym of) gone))
+      (λ us now. law_replace now d.2.commit.hold_is d.1 slot key value (search rules)))
   keeps (act.CloseCommit front) d =
       let a : Act = act.CloseCommit front in let u : View = noted v a front in
       subst (λ z. Kept (stored m Front z) (after_even u) []) (sym d.2)
-      (unmarked a (stored m Front (d.0 + 2)) (after_even u) (kept_by m h Front (d.0 + 2) (λ s gone of. of))
-      (λ us r' at'. law16 capacities places tickets m us h r' id u at' d.0 d.1))
+      (unmarked a _ _ (kept_by Front (d.0 + 2) (λ s gone of. of)) (λ us now. law_even now d.0 d.1))
 
 pub acts_keep : ActsKeep
-acts_keep capacities places tickets m vs h id v a r at works needs = keeps capacities places tickets m vs h id v r at works a needs
+acts_keep t id v a at works needs = keeps (record { rule = t.rule; at = at }) works a needs
 
 pub splits_keep : SplitsKeep
-splits_keep capacities places tickets m vs h id away given v r at needs = law1 capacities places tickets m vs h r id v at away given needs
+splits_keep t id away given v at needs = law_split (record { rule = t.rule; at = at }) away given needs
 
 pub joins_keep : JoinsKeep
-joins_keep capacities places tickets m vs h id other_id v other r at there two quiet quiet_other =
-    law2 capacities places tickets m vs h r id v at other_id other there two quiet quiet_other
+joins_keep t id other_id v other at there two quiet quiet_other =
+    law_join (record { rule = t.rule; at = at }) other_id other there two quiet quiet_other
 
 pub fresh_holds : FreshHolds
 fresh_holds capacities places tickets m shape fresh = starts capacities places tickets shape m fresh
@@ -541,10 +530,10 @@ runs_hold capacities places tickets m vs h shape run = holds m vs h run
   where
     holds : (m : Memory) (vs : List View) (h : List Mark) → Run capacities places tickets m vs h
         → MemoryRule capacities places tickets m vs h
-    holds m vs h (begins {m = m0} fresh) = starts capacities places tickets shape m0 fresh
-    holds m vs h (steps {m = m0} {vs = us} {h = g} id v a run there works needs) =
-        (acts_keep capacities places tickets m0 us g id v a (holds m0 us g run) there works needs).rule
-    holds m vs h (splits {m = m0} {vs = us} {h = g} id away given v run there needs) =
-        law1 capacities places tickets m0 us g (holds m0 us g run) id v there away given needs
-    holds m vs h (joins {m = m0} {vs = us} {h = g} id other_id v other run at there two quiet quiet_other) =
-        law2 capacities places tickets m0 us g (holds m0 us g run) id v at other_id other there two quiet quiet_other
+    holds m vs h (begins {m = n} fresh) = starts capacities places tickets shape n fresh
+    holds m vs h (steps {m = n} {vs = us} {h = g} id v a run there works needs) =
+        (keeps (record { rule = holds n us g run; at = there }) works a needs).rule
+    holds m vs h (splits {m = n} {vs = us} {h = g} id away given v run there needs) =
+        law_split (record { rule = holds n us g run; at = there }) away given needs
+    holds m vs h (joins {m = n} {vs = us} {h = g} id other_id v other run at there two quiet quiet_other) =
+        law_join (record { rule = holds n us g run; at = at }) other_id other there two quiet quiet_other

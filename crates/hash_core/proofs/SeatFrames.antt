@@ -14,7 +14,6 @@ use Rattle.prcu_marks.proofs.Marks.{open_at-snoc, gone_at-snoc, own_of-append}
 use Rattle.std.specs.List.{AllByRecursion}
 use mathlib.Core.Logic.{dite}
 use native.Mathlib.Decide.{ℕ_discrete}
-use Rattle.prcu_model.specs.declared.operation.Update.{Update}
 use Rattle.hash_core.specs.declared.words.Field.TheVariants.{Front}
 use Rattle.hash_core.specs.declared.view.Section.{Section}
 use Rattle.hash_core.specs.declared.view.Hold.{Hold}
@@ -132,10 +131,12 @@ reuse_more capacities h m none reuse j s c i p o given of gone there class =
     past_snoc (λ (past : List Mark) (a : Mark). a ≡ Given s → last_unlinked s past ≡ Some i → open_at p past ≡ Some o → i < o.at) h m
     (Given s) (λ e _ _. absurd (none s e)) (λ n old _ last now. reuse n s c i p o old of last now class) j given refl gone there
 
-pub reuse_nothing : (capacities : List ℕ) (h : List Mark) → ReuseByClass capacities h → ReuseByClass capacities (h ++ [])
-reuse_nothing capacities h reuse = subst (ReuseByClass capacities) (sym (append-nil h)) reuse
-
 -- What keeps the parts of the rule on seats.
+
+-- The rule holds, and this view is one of the list: what the law of a step begins with.
+pub record Seated (capacities : List ℕ) (places tickets : ℕ) (m : Memory) (vs : List View) (h : List Mark) (id : ℕ) (v : View) : Type 0 where
+  pub rule : MemoryRule capacities places tickets m vs h
+  pub at : get_elem? vs id ≡ some v
 
 -- Who answers for which places is the same.
 pub record SamePlaces (v w : View) : Type 0 where
@@ -143,27 +144,29 @@ pub record SamePlaces (v w : View) : Type 0 where
   pub places : w.places ≡ v.places
   pub joined : w.joined ≡ v.joined
 
-module _ (vs : List View) (id : ℕ) (v w : View) (at : get_elem? vs id ≡ some v) where
-  pub seen_same : (h : List Mark) → w.seen ≡ v.seen → w.heard ≡ v.heard → AreSeen vs h → AreSeen (set vs id w) h
-  seen_same h same heard s = record {
+module _ {capacities : List ℕ} {places tickets : ℕ} {m : Memory} {vs : List View} {h : List Mark} {id : ℕ} {v : View}
+    (seat : Seated capacities places tickets m vs h id v) (w : View) where
+  pub seen_same : w.seen ≡ v.seen → w.heard ≡ v.heard → AreSeen (set vs id w) h
+  seen_same same heard = record {
     heard = each_set (λ j u. HasHeard u) vs id w (subst
         (λ (z : List Mark × List (List Mark)). AllByRecursion (λ seen. IsPrefix seen z.0) z.1) (λ i. (sym same i, sym heard i))
-        (s.heard id v at)) (λ j u other e. s.heard j u e);
-    begins = each_set (λ j u. IsPrefix u.seen h) vs id w (subst (λ z. IsPrefix z h) (sym same) (s.begins id v at))
-        (λ j u other e. s.begins j u e);
-    longest = somewhere_still vs id v w at (λ all. same ∙ all) s.longest;
+        (seat.rule.seen.heard id v seat.at)) (λ j u other e. seat.rule.seen.heard j u e);
+    begins = each_set (λ j u. IsPrefix u.seen h) vs id w (subst (λ z. IsPrefix z h) (sym same) (seat.rule.seen.begins id v seat.at))
+        (λ j u other e. seat.rule.seen.begins j u e);
+    longest = somewhere_still vs id v w seat.at (λ all. same ∙ all) seat.rule.seen.longest;
   }
 
-  pub seen_whole : (h h' : List Mark) → w.seen ≡ h' → w.heard ≡ v.heard → IsPrefix h h' → AreSeen vs h → AreSeen (set vs id w) h'
-  seen_whole h h' new heard longer s = record {
+  pub seen_whole : (h' : List Mark) → w.seen ≡ h' → w.heard ≡ v.heard → IsPrefix h h' → AreSeen (set vs id w) h'
+  seen_whole h' new heard longer = record {
     heard = each_set (λ j u. HasHeard u) vs id w
         (subst (λ (z : List Mark × List (List Mark)). AllByRecursion (λ seen. IsPrefix seen z.0) z.1) (λ i. (sym new i, sym heard i))
         (all_map (λ seen. IsPrefix seen v.seen) (λ seen. IsPrefix seen h') v.heard
-        (λ seen p. prefix_trans seen v.seen h' p (prefix_trans v.seen h h' (s.begins id v at) longer)) (s.heard id v at)))
-        (λ j u other e. s.heard j u e);
+        (λ seen p. prefix_trans seen v.seen h' p (prefix_trans v.seen h h' (seat.rule.seen.begins id v seat.at) longer))
+        (seat.rule.seen.heard id v seat.at)))
+        (λ j u other e. seat.rule.seen.heard j u e);
     begins = each_set (λ j u. IsPrefix u.seen h') vs id w (subst (λ z. IsPrefix z h') (sym new) (prefix_self h'))
-        (λ j u other e. prefix_trans u.seen h h' (s.begins j u e) longer);
-    longest = somewhere_here vs id v w at new;
+        (λ j u other e. prefix_trans u.seen h h' (seat.rule.seen.begins j u e) longer);
+    longest = somewhere_here vs id v w seat.at new;
   }
 
   answers_back : (p : ℕ) → SamePlaces v w → AnswersFor w p → AnswersFor v p
@@ -186,157 +189,164 @@ module _ (vs : List View) (id : ℕ) (v w : View) (at : get_elem? vs id ≡ some
   answered_before : (p j : ℕ) (u : View) → SamePlaces v w → get_elem? (set vs id w) j ≡ some u → AnswersFor u p
       → (z : View) × (get_elem? vs j ≡ some z) × AnswersFor z p
   answered_before p j u same there = each_set (λ k z. AnswersFor z p → (y : View) × (get_elem? vs k ≡ some y) × AnswersFor y p) vs id w
-      (λ a. (v, at, answers_back p same a)) (λ k z other e a. (z, e, a)) j u there
+      (λ a. (v, seat.at, answers_back p same a)) (λ k z other e a. (z, e, a)) j u there
 
-  pub apart_same : (places : ℕ) → SamePlaces v w → AreApart places vs → AreApart places (set vs id w)
-  apart_same places same s = record {
-    within = λ j u p there a. let b = answered_before p j u same there a in s.within j b.0 p b.1 b.2;
+  pub apart_same : SamePlaces v w → AreApart places (set vs id w)
+  apart_same same = record {
+    within = λ j u p there a. let b = answered_before p j u same there a in seat.rule.apart.within j b.0 p b.1 b.2;
     apart = λ i j p a b ei ej aa ab. let x = answered_before p i a same ei aa in let y = answered_before p j b same ej ab in
-        s.apart i j p x.0 y.0 x.1 y.1 x.2 y.2;
+        seat.rule.apart.apart i j p x.0 y.0 x.1 y.1 x.2 y.2;
     joined = λ j u p there has. each_set (λ k z. HasPlace z p → times p z.joined ≡ 0) vs id w
         (λ mine. subst (λ z. times p z ≡ 0) (sym same.joined)
-        (s.joined id v p at (
+        (seat.rule.apart.joined id v p seat.at (
           let a = same.place in let l = mine.0 in omega arith,
           let a = same.place in let b = same.places in
               let l = mine.1 in omega arith,
         )))
-        (λ k z other e mine. s.joined k z p e mine) j u there has;
+        (λ k z other e mine. seat.rule.apart.joined k z p e mine) j u there has;
   }
 
   -- marks that no place left, and the view's own the same
-  pub owned_same : (places : ℕ) (h ms : List Mark) → SamePlaces v w → w.own ≡ v.own → (w.seen ≡ v.seen) ⊎ (w.seen ≡ h ++ ms)
-      → ((p : ℕ) → own_of p ms ≡ []) → AreOwned places vs h → AreOwned places (set vs id w) (h ++ ms)
-  owned_same places h ms same own seen none s =
+  pub owned_same : (ms : List Mark) → SamePlaces v w → w.own ≡ v.own → (w.seen ≡ v.seen) ⊎ (w.seen ≡ h ++ ms)
+      → ((p : ℕ) → own_of p ms ≡ []) → AreOwned places (set vs id w) (h ++ ms)
+  owned_same ms same own seen none =
       let more : (p : ℕ) → own_of p (h ++ ms) ≡ own_of p h =
       λ p. own_of-append p h ms ∙ ap (λ z. own_of p h ++ z) (none p) ∙ append-nil (own_of p h) in
       record {
         own = λ j u p there a. each_set (λ k z. AnswersFor z p → own_of p (h ++ ms) ≡ own_of p z.own) vs id w
-            (λ mine. more p ∙ s.own id v p at (answers_back p same mine) ∙ ap (own_of p) (sym own))
-            (λ k z other e theirs. more p ∙ s.own k z p e theirs) j u there a;
+            (λ mine. more p ∙ seat.rule.owned.own id v p seat.at (answers_back p same mine) ∙ ap (own_of p) (sym own))
+            (λ k z other e theirs. more p ∙ seat.rule.owned.own k z p e theirs) j u there a;
         met = λ j u p there a. each_set (λ k z. AnswersFor z p → own_of p z.seen ≡ own_of p z.own) vs id w
             (λ mine. elim seen [
-              | inl old ↦ ap (own_of p) old ∙ s.met id v p at (answers_back p same mine) ∙ ap (own_of p) (sym own)
-              | inr whole ↦ ap (own_of p) whole ∙ more p ∙ s.own id v p at (answers_back p same mine) ∙ ap (own_of p) (sym own)
+              | inl old ↦ ap (own_of p) old ∙ seat.rule.owned.met id v p seat.at (answers_back p same mine) ∙ ap (own_of p) (sym own)
+              | inr whole ↦ ap (own_of p) whole ∙ more p ∙ seat.rule.owned.own id v p seat.at (answers_back p same mine) ∙ ap (own_of p) (sym own)
             ])
-            (λ k z other e theirs. s.met k z p e theirs) j u there a;
-        within = λ p far. more p ∙ s.within p far;
+            (λ k z other e theirs. seat.rule.owned.met k z p e theirs) j u there a;
+        within = λ p far. more p ∙ seat.rule.owned.within p far;
         none = λ j u p there a. each_set (λ k z. (AnswersFor z p → ⊥) → own_of p z.own ≡ []) vs id w
-            (λ mine. ap (own_of p) own ∙ s.none id v p at (λ b. mine (answers_forth p same b)))
-            (λ k z other e theirs. s.none k z p e theirs) j u there a;
+            (λ mine. ap (own_of p) own ∙ seat.rule.owned.none id v p seat.at (λ b. mine (answers_forth p same b)))
+            (λ k z other e theirs. seat.rule.owned.none k z p e theirs) j u there a;
         unused = λ j u p there has far. each_set (λ k z. HasPlace z p → p ≢ z.place → own_of p z.own ≡ []) vs id w
-            (λ mine ne. ap (own_of p) own ∙ s.unused id v p at (
+            (λ mine ne. ap (own_of p) own ∙ seat.rule.owned.unused id v p seat.at (
               let a = same.place in let l = mine.0 in omega arith,
               let a = same.place in let b = same.places in let l = mine.1 in
                   omega arith,
             ) (λ e. ne (e ∙ sym same.place)))
-            (λ k z other e theirs ne. s.unused k z p e theirs ne) j u there has far;
+            (λ k z other e theirs ne. seat.rule.owned.unused k z p e theirs ne) j u there has far;
       }
 
   -- a mark of the view's place, and others that no place left
-  pub owned_more : (places : ℕ) (h ms : List Mark) (m : Mark) → SamePlaces v w → 1 ≤ v.places → w.own ≡ v.own ++ m ∷ []
-      → w.seen ≡ h ++ m ∷ ms → is_of v.place m ≡ true → ((p : ℕ) → p ≢ v.place → is_of p m ≡ false) → ((p : ℕ) → own_of p ms ≡ [])
-      → AreApart places vs → AreOwned places vs h → AreOwned places (set vs id w) (h ++ m ∷ ms)
-  owned_more places h ms m same works own seen mine_is others none apart s =
-      let here : own_of v.place (m ∷ ms) ≡ m ∷ [] =
-      ap (λ b. cond b (m ∷ own_of v.place ms) (own_of v.place ms)) mine_is ∙ ap (λ z. m ∷ z) (none v.place) in
-      let there_none : (p : ℕ) → p ≢ v.place → own_of p (m ∷ ms) ≡ [] =
-      λ p ne. ap (λ b. cond b (m ∷ own_of p ms) (own_of p ms)) (others p ne) ∙ none p in
-      let one : own_of v.place (m ∷ []) ≡ m ∷ [] = ap (λ b. cond b (m ∷ []) []) mine_is in
-      let none_one : (p : ℕ) → p ≢ v.place → own_of p (m ∷ []) ≡ [] = λ p ne. ap (λ b. cond b (m ∷ []) []) (others p ne) in
-      let h_here : own_of v.place (h ++ m ∷ ms) ≡ own_of v.place h ++ m ∷ [] =
-      own_of-append v.place h (m ∷ ms) ∙ ap (λ z. own_of v.place h ++ z) here in
-      let h_else : (p : ℕ) → p ≢ v.place → own_of p (h ++ m ∷ ms) ≡ own_of p h =
-      λ p ne. own_of-append p h (m ∷ ms) ∙ ap (λ z. own_of p h ++ z) (there_none p ne) ∙ append-nil (own_of p h) in
-      let own_here : own_of v.place w.own ≡ own_of v.place v.own ++ m ∷ [] =
-      ap (own_of v.place) own ∙ own_of-append v.place v.own (m ∷ []) ∙ ap (λ z. own_of v.place v.own ++ z) one in
+  pub owned_more : (ms : List Mark) (mark : Mark) → SamePlaces v w → 1 ≤ v.places → w.own ≡ v.own ++ mark ∷ []
+      → w.seen ≡ h ++ mark ∷ ms → is_of v.place mark ≡ true → ((p : ℕ) → p ≢ v.place → is_of p mark ≡ false)
+      → ((p : ℕ) → own_of p ms ≡ []) → AreOwned places (set vs id w) (h ++ mark ∷ ms)
+  owned_more ms mark same works own seen mine_is others none =
+      let here : own_of v.place (mark ∷ ms) ≡ mark ∷ [] =
+      ap (λ b. cond b (mark ∷ own_of v.place ms) (own_of v.place ms)) mine_is ∙ ap (λ z. mark ∷ z) (none v.place) in
+      let there_none : (p : ℕ) → p ≢ v.place → own_of p (mark ∷ ms) ≡ [] =
+      λ p ne. ap (λ b. cond b (mark ∷ own_of p ms) (own_of p ms)) (others p ne) ∙ none p in
+      let one : own_of v.place (mark ∷ []) ≡ mark ∷ [] = ap (λ b. cond b (mark ∷ []) []) mine_is in
+      let none_one : (p : ℕ) → p ≢ v.place → own_of p (mark ∷ []) ≡ [] = λ p ne. ap (λ b. cond b (mark ∷ []) []) (others p ne) in
+      let h_here : own_of v.place (h ++ mark ∷ ms) ≡ own_of v.place h ++ mark ∷ [] =
+      own_of-append v.place h (mark ∷ ms) ∙ ap (λ z. own_of v.place h ++ z) here in
+      let h_else : (p : ℕ) → p ≢ v.place → own_of p (h ++ mark ∷ ms) ≡ own_of p h =
+      λ p ne. own_of-append p h (mark ∷ ms) ∙ ap (λ z. own_of p h ++ z) (there_none p ne) ∙ append-nil (own_of p h) in
+      let own_here : own_of v.place w.own ≡ own_of v.place v.own ++ mark ∷ [] =
+      ap (own_of v.place) own ∙ own_of-append v.place v.own (mark ∷ []) ∙ ap (λ z. own_of v.place v.own ++ z) one in
       let own_else : (p : ℕ) → p ≢ v.place → own_of p w.own ≡ own_of p v.own =
-      λ p ne. ap (own_of p) own ∙ own_of-append p v.own (m ∷ []) ∙ ap (λ z. own_of p v.own ++ z) (none_one p ne)
+      λ p ne. ap (own_of p) own ∙ own_of-append p v.own (mark ∷ []) ∙ ap (λ z. own_of p v.own ++ z) (none_one p ne)
       ∙ append-nil (own_of p v.own) in
       let at_place : AnswersFor v v.place = inl (omega arith, omega arith) in
-      let own_now : (p : ℕ) → AnswersFor w p → own_of p (h ++ m ∷ ms) ≡ own_of p w.own = λ p mine. dite (ℕ_discrete p v.place)
-      (λ e. subst (λ q. own_of q (h ++ m ∷ ms) ≡ own_of q w.own) (sym e)
-      (h_here ∙ ap (λ z. z ++ m ∷ []) (s.own id v v.place at at_place) ∙ sym own_here))
-      (λ ne. h_else p ne ∙ s.own id v p at (answers_back p same mine) ∙ sym (own_else p ne)) in
+      let own_now : (p : ℕ) → AnswersFor w p → own_of p (h ++ mark ∷ ms) ≡ own_of p w.own = λ p mine. dite (ℕ_discrete p v.place)
+      (λ e. subst (λ q. own_of q (h ++ mark ∷ ms) ≡ own_of q w.own) (sym e)
+      (h_here ∙ ap (λ z. z ++ mark ∷ []) (seat.rule.owned.own id v v.place seat.at at_place) ∙ sym own_here))
+      (λ ne. h_else p ne ∙ seat.rule.owned.own id v p seat.at (answers_back p same mine) ∙ sym (own_else p ne)) in
       record {
-        own = λ j u p there a. each_set (λ k z. AnswersFor z p → own_of p (h ++ m ∷ ms) ≡ own_of p z.own) vs id w (own_now p)
-            (λ k z other e theirs. h_else p (λ f. other (apart.apart k id p z v e at theirs (subst (AnswersFor v) (sym f) at_place)))
-            ∙ s.own k z p e theirs) j u there a;
+        own = λ j u p there a. each_set (λ k z. AnswersFor z p → own_of p (h ++ mark ∷ ms) ≡ own_of p z.own) vs id w (own_now p)
+            (λ k z other e theirs. h_else p (λ f. other (seat.rule.apart.apart k id p z v e seat.at theirs (subst (AnswersFor v) (sym f) at_place)))
+            ∙ seat.rule.owned.own k z p e theirs) j u there a;
         met = λ j u p there a. each_set (λ k z. AnswersFor z p → own_of p z.seen ≡ own_of p z.own) vs id w
             (λ mine. ap (own_of p) seen ∙ own_now p mine)
-            (λ k z other e theirs. s.met k z p e theirs) j u there a;
-        within = λ p far. h_else p (λ e. let below = apart.within id v v.place at at_place in omega arith) ∙ s.within p far;
+            (λ k z other e theirs. seat.rule.owned.met k z p e theirs) j u there a;
+        within = λ p far. h_else p (λ e. let below = seat.rule.apart.within id v v.place seat.at at_place in omega arith)
+            ∙ seat.rule.owned.within p far;
         none = λ j u p there a. each_set (λ k z. (AnswersFor z p → ⊥) → own_of p z.own ≡ []) vs id w
             (λ mine. own_else p (λ e. mine (answers_forth p same (subst (AnswersFor v) (sym e) at_place)))
-            ∙ s.none id v p at (λ b. mine (answers_forth p same b)))
-            (λ k z other e theirs. s.none k z p e theirs) j u there a;
+            ∙ seat.rule.owned.none id v p seat.at (λ b. mine (answers_forth p same b)))
+            (λ k z other e theirs. seat.rule.owned.none k z p e theirs) j u there a;
         unused = λ j u p there has far. each_set (λ k z. HasPlace z p → p ≢ z.place → own_of p z.own ≡ []) vs id w
             (λ mine ne. let ne' : p ≢ v.place = λ e. ne (e ∙ sym same.place) in
-            own_else p ne' ∙ s.unused id v p at (
+            own_else p ne' ∙ seat.rule.owned.unused id v p seat.at (
               let a = same.place in let l = mine.0 in omega arith,
               let a = same.place in
                   let b = same.places in let l = mine.1 in omega arith,
             ) ne')
-            (λ k z other e theirs ne. s.unused k z p e theirs ne) j u there has far;
+            (λ k z other e theirs ne. seat.rule.owned.unused k z p e theirs ne) j u there has far;
       }
 
   -- marks that enter and leave nothing
-  pub open_same : (h h' : List Mark) (us us' : List Update) → w.place ≡ v.place → w.places ≡ v.places → w.sections ≡ v.sections
+  pub open_same : (h' : List Mark) → w.place ≡ v.place → w.places ≡ v.places → w.sections ≡ v.sections
       → ((section : Section) → w.section ≡ Some section
       → (old : Section) × (v.section ≡ Some old) × (open_of section ≡ open_of old) × (section.from ≡ old.from))
       → ((section : Section) → v.section ≡ Some section → (new : Section) × (w.section ≡ Some new) × (open_of section ≡ open_of new))
-      → ((p : ℕ) → open_at p h' ≡ open_at p h) → ((p : ℕ) → entered_at p h' ≡ entered_at p h) → length us ≤ length us' → AreOpen vs h us
-      → AreOpen (set vs id w) h' us'
-  open_same h h' us us' place places sections back forth opened entered longer s = record {
+      → ((p : ℕ) → open_at p h' ≡ open_at p h) → ((p : ℕ) → entered_at p h' ≡ entered_at p h) → length (updates_of h) ≤ length (updates_of h')
+      → AreOpen (set vs id w) h' (updates_of h')
+  open_same h' place places sections back forth opened entered longer = record {
     open_here = λ j u section there is. each_set (λ k z. z.section ≡ Some section
-        → (1 ≤ z.places) × (open_at z.place h' ≡ Some (open_of section)) × (section.from ≤ length us') × (section.key < 2 ^ 64)) vs id w
-        (λ mine. let old = back section mine in let o = s.open_here id v old.0 at old.1 in
+        → (1 ≤ z.places) × (open_at z.place h' ≡ Some (open_of section)) × (section.from ≤ length (updates_of h')) × (section.key < 2 ^ 64)) vs id w
+        (λ mine. let old = back section mine in let o = seat.rule.sections.open_here id v old.0 seat.at old.1 in
         let same_key : section.key ≡ old.0.key = ap (λ (z : Open). z.key) old.2 in let same_from = old.3 in (
           let a = o.0 in omega arith,
           opened w.place ∙ ap (λ p. open_at p h) place ∙ o.1 ∙ ap Some (sym old.2),
           let a = o.2 in omega arith,
           let a = o.3 in omega arith,
         ))
-        (λ k z other e theirs. let o = s.open_here k z section e theirs in
+        (λ k z other e theirs. let o = seat.rule.sections.open_here k z section e theirs in
         (o.0, opened z.place ∙ o.1, let a = o.2 in omega arith, o.3)) j u there is;
     entered = λ j u there works. each_set (λ k z. 1 ≤ z.places → z.sections ≡ entered_at z.place h') vs id w
-        (λ mine. sections ∙ s.entered id v at (omega arith) ∙ ap (λ p. entered_at p h) (sym place) ∙ sym (entered w.place))
-        (λ k z other e theirs. s.entered k z e theirs ∙ sym (entered z.place)) j u there works;
-    all = λ p o is. somewhere_still vs id v w at
+        (λ mine. sections ∙ seat.rule.sections.entered id v seat.at (omega arith) ∙ ap (λ p. entered_at p h) (sym place) ∙ sym (entered w.place))
+        (λ k z other e theirs. seat.rule.sections.entered k z e theirs ∙ sym (entered z.place)) j u there works;
+    all = λ p o is. somewhere_still vs id v w seat.at
         (λ (mine : HasOpen v p o). let now = forth mine.1 mine.2 in (place ∙ mine.0, now.0, now.1, mine.3 ∙ now.2))
-        (s.all p o (sym (opened p) ∙ is));
+        (seat.rule.sections.all p o (sym (opened p) ∙ is));
   }
 
-  pub held_still : ((hold : Hold) → w.hold ≡ Some hold → (hold.class < 64) × (1 ≤ w.places)) → AreHeld vs → AreHeld (set vs id w)
-  held_still mine s = record {
+  pub held_still : ((hold : Hold) → w.hold ≡ Some hold → (hold.class < 64) × (1 ≤ w.places)) → AreHeld (set vs id w)
+  held_still mine = record {
     held = λ j u hold there is. each_set (λ k z. z.hold ≡ Some hold → (hold.class < 64) × (1 ≤ z.places)) vs id w (mine hold)
-        (λ k z other e theirs. s.held k z hold e theirs) j u there is;
+        (λ k z other e theirs. seat.rule.held.held k z hold e theirs) j u there is;
   }
+
+  pub tickets_same : w.tickets ≡ v.tickets → length (updates_of h) + total (λ (z : View). z.tickets) (set vs id w) ≡ tickets
+  tickets_same same = let sum = total_set (λ (z : View). z.tickets) vs id v w seat.at in let was = seat.rule.tickets_are in omega arith
 
   -- a step that leaves the front and whose commit it is
-  pub turned_same : (m m' : Memory) (count : ℕ) → m' Front ≡ m Front → w.commit ≡ v.commit
+  pub turned_same : (m' : Memory) → m' Front ≡ m Front → w.commit ≡ v.commit
       → ((commit : Commit) (hold : Hold) → v.commit ≡ Some commit → v.hold ≡ Some hold → (k : Hold) × (w.hold ≡ Some k))
-      → IsTurned m vs count → IsTurned m' (set vs id w) count
-  turned_same m m' count front commit hold (inl even) =
-      inl (front ∙ even.0, each_set (λ k z. HasNoCommit z) vs id w (commit ∙ even.1 id v at) (λ k z other e. even.1 k z e))
-  turned_same m m' count front commit hold (inr odd) = inr (only_change vs id v w at
-      (λ (mine : MakesOdd m count v). let held = hold mine.commit mine.hold mine.has mine.holds in record {
-        commit = mine.commit;
-        hold = held.0;
-        has = commit ∙ mine.has;
-        holds = held.1;
-        word = front ∙ mine.word;
-        updates = mine.updates;
-      })
-      (λ u (theirs : MakesOdd m count u). record {
-        commit = theirs.commit;
-        hold = theirs.hold;
-        has = theirs.has;
-        holds = theirs.holds;
-        word = front ∙ theirs.word;
-        updates = theirs.updates;
-      })
-      (λ (none : HasNoCommit v). commit ∙ none) odd
-      )
+      → IsTurned m' (set vs id w) (length (updates_of h))
+  turned_same m' front commit hold = by seat.rule.turned
+    where
+      by : IsTurned m vs (length (updates_of h)) → IsTurned m' (set vs id w) (length (updates_of h))
+      by (inl even) =
+          inl (front ∙ even.0, each_set (λ k z. HasNoCommit z) vs id w (commit ∙ even.1 id v seat.at) (λ k z other e. even.1 k z e))
+      by (inr odd) = inr (only_change vs id v w seat.at
+          (λ (mine : MakesOdd m (length (updates_of h)) v). let held = hold mine.commit mine.hold mine.has mine.holds in record {
+            commit = mine.commit;
+            hold = held.0;
+            has = commit ∙ mine.has;
+            holds = held.1;
+            word = front ∙ mine.word;
+            updates = mine.updates;
+          })
+          (λ u (theirs : MakesOdd m (length (updates_of h)) u). record {
+            commit = theirs.commit;
+            hold = theirs.hold;
+            has = theirs.has;
+            holds = theirs.holds;
+            word = front ∙ theirs.word;
+            updates = theirs.updates;
+          })
+          (λ (none : HasNoCommit v). commit ∙ none) odd
+          )
 
 -- The whole rule after one step, from its parts.
 
@@ -359,19 +369,19 @@ pub record IsElsewhere (capacities : List ℕ) (d : ℕ) (m m' : Memory) (h h' :
   pub marks : SameMarks capacities d h h' (updates_of h) (updates_of h')
   pub view : SameView d v w
 
-module _ (capacities : List ℕ) (places tickets : ℕ) (m : Memory) (vs : List View) (h : List Mark)
-    (r : MemoryRule capacities places tickets m vs h) (id : ℕ) (v w : View) (at : get_elem? vs id ≡ some v) (m' : Memory) (h' : List Mark)
+module _ {capacities : List ℕ} {places tickets : ℕ} {m : Memory} {vs : List View} {h : List Mark} {id : ℕ} {v : View}
+    (seat : Seated capacities places tickets m vs h id v) (w : View) {m' : Memory} {h' : List Mark}
     (seats : SeatsRule capacities places tickets m' (set vs id w) h') where
   still : (d : ℕ) → d < 64 → IsElsewhere capacities d m m' h h' v w
-      → BucketRule capacities d m' h' (updates_of h') (set vs id w) (r.bucket d)
+      → BucketRule capacities d m' h' (updates_of h') (set vs id w) (seat.rule.bucket d)
   still d small elsewhere = bucket_frame capacities d m m' h h' (updates_of h) (updates_of h') vs id v w
-      (r.bucket d) at elsewhere.words elsewhere.marks elsewhere.view (r.buckets d small)
+      (seat.rule.bucket d) seat.at elsewhere.words elsewhere.marks elsewhere.view (seat.rule.buckets d small)
 
   -- the rule after the step, whatever the classes are like
   rule_with : (bucket : ℕ → Bucket) → ((d : ℕ) → d < 64 → BucketRule capacities d m' h' (updates_of h') (set vs id w) (bucket d))
       → MemoryRule capacities places tickets m' (set vs id w) h'
   rule_with bucket buckets = record {
-    shape = r.shape;
+    shape = seat.rule.shape;
     seen = seats.seen;
     apart = seats.apart;
     owned = seats.owned;
@@ -389,16 +399,17 @@ module _ (capacities : List ℕ) (places tickets : ℕ) (m : Memory) (vs : List 
   -- a step in one class
   pub after_step : (c : ℕ) (b : Bucket) → (c < 64 → BucketRule capacities c m' h' (updates_of h') (set vs id w) b)
       → ((d : ℕ) → d < 64 → d ≢ c → IsElsewhere capacities d m m' h h' v w) → MemoryRule capacities places tickets m' (set vs id w) h'
-  after_step c b mine others = rule_with (λ d. cond (d == c) b (r.bucket d)) (λ d small. dite (ℕ_discrete d c)
-      (λ e. let here : b ≡ cond (d == c) b (r.bucket d) = ap (λ t. cond t b (r.bucket d)) (sym (eq-eqb d c e)) in
+  after_step c b mine others = rule_with (λ d. cond (d == c) b (seat.rule.bucket d)) (λ d small. dite (ℕ_discrete d c)
+      (λ e. let here : b ≡ cond (d == c) b (seat.rule.bucket d) = ap (λ t. cond t b (seat.rule.bucket d)) (sym (eq-eqb d c e)) in
       subst (BucketRule capacities d m' h' (updates_of h') (set vs id w)) here
       (subst (λ z. BucketRule capacities z m' h' (updates_of h') (set vs id w) b) (sym e) (mine (subst (λ z. z < 64) e small))))
-      (λ ne. let there : r.bucket d ≡ cond (d == c) b (r.bucket d) = ap (λ t. cond t b (r.bucket d)) (sym (ne_eqb d c ne)) in
+      (λ ne. let there : seat.rule.bucket d ≡ cond (d == c) b (seat.rule.bucket d) = ap (λ t. cond t b (seat.rule.bucket d))
+      (sym (ne_eqb d c ne)) in
       subst (BucketRule capacities d m' h' (updates_of h') (set vs id w)) there (still d small (others d small ne))))
 
   -- a step that no class is concerned with
   pub after_quiet : ((d : ℕ) → d < 64 → IsElsewhere capacities d m m' h h' v w) → MemoryRule capacities places tickets m' (set vs id w) h'
-  after_quiet others = rule_with r.bucket (λ d small. still d small (others d small))
+  after_quiet others = rule_with seat.rule.bucket (λ d small. still d small (others d small))
 
 -- Steps that leave no mark.
 
@@ -425,11 +436,11 @@ pub section_forth : (v w : View) → w.section ≡ v.section → (section : Sect
     → (new : Section) × (w.section ≡ Some new) × (open_of section ≡ open_of new)
 section_forth v w same section is = (section, same ∙ is, refl)
 
--- where a step changes what the seat holds, and its trail
-pub seat_holds : (v : View) (new : Option Hold) (trail : List StepMade)
+-- where a step changes what the seat holds and has seen, and its trail
+pub seat_holds : (v : View) (new : Option Hold) (trail : List StepMade) (seen : List Mark)
     → ((commit : Commit) (hold : Hold) → v.commit ≡ Some commit → v.hold ≡ Some hold → (k : Hold) × (new ≡ Some k))
-    → ((hold : Hold) → new ≡ Some hold → (hold.class < 64) × (1 ≤ v.places)) → SameSeat v (record v { hold = new; trail = trail })
-seat_holds v new trail kept held = record {
+    → ((hold : Hold) → new ≡ Some hold → (hold.class < 64) × (1 ≤ v.places)) → SameSeat v (record v { hold = new; trail = trail; seen = seen })
+seat_holds v new trail seen kept held = record {
   places = record { place = refl; places = refl; joined = refl };
   tickets = refl;
   sections = refl;
@@ -462,39 +473,34 @@ pub same_hold : (d : ℕ) (a : Option Hold) → SameHold d a a
 same_hold d None = tt
 same_hold d (Some k) = inl refl
 
-module _ (capacities : List ℕ) (places tickets : ℕ) (m : Memory) (vs : List View) (h : List Mark)
-    (r : MemoryRule capacities places tickets m vs h) (id : ℕ) (v w : View) (at : get_elem? vs id ≡ some v) (m' : Memory) where
-  pub tickets_same : w.tickets ≡ v.tickets → length (updates_of h) + total (λ (z : View). z.tickets) (set vs id w) ≡ tickets
-  tickets_same same = let sum = total_set (λ (z : View). z.tickets) vs id v w at in let was = r.tickets_are in omega arith
-
-  -- no mark, and nothing more was seen
-  pub seats_same : SameSeat v w → w.seen ≡ v.seen → m' Front ≡ m Front → SeatsRule capacities places tickets m' (set vs id w) h
+module _ {capacities : List ℕ} {places tickets : ℕ} {m : Memory} {vs : List View} {h : List Mark} {id : ℕ} {v : View}
+    (seat : Seated capacities places tickets m vs h id v) (w : View) (m' : Memory) where
+  -- no mark, and nothing more was seen, or all
+  pub seats_same : SameSeat v w → (w.seen ≡ v.seen) ⊎ (w.seen ≡ h) → m' Front ≡ m Front → SeatsRule capacities places tickets m' (set vs id w) h
   seats_same same seen front = record {
-    seen = seen_same vs id v w at h seen same.heard r.seen;
-    apart = apart_same vs id v w at places same.places r.apart;
-    owned = subst (λ z. AreOwned places (set vs id w) z) (append-nil h)
-        (owned_same vs id v w at places h [] same.places same.own (inl seen) no_marks r.owned);
-    sections = open_same vs id v w at h h (updates_of h)
-        (updates_of h) same.places.place same.places.places same.sections same.back same.forth (λ p. refl) (λ p. refl)
-        (omega arith) r.sections;
-    held = held_still vs id v w at same.held r.held;
-    turned = turned_same vs id v w at m m' (length (updates_of h)) front same.commit same.kept r.turned;
-    tickets_are = tickets_same same.tickets;
-    legal = r.legal;
-    marks = r.marks;
-    reuse = r.reuse;
+    seen = elim seen [ inl old ↦ seen_same seat w old same.heard | inr whole ↦ seen_whole seat w h whole same.heard (prefix_self h) ];
+    apart = apart_same seat w same.places;
+    owned = subst (AreOwned places (set vs id w)) (append-nil h) (owned_same seat w [] same.places same.own
+        (elim seen [ inl old ↦ inl old | inr whole ↦ inr (whole ∙ sym (append-nil h)) ]) no_marks);
+    sections = open_same seat w h same.places.place same.places.places same.sections same.back same.forth (λ p. refl) (λ p. refl)
+        (omega arith);
+    held = held_still seat w same.held;
+    turned = turned_same seat w m' front same.commit same.kept;
+    tickets_are = tickets_same seat w same.tickets;
+    legal = seat.rule.legal;
+    marks = seat.rule.marks;
+    reuse = seat.rule.reuse;
   }
 
 -- the trail is read by no part
-pub law_stepped : (capacities : List ℕ) (places tickets : ℕ) (m : Memory) (vs : List View) (h : List Mark)
-    → MemoryRule capacities places tickets m vs h → (id : ℕ) (v : View) → get_elem? vs id ≡ some v
-    → (kind : Kind) (field : Field) (number : ℕ)
+pub law_stepped : {capacities : List ℕ} {places tickets : ℕ} {m : Memory} {vs : List View} {h : List Mark} {id : ℕ} {v : View}
+    → Seated capacities places tickets m vs h id v → (kind : Kind) (field : Field) (number : ℕ)
     → MemoryRule capacities places tickets m (set vs id (stepped v kind field number)) h
-law_stepped capacities places tickets m vs h r id v at kind field number =
+law_stepped {capacities} {m = m} {h = h} {id = id} {v = v} seat kind field number =
     let w : View = stepped v kind field number in
-    after_quiet capacities places tickets m vs h r id v w at m h
-    (seats_same capacities places tickets m vs h r id v w at m
-    (seat_holds v v.hold w.trail (λ commit hold is held. (hold, held)) (λ hold is. r.held.held id v hold at is)) refl refl)
+    after_quiet seat w (seats_same seat w m
+    (seat_holds v v.hold w.trail v.seen (λ commit hold is held. (hold, held)) (λ hold is. seat.rule.held.held id v hold seat.at is))
+    (inl refl) refl)
     (λ d small. record {
       words = same_words capacities d m;
       marks = same_marks capacities d h;

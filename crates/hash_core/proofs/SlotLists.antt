@@ -43,16 +43,6 @@ pub path_none : (next : ℕ → ℕ) (xs : List ℕ) → IsPath next 0 xs → xs
 path_none next [] path = refl
 path_none next (s ∷ ss) path = absurd (let a = path.0 in let b = path.1 in omega arith)
 
--- from a link there is one path
-pub one_path : (next : ℕ → ℕ) (first : ℕ) (xs ys : List ℕ) → IsPath next first xs → IsPath next first ys → xs ≡ ys
-one_path next first [] [] p q = refl
-one_path next first [] (y ∷ ys) p q = absurd (let a = q.0 in let b = q.1 in omega arith)
-one_path next first (x ∷ xs) [] p q = absurd (let a = p.0 in let b = p.1 in omega arith)
-one_path next first (x ∷ xs) (y ∷ ys) p q =
-    let e : x ≡ y = sym p.0 ∙ q.0 in
-    let rest : xs ≡ ys = one_path next (next x) xs ys p.2 (subst (λ z. IsPath next (next z) ys) (sym e) q.2) in
-    λ i. e i ∷ rest i
-
 -- a search finds the same where no key or value on its way changes
 pub seek-same : (m m' : Memory) (key : ℕ) (xs : List ℕ)
     → ((s : ℕ) → 1 ≤ times s xs → (m' (Key s) ≡ m (Key s)) × (m' (Value s) ≡ m (Value s))) → seek m' key xs ≡ seek m key xs
@@ -78,8 +68,7 @@ pub seek_past : (m : Memory) (key s : ℕ) (ss : List ℕ) → m (Key s) ≢ key
 seek_past m key s ss ne = ap (λ b. cond b (Some (m (Value s))) (seek m key ss)) (ne_eqb (m (Key s)) key ne)
 
 -- a search along two lists, one after the other
-pub seek_append : (m : Memory) (key : ℕ) (xs ys : List ℕ)
-    → (seek m key xs ≡ None → seek m key (xs ++ ys) ≡ seek m key ys)
+pub seek_append : (m : Memory) (key : ℕ) (xs ys : List ℕ) → (seek m key xs ≡ None → seek m key (xs ++ ys) ≡ seek m key ys)
     × ((value : ℕ) → seek m key xs ≡ Some value → seek m key (xs ++ ys) ≡ Some value)
 seek_append m key [] ys = (λ e. refl, λ value e. absurd (cc))
 seek_append m key (x ∷ xs) ys =
@@ -229,7 +218,7 @@ pub record KeepsWays (capacities : List ℕ) (c : ℕ) (m m' : Memory) (h h' : L
   pub joins : (front rest : List ℕ) → chain ≡ front ++ rest → (front' : List ℕ) × (chain' ≡ front' ++ rest)
   pub said : (answer : Option ℕ) → WasSaid us section.key section.from answer → WasSaid us' section.key section.from answer
 
-module _ (capacities : List ℕ) (c : ℕ) (m m' : Memory) (h h' : List Mark) (us us' : List Update) (chain chain' : List ℕ) (section : Section)
+module _ {capacities : List ℕ} {c : ℕ} {m m' : Memory} {h h' : List Mark} {us us' : List Update} {chain chain' : List ℕ} {section : Section}
     (keeps : KeepsWays capacities c m m' h h' us us' chain chain' section) where
   on_way : (slot : ℕ) (way : HasWay capacities c m h us chain section slot) (t : ℕ) → 1 ≤ times t (way.olds ++ way.rest)
       → (m' (Key t) ≡ m (Key t)) × (m' (Value t) ≡ m (Value t)) × (m' (Next t) ≡ m (Next t))
@@ -306,14 +295,14 @@ class_within (x ∷ xs) (suc c) =
 -- a slot is of one class
 pub one_class : (capacities : List ℕ) (c d s : ℕ) → is_slot_of capacities c s ≡ true → is_slot_of capacities d s ≡ true → c ≡ d
 one_class capacities c d s of_c of_d =
-    let p = slot_bounds capacities c s of_c in
-    let q = slot_bounds capacities d s of_d in
-    let p0 = p.0 in let p1 = p.1 in let q0 = q.0 in let q1 = q.1 in
-    dite (ℕ_discrete c d) (λ e. e) (λ ne. dite (dec_le (suc c) d)
-    (λ less. let z = class_before capacities c d less in absurd (omega arith))
+    let in_c = slot_bounds capacities c s of_c in
+    let in_d = slot_bounds capacities d s of_d in
+    let low_c = in_c.0 in let high_c = in_c.1 in let low_d = in_d.0 in let high_d = in_d.1 in
+    dite (ℕ_discrete c d) (λ e. e) (λ ne. dite (dec_le (suc c) d) (λ less. let z = class_before capacities c d less in absurd (omega arith))
     (λ not_less. let z = class_before capacities d c (omega arith) in absurd (omega arith)))
 
 -- and lies in the table
 pub slot_within : (capacities : List ℕ) (c s : ℕ) → is_slot_of capacities c s ≡ true → (1 ≤ s) × (s ≤ sum capacities)
 slot_within capacities c s of =
-    let p = slot_bounds capacities c s of in let p0 = p.0 in let p1 = p.1 in let z = class_within capacities c in (omega arith, omega arith)
+    let bounds = slot_bounds capacities c s of in let low = bounds.0 in let high = bounds.1 in
+    let z = class_within capacities c in (omega arith, omega arith)

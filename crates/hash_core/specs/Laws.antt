@@ -65,6 +65,16 @@ pub record HasPairs (c : ℕ) (dictionary : Dictionary) (count : ℕ) : Type 0 w
 -- What the rule gives, in plain words; and what it is for a kind of step to keep it.
 -- Source: docs/HASH_DICTIONARY.md, "The hash dictionary's rule".
 
+-- A table between two steps: how it was made, its words, the views of its seats, and the marks. The rule holds.
+pub record TableState : Type 0 where
+  pub capacities : List ℕ
+  pub places : ℕ
+  pub tickets : ℕ
+  pub memory : Memory
+  pub views : List View
+  pub marks : List Mark
+  pub rule : MemoryRule capacities places tickets memory views marks
+
 -- From a class's head `next` leads over distinct slots of the class with distinct keys of it, and the pairs there are those of the
 -- dictionary now whose key is of the class.
 pub record HasChain (capacities : List ℕ) (c : ℕ) (m : Memory) (us : List Update) : Type 0 where
@@ -75,8 +85,7 @@ pub record HasChain (capacities : List ℕ) (c : ℕ) (m : Memory) (us : List Up
   pub mapped : IsMapped c m us chain
 
 abbrev pub ChainsAreMap : Type 0
-ChainsAreMap = (capacities : List ℕ) (places tickets : ℕ) (m : Memory) (vs : List View) (h : List Mark)
-    → MemoryRule capacities places tickets m vs h → (c : ℕ) → c < 64 → HasChain capacities c m (updates_of h)
+ChainsAreMap = (t : TableState) (c : ℕ) → c < 64 → HasChain t.capacities c t.memory (updates_of t.marks)
 
 -- Each slot of a class is in one of these: its chain, its free list, its retired list, or in hand of who holds the class's lock.
 pub record HasRoles (capacities : List ℕ) (c : ℕ) (m : Memory) (vs : List View) : Type 0 where
@@ -87,18 +96,15 @@ pub record HasRoles (capacities : List ℕ) (c : ℕ) (m : Memory) (vs : List Vi
   pub roles : HaveOneRole capacities c bucket
 
 abbrev pub SlotsHaveOneRole : Type 0
-SlotsHaveOneRole = (capacities : List ℕ) (places tickets : ℕ) (m : Memory) (vs : List View) (h : List Mark)
-    → MemoryRule capacities places tickets m vs h → (c : ℕ) → c < 64 → HasRoles capacities c m vs
+SlotsHaveOneRole = (t : TableState) (c : ℕ) → c < 64 → HasRoles t.capacities c t.memory t.views
 
 -- A class's readers word is the number of its open sections.
 abbrev pub ReadersAreCounted : Type 0
-ReadersAreCounted = (capacities : List ℕ) (places tickets : ℕ) (m : Memory) (vs : List View) (h : List Mark)
-    → MemoryRule capacities places tickets m vs h → (c : ℕ) → c < 64 → m (Readers c) ≡ total (λ v. inside_count c v.section) vs
+ReadersAreCounted = (t : TableState) (c : ℕ) → c < 64 → t.memory (Readers c) ≡ total (λ v. inside_count c v.section) t.views
 
 -- The front word is twice the number of updates where no update is being made, and odd while one view makes one.
 abbrev pub FrontCounts : Type 0
-FrontCounts = (capacities : List ℕ) (places tickets : ℕ) (m : Memory) (vs : List View) (h : List Mark)
-    → MemoryRule capacities places tickets m vs h → IsTurned m vs (length (updates_of h))
+FrontCounts = (t : TableState) → IsTurned t.memory t.views (length (updates_of t.marks))
 
 -- a section that is open
 abbrev pub IsOpenIn : List View → Section → Type 0
@@ -126,9 +132,8 @@ Answers m section Ended answer = answer ≡ None
 
 -- What each open search will answer the dictionary said at some front since it was entered.
 abbrev pub SearchesAreAnswered : Type 0
-SearchesAreAnswered = (capacities : List ℕ) (places tickets : ℕ) (m : Memory) (vs : List View) (h : List Mark)
-    → MemoryRule capacities places tickets m vs h → (section : Section) → IsOpenIn vs section
-    → (answer : Option ℕ) × Answers m section section.state answer × WasSaid (updates_of h) section.key section.from answer
+SearchesAreAnswered = (t : TableState) (section : Section) → IsOpenIn t.views section
+    → (answer : Option ℕ) × Answers t.memory section section.state answer × WasSaid (updates_of t.marks) section.key section.from answer
 
 -- the slot is on the chain of the class
 pub record IsLinked (m : Memory) (c slot : ℕ) : Type 0 where
@@ -139,47 +144,41 @@ pub record IsLinked (m : Memory) (c slot : ℕ) : Type 0 where
 -- A slot at which an open search stands is one of its class. It is linked, or was unlinked since the section was entered and
 -- not given since.
 abbrev pub SearchesStand : Type 0
-SearchesStand = (capacities : List ℕ) (places tickets : ℕ) (m : Memory) (vs : List View) (h : List Mark)
-    → MemoryRule capacities places tickets m vs h → (section : Section) → IsOpenIn vs section → (slot : ℕ) → StandsAt section.state slot
-    → (is_slot_of capacities (section.key % 64) slot ≡ true) × (IsLinked m (section.key % 64) slot ⊎ IsHeldBack h section slot)
+SearchesStand = (t : TableState) (section : Section) → IsOpenIn t.views section → (slot : ℕ) → StandsAt section.state slot
+    → (is_slot_of t.capacities (section.key % 64) slot ≡ true)
+    × (IsLinked t.memory (section.key % 64) slot ⊎ IsHeldBack t.marks section slot)
 
 -- The marks stand in order, and have reuse by class.
 abbrev pub MarksAreInOrder : Type 0
-MarksAreInOrder = (capacities : List ℕ) (places tickets : ℕ) (m : Memory) (vs : List View) (h : List Mark)
-    → MemoryRule capacities places tickets m vs h → AreMarks places h
+MarksAreInOrder = (t : TableState) → AreMarks t.places t.marks
 
 abbrev pub SlotsAreReused : Type 0
-SlotsAreReused = (capacities : List ℕ) (places tickets : ℕ) (m : Memory) (vs : List View) (h : List Mark)
-    → MemoryRule capacities places tickets m vs h → ReuseByClass capacities h
+SlotsAreReused = (t : TableState) → ReuseByClass t.capacities t.marks
 
 -- What a step leaves: the key, value and next of a slot that was unlinked stay until it is given.
 pub record KeepsPast (m : Memory) (h : List Mark) (to : Memory) : Type 0 where
   pub content : (s : ℕ) (field : Field) → IsGone h s → IsFieldOf s field → to field ≡ m field
 
-pub record IsKept (capacities : List ℕ) (places tickets : ℕ) (m : Memory) (h : List Mark) (to : Memory) (vs : List View)
-    (h' : List Mark) : Type 0 where
-  pub rule : MemoryRule capacities places tickets to vs h'
-  pub past : KeepsPast m h to
+pub record IsKept (t : TableState) (to : Memory) (vs : List View) (h : List Mark) : Type 0 where
+  pub rule : MemoryRule t.capacities t.places t.tickets to vs h
+  pub past : KeepsPast t.memory t.marks to
 
 -- An act whose needs are met keeps the rule, from any state that has it.
 abbrev pub ActsKeep : Type 0
-ActsKeep = (capacities : List ℕ) (places tickets : ℕ) (m : Memory) (vs : List View) (h : List Mark) (id : ℕ) (v : View) (a : Act)
-    → MemoryRule capacities places tickets m vs h → get_elem? vs id ≡ some v → 1 ≤ v.places → Needs capacities v a
-    → let field = field_of v a in let n = m field in
-    IsKept capacities places tickets m h (stored m field (left v a n)) (set vs id (done v a h n)) (h ++ marks_of v a)
+ActsKeep = (t : TableState) (id : ℕ) (v : View) (a : Act) → get_elem? t.views id ≡ some v → 1 ≤ v.places → Needs t.capacities v a
+    → let field = field_of v a in let n = t.memory field in
+    IsKept t (stored t.memory field (left v a n)) (set t.views id (done v a t.marks n)) (t.marks ++ marks_of v a)
 
 -- A split keeps the rule.
 abbrev pub SplitsKeep : Type 0
-SplitsKeep = (capacities : List ℕ) (places tickets : ℕ) (m : Memory) (vs : List View) (h : List Mark) (id away given : ℕ) (v : View)
-    → MemoryRule capacities places tickets m vs h → get_elem? vs id ≡ some v → NeedsSplit v away given
-    → MemoryRule capacities places tickets m (set vs id (first_of away given v) ++ second_of away given v ∷ []) h
+SplitsKeep = (t : TableState) (id away given : ℕ) (v : View) → get_elem? t.views id ≡ some v → NeedsSplit v away given
+    → MemoryRule t.capacities t.places t.tickets t.memory (set t.views id (first_of away given v) ++ second_of away given v ∷ []) t.marks
 
 -- A join keeps the rule.
 abbrev pub JoinsKeep : Type 0
-JoinsKeep = (capacities : List ℕ) (places tickets : ℕ) (m : Memory) (vs : List View) (h : List Mark) (id other_id : ℕ) (v other : View)
-    → MemoryRule capacities places tickets m vs h → get_elem? vs id ≡ some v → get_elem? vs other_id ≡ some other
-    → id ≢ other_id → IsQuiet v → IsQuiet other → MemoryRule capacities places tickets m
-    (set (set vs id (both_of v other)) other_id spent) h
+JoinsKeep = (t : TableState) (id other_id : ℕ) (v other : View) → get_elem? t.views id ≡ some v → get_elem? t.views other_id ≡ some other
+    → id ≢ other_id → IsQuiet v → IsQuiet other
+    → MemoryRule t.capacities t.places t.tickets t.memory (set (set t.views id (both_of v other)) other_id spent) t.marks
 
 -- A table as it is made has the rule.
 abbrev pub FreshHolds : Type 0

@@ -71,12 +71,14 @@ pub record AreListed (c : ℕ) (m : Memory) (b : Bucket) : Type 0 where
   pub retired : IsPath (λ s. m (Chain s)) (m (Retired c)) b.retired
   pub moved : IsPath (λ s. m (Chain s)) (link_of (moved_of b.hold)) b.moved
 
--- Each slot of the class is in just one of these, once, and no other slot is: the chain, the free list, the retired list,
--- the list in hand, the slot taken, the slot unlinked.
+-- how often a slot stands in these: the chain, the free list, the retired list, the list in hand, the slot taken, the slot unlinked
+abbrev pub roles_of : Bucket → Option ℕ → Option ℕ → ℕ → ℕ
+roles_of b taken unlinked x = times x b.chain + times x b.free + times x b.retired + times x b.moved + times x (option_to_list taken)
+    + times x (option_to_list unlinked)
+
+-- Each slot of the class is in just one of them, once, and no other slot is.
 pub record HaveOneRole (capacities : List ℕ) (c : ℕ) (b : Bucket) : Type 0 where
-  pub once : (x : ℕ) → times x b.chain + times x b.free + times x b.retired + times x b.moved + times x (option_to_list (taken_of b.hold))
-      + times x (option_to_list (unlinked_of b.hold))
-      ≡ (if is_slot_of capacities c x then 1 else 0)
+  pub once : (x : ℕ) → roles_of b (taken_of b.hold) (unlinked_of b.hold) x ≡ (if is_slot_of capacities c x then 1 else 0)
 
 -- The chain's pairs are those of the dictionary now whose key is of the class.
 pub record IsMapped (c : ℕ) (m : Memory) (us : List Update) (chain : List ℕ) : Type 0 where

@@ -57,8 +57,7 @@ joined_first v quiet place works = record {
 
 -- one more, at the next place
 joined_more : (vs : List View) (seat other w : View) (front : ℕ) → IsJoined vs seat → IsQuiet other → other.place ≡ length vs
-    → 1 ≤ other.places
-    → w ≡ stepped (both_of seat other) H2 Front front → IsPrefix seat.seen w.seen → IsPrefix other.seen w.seen
+    → 1 ≤ other.places → w ≡ stepped (both_of seat other) H2 Front front → IsPrefix seat.seen w.seen → IsPrefix other.seen w.seen
     → IsJoined (vs ++ other ∷ []) w
 joined_more vs seat other w front joined quiet place works is mine theirs = record {
   quiet = (ap (λ (z : View). z.section) is ∙ joined.quiet.0, ap (λ (z : View). z.hold) is ∙ joined.quiet.1);
@@ -215,8 +214,7 @@ module _ (table : TableAt) (scripts : List (List Op)) (befores afters : List (Wo
         subst (λ p. AllByRecursion (λ m. is_of p m ≡ true) u.own) (sym at) (each zero u refl) in
         own_of-append i u.own (all_own vs) ∙ ap (λ xs. own_of i u.own ++ xs)
         (none_among vs (first + 1) i (omega arith)
-        (λ j w e. subst (λ p. AllByRecursion (λ m. is_of p m ≡ true) w.own) (omega arith) (each (suc j) w e)))
-        ∙ append-nil (own_of i u.own)
+        (λ j w e. subst (λ p. AllByRecursion (λ m. is_of p m ≡ true) w.own) (omega arith) (each (suc j) w e))) ∙ append-nil (own_of i u.own)
         ∙ own_of-all i u.own mine ∙ ap (λ (z : View). z.own) same
       where
         none_among : (ws : List View) (from p : ℕ) → p < from
@@ -225,8 +223,7 @@ module _ (table : TableAt) (scripts : List (List Op)) (befores afters : List (Wo
         none_among [] from p low each = refl
         none_among (w ∷ ws) from p low each =
             own_of-append p w.own (all_own ws) ∙ ap (λ xs. xs ++ own_of p (all_own ws))
-            (none_of (from + 0) p w.own (λ e. absurd (omega arith)) (each zero w refl))
-            ∙ none_among ws (from + 1) p (omega arith)
+            (none_of (from + 0) p w.own (λ e. absurd (omega arith)) (each zero w refl)) ∙ none_among ws (from + 1) p (omega arith)
             (λ j x e. subst (λ q. AllByRecursion (λ m. is_of q m ≡ true) x.own) (omega arith) (each (suc j) x e))
     own_among (u ∷ vs) first i each (suc k) v at there =
         own_of-append i u.own (all_own vs) ∙ ap (λ xs. xs ++ own_of i (all_own vs))
@@ -286,41 +283,34 @@ module _ (table : TableAt) (scripts : List (List Op)) (befores afters : List (Wo
       abbrev tolds : List (List Told)
       tolds = map (λ (w : Work ClientAt). w.told.entries) afters
 
-      lines_put : AllByRecursion (AllByRecursion (λ (line : Line). PutsInto (put_keys scripts) line.op))
-          (all_told_lines scripts (map (λ (w : Work ClientAt). w.told.entries) afters))
-      lines_put = all_lines_from_ops (PutsInto (put_keys scripts)) scripts (map (λ (w : Work ClientAt). w.told.entries) afters)
-          (each_put_there scripts)
+      lines_put : AllByRecursion (AllByRecursion (λ (line : Line). PutsInto (put_keys scripts) line.op)) (all_told_lines scripts tolds)
+      lines_put = all_lines_from_ops (PutsInto (put_keys scripts)) scripts tolds (each_put_there scripts)
 
       updates_put : AllByRecursion (λ (u : Update). PutsInto (put_keys scripts) u.op) (updates_of seat.seen)
       updates_put = all_from_own (PutsInto (put_keys scripts)) 1 (updates_of seat.seen) (λ c.
           subst (λ ps. AllByRecursion (λ (q : Placed). PutsInto (put_keys scripts) q.op) ps)
           (sym (run_updates (ExplainsInClasses table.capacities) scripts
-          (map (λ (w : Work ClientAt). w.told.entries) afters) seat.seen have_told c))
+          tolds seat.seen have_told c))
           (told_from_lines (PutsInto (put_keys scripts))
-          (get_or (all_told_lines scripts (map (λ (w : Work ClientAt). w.told.entries) afters)) c [])
+          (get_or (all_told_lines scripts tolds) c [])
           (at_number (PutsInto (put_keys scripts)) (all_told_lines scripts
-          (map (λ (w : Work ClientAt). w.told.entries) afters)) c lines_put)))
+          tolds) c lines_put)))
 
-      run_explained : (slots : ℕ) → AreExplainable scripts (map (λ (w : Work ClientAt). w.told.entries) afters)
-          (updates_of seat.seen) slots
+      run_explained : (slots : ℕ) → AreExplainable scripts tolds (updates_of seat.seen) slots
       run_explained slots = record {
-        lengths = run_lengths (ExplainsInClasses table.capacities) scripts
-            (map (λ (w : Work ClientAt). w.told.entries) afters) seat.seen have_told;
+        lengths = run_lengths (ExplainsInClasses table.capacities) scripts tolds seat.seen have_told;
         explained = record {
-          updates = run_updates (ExplainsInClasses table.capacities) scripts
-              (map (λ (w : Work ClientAt). w.told.entries) afters) seat.seen have_told;
-          confirmed = run_confirmed (ExplainsInClasses table.capacities) scripts
-              (map (λ (w : Work ClientAt). w.told.entries) afters) seat.seen have_told;
+          updates = run_updates (ExplainsInClasses table.capacities) scripts tolds seat.seen have_told;
+          confirmed = run_confirmed (ExplainsInClasses table.capacities) scripts tolds seat.seen have_told;
           fronts = all_stand scripts table.capacities right (record { scripts = length scripts; slots = slots })
-              (updates_of seat.seen) updates_put (all_told_lines scripts (map (λ (w : Work ClientAt). w.told.entries) afters)) lines_put
+              (updates_of seat.seen) updates_put (all_told_lines scripts tolds) lines_put
               (run_fronts (ExplainsInClasses table.capacities) scripts
-              (map (λ (w : Work ClientAt). w.told.entries) afters) seat.seen have_told);
+              tolds seat.seen have_told);
         };
       }
 
       run_marks : FitsScripts scripts seat.seen
-      run_marks = run_fits (ExplainsInClasses table.capacities) scripts
-          (map (λ (w : Work ClientAt). w.told.entries) afters) seat.seen have_told
+      run_marks = run_fits (ExplainsInClasses table.capacities) scripts tolds seat.seen have_told
 
 -- A run whose clients' seats are one: what its scripts were told was pushed behind nothing.
 pub has_run : {table : TableAt} {scripts : List (List Op)} {befores : List (Work ClientAt)} {seat : View}

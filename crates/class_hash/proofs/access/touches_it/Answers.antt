@@ -4,8 +4,7 @@ use Rattle.class_hash.proofs.Facts.{allowed}
 use Rattle.class_hash.proofs.access.touches_it.Goals as goal
 
 pub load-requires : goal.load-requires
-load-requires g c = allowed Load c.in-Load.is
-    (search rules) (search rules) (search rules) (search rules) c.requires.picked c.requires.asks
+load-requires g c = allowed Load c.in-Load.is (search rules) (search rules) (search rules) (search rules) c.requires.picked c.requires.asks
 
 pub store-requires : goal.store-requires
 store-requires g c = allowed (Store c.in-Store.number) c.in-Store.is

@@ -7,8 +7,7 @@ use Rattle.class_hash.specs.Calls.{HasLoaded, WalksPast, WalksTo}
 use Rattle.class_hash.proofs.walk.lacks.Goals as goal
 
 walked : (capacities : List ℕ) (v w : View) (key : ℕ) (hold : Hold) → v.hold ≡ Some hold → (answer : Option Place) (lacks : Bool)
-    → is_some answer ≡ not lacks
-    → IfNone answer ((h : Hold) → v.hold ≡ Some h → WalksPast key v h w)
+    → is_some answer ≡ not lacks → IfNone answer ((h : Hold) → v.hold ≡ Some h → WalksPast key v h w)
     → IfSome answer (λ place. (h : Hold) → v.hold ≡ Some h → WalksTo capacities key v h place.previous place.slot w)
     → (new : Hold) × HasLoaded v hold w new × (lacks ≡ true → ShowsAbsent new key)
 walked capacities v w key hold was None lacks is absent found = let a = absent hold was in (a.new, a.loaded, λ _. a.absent)

@@ -7,7 +7,7 @@ pub loop-init : goal.loop-init
 loop-init g c = (
   search rules,
   λ hold was. walk_begins c.args.key was
-      (class_is c.args.seat.now.view hold c.class_held-class.result was c.class_held-class.ensures.class) c.locked_load-link.ensures.told,
+      (class_is c.args.seat.now.view was c.class_held-class.ensures.class) c.locked_load-link.ensures.told,
 )
 
 pub returns-then-link-eq0-clause-absent : goal.returns-then-link-eq0-clause-absent
