@@ -321,7 +321,9 @@ module _ (k : Shape) (m : Memory) (vs : List View) (h : List Mark) (id : ℕ) (v
         not_emptied Right q = absurd (let z : false ≡ true = q in cc)
 
   -- K14: a lock is given up
-  module _ (lock : HeldLock) (needs : NeedsUnlock v lock slot) where
+  module _ (needs : NeedsUnlock v slot) where
+    open needs use {lock}
+
     abbrev unlocked_locks : List HeldLock
     unlocked_locks = without_lock slot v.locks
 
@@ -396,9 +398,8 @@ module _ (z : Stepper) where
       no_mark k m (stored m (Lock slot) (cond (m (Lock slot) == 0) (v.allowance.place + 1) (m (Lock slot)))) h
       (set vs id (after_lock v slot (m (Lock slot)))) (takes k m vs h id v inv there works slot (m (Lock slot) == 0) small needs refl)
 
-  pub keeps_unlock : (slot : ℕ) (lock : HeldLock) → slot < slot_count k → NeedsUnlock v lock slot
-      → StepKeeps z (Lock slot) 0 (after_unlock v slot) []
-  keeps_unlock slot lock small needs = no_mark k m (stored m (Lock slot) 0) h (set vs id (after_unlock v slot)) (record {
-    invariant = unlocked_law k m vs h id v inv there works slot small lock needs;
+  pub keeps_unlock : (slot : ℕ) → slot < slot_count k → NeedsUnlock v slot → StepKeeps z (Lock slot) 0 (after_unlock v slot) []
+  keeps_unlock slot small needs = no_mark k m (stored m (Lock slot) 0) h (set vs id (after_unlock v slot)) (record {
+    invariant = unlocked_law k m vs h id v inv there works slot small needs;
     past = lock_past m slot 0 h;
   })

@@ -231,7 +231,7 @@ module _ (k : Shape) (m : Memory) (vs : List View) (h : List Mark) (id : ℕ) (v
   gate_law class found (Some section) = subst (λ us. HoldsNow k m us h) (sym (set_again vs id v there)) i
 
   -- K29: a section is entered on a side of its class
-  module _ (key side gate : ℕ) (way : k.waiter ≡ Domain) (needs : NeedsEnterByCount v key side gate) where
+  module _ (key side : ℕ) (way : k.waiter ≡ Domain) (needs : NeedsEnterByCount v key side) where
     abbrev counted_in : Memory
     counted_in = stored m (Count (class_of key) side) (m (Count (class_of key) side) + 1)
 
@@ -311,13 +311,13 @@ module _ (z : Stepper) where
   keeps_gate_load class = by_load z (Gate class) (after_gate_load v class (m (Gate class)))
       (gate_law k m vs h id v inv there works class (m (Gate class)) v.section)
 
-  pub keeps_enter_by_count : (key side gate : ℕ) → k.waiter ≡ Domain → NeedsEnterByCount v key side gate
+  pub keeps_enter_by_count : (key side : ℕ) → k.waiter ≡ Domain → NeedsEnterByCount v key side
       → let field = Count (class_of key) side in
       StepKeeps z field (m field + 1) (after_enter_by_count v key side h) (Entered v.allowance.place v.counts.sections key ∷ [])
-  keeps_enter_by_count key side gate way needs =
+  keeps_enter_by_count key side way needs =
       let field : Field = Count (class_of key) side in
       by_store z field (m field + 1) (after_enter_by_count v key side h) (Entered v.allowance.place v.counts.sections key ∷ [])
-      (slots_stay m (stored m field (m field + 1)) refl) (counted_in_law k m vs h id v inv there works key side gate way needs)
+      (slots_stay m (stored m field (m field + 1)) refl) (counted_in_law k m vs h id v inv there works key side way needs)
 
   pub keeps_leave_by_count : (section : Section) (class side : ℕ) → k.waiter ≡ Domain → NeedsLeaveByCount v section class side
       → StepKeeps z (Count class side) (m (Count class side) - 1) (leaving v section h) (Left v.allowance.place section.count ∷ [])
