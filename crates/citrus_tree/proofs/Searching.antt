@@ -29,8 +29,7 @@ use Rattle.core_frames.proofs.Views.{side_self}
 use Rattle.core_state.specs.declared.act.Act.TheVariants.{SearchLoad}
 use Rattle.core_state.specs.declared.act.Part.{Part}
 use Rattle.core_state.specs.Acts.{in_slot, noted, section_of}
-use Rattle.core_points.proofs.Locks.{part_loadable}
-use Rattle.core_laws.proofs.Acting.{part_word, section_is as opened}
+use Rattle.core_laws.proofs.Acting.{part_word, section_is as opened, may_search}
 use Rattle.seat_table.specs.Gains.{Sees, IsSlot, IsAsked, Told, AreFew}
 use Rattle.seat_table.specs.Sections.{is_entry, is_exit, HasEntered, HasLeft, EntersBy}
 use Rattle.seat_table.proofs.SeveralSteps.{made_none, made_more, made_both, entry_few, told_once}
@@ -161,10 +160,7 @@ module _ (k : Shape) (v : View) (key : ℕ) where
       → IsAsked k w (SearchLoad s p)
   asks_stood state s p w i stood slot = λ now. (
     part_word k s p slot.inside,
-    (
-      record i.entered.section { reading = i.reading },
-      record { section_is = i.inside; searches = i.entered.no_list; stood = stood; loadable = part_loadable s p },
-    ),
+    may_search w s p i.inside i.entered.no_list stood,
   )
 
   pub asks : (state : SearchState) (p : Part) (w : View) → IsSearching v key state w → IsSlot k (state_slot state)

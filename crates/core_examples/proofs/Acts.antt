@@ -20,8 +20,8 @@ use Rattle.core_state.specs.declared.act.Part.{Part}
 use Rattle.core_state.specs.declared.act.Part.TheVariants as part
 use Rattle.core_state.specs.declared.act.Act.{Act}
 use Rattle.core_state.specs.declared.act.Act.TheVariants.{LoadClock, AnnounceKey, EnterByStamp, LeaveByStamp, BeginWait, LookKey, LookStamp, LoadOwnLife, Reserve, Seize, Fill, Lock, Unlock, SearchLoad, ListLoad, LockedLoad, OpenCommit, RaiseTag, CloseCommit, LookAtFront, GiveFrontBack}
-use Rattle.core_state.specs.Acts.{field_of, Asks, MayLook, Needs, section_of, listing_of, wait_of}
-use Rattle.core_examples.proofs.Tests.{all_spots, clock_now, lock_now, all_of, passed, test_at, is_some, some_is, none_is, false_is, not_same, is_empty, empty_is, is_number, number_is, has, has_in, has_been, been_at, is_word, loadable, is_holder, holder_is, is_no_end, no_end_is, is_closing, closing_is, is_unmade, unmade_is, is_content, content_is, State, AllAsked, after, reached, over, ◌⟫◌}
+use Rattle.core_state.specs.Acts.{clocked_of, field_of, Asks, MayLook, Needs, section_of, listing_of, wait_of}
+use Rattle.core_examples.proofs.Tests.{all_spots, lock_now, all_of, passed, test_at, is_some, some_is, none_is, false_is, not_same, is_empty, empty_is, is_number, number_is, has, has_in, has_been, been_at, is_word, loadable, is_holder, holder_is, is_no_end, no_end_is, is_closing, closing_is, is_unmade, unmade_is, is_content, content_is, State, AllAsked, after, reached, over, ◌⟫◌}
 
 -- a table with five slots, one place and the first waiter
 abbrev pub small : Shape
@@ -92,24 +92,21 @@ enter key stamp = record {
       nat_lt key (2 ^ 64) ∷
       is_some v.enter.clock ∷
       is_number v.enter.announced key ∷
-      (stamp == (clock_now v).number) ∷
+      (stamp == (clocked_of v).number) ∷
       [];
-  met = λ v t. (
-    clock_now v,
-    record {
-      entry = record { outside = none_is v.section (t 0); free = empty_is v.locks (t 1); key_fits = ltb-true key (2 ^ 64) (t 2) };
-      clock = some_is _ v.enter.clock (t 3);
-      stamp_is = eqb-true stamp (clock_now v).number (t 5);
-      announced = number_is v.enter.announced key (t 4);
-    },
-  );
+  met = λ v t. record {
+    entry = record { outside = none_is v.section (t 0); free = empty_is v.locks (t 1); key_fits = ltb-true key (2 ^ 64) (t 2) };
+    clock = some_is _ v.enter.clock (t 3);
+    stamp_is = eqb-true stamp (clocked_of v).number (t 5);
+    announced = number_is v.enter.announced key (t 4);
+  };
 }
 
 abbrev pub leave : Step
 leave = record {
   act = LeaveByStamp;
   tests = λ v. is_some v.section ∷ [];
-  met = λ v t. (section_of v, some_is _ v.section (t 0));
+  met = λ v t. some_is _ v.section (t 0);
 }
 
 abbrev pub search : ℕ → Part → Step
@@ -120,15 +117,12 @@ search slot p = record {
       not (is_some (section_of v).listing) ∷
       has slot (section_of v).reading.stood ∷
       [];
-  met = λ v t. (
-    section_of v,
-    record {
-      section_is = some_is _ v.section (t 0);
-      searches = none_is (section_of v).listing (t 1);
-      stood = has_in slot (section_of v).reading.stood (t 2);
-      loadable = loadable slot p;
-    },
-  );
+  met = λ v t. record {
+    section_is = some_is _ v.section (t 0);
+    searches = none_is (section_of v).listing (t 1);
+    stood = has_in slot (section_of v).reading.stood (t 2);
+    loadable = loadable slot p;
+  };
 }
 
 -- a slot
@@ -195,16 +189,14 @@ unlock slot = record {
       not (lock_now v slot).right_emptied ∷
       not (lock_now v slot).marked ∷
       [];
-  met = λ v t. (
-    lock_now v slot,
-    record {
-      held = some_is _ (lock_of v.locks slot) (t 0);
-      no_end = no_end_is slot v.moving (t 1);
-      left = false_is (lock_now v slot).left_emptied (t 2);
-      right = false_is (lock_now v slot).right_emptied (t 3);
-      unmarked = false_is (lock_now v slot).marked (t 4);
-    },
-  );
+  met = λ v t. record {
+    lock = lock_now v slot;
+    held = some_is _ (lock_of v.locks slot) (t 0);
+    no_end = no_end_is slot v.moving (t 1);
+    left = false_is (lock_now v slot).left_emptied (t 2);
+    right = false_is (lock_now v slot).right_emptied (t 3);
+    unmarked = false_is (lock_now v slot).marked (t 4);
+  };
 }
 
 abbrev pub open_commit : ℕ → Step
@@ -237,14 +229,12 @@ raise_tag slot side tag = record {
   act = RaiseTag slot side tag;
   tests = λ v. is_some (lock_of v.locks slot) ∷ is_emptied (lock_now v slot) side
       ∷ is_number (known_in (lock_now v slot).known (Tag slot side)) tag ∷ [];
-  met = λ v t. (
-    lock_now v slot,
-    record {
-      held = some_is _ (lock_of v.locks slot) (t 0);
-      emptied = (t 1);
-      known = number_is (known_in (lock_now v slot).known (Tag slot side)) tag (t 2);
-    },
-  );
+  met = λ v t. record {
+    lock = lock_now v slot;
+    held = some_is _ (lock_of v.locks slot) (t 0);
+    emptied = (t 1);
+    known = number_is (known_in (lock_now v slot).known (Tag slot side)) tag (t 2);
+  };
 }
 
 -- a wait
@@ -270,23 +260,19 @@ abbrev pub look_front : Step
 look_front = record {
   act = LookAtFront;
   tests = λ v. is_some v.section ∷ is_empty (section_of v).reading.loads ∷ [];
-  met = λ v t. (section_of v, record { section_is = some_is _ v.section (t 0); first = empty_is (section_of v).reading.loads (t 1) });
+  met = λ v t. record { section_is = some_is _ v.section (t 0); first = empty_is (section_of v).reading.loads (t 1) };
 }
 
 abbrev pub list_root : Step
 list_root = record {
   act = ListLoad 0 (part.Link Right);
   tests = λ v. is_some v.section ∷ is_some (section_of v).listing ∷ [];
-  met = λ v t. (
-    section_of v,
-    listing_of (section_of v),
-    record {
-      section_is = some_is _ v.section (t 0);
-      lists = some_is _ (section_of v).listing (t 1);
-      been = inl refl;
-      loadable = refl;
-    },
-  );
+  met = λ v t. record {
+    section_is = some_is _ v.section (t 0);
+    lists = some_is _ (section_of v).listing (t 1);
+    been = inl refl;
+    loadable = refl;
+  };
 }
 
 abbrev pub list_part : ℕ → Part → Step
@@ -297,16 +283,12 @@ list_part slot p = record {
       is_some (section_of v).listing ∷
       has_been slot (listing_of (section_of v)).visits ∷
       [];
-  met = λ v t. (
-    section_of v,
-    listing_of (section_of v),
-    record {
-      section_is = some_is _ v.section (t 0);
-      lists = some_is _ (section_of v).listing (t 1);
-      been = inr (been_at slot (listing_of (section_of v)).visits (t 2));
-      loadable = loadable slot p;
-    },
-  );
+  met = λ v t. record {
+    section_is = some_is _ v.section (t 0);
+    lists = some_is _ (section_of v).listing (t 1);
+    been = inr (been_at slot (listing_of (section_of v)).visits (t 2));
+    loadable = loadable slot p;
+  };
 }
 
 abbrev pub wait_tests : View → List Bool
@@ -335,14 +317,14 @@ abbrev pub look_key : Step
 look_key = record {
   act = LookKey 0 true;
   tests = λ v. all_of (wait_tests v) ∷ [];
-  met = λ v t. (wait_of v, may_end v (Announced 0) refl (t 0));
+  met = λ v t. may_end v (Announced 0) refl (t 0);
 }
 
 abbrev pub look_stamp : Step
 look_stamp = record {
   act = LookStamp 0 true;
   tests = λ v. all_of (wait_tests v) ∷ [];
-  met = λ v t. (wait_of v, may_end v (Stamp 0) refl (t 0));
+  met = λ v t. may_end v (Stamp 0) refl (t 0);
 }
 
 -- what is done at one stretch: a section is entered; fields are loaded in it, as a search goes; a free slot is taken; it is filled;

@@ -27,7 +27,7 @@ use Rattle.core_state.specs.declared.view.Waiting.{Waiting}
 use Rattle.list_laws.specs.Counts.{IsIn}
 use Rattle.core_state.specs.declared.act.Act.{Act}
 use Rattle.core_state.specs.declared.act.Act.TheVariants.{LoadClock, BeginWait, LoadGate, EnterByCount, LeaveByCount, LookCount, TurnGate, EnterByRow, LeaveByRow, LookRow}
-use Rattle.core_state.specs.Acts.{IsWord, section_of, wait_of}
+use Rattle.core_state.specs.Acts.{IsWord, wait_of}
 
 -- A run on literal words: from a fresh table with five slots, one place and the first waiter, four pairs are put, a value is replaced,
 -- and the pairs are listed; then they are listed while the front is held.
@@ -366,53 +366,43 @@ counted_asked : AllAsked counted counted_start counted_run
 counted_asked =
     (gate_five, record { why = inl refl }) ⟫ (
       side_zero,
-      (
-        0,
-        record {
-          entry = record { outside = refl; free = refl; key_fits = ltb-true _ _ refl };
-          gate_is = refl;
-          side_is = refl;
-        },
-      ),
+      record {
+        entry = record { outside = refl; free = refl; key_fits = ltb-true _ _ refl };
+        gate = 0;
+        gate_is = refl;
+        side_is = refl;
+      },
     ) ⟫
-    (side_zero, (section_of (counted_at 2), record { section_is = refl; class_is = refl; side_is = refl })) ⟫
+    (side_zero, record { section_is = refl; class_is = refl; side_is = refl }) ⟫
     (tt, record { outside = refl; ticket = leb-true _ _ refl; some = leb-true _ _ refl; high_fits = ltb-true _ _ refl }) ⟫
-    (side_zero, (wait_of (counted_at 4), record { wait_is = refl; going = refl; rest = λ l. absurd (cc) })) ⟫ (
+    (side_zero, record { wait_is = refl; going = refl; rest = λ l. absurd (cc) }) ⟫ (
       gate_five,
-      (
-        wait_of (counted_at 5),
-        record {
-          wait_is = refl;
-          going = refl;
-          small = ltb-true _ _ refl;
-          met = (5, (leb-true _ _ refl, leb-true _ _ refl), refl);
-          once = λ has. absurd (some-ne-none _ (sym has.1));
-        },
-      ),
+      record {
+        wait_is = refl;
+        going = refl;
+        small = ltb-true _ _ refl;
+        met = (5, (leb-true _ _ refl, leb-true _ _ refl), refl);
+        once = λ has. absurd (some-ne-none _ (sym has.1));
+      },
     ) ⟫
     (gate_five, record { why = inl refl }) ⟫ (
       side_one,
-      (
-        wait_of (counted_at 7),
-        record {
-          wait_is = refl;
-          going = refl;
-          rest = λ l other spot. two_spots (wait_of (counted_at 7)) refl refl other spot;
-        },
-      ),
+      record {
+        wait_is = refl;
+        going = refl;
+        rest = λ l other spot. two_spots (wait_of (counted_at 7)) refl refl other spot;
+      },
     ) ⟫
     (gate_five, record { why = inl refl }) ⟫ (
       side_one,
-      (
-        1,
-        record {
-          entry = record { outside = refl; free = refl; key_fits = ltb-true _ _ refl };
-          gate_is = refl;
-          side_is = refl;
-        },
-      ),
+      record {
+        entry = record { outside = refl; free = refl; key_fits = ltb-true _ _ refl };
+        gate = 1;
+        gate_is = refl;
+        side_is = refl;
+      },
     ) ⟫
-    (side_one, (section_of (counted_at 10), record { section_is = refl; class_is = refl; side_is = refl })) ⟫ over
+    (side_one, record { section_is = refl; class_is = refl; side_is = refl }) ⟫ over
 
 -- it ended its wait, and its second section was counted on the other side
 counted_ended : (wait_of (reached counted counted_start counted_run).view).ended ≡ true
@@ -450,26 +440,20 @@ rowed_asked : AllAsked rowed rowed_start rowed_run
 rowed_asked =
     (tt, tt) ⟫ (
       row_five,
-      (
-        record { number = 0; at = 0 },
-        record {
-          entry = record { outside = refl; free = refl; key_fits = ltb-true _ _ refl };
-          clock = refl;
-          stamp_is = refl;
-        },
-      ),
+      record {
+        entry = record { outside = refl; free = refl; key_fits = ltb-true _ _ refl };
+        clock = refl;
+        stamp_is = refl;
+      },
     ) ⟫
-    (row_five, (section_of (rowed_at 2), record { section_is = refl; class_is = refl })) ⟫
+    (row_five, record { section_is = refl; class_is = refl }) ⟫
     (tt, record { outside = refl; ticket = leb-true _ _ refl; some = leb-true _ _ refl; high_fits = ltb-true _ _ refl }) ⟫ (
       row_five,
-      (
-        wait_of (rowed_at 4),
-        record {
-          wait_is = refl;
-          going = refl;
-          rest = λ l other spot. one_spot (wait_of (rowed_at 4)) refl refl other spot;
-        },
-      ),
+      record {
+        wait_is = refl;
+        going = refl;
+        rest = λ l other spot. one_spot (wait_of (rowed_at 4)) refl refl other spot;
+      },
     ) ⟫ over
 
 rowed_ended : (wait_of (reached rowed rowed_start rowed_run).view).ended ≡ true

@@ -6,7 +6,7 @@ use Rattle.prcu_marks.specs.declared.mark.Side.TheVariants.{Left, Right}
 use Rattle.core_state.specs.declared.words.Field.TheVariants.{Key, Value, Life, Link, Tag}
 use Rattle.core_state.specs.declared.view.View.{View}
 use Rattle.core_state.specs.Views.{known_in, known_under, lock_of, is_emptied}
-use Rattle.core_state.specs.Links.{HasCommit, NeedsMark, IsNodeOfDelete, IsOldOfMove, IsRecordedNode, NeedsUnlinkOld, IsRetiredAt, NeedsRaiseRetired, IsKnownAs, Rotation}
+use Rattle.core_state.specs.Links.{HasCommit, NeedsMark, IsNodeOfDelete, IsOldOfMove, IsRecordedNode, NeedsUnlinkOld, IsRetiredAt, NeedsRaiseRetired, IsKnownAs, Rotation, IsEndOf}
 use Rattle.core_examples.proofs.Tests.{hand_now, lock_now, moving_now, reading_now, all_of, passed, is_some, some_is, is_empty, is_number, number_is, false_is, not_same, first_in, is_missed, missed_is, generation_of, is_recorded, recorded_is, is_found, found_is, few_tests, few_children, both_tests, both_children, marked_tests, marked_node, oldest_retired, none_is, some_not_none}
 use Rattle.core_state.specs.declared.act.Act.TheVariants.{LinkLeaf, Bypass, Mark, LinkCopy, UnlinkLeft, UnlinkRight, ReplaceValue, KeepAsSpare, LoadRetiredLife, RaiseInHand, RaiseToSpare, RaiseRetired, FreeInHand, FreeRetired, CountFree, Rotate}
 use Rattle.core_state.specs.Acts.{commit_of, spare_of}
@@ -58,33 +58,30 @@ link_leaf slot b leaf key value = record {
       is_number (known_in (hand_now v).known (Link leaf Right)) 0 ∷
       ((reading_now v).key == key) ∷
       [];
-  met = λ v t. (
-    commit_of v,
-    reading_now v,
-    lock_now v slot,
-    hand_now v,
-    generation_of v slot,
-    unwrap_or (known_in (reading_now v).loads (Tag slot b)) 0,
-    record {
-      has_commit = commit_is v (t 0);
-      kept = (0, first_in _ v.records (t 1));
-      missed = missed_is (reading_now v).state slot b (t 2);
-      generation_is = (_, some_is 0 _ (t 3), refl);
-      tag_is = some_is 0 _ (t 4);
-      locked = some_is _ _ (t 5);
-      life_now = number_is _ _ (t 6);
-      empty_now = number_is _ _ (t 7);
-      tag_now = number_is _ _ (t 8);
-      settled = false_is _ (t 9);
-      in_hand = (some_is _ _ (t 10), eqb-true _ _ (t 11));
-      unraised = false_is _ (t 12);
-      key_is = number_is _ _ (t 13);
-      value_is = number_is _ _ (t 14);
-      left_is = number_is _ _ (t 15);
-      right_is = number_is _ _ (t 16);
-    },
-    eqb-true _ _ (t 17),
-  );
+  met = λ v t. record {
+    has_commit = commit_is v (t 0);
+    reading = reading_now v;
+    kept = (0, first_in _ v.records (t 1));
+    sought = eqb-true _ _ (t 17);
+    missed = missed_is (reading_now v).state slot b (t 2);
+    generation = generation_of v slot;
+    generation_is = (_, some_is 0 _ (t 3), refl);
+    tag = unwrap_or (known_in (reading_now v).loads (Tag slot b)) 0;
+    tag_is = some_is 0 _ (t 4);
+    lock = lock_now v slot;
+    locked = some_is _ _ (t 5);
+    life_now = number_is _ _ (t 6);
+    empty_now = number_is _ _ (t 7);
+    tag_now = number_is _ _ (t 8);
+    settled = false_is _ (t 9);
+    held = hand_now v;
+    in_hand = (some_is _ _ (t 10), eqb-true _ _ (t 11));
+    unraised = false_is _ (t 12);
+    key_is = number_is _ _ (t 13);
+    value_is = number_is _ _ (t 14);
+    left_is = number_is _ _ (t 15);
+    right_is = number_is _ _ (t 16);
+  };
 }
 
 abbrev pub replace : ℕ → ℕ → Side → ℕ → ℕ → Step
@@ -98,19 +95,16 @@ replace slot parent b key value = record {
       is_number (known_in (known_under v slot) (Life slot)) (2 * generation_of v slot) ∷
       ((reading_now v).key == key) ∷
       [];
-  met = λ v t. let seen = found_is (reading_now v).state slot parent b (t 2) in (
-    commit_of v,
-    reading_now v,
-    generation_of v slot,
-    record {
-      has_commit = commit_is v (t 0);
-      kept = (0, first_in _ v.records (t 1));
-      found = (parent, b, seen.0, seen.1);
-      generation_is = (_, some_is 0 _ (t 3), refl);
-      life_now = number_is _ _ (t 4);
-    },
-    eqb-true _ _ (t 5),
-  );
+  met = λ v t. let seen = found_is (reading_now v).state slot parent b (t 2) in record {
+    has_commit = commit_is v (t 0);
+    reading = reading_now v;
+    kept = (0, first_in _ v.records (t 1));
+    sought = eqb-true _ _ (t 5);
+    found = (parent, b, seen.0, seen.1);
+    generation = generation_of v slot;
+    generation_is = (_, some_is 0 _ (t 3), refl);
+    life_now = number_is _ _ (t 4);
+  };
 }
 
 abbrev pub bypass : Node → ℕ → Step
@@ -123,20 +117,17 @@ bypass node key = record {
       all_of (marked_tests v node.slot) ∷
       ((reading_now v).key == key) ∷
       [];
-  met = λ v t. (
-    commit_of v,
-    reading_now v,
-    node.left,
-    node.right,
-    record {
-      has_commit = commit_is v (t 0);
-      room = ltb-true _ _ (t 1);
-      records = few_children v node.parent node.side node.slot node.left node.right (t 2);
-      marked = marked_node v node.slot (t 3);
-      child_is = refl;
-    },
-    eqb-true _ _ (t 4),
-  );
+  met = λ v t. record {
+    has_commit = commit_is v (t 0);
+    room = ltb-true _ _ (t 1);
+    reading = reading_now v;
+    sought = eqb-true _ _ (t 4);
+    left = node.left;
+    right = node.right;
+    records = few_children v node.parent node.side node.slot node.left node.right (t 2);
+    marked = marked_node v node.slot (t 3);
+    child_is = refl;
+  };
 }
 
 -- marks: of the node of a delete, with few children or with both, and of the old successor of a move
@@ -146,29 +137,32 @@ mark_tests v slot life = is_some (lock_of v.locks slot) ∷ is_number (known_in 
 
 abbrev pub why_mark : (v : View) (slot life : ℕ) → all_of (mark_tests v slot life) ≡ true
     → IsNodeOfDelete v slot ⊎ (IsOldOfMove v slot ⊎ IsRecordedNode v slot)
-    → NeedsMark v (lock_now v slot) slot life
+    → NeedsMark v slot life
 why_mark v slot life e why =
     let t = passed (mark_tests v slot life) e in
-    record { locked = some_is _ (lock_of v.locks slot) (t 0); life_now = number_is _ _ (t 1); unmarked = eqb-true _ _ (t 2); why = why }
+    record {
+      lock = lock_now v slot;
+      locked = some_is _ (lock_of v.locks slot) (t 0);
+      life_now = number_is _ _ (t 1);
+      unmarked = eqb-true _ _ (t 2);
+      why = why;
+    }
 
 abbrev pub mark_few : Node → ℕ → Step
 mark_few node life = record {
   act = Mark node.slot life;
   tests = λ v. all_of (mark_tests v node.slot life) ∷ is_recorded v node.slot
       ∷ all_of (few_tests v node.parent node.side node.slot node.left node.right) ∷ [];
-  met = λ v t. (
-    lock_now v node.slot,
-    why_mark v node.slot life (t 0)
-        (inl (record {
-          reading = reading_now v;
-          parent = node.parent;
-          left = node.left;
-          right = node.right;
-          side = node.side;
-          unmarked = recorded_is v node.slot (t 1);
-          children = inl (few_children v node.parent node.side node.slot node.left node.right (t 2));
-        })),
-  );
+  met = λ v t. why_mark v node.slot life (t 0)
+      (inl (record {
+        reading = reading_now v;
+        parent = node.parent;
+        left = node.left;
+        right = node.right;
+        side = node.side;
+        unmarked = recorded_is v node.slot (t 1);
+        children = inl (few_children v node.parent node.side node.slot node.left node.right (t 2));
+      }));
 }
 
 abbrev pub mark_both : Node → ℕ → ℕ → ℕ → Step
@@ -176,26 +170,23 @@ mark_both node life old_parent old = record {
   act = Mark node.slot life;
   tests = λ v. all_of (mark_tests v node.slot life) ∷ is_recorded v node.slot
       ∷ all_of (both_tests v node.parent node.side node.slot node.left node.right old_parent old) ∷ [];
-  met = λ v t. (
-    lock_now v node.slot,
-    why_mark v node.slot life (t 0)
-        (inl (record {
-          reading = reading_now v;
-          parent = node.parent;
-          left = node.left;
-          right = node.right;
-          side = node.side;
-          unmarked = recorded_is v node.slot (t 1);
-          children = inr (old_parent, old, both_children v node.parent node.side node.slot node.left node.right old_parent old (t 2));
-        })),
-  );
+  met = λ v t. why_mark v node.slot life (t 0)
+      (inl (record {
+        reading = reading_now v;
+        parent = node.parent;
+        left = node.left;
+        right = node.right;
+        side = node.side;
+        unmarked = recorded_is v node.slot (t 1);
+        children = inr (old_parent, old, both_children v node.parent node.side node.slot node.left node.right old_parent old (t 2));
+      }));
 }
 
 abbrev pub mark_old : ℕ → ℕ → Step
 mark_old slot life = record {
   act = Mark slot life;
   tests = λ v. all_of (mark_tests v slot life) ∷ is_some v.moving ∷ ((moving_now v).old == slot) ∷ [];
-  met = λ v t. (lock_now v slot, why_mark v slot life (t 0) (inr (inl (moving_now v, some_is _ v.moving (t 1), eqb-true _ _ (t 2)))));
+  met = λ v t. why_mark v slot life (t 0) (inr (inl (moving_now v, some_is _ v.moving (t 1), eqb-true _ _ (t 2))));
 }
 
 -- a move: the copy is linked in the node's place, and the old successor is unlinked after the wait
@@ -218,29 +209,25 @@ link_copy node copy old_parent old key next_key value = record {
       is_number (known_in (spare_of v).known (Link copy Right)) node.right ∷
       ((reading_now v).key == key) ∷
       [];
-  met = λ v t. (
-    commit_of v,
-    reading_now v,
-    spare_of v,
-    node.left,
-    node.right,
-    value,
-    record {
-      has_commit = commit_is v (t 0);
-      room = ltb-true _ _ (t 1);
-      records = both_children v node.parent node.side node.slot node.left node.right old_parent old (t 2);
-      marked = marked_node v node.slot (t 3);
-      spare_is = (some_is _ v.hands.spare (t 4), eqb-true _ _ (t 5));
-      locked = (lock_now v copy, some_is _ (lock_of v.locks copy) (t 6));
-      old_key = number_is _ _ (t 7);
-      old_value = number_is _ _ (t 8);
-      key_is = number_is _ _ (t 9);
-      value_is = number_is _ _ (t 10);
-      left_is = number_is _ _ (t 11);
-      right_is = number_is _ _ (t 12);
-    },
-    eqb-true _ _ (t 13),
-  );
+  met = λ v t. record {
+    has_commit = commit_is v (t 0);
+    room = ltb-true _ _ (t 1);
+    reading = reading_now v;
+    sought = eqb-true _ _ (t 13);
+    left = node.left;
+    right = node.right;
+    value = value;
+    records = both_children v node.parent node.side node.slot node.left node.right old_parent old (t 2);
+    marked = marked_node v node.slot (t 3);
+    spare_is = (some_is _ v.hands.spare (t 4), eqb-true _ _ (t 5));
+    locked = (lock_now v copy, some_is _ (lock_of v.locks copy) (t 6));
+    old_key = number_is _ _ (t 7);
+    old_value = number_is _ _ (t 8);
+    key_is = number_is _ _ (t 9);
+    value_is = number_is _ _ (t 10);
+    left_is = number_is _ _ (t 11);
+    right_is = number_is _ _ (t 12);
+  };
 }
 
 abbrev pub unlink_tests : View → ℕ → ℕ → ℕ → List Bool
@@ -255,20 +242,22 @@ unlink_tests v parent old child =
     (unwrap_or (known_in (lock_now v old).known (Life old)) 0 % 2 == 1) ∷
     is_number (known_in (lock_now v old).known (Link old Right)) child ∷ []
 
-abbrev life_under : View → ℕ → ℕ
-life_under v slot = unwrap_or (known_in (lock_now v slot).known (Life slot)) 0
-
-pub may_unlink : (v : View) (parent old child : ℕ) → all_of (unlink_tests v parent old child) ≡ true
-    → NeedsUnlinkOld v (moving_now v) (lock_now v old) parent old child (life_under v old)
-may_unlink v parent old child e =
+pub may_unlink : (v : View) (parent : ℕ) (b : Side) (old child : ℕ) → IsEndOf (moving_now v).copy.slot parent b
+    → all_of (unlink_tests v parent old child) ≡ true
+    → NeedsUnlinkOld v parent b old child
+may_unlink v parent b old child end e =
     let t = passed (unlink_tests v parent old child) e in
     record {
+      move = moving_now v;
+      end = end;
       moving = some_is _ v.moving (t 0);
       old_is = eqb-true _ _ (t 1);
       parent_is = eqb-true _ _ (t 2);
       waited = t 3;
+      lock = lock_now v old;
       locked = some_is _ (lock_of v.locks old) (t 4);
       marked = t 5;
+      life = unwrap_or (known_in (lock_now v old).known (Life old)) 0;
       life_now = some_is 0 _ (t 6);
       odd = eqb-true _ _ (t 7);
       right_now = number_is _ _ (t 8);
@@ -278,26 +267,14 @@ abbrev pub unlink_left : ℕ → ℕ → ℕ → Step
 unlink_left parent old child = record {
   act = UnlinkLeft parent old child;
   tests = λ v. all_of (unlink_tests v parent old child) ∷ not (parent == (moving_now v).copy.slot) ∷ [];
-  met = λ v t. (
-    moving_now v,
-    lock_now v old,
-    life_under v old,
-    may_unlink v parent old child (t 0),
-    not_same parent (moving_now v).copy.slot (t 1),
-  );
+  met = λ v t. may_unlink v parent Left old child (not_same parent (moving_now v).copy.slot (t 1)) (t 0);
 }
 
 abbrev pub unlink_right : ℕ → ℕ → ℕ → Step
 unlink_right parent old child = record {
   act = UnlinkRight parent old child;
   tests = λ v. all_of (unlink_tests v parent old child) ∷ (parent == (moving_now v).copy.slot) ∷ [];
-  met = λ v t. (
-    moving_now v,
-    lock_now v old,
-    life_under v old,
-    may_unlink v parent old child (t 0),
-    eqb-true parent (moving_now v).copy.slot (t 1),
-  );
+  met = λ v t. may_unlink v parent Right old child (eqb-true parent (moving_now v).copy.slot (t 1)) (t 0);
 }
 
 -- Steps of slots that are used again: a retired slot becomes the spare or is freed, and so is a slot in hand.
@@ -322,7 +299,7 @@ raise_tests v slot number =
     (number == 2 * (unwrap_or (oldest_retired v).life 0 / 2 + 1)) ∷ []
 
 pub may_raise : (v : View) (slot number : ℕ) → all_of (raise_tests v slot number) ≡ true
-    → NeedsRaiseRetired v 0 (oldest_retired v) slot (unwrap_or (oldest_retired v).life 0) number
+    → NeedsRaiseRetired v 0 (oldest_retired v) slot number
 may_raise v slot number e =
     let t = passed (raise_tests v slot number) e in
     record {
@@ -330,6 +307,7 @@ may_raise v slot number e =
       unraised = false_is _ (t 1);
       unlocked = λ has. absurd (let q : None ≡ Some has.0 = sym (none_is (lock_of v.locks slot) (t 2)) ∙ has.1 in cc);
       waited = t 3;
+      life = unwrap_or (oldest_retired v).life 0;
       loaded = some_is 0 _ (t 4);
       next = eqb-true _ _ (t 5);
     }
@@ -354,10 +332,10 @@ raise_hand slot number = record {
       [];
   met = λ v t. (
     hand_now v,
-    unwrap_or (known_in (hand_now v).known (Life slot)) 0,
     record {
       in_hand = (some_is _ v.hands.hand (t 0), eqb-true _ _ (t 1));
       unraised = false_is _ (t 2);
+      life = unwrap_or (known_in (hand_now v).known (Life slot)) 0;
       loaded = some_is 0 _ (t 3);
       next = eqb-true _ _ (t 4);
     },
@@ -402,14 +380,14 @@ abbrev pub raise_to_spare : ℕ → ℕ → Step
 raise_to_spare slot number = record {
   act = RaiseToSpare slot number;
   tests = λ v. all_of (raise_tests v slot number) ∷ not (is_some v.hands.spare) ∷ [];
-  met = λ v t. (0, unwrap_or (oldest_retired v).life 0, oldest_retired v, may_raise v slot number (t 0), none_is v.hands.spare (t 1));
+  met = λ v t. (0, oldest_retired v, may_raise v slot number (t 0), none_is v.hands.spare (t 1));
 }
 
 abbrev pub raise_retired : ℕ → ℕ → Step
 raise_retired slot number = record {
   act = RaiseRetired slot number;
   tests = λ v. all_of (raise_tests v slot number) ∷ is_some v.hands.spare ∷ [];
-  met = λ v t. (0, unwrap_or (oldest_retired v).life 0, oldest_retired v, may_raise v slot number (t 0), some_not_none v.hands.spare (t 1));
+  met = λ v t. (0, oldest_retired v, may_raise v slot number (t 0), some_not_none v.hands.spare (t 1));
 }
 
 abbrev pub free_retired : ℕ → Step
@@ -427,17 +405,14 @@ mark_recorded slot life = record {
   act = Mark slot life;
   tests = λ v. all_of (mark_tests v slot life) ∷ not (is_empty v.records) ∷ is_recorded v slot ∷ not (slot == 0) ∷ not (is_some v.moving)
       ∷ [];
-  met = λ v t. (
-    lock_now v slot,
-    why_mark v slot life (t 0)
-        (inr (inr (record {
-          settled = none_is v.moving (t 4);
-          reading = reading_now v;
-          kept = (0, first_in _ v.records (t 1));
-          unmarked = recorded_is v slot (t 2);
-          some_slot = not_same slot 0 (t 3);
-        }))),
-  );
+  met = λ v t. why_mark v slot life (t 0)
+      (inr (inr (record {
+        settled = none_is v.moving (t 4);
+        reading = reading_now v;
+        kept = (0, first_in _ v.records (t 1));
+        unmarked = recorded_is v slot (t 2);
+        some_slot = not_same slot 0 (t 3);
+      })));
 }
 
 -- what is known of a slot's pair and links
@@ -477,27 +452,24 @@ rotate parent b node child top turning = record {
       all_of (known_tests (spare_of v).known top turning.child_key turning.child_value turning.turn turning.outer turning.bottom) ∷
       all_of (known_tests (hand_now v).known turning.bottom turning.node_key turning.node_value turning.turn turning.inner turning.far) ∷
       [];
-  met = λ v t. (
-    reading_now v,
-    spare_of v,
-    hand_now v,
-    turning,
-    record {
-      settled = none_is v.moving (t 0);
-      ticket = leb-true 1 v.allowance.tickets (t 1);
-      room = ltb-true _ _ (t 2);
-      kept = (0, first_in _ v.records (t 3));
-      parent_now = recorded_is v parent (t 4);
-      link_now = number_is _ _ (t 5);
-      node_marked = marked_node v node (t 6);
-      child_marked = marked_node v child (t 7);
-      node_is = known_as _ node _ _ turning.turn child _ (t 8);
-      child_is = known_as _ child _ _ turning.turn _ _ (t 9);
-      spare_is = (some_is _ v.hands.spare (t 10), eqb-true _ _ (t 11));
-      hand_is = (some_is _ v.hands.hand (t 12), eqb-true _ _ (t 13));
-      unraised = false_is _ (t 14);
-      top_is = known_as _ top _ _ turning.turn _ _ (t 15);
-      bottom_is = known_as _ turning.bottom _ _ turning.turn _ _ (t 16);
-    },
-  );
+  met = λ v t. record {
+    settled = none_is v.moving (t 0);
+    ticket = leb-true 1 v.allowance.tickets (t 1);
+    room = ltb-true _ _ (t 2);
+    reading = reading_now v;
+    kept = (0, first_in _ v.records (t 3));
+    parent_now = recorded_is v parent (t 4);
+    link_now = number_is _ _ (t 5);
+    node_marked = marked_node v node (t 6);
+    child_marked = marked_node v child (t 7);
+    turning = turning;
+    node_is = known_as _ node _ _ turning.turn child _ (t 8);
+    child_is = known_as _ child _ _ turning.turn _ _ (t 9);
+    spare_is = (some_is _ v.hands.spare (t 10), eqb-true _ _ (t 11));
+    lower = hand_now v;
+    hand_is = (some_is _ v.hands.hand (t 12), eqb-true _ _ (t 13));
+    unraised = false_is _ (t 14);
+    top_is = known_as _ top _ _ turning.turn _ _ (t 15);
+    bottom_is = known_as _ turning.bottom _ _ turning.turn _ _ (t 16);
+  };
 }

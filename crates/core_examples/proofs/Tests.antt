@@ -1,6 +1,5 @@
 -- States of a run, what a view has there, at which words a wait looks; and tests by computing of what a step needs.
 use Rattle.std.proofs.Common.{ℕ, false, List, [], ◌∷◌, None, unwrap_or, zero, suc, ◌+◌, ◌-◌, ◌*◌, ◌++◌, set, ◌≡◌, ◌≢◌, ◌⊎◌, ◌==◌, ◌&&◌, ◌||◌, nat_lt, not, Bool, true, Option, Some, refl, sym, ap, ◌∙◌, ⊎_elim, inl, inr, eq-eqb, ◌/◌}
-use Rattle.core_state.specs.declared.view.Clocked.{Clocked}
 use Rattle.core_state.specs.declared.view.Held.{Held}
 use Rattle.core_state.specs.declared.view.HeldLock.{HeldLock}
 use Rattle.core_state.specs.declared.view.Move.{Move}
@@ -37,14 +36,11 @@ use Rattle.core_state.specs.declared.view.Walk.{Walk}
 use Rattle.core_state.specs.declared.words.Field.TheVariants as word
 use Rattle.core_state.specs.declared.act.Part.TheVariants as part
 
--- What a view of a run has, beside what is open: the clock it loaded, what it holds, its lock of a slot, its latest record, its move.
+-- What a view of a run has, beside what is open: what it holds, its lock of a slot, its latest record, its move.
 
 abbrev pub first_of : {A : Type 0} → A → List A → A
 first_of other [] = other
 first_of other (x ∷ xs) = x
-
-abbrev pub clock_now : View → Clocked
-clock_now v = unwrap_or v.enter.clock (record { number = 0; at = 0 })
 
 abbrev pub hand_now : View → Held
 hand_now v = unwrap_or v.hands.hand (unknown_slot 0)

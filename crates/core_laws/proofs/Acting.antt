@@ -1,6 +1,6 @@
 -- What is shown of all acts, by cases: which marks an act leaves, what the view has seen after it, which acts leave an open section alone,
 -- what none of them changes, and that an act may be noted in the trail before it or after it.
-use Rattle.std.proofs.Common.{inl, inr, ◌⊎◌, ◌≡◌, ◌≢◌, ◌<◌, ◌&&◌, true, false, Option, Some, None, sym, ap, subst, ◌∙◌, ℕ, ◌+◌, ◌-◌, ◌==◌, cond, Bool, List, [], ◌∷◌, ◌++◌, refl, ne_eqb, append-nil, unwrap_or}
+use Rattle.std.proofs.Common.{inl, inr, ◌⊎◌, ◌≡◌, ◌≢◌, ◌<◌, ◌≤◌, ◌&&◌, true, false, Option, Some, None, sym, ap, subst, ◌∙◌, ℕ, ◌+◌, ◌-◌, ◌==◌, cond, Bool, List, [], ◌∷◌, ◌++◌, refl, ne_eqb, append-nil, unwrap_or}
 use Rattle.std.proofs.lemmas.Bool.{lt-ltb, and_from}
 use Rattle.prcu_marks.specs.declared.mark.Mark.{Mark}
 use Rattle.prcu_marks.specs.declared.mark.Mark.TheVariants.{Entered, Left as LeftMark, Began, Ended, Given, Unlinked}
@@ -20,13 +20,17 @@ use Rattle.core_state.specs.declared.view.Section.{Section}
 use Rattle.core_state.specs.declared.view.View.{View}
 use Rattle.core_state.specs.declared.view.Waiting.{Waiting}
 use Rattle.core_state.specs.Memory.{same_waiter, is_field, slot_count}
-use Rattle.core_state.specs.Steps.{stepped, unknown_slot, gated, excuses, ending, with_excused, after_look, look_marks, done_by, after_lock, with_front}
+use Rattle.core_state.specs.Steps.{stepped, unknown_slot, NeedsLeaveByStamp, gated, excuses, ending, with_excused, after_look, look_marks, done_by, after_lock, with_front, NeedsSearchLoad, IsSpot, spot_seen, NeedsListLoad, NeedsFrontLook, new_listing}
 use Rattle.core_state.specs.declared.act.Part.{Part}
 use Rattle.core_state.specs.declared.act.Part.TheVariants as part
 use Rattle.core_state.specs.declared.act.Act.{Act}
 use Rattle.core_state.specs.declared.act.Act.TheVariants.{EnterByStamp, LeaveByStamp, BeginWait, LookKey, LookStamp, Reserve, Seize, RaiseToSpare, Lock, FreeInHand, FreeRetired, SearchLoad, ListLoad, OpenCommit, LinkLeaf, Bypass, LinkCopy, UnlinkLeft, UnlinkRight, LoadGate, EnterByCount, LeaveByCount, LookCount, EnterByRow, LeaveByRow, LookRow, ReplaceValue, LookAtFront, Rotate}
-use Rattle.core_state.specs.Acts.{in_slot, IsWord, clocked_at, some_section, section_of, some_wait, wait_of, commit_of, spare_of, after, marks_of}
-use Rattle.core_state.specs.Links.{after_reserve, reserving, with_free, after_seize}
+use Rattle.core_state.specs.Acts.{in_slot, IsWord, clocked_of, some_section, section_of, some_wait, wait_of, commit_of, spare_of, after, marks_of, MayLook, listing_of}
+use Rattle.core_state.specs.Links.{after_reserve, reserving, with_free, after_seize, HasCommit}
+use Rattle.core_state.specs.Views.{IsLoadable}
+use Rattle.list_laws.specs.Counts.{IsIn}
+use Rattle.core_state.specs.declared.view.Listing.{Listing}
+use Rattle.core_state.specs.declared.view.Visit.{Visit}
 
 -- The table has the words of which a law says so by a test.
 pub has_word : (k : Shape) (field : Field) → IsWord k field → is_field k field ≡ true
@@ -60,8 +64,48 @@ commit_is v commit is = ap (λ o. unwrap_or o (record { found = 0; stored = fals
 pub spare_is : (v : View) (held : Held) → v.hands.spare ≡ Some held → spare_of v ≡ held
 spare_is v held is = ap (λ o. unwrap_or o (unknown_slot 0)) is
 
-pub clocked_is : (v : View) (clocked : Clocked) → v.enter.clock ≡ Some clocked → clocked_at v ≡ clocked.at
-clocked_is v clocked is = ap (λ (o : Option Clocked). (unwrap_or o (record { number = 0; at = 0 })).at) is
+pub clocked_is : (v : View) (clocked : Clocked) → v.enter.clock ≡ Some clocked → clocked_of v ≡ clocked
+clocked_is v clocked is = ap (λ o. unwrap_or o (record { number = 0; at = 0 })) is
+
+-- What is needed of what a view has open, from what is known of it.
+pub may_update : (v : View) {found : ℕ} → v.commit ≡ Some (record { found = found; stored = false }) → 1 ≤ v.allowance.tickets
+    → HasCommit v (commit_of v)
+may_update v {found} is ticket = subst (HasCommit v) (sym (commit_is v (record { found = found; stored = false }) is))
+    (record { commit_is = is; unmade = refl; ticket = ticket })
+
+pub part_loadable : (s : ℕ) (p : Part) → IsLoadable s (in_slot s p)
+part_loadable s part.Life = refl
+part_loadable s part.Key = refl
+part_loadable s part.Value = refl
+part_loadable s (part.Link b) = refl
+part_loadable s (part.Tag b) = refl
+
+pub may_search : (v : View) {section : Section} (s : ℕ) (p : Part) → v.section ≡ Some section → section.listing ≡ None
+    → IsIn section.reading.stood s → NeedsSearchLoad v (section_of v) s (in_slot s p)
+may_search v {section} s p is searches stood = subst (λ x. NeedsSearchLoad v x s (in_slot s p)) (sym (section_is v section is))
+    (record { section_is = is; searches = searches; stood = stood; loadable = part_loadable s p })
+
+pub may_list : (v : View) {section : Section} {listing : Listing} (s : ℕ) (p : Part) → v.section ≡ Some section
+    → section.listing ≡ Some listing → (s ≡ 0) ⊎ ((t : Visit) × IsIn listing.visits t × (t.slot ≡ s)) → IsLoadable s (in_slot s p)
+    → NeedsListLoad v (section_of v) (listing_of (section_of v)) s (in_slot s p)
+may_list v {section} {listing} s p is lists been loadable =
+    subst (λ x. NeedsListLoad v x (listing_of x) s (in_slot s p)) (sym (section_is v section is))
+    (subst (λ x. NeedsListLoad v section x s (in_slot s p)) (sym (ap (λ o. unwrap_or o (new_listing 0)) lists))
+    (record { section_is = is; lists = lists; been = been; loadable = loadable }))
+
+pub may_look_at_front : (v : View) {section : Section} → v.section ≡ Some section → section.reading.loads ≡ []
+    → NeedsFrontLook v (section_of v)
+may_look_at_front v {section} is first = subst (NeedsFrontLook v) (sym (section_is v section is))
+    (record { section_is = is; first = first })
+
+pub may_leave : (v : View) {section : Section} → v.section ≡ Some section → NeedsLeaveByStamp v (section_of v)
+may_leave v {section} is = is ∙ ap Some (sym (section_is v section is))
+
+pub may_look : (k : Shape) (v : View) {wait : Waiting} {field : Field} {last : Bool} → v.wait ≡ Some wait → wait.ended ≡ false
+    → (last ≡ true → (other : Field) → IsSpot k wait other → IsIn (spot_seen field ∷ wait.excused) other)
+    → MayLook k v (wait_of v) field last
+may_look k v {wait} {field} {last} is going rest = subst (λ x. MayLook k v x field last) (sym (wait_is v wait is))
+    (record { wait_is = is; going = going; rest = rest })
 
 -- ---- words
 

@@ -32,7 +32,6 @@ use Rattle.core_frames.proofs.WholeFrames.{Stepper, StepKeeps, waited_early, wai
 use Rattle.core_frames.proofs.WaitFrames.{retired_still, grace_frame_by}
 use Rattle.prcu_marks.specs.declared.commit.Commit.{Commit}
 use Rattle.core_state.specs.declared.view.Held.{Held}
-use Rattle.core_state.specs.declared.view.Reading.{Reading}
 
 -- The link of a copy: the parts on the tree: shape, map and pending moves.
 
@@ -41,7 +40,7 @@ module _ (z : CopyStep) where
   open copied z use {new, to, w, us, hs}
 
   abbrev pub move_now : Move
-  move_now = new_move z.held z.r.key z.next_key z.d z.u z.q (length h)
+  move_now = new_move z.held z.needs.reading.key z.next_key z.d z.u z.q (length h)
 
   -- where the parent of the old successor stands
   record HangsFrom : Type 0 where
@@ -52,20 +51,20 @@ module _ (z : CopyStep) where
 
   up_is : HangsFrom
   up_is = ⊎_elim
-      (λ (e : (z.q ≡ z.d) × (z.right ≡ z.u)).
+      (λ (e : (z.q ≡ z.d) × (z.needs.right ≡ z.u)).
       (let i = inv.tree.shape.below z.d z.u Right (node_marked (deletion z)).0 (right_is (deletion z) ∙ e.1) (old_some z) in record {
         parent = i.up ∙ sym e.0;
         on = i.side ∙ ap (λ t. cond t Right Left) (sym (eq-eqb z.q z.d e.0));
         apart = λ f. node_not_copy z (sym e.0 ∙ f);
         locked = subst (HasLock v) (sym e.0) (node_lock (deletion z));
       }))
-      (λ (e : (z.q ≢ z.d) × ((generation : ℕ) × LoadedGeneration z.r z.q generation
+      (λ (e : (z.q ≢ z.d) × ((generation : ℕ) × LoadedGeneration z.needs.reading z.q generation
       × (loaded_in (known_under v z.q) (Life z.q) ≡ Some (2 * generation)))
       × (loaded_in (known_under v z.q) (Link z.q Left) ≡ Some z.u)).
       (let l = e.1 in
-      let a = alive k m vs h inv id v there z.r z.q l.0 (kept (deletion z)) l.1
+      let a = alive k m vs h inv id v there z.needs.reading z.q l.0 (kept (deletion z)) l.1
       (loaded_known (known_under v z.q) (Life z.q) (2 * l.0) l.2) in
-      let link = alive_field k m vs h inv id v there z.r z.q (kept (deletion z)) a (Link z.q Left) z.u
+      let link = alive_field k m vs h inv id v there z.needs.reading z.q (kept (deletion z)) a (Link z.q Left) z.u
       (loaded_known (known_under v z.q) (Link z.q Left) z.u e.2) in
       let i = inv.tree.shape.below z.q z.u Left a.on link (old_some z) in
       record {
@@ -106,7 +105,7 @@ module _ (z : CopyStep) where
       let a = old_alive z in
       let l = still_locked z z.u (old_lock z) in
       record {
-        reading = z.r;
+        reading = z.needs.reading;
         generation = a.generation;
         lock = l.0;
         kept = z.needs.records.records.kept;
@@ -182,7 +181,8 @@ module _ (z : CopyStep) where
       (λ i x ne f g. inr (ne, f)) j u e is
 
   pub copy_map_after : HoldsMap new to (map_now hs)
-  copy_map_after = subst (HoldsMap new to) (sym (delete_map h v.allowance.place z.r.key z.d (m (Key z.d)) (node_key (deletion z))))
+  copy_map_after = subst (HoldsMap new to)
+      (sym (delete_map h v.allowance.place z.needs.reading.key z.d (m (Key z.d)) (node_key (deletion z))))
       (copy_map (copy_link z) (map_now h) inv.tree.map)
 
   pub copy_moves : AreMoving new to hs us
@@ -308,7 +308,7 @@ module _ (z : CopyStep) where
   move_waited : IsWaitedMove us hs v.allowance.place (move_now z)
   move_waited = record {
     shown = λ e. absurd (cc);
-    noted = λ has. absurd (waited_early v.allowance.place h hs step.plain v.allowance.place (length h) (z.r.key + 1) z.next_key
+    noted = λ has. absurd (waited_early v.allowance.place h hs step.plain v.allowance.place (length h) (z.needs.reading.key + 1) z.next_key
         (omega arith) has);
     clear = λ e. absurd (cc);
   }
@@ -336,27 +336,25 @@ module _ (z : CopyStep) where
     grace = grace;
   })
 
-pub keeps_copy_link : (z : Stepper) (commit : Commit) (r : Reading) (held : Held) (p : ℕ) (b : Side) (d c u q left right next_key value : ℕ)
-    → NeedsCopyLink z.k.room z.v commit r held p b d c u q left right next_key value
-    → StepKeeps z (Link p b) c (after_copy_link z.v commit held p b d u q r.key next_key z.h) (done_by z.v (Del r.key) ∷ Unlinked d ∷ [])
-keeps_copy_link z commit r held p b d c u q left right next_key value needs =
-    subst (λ x. NeedsCopyLink z.k.room z.v commit r held p b d x u q left right next_key value
-    → StepKeeps z (Link p b) x (after_copy_link z.v commit held p b d u q r.key next_key z.h) (done_by z.v (Del r.key) ∷ Unlinked d ∷ []))
+pub keeps_copy_link : (z : Stepper) (commit : Commit) (held : Held) (p : ℕ) (b : Side) (d c u q key next_key : ℕ)
+    → NeedsCopyLink z.k.room z.v commit held p b d c u q key next_key
+    → StepKeeps z (Link p b) c (after_copy_link z.v commit held p b d u q key next_key z.h) (done_by z.v (Del key) ∷ Unlinked d ∷ [])
+keeps_copy_link z commit held p b d c u q key next_key needs =
+    subst (λ x. NeedsCopyLink z.k.room z.v commit held p b d x u q key next_key
+    → StepKeeps z (Link p b) x (after_copy_link z.v commit held p b d u q key next_key z.h) (done_by z.v (Del key) ∷ Unlinked d ∷ []))
     needs.spare_is.1
-    (λ same. copy_kept (record {
+    (λ same. subst (λ y. StepKeeps z (Link p b) held.slot (after_copy_link z.v commit held p b d u q y next_key z.h)
+    (done_by z.v (Del y) ∷ Unlinked d ∷ [])) same.sought (copy_kept (record {
       who = z;
       commit = commit;
-      r = r;
       held = held;
       p = p;
       b = b;
       d = d;
       u = u;
       q = q;
-      left = left;
-      right = right;
+      key = key;
       next_key = next_key;
-      value = value;
       needs = same;
-    }))
+    })))
     needs

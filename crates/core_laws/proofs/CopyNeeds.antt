@@ -51,21 +51,18 @@ use Rattle.std.specs.FinMap as finite
 pub record CopyStep : Type 0 where
   pub who : Stepper
   pub commit : Commit
-  pub r : Reading
   pub held : Held
   pub p : ℕ
   pub b : Side
   pub d : ℕ
   pub u : ℕ
   pub q : ℕ
-  pub left : ℕ
-  pub right : ℕ
+  pub key : ℕ
   pub next_key : ℕ
-  pub value : ℕ
-  pub needs : NeedsCopyLink who.k.room who.v commit r held p b d held.slot u q left right next_key value
+  pub needs : NeedsCopyLink who.k.room who.v commit held p b d held.slot u q key next_key
 
 abbrev pub update_of : CopyStep → Update
-update_of z = delete_update z.who.h z.who.v.allowance.place z.r.key z.d
+update_of z = delete_update z.who.h z.who.v.allowance.place z.needs.reading.key z.d
 
 module _ (z : CopyStep) where
   open z use {who.{k, m, vs, h, id, v, there, inv, inv.{chart as g}}, held.{slot as c}}
@@ -74,21 +71,21 @@ module _ (z : CopyStep) where
   deletion = record {
     who = z.who;
     commit = z.commit;
-    r = z.r;
+    r = z.needs.reading;
     p = z.p;
     b = z.b;
     d = z.d;
-    left = z.left;
-    right = z.right;
+    left = z.needs.left;
+    right = z.needs.right;
     has_commit = z.needs.has_commit;
     records = z.needs.records.records;
     marked = z.needs.marked;
   }
 
-  is_record : IsRecord m g vs z.r
-  is_record = let has = z.needs.records.records.kept in inv.readers.records id v there has.0 z.r has.1
+  is_record : IsRecord m g vs z.needs.reading
+  is_record = let has = z.needs.records.records.kept in inv.readers.records id v there has.0 z.needs.reading has.1
 
-  node_still : IsStillLinked m g z.r z.d
+  node_still : IsStillLinked m g z.needs.reading z.d
   node_still = record {
     linked = (node_marked deletion).0;
     generation = z.needs.marked.generation;
@@ -97,12 +94,12 @@ module _ (z : CopyStep) where
   }
 
   -- the old successor
-  pub old_alive : IsAlive k m vs h inv id v there z.r z.u
+  pub old_alive : IsAlive k m vs h inv id v there z.needs.reading z.u
   old_alive = let e = z.needs.records.old_life in
-      alive k m vs h inv id v there z.r z.u e.0 (kept deletion) e.1 (loaded_known (known_under v z.u) (Life z.u) (2 * e.0) e.2)
+      alive k m vs h inv id v there z.needs.reading z.u e.0 (kept deletion) e.1 (loaded_known (known_under v z.u) (Life z.u) (2 * e.0) e.2)
 
   old_field : (field : Field) (number : ℕ) → known_in (known_under v z.u) field ≡ Some number → m field ≡ number
-  old_field field number known = alive_field k m vs h inv id v there z.r z.u (kept deletion) old_alive field number known
+  old_field field number known = alive_field k m vs h inv id v there z.needs.reading z.u (kept deletion) old_alive field number known
 
   pub old_left : m (Link z.u Left) ≡ 0
   old_left = old_field (Link z.u Left) 0 (loaded_known (known_under v z.u) (Link z.u Left) 0 z.needs.records.old_left)
@@ -110,8 +107,8 @@ module _ (z : CopyStep) where
   pub old_key : m (Key z.u) ≡ z.next_key
   old_key = old_field (Key z.u) z.next_key z.needs.old_key
 
-  pub old_value : m (Value z.u) ≡ z.value
-  old_value = old_field (Value z.u) z.value z.needs.old_value
+  pub old_value : m (Value z.u) ≡ z.needs.value
+  old_value = old_field (Value z.u) z.needs.value z.needs.old_value
 
   pub old_lock : HasLock v z.u
   old_lock = (old_alive.lock, old_alive.locked)
@@ -192,9 +189,9 @@ module _ (z : CopyStep) where
     next_low = old_low;
     next_left = old_left;
     key = (spare_known (Key c) z.next_key z.needs.key_is).1 ∙ sym old_key;
-    value = (spare_known (Value c) z.value z.needs.value_is).1 ∙ sym old_value;
-    left = (spare_known (Link c Left) z.left z.needs.left_is).1 ∙ sym (left_is deletion);
-    right = (spare_known (Link c Right) z.right z.needs.right_is).1 ∙ sym (right_is deletion);
+    value = (spare_known (Value c) z.needs.value z.needs.value_is).1 ∙ sym old_value;
+    left = (spare_known (Link c Left) z.needs.left z.needs.left_is).1 ∙ sym (left_is deletion);
+    right = (spare_known (Link c Right) z.needs.right z.needs.right_is).1 ∙ sym (right_is deletion);
     single = single deletion;
   }
 
@@ -216,9 +213,9 @@ copied z = record {
   n = slot_count z.who.k;
   new = stored z.who.m (Link z.p z.b) z.held.slot;
   to = (after_copy (copy_link z)).to;
-  w = after_copy_link z.who.v z.commit z.held z.p z.b z.d z.u z.q z.r.key z.next_key z.who.h;
-  us = set z.who.vs z.who.id (after_copy_link z.who.v z.commit z.held z.p z.b z.d z.u z.q z.r.key z.next_key z.who.h);
-  hs = both_marks z.who.h z.who.v.allowance.place z.r.key z.d;
+  w = after_copy_link z.who.v z.commit z.held z.p z.b z.d z.u z.q z.needs.reading.key z.next_key z.who.h;
+  us = set z.who.vs z.who.id (after_copy_link z.who.v z.commit z.held z.p z.b z.d z.u z.q z.needs.reading.key z.next_key z.who.h);
+  hs = both_marks z.who.h z.who.v.allowance.place z.needs.reading.key z.d;
   gone = newly_retired z.who.v z.d (length z.who.h + 1);
   known = record { field = Link z.p z.b; number = z.held.slot; stored = true };
 }
@@ -245,7 +242,7 @@ module _ (z : CopyStep) where
     records = refl;
     plain = delete_plain h (update_of z) z.d;
     marks = delete_marks h (update_of z) z.d k.places inv.marks.marks;
-    said = delete_said h v.allowance.place z.r.key z.d;
+    said = delete_said h v.allowance.place z.needs.reading.key z.d;
     gone_same = λ s some_slot. delete_gone_other h (update_of z) z.d s (λ e. some_node (deletion z) (sym e ∙ some_slot e));
     gone_now = λ _. (length h + 1, delete_gone_here h (update_of z) z.d, omega arith);
     odd = λ _. (node_marked (deletion z)).1;
@@ -339,7 +336,7 @@ module _ (z : CopyStep) where
     hand = λ x is. sym (hand_noted (copy_step z) known) ∙ is;
     spare = λ x is. absurd (let q : None ≡ Some x = is in cc);
     copy = λ move is.
-        (let e : new_move z.held z.r.key z.next_key z.d z.u z.q (length h) ≡ move = cc in
+        (let e : new_move z.held z.needs.reading.key z.next_key z.d z.u z.q (length h) ≡ move = cc in
         subst (λ (x : Move). IsHeldKnown new x.copy × IsEven (m (Life x.copy.slot))) e
         (spare_stays (copy_step z) id v z.held there z.needs.spare_is.0, copy_even z));
     spares = λ s has. (let a = spares_count w s in let b = spares_count v s in omega arith);
@@ -488,10 +485,10 @@ module _ (z : CopyStep) where
       (cases_eq s c))
 
   pub updates_longer : length (updates_of hs) ≡ length (updates_of h) + 1
-  updates_longer = delete_longer h v.allowance.place z.r.key z.d
+  updates_longer = delete_longer h v.allowance.place z.needs.reading.key z.d
 
   pairs_less : finite.len (map_of (updates_of hs)) ≡ finite.len (map_of (updates_of h)) - 1
-  pairs_less = delete_count h v.allowance.place z.r.key z.d (has_key (deletion z))
+  pairs_less = delete_count h v.allowance.place z.needs.reading.key z.d (has_key (deletion z))
 
   unraised_more : unraised_of w ≡ unraised_of v + 1
   unraised_more =
@@ -525,7 +522,7 @@ module _ (z : CopyStep) where
 
   pub copy_front : FrontParts new us hs
   copy_front = front_made m new vs id v w there h hs refl inv.front z.commit z.needs.has_commit refl updates_longer
-      (delete_legal h v.allowance.place z.r.key z.d (has_key (deletion z)) inv.front.legal)
+      (delete_legal h v.allowance.place z.needs.reading.key z.d (has_key (deletion z)) inv.front.legal)
 
 -- The link of a copy: the key of the copy is the next one in the dictionary above the key that is deleted.
 
@@ -538,7 +535,7 @@ value_of d key has = by_get (finite.get d key) refl
     by_get (Some value) e = (value, refl)
 
 module _ (z : CopyStep) where
-  open z use {who.{m, h, inv, inv.{chart as g}}, r, u, next_key}
+  open z use {who.{m, h, inv, inv.{chart as g}}, needs.{reading as r}, u, next_key}
 
   above : r.key < next_key
   above = let low = (next_keyed (copy_link z)).low in let base = old_low z in let key = node_key (deletion z) in let last = old_key z in
@@ -570,19 +567,18 @@ module _ (z : CopyStep) where
   }
 
 pub copy_next : CopiesHaveNextKeys
-copy_next k m vs h id v inv at works commit r held parent b node copy old old_parent left right next value needs = next_of (record {
-  who = record { k = k; m = m; vs = vs; h = h; id = id; v = v; inv = inv; there = at; works = works };
-  commit = commit;
-  r = r;
-  held = held;
-  p = parent;
-  b = b;
-  d = node;
-  u = old;
-  q = old_parent;
-  left = left;
-  right = right;
-  next_key = next;
-  value = value;
-  needs = subst (λ c. NeedsCopyLink k.room v commit r held parent b node c old old_parent left right next value) (sym needs.spare_is.1) needs;
-})
+copy_next k m vs h id v inv at works commit held parent b node copy old old_parent key next needs =
+    let step : CopyStep = record {
+      who = record { k = k; m = m; vs = vs; h = h; id = id; v = v; inv = inv; there = at; works = works };
+      commit = commit;
+      held = held;
+      p = parent;
+      b = b;
+      d = node;
+      u = old;
+      q = old_parent;
+      key = key;
+      next_key = next;
+      needs = subst (λ c. NeedsCopyLink k.room v commit held parent b node c old old_parent key next) (sym needs.spare_is.1) needs;
+    } in
+    subst (λ x. IsNextKey (map_of (updates_of h)) x next) step.needs.sought (next_of step)

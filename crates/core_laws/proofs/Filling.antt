@@ -273,15 +273,15 @@ module _ (k : Shape) (m : Memory) (vs : List View) (h : List Mark) (id : ℕ) (v
       (let a = note_option-unraised s known v.hands.hand in omega arith)
 
   -- the life of the slot in hand
-  pub life_filled : (held : Held) (life number : ℕ) → NeedsRaiseInHand v held held.slot life number
+  pub life_filled : (held : Held) (number : ℕ) → NeedsRaiseInHand v held held.slot number
       → IsKept k m h (stored m (Life held.slot) number) (set vs id (after_raise_in_hand v held.slot number)) (h ++ [])
-  life_filled held life number needs =
+  life_filled held number needs =
       let s = held.slot in
       let known : Known = record { field = Life held.slot; number = number; stored = true } in
       let in_hand = needs.in_hand.0 in
       let role = held_role held (inl in_hand) in
       let now = stored_here m (Life s) number in
-      let life_is : m (Life s) ≡ life = (((inv.slots.hands id v there).hand held in_hand).0 (Life s) life needs.loaded).1 in
+      let life_is : m (Life s) ≡ needs.life = (((inv.slots.hands id v there).hand held in_hand).0 (Life s) needs.life needs.loaded).1 in
       let even = role.1 in
       let next = needs.next in
       let fill : Fill = record {

@@ -23,7 +23,6 @@ use Rattle.list_laws.specs.Counts.{Each}
 use Rattle.core_state.specs.Steps.{NeedsOpenCommit, with_front, NeedsCloseCommit, after_close_commit, after_open_commit, NeedsGiveFrontBack}
 use Rattle.list_laws.proofs.Lists.{each_set, only_here}
 use Rattle.core_frames.specs.Laws.{IsKept}
-use Rattle.core_state.specs.declared.words.Kind.TheVariants.{K19, K24, K39, K10, K16}
 use Rattle.core_state.specs.Links.{NeedsReserve, NeedsCountFree, after_count_free, after_reserve, reserving, with_free}
 
 module _ (k : Shape) (m m' : Memory) (vs : List View) (h : List Mark) (id : ℕ) (v : View) (i : HoldsNow k m vs h)
@@ -75,9 +74,9 @@ module _ (k : Shape) (m : Memory) (vs : List View) (h : List Mark) (id : ℕ) (v
   abbrev odd_view : ℕ → View
   odd_view expected = record (with_front v (expected + 1)) { commit = Some (record { found = expected; stored = false }) }
 
-  turned19 : (expected : ℕ) → NeedsOpenCommit v expected → m Front ≡ expected
+  opened_at : (expected : ℕ) → NeedsOpenCommit v expected → m Front ≡ expected
       → FrontParts (stored m Front (expected + 1)) (set vs id (odd_view expected)) h
-  turned19 expected needs is =
+  opened_at expected needs is =
       let w : View = odd_view expected in
       record {
         turned = ⊎_elim
@@ -98,15 +97,15 @@ module _ (k : Shape) (m : Memory) (vs : List View) (h : List Mark) (id : ℕ) (v
       made_even commit = elim commit.stored as (λ b. (commit.found + cond b 2 0 ≡ commit.found)
           ⊎ (commit.found + cond b 2 0 ≡ commit.found + 2)) [ true ↦ inr refl | false ↦ inl (omega arith) ]
 
-  law19 : (expected : ℕ) → NeedsOpenCommit v expected → m Front ≡ expected
+  opened_law : (expected : ℕ) → NeedsOpenCommit v expected → m Front ≡ expected
       → HoldsNow k (stored m Front (expected + 1)) (set vs id (odd_view expected)) h
-  law19 expected needs is =
+  opened_law expected needs is =
       let m' : Memory = stored m Front (expected + 1) in
       let w : View = odd_view expected in
       number_law k m m' vs h id v i there works v.allowance.tickets v.hands.reserved v.hands.owes w.commit w.latest v.seen
       (slots_stay m m' refl) refl refl (inr refl) (i.slots.few id v there).one
       (numbers_stay m m' (numbers_of v) (numbers_of v) refl refl refl)
-      (turned19 expected needs is)
+      (opened_at expected needs is)
 
   -- the front is made even again, as twice the number of updates
   even_again : (front : ℕ) (commit : Commit) → v.commit ≡ Some commit → updates_by commit ≡ front
@@ -126,12 +125,12 @@ module _ (k : Shape) (m : Memory) (vs : List View) (h : List Mark) (id : ℕ) (v
       })
 
   -- K24: after the update
-  law24 : (front : ℕ) → NeedsCloseCommit v front → HoldsNow k (stored m Front front) (set vs id (after_close_commit v front)) h
-  law24 front needs = even_again front (record { found = needs.0; stored = true }) needs.1 (sym needs.2)
+  closed_law : (front : ℕ) → NeedsCloseCommit v front → HoldsNow k (stored m Front front) (set vs id (after_close_commit v front)) h
+  closed_law front needs = even_again front (record { found = needs.0; stored = true }) needs.1 (sym needs.2)
 
   -- K39: without an update
-  law39 : (front : ℕ) → NeedsGiveFrontBack v front → HoldsNow k (stored m Front front) (set vs id (after_close_commit v front)) h
-  law39 front needs = even_again front (record { found = front; stored = false }) needs (omega arith)
+  given_back_law : (front : ℕ) → NeedsGiveFrontBack v front → HoldsNow k (stored m Front front) (set vs id (after_close_commit v front)) h
+  given_back_law front needs = even_again front (record { found = front; stored = false }) needs (omega arith)
 
   -- an exchange of the front, by its test
   turns_odd : (expected : ℕ) (hit : Bool) → NeedsOpenCommit v expected → (m Front == expected) ≡ hit
@@ -139,7 +138,7 @@ module _ (k : Shape) (m : Memory) (vs : List View) (h : List Mark) (id : ℕ) (v
       (set vs id (cond hit (odd_view expected) (with_front v (m Front)))) h
   turns_odd expected true needs hit =
       let m' : Memory = stored m Front (expected + 1) in
-      kept k m m' h (set vs id (odd_view expected)) h (slots_stay m m' refl) (law19 expected needs (eqb-true (m Front) expected hit))
+      kept k m m' h (set vs id (odd_view expected)) h (slots_stay m m' refl) (opened_law expected needs (eqb-true (m Front) expected hit))
   turns_odd expected false needs hit = only_loaded k m h Front (set vs id (with_front v (m Front))) h
       (seen_law k m vs h id v i there works (record v.latest { front = Some (m Front) }) v.seen (inr refl))
 
@@ -154,25 +153,25 @@ module _ (z : Stepper) where
 
   pub keeps_close_commit : (front : ℕ) → NeedsCloseCommit v front → StepKeeps z Front front (after_close_commit v front) []
   keeps_close_commit front needs = by_quiet_store z Front front (after_close_commit v front) (slots_stay m (stored m Front front) refl)
-      (law24 k m vs h id v inv there works front needs)
+      (closed_law k m vs h id v inv there works front needs)
 
   pub keeps_give_front_back : (front : ℕ) → NeedsGiveFrontBack v front → StepKeeps z Front front (after_close_commit v front) []
   keeps_give_front_back front needs = by_quiet_store z Front front (after_close_commit v front) (slots_stay m (stored m Front front) refl)
-      (law39 k m vs h id v inv there works front needs)
+      (given_back_law k m vs h id v inv there works front needs)
 
 -- The steps on the free count keep the invariant: K10 and K16.
 
 module _ (k : Shape) (m : Memory) (vs : List View) (h : List Mark) (id : ℕ) (v : View) (i : HoldsNow k m vs h)
     (there : get_elem? vs id ≡ some v) (works : Works v) where
   -- K10: a slot is reserved
-  law10 : (expected : ℕ) (latest : Latest) → NeedsReserve v expected → m Free ≡ expected
+  reserved_law : (expected : ℕ) (latest : Latest) → NeedsReserve v expected → m Free ≡ expected
       → HoldsNow k (stored m Free (expected - 1)) (set vs id
       (record v {
         allowance = record v.allowance { tickets = v.allowance.tickets - 1 };
         hands = record v.hands { reserved = true };
         latest = latest;
       })) h
-  law10 expected latest needs is =
+  reserved_law expected latest needs is =
       let m' : Memory = stored m Free (expected - 1) in
       let some = needs.some in
       let ticket = needs.ticket in
@@ -189,8 +188,8 @@ module _ (k : Shape) (m : Memory) (vs : List View) (h : List Mark) (id : ℕ) (v
       })
 
   -- K16: a slot that was freed is counted
-  law16 : (n : ℕ) → m Free ≡ n → NeedsCountFree v → HoldsNow k (stored m Free (n + 1)) (set vs id (after_count_free v n)) h
-  law16 n is needs =
+  counted_law : (n : ℕ) → m Free ≡ n → NeedsCountFree v → HoldsNow k (stored m Free (n + 1)) (set vs id (after_count_free v n)) h
+  counted_law n is needs =
       let m' : Memory = stored m Free (n + 1) in
       let owed = ap flag needs in
       free_law k m m' vs h id v i there works v.allowance.tickets v.hands.reserved false v.commit (after_count_free v n).latest v.seen
@@ -212,7 +211,7 @@ module _ (k : Shape) (m : Memory) (vs : List View) (h : List Mark) (id : ℕ) (v
   reserves expected true none needs hit =
       let m' : Memory = stored m Free (expected - 1) in
       kept k m m' h (set vs id (reserving (with_free v (expected - 1)))) h (slots_stay m m' refl)
-      (law10 expected (record v.latest { free = Some (expected - 1) }) needs (eqb-true (m Free) expected hit))
+      (reserved_law expected (record v.latest { free = Some (expected - 1) }) needs (eqb-true (m Free) expected hit))
   reserves expected false true needs hit = only_loaded k m h Free (set vs id (record (with_free v 0) { seen = h })) h
       (seen_law k m vs h id v i there works (record v.latest { free = Some 0 }) h (inl refl))
   reserves expected false false needs hit = only_loaded k m h Free (set vs id (with_free v (m Free))) h
@@ -229,4 +228,4 @@ module _ (z : Stepper) where
 
   pub keeps_count_free : NeedsCountFree v → StepKeeps z Free (m Free + 1) (after_count_free v (m Free)) []
   keeps_count_free needs = by_quiet_store z Free (m Free + 1) (after_count_free v (m Free))
-      (slots_stay m (stored m Free (m Free + 1)) refl) (law16 k m vs h id v inv there works (m Free) refl needs)
+      (slots_stay m (stored m Free (m Free + 1)) refl) (counted_law k m vs h id v inv there works (m Free) refl needs)

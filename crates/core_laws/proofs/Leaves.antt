@@ -258,16 +258,12 @@ module _ (h : List Mark) (caller key value : ℕ) where
 pub record LeafLink : Type 0 where
   pub who : Stepper
   pub commit : Commit
-  pub r : Reading
-  pub lock : HeldLock
-  pub held : Held
   pub slot : ℕ
   pub b : Side
   pub leaf : ℕ
+  pub key : ℕ
   pub value : ℕ
-  pub generation : ℕ
-  pub tag : ℕ
-  pub needs : NeedsLeafLink who.v commit r lock held slot b leaf value generation tag
+  pub needs : NeedsLeafLink who.v commit slot b leaf key value
 
 -- What it leaves, by short names. The view is as if neither the spare nor a copy were the slot.
 abbrev pub leafed : (z : LeafLink) → record {
@@ -283,15 +279,15 @@ leafed z = record {
   n = slot_count z.who.k;
   new = stored z.who.m (Link z.slot z.b) z.leaf;
   to = leaf_linked z.who.m z.who.inv.chart z.slot z.b z.leaf;
-  hs = put_marks z.who.h z.who.v.allowance.place z.r.key z.value;
+  hs = put_marks z.who.h z.who.v.allowance.place z.needs.reading.key z.value;
   entry = record { field = Link z.slot z.b; number = z.leaf; stored = true };
-  new_lock = note_lock (record { field = Link z.slot z.b; number = z.leaf; stored = true }) z.lock;
+  new_lock = note_lock (record { field = Link z.slot z.b; number = z.leaf; stored = true }) z.needs.lock;
   w = record z.who.v {
     allowance = record z.who.v.allowance { tickets = z.who.v.allowance.tickets - 1 };
     locks = change_lock z.slot (note_lock (record { field = Link z.slot z.b; number = z.leaf; stored = true })) z.who.v.locks;
     hands = record z.who.v.hands { hand = None };
     commit = Some (record z.commit { stored = true });
-    seen = put_marks z.who.h z.who.v.allowance.place z.r.key z.value;
+    seen = put_marks z.who.h z.who.v.allowance.place z.needs.reading.key z.value;
   };
 }
 
@@ -299,16 +295,12 @@ module _ (z : LeafLink) where
   open z use {
     who.{k, m, vs, h, id, v, inv as i, there, inv.{chart as g}},
     commit,
-    r,
-    lock,
-    held,
     slot,
     b,
     leaf,
     value,
-    generation,
-    tag,
     needs,
+    needs.{reading as r, lock, held, generation, tag},
   }
   open leafed z use {n, new, to, w}
 
@@ -442,7 +434,7 @@ module _ (z : LeafLink) where
       absurd (let q : None ≡ Some move = sym settled ∙ ap (λ (z : View). z.moving) (sym v_is) ∙ is in cc)
 
 module _ (z : LeafLink) where
-  open z use {who.{k, m, vs, h, id, v, inv as i, inv.{chart as g}}, r, slot, b, leaf, value}
+  open z use {who.{k, m, vs, h, id, v, inv as i, inv.{chart as g}}, needs.{reading as r}, slot, b, leaf, value}
   open leafed z use {n, new, to, hs, w}
 
   abbrev pub leaf_step : LinkStep
@@ -473,7 +465,7 @@ module _ (z : LeafLink) where
 -- What the link of a leaf makes of locks and of slots.
 
 module _ (z : LeafLink) where
-  open z use {who.{m, vs, h, id, v, inv as i, there, inv.{chart as g}}, r, lock, slot, b, leaf, value}
+  open z use {who.{m, vs, h, id, v, inv as i, there, inv.{chart as g}}, needs.{reading as r, lock}, slot, b, leaf, value}
   open leafed z use {n, new, to, hs, entry, new_lock, w}
 
   pub words : (s : ℕ) (field : Field) → s ≢ slot → IsOwnField s field → new field ≡ m field
@@ -572,7 +564,7 @@ module _ (z : LeafLink) where
 -- The parts on counts and on the tree, after a leaf was linked.
 
 module _ (z : LeafLink) where
-  open z use {who.{k, m, vs, h, id, v, inv as i, there, inv.{chart as g}}, r, slot, b, leaf, value}
+  open z use {who.{k, m, vs, h, id, v, inv as i, there, inv.{chart as g}}, needs.{reading as r}, slot, b, leaf, value}
   open leafed z use {n, new, to, hs, entry, w}
 
   -- counts
@@ -675,7 +667,7 @@ module _ (z : LeafLink) where
 -- The link of a leaf, K20, keeps the invariant.
 
 module _ (z : LeafLink) where
-  open z use {who.{k, m, vs, h, id, v, inv as i, there, inv.{chart as g}}, commit, r, lock, slot, b, leaf, value}
+  open z use {who.{k, m, vs, h, id, v, inv as i, there, inv.{chart as g}}, commit, needs.{reading as r, lock}, slot, b, leaf, value}
   open leafed z use {n, new, to, hs, entry, new_lock, w}
 
   -- the view afterwards
@@ -724,21 +716,10 @@ module _ (z : LeafLink) where
   pub leaf_kept : IsKept k m h new (set vs id (after_leaf_link v commit slot b leaf r.key value h)) hs
   leaf_kept = subst (λ (y : View). IsKept k m h new (set vs id y) hs) (sym after_is) kept
 
-pub keeps_leaf_link : (z : Stepper) (commit : Commit) (r : Reading) (lock : HeldLock) (held : Held) (slot : ℕ) (b : Side)
-    (leaf value generation tag : ℕ)
-    → NeedsLeafLink z.v commit r lock held slot b leaf value generation tag
-    → StepKeeps z (Link slot b) leaf (after_leaf_link z.v commit slot b leaf r.key value z.h) (done_by z.v (Put r.key value) ∷ [])
-keeps_leaf_link z commit r lock held slot b leaf value generation tag needs = leaf_kept (record {
-  who = z;
-  commit = commit;
-  r = r;
-  lock = lock;
-  held = held;
-  slot = slot;
-  b = b;
-  leaf = leaf;
-  value = value;
-  generation = generation;
-  tag = tag;
-  needs = needs;
-})
+pub keeps_leaf_link : (z : Stepper) (commit : Commit) (slot : ℕ) (b : Side) (leaf key value : ℕ)
+    → NeedsLeafLink z.v commit slot b leaf key value
+    → StepKeeps z (Link slot b) leaf (after_leaf_link z.v commit slot b leaf key value z.h) (done_by z.v (Put key value) ∷ [])
+keeps_leaf_link z commit slot b leaf key value needs =
+    subst (λ x. StepKeeps z (Link slot b) leaf (after_leaf_link z.v commit slot b leaf x value z.h) (done_by z.v (Put x value) ∷ []))
+    needs.sought
+    (leaf_kept (record { who = z; commit = commit; slot = slot; b = b; leaf = leaf; key = key; value = value; needs = needs }))

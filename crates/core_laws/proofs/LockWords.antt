@@ -28,7 +28,6 @@ use Rattle.core_state.specs.declared.shape.Shape.{Shape}
 use Rattle.core_state.specs.Steps.{new_lock, IsNoEnd, NeedsLock, NeedsUnlock, after_lock, after_unlock}
 use Rattle.core_state.specs.Invariant.{HoldsNow}
 use Rattle.core_laws.proofs.Entering.{apart}
-use Rattle.core_state.specs.declared.words.Kind.TheVariants.{K13, K14}
 use Rattle.core_frames.proofs.WholeFrames.{no_mark, seat_half, wait_still, waiters_stay, whole, Stepper, StepKeeps, only_loaded}
 use Rattle.std.proofs.lemmas.Bool.{eqb-true}
 
@@ -255,32 +254,32 @@ module _ (k : Shape) (m : Memory) (vs : List View) (h : List Mark) (id : ℕ) (v
         cases None e = refl
         cases (Some lock) e = absurd (nobody id v slot lock there e refl)
 
-    abbrev locks13 : List HeldLock
-    locks13 = new_lock slot ∷ v.locks
+    abbrev locked_locks : List HeldLock
+    locked_locks = new_lock slot ∷ v.locks
 
-    other13 : (s : ℕ) → s ≢ slot → lock_of locks13 s ≡ lock_of v.locks s
-    other13 s ne = ap (λ b. cond b (Some (new_lock slot)) (lock_of v.locks s)) (ne_eqb slot s (λ e. ne (sym e)))
+    locked_other : (s : ℕ) → s ≢ slot → lock_of locked_locks s ≡ lock_of v.locks s
+    locked_other s ne = ap (λ b. cond b (Some (new_lock slot)) (lock_of v.locks s)) (ne_eqb slot s (λ e. ne (sym e)))
 
-    now13 : (lock : HeldLock) → lock_of locks13 slot ≡ Some lock → new_lock slot ≡ lock
-    now13 lock e = let q : Some (new_lock slot) ≡ Some lock =
+    locked_now : (lock : HeldLock) → lock_of locked_locks slot ≡ Some lock → new_lock slot ≡ lock
+    locked_now lock e = let q : Some (new_lock slot) ≡ Some lock =
         sym (ap (λ b. cond b (Some (new_lock slot)) (lock_of v.locks slot)) (eq-eqb slot slot refl)) ∙ e in cc
 
-    settled13 : (lock : HeldLock) (b : Side) → lock_of v.locks slot ≡ Some lock → is_emptied lock b ≡ true → ⊥
-    settled13 lock b is e = absurd (nobody id v slot lock there is refl)
+    locked_settled : (lock : HeldLock) (b : Side) → lock_of v.locks slot ≡ Some lock → is_emptied lock b ≡ true → ⊥
+    locked_settled lock b is e = absurd (nobody id v slot lock there is refl)
 
-    no_end13 : (move : Move) → v.moving ≡ Some move → (move.copy.slot ≢ slot) × (move.old ≢ slot) × (move.parent ≢ slot)
-    no_end13 move is =
+    locked_no_end : (move : Move) → v.moving ≡ Some move → (move.copy.slot ≢ slot) × (move.old ≢ slot) × (move.parent ≢ slot)
+    locked_no_end move is =
         let x = i.tree.moves.each id v there move is in (
           nobody id v move.copy.slot x.copy_lock.0 there x.copy_lock.1,
           nobody id v move.old x.old_lock.0 there x.old_lock.1,
           nobody id v move.parent x.parent_lock.0 there x.parent_lock.1,
         )
 
-    unmarked13 : i.chart.linked slot ≡ true → IsOdd (m (Life slot)) → ⊥
-    unmarked13 l o = let r = i.locks.marked slot l o in nobody r.1.id r.1.view slot r.0 r.1.there r.1.has refl
+    locked_unmarked : i.chart.linked slot ≡ true → IsOdd (m (Life slot)) → ⊥
+    locked_unmarked l o = let r = i.locks.marked slot l o in nobody r.1.id r.1.view slot r.0 r.1.there r.1.has refl
 
-    few13 : HasFewLocks (record v { locks = locks13 })
-    few13 = let f = i.locks.few id v there in record {
+    locked_few : HasFewLocks (record v { locks = locked_locks })
+    locked_few = let f = i.locks.few id v there in record {
       once = λ s. dite (ℕ_discrete slot s)
           (λ e. let none = no_lock_times v.locks s (ap (lock_of v.locks) (sym e) ∙ not_held) in
           let t = subst (λ z. times z (slot ∷ map (λ (l : HeldLock). l.slot) v.locks)
@@ -291,23 +290,24 @@ module _ (k : Shape) (m : Memory) (vs : List View) (h : List Mark) (id : ℕ) (v
       outside = λ section is. absurd (let q : None ≡ Some section = sym needs.outside ∙ is in cc);
     }
 
-    law13 : HoldsNow k (stored m (Lock slot) (v.allowance.place + 1)) (set vs id (record v { locks = locks13 })) h
-    law13 =
-        relock_law k m vs h id v i there works slot (v.allowance.place + 1) locks13 other13 settled13 no_end13 (record {
+    locked_law : HoldsNow k (stored m (Lock slot) (v.allowance.place + 1)) (set vs id (record v { locks = locked_locks })) h
+    locked_law =
+        relock_law k m vs h id v i there works slot (v.allowance.place + 1) locked_locks locked_other locked_settled locked_no_end (record {
           small = small;
           word = λ lock e. refl;
           named = λ nz. (new_lock slot, ap (λ b. cond b (Some (new_lock slot)) (lock_of v.locks slot)) (eq-eqb slot slot refl));
           alone = λ j u s lock ne e is. nobody j u s lock e is;
-          few = few13;
-          kept = λ lock e. subst (IsLockKept (stored m (Lock slot) (v.allowance.place + 1)) i.chart (record v { locks = locks13 }) slot)
-              (now13 lock e) (record {
+          few = locked_few;
+          kept = λ lock e. subst (IsLockKept (stored m (Lock slot) (v.allowance.place + 1)) i.chart (record v { locks = locked_locks })
+              slot)
+              (locked_now lock e) (record {
                 marked = λ q. absurd (let z : false ≡ true = q in cc);
-                own_mark = λ l o. absurd (unmarked13 l o);
+                own_mark = λ l o. absurd (locked_unmarked l o);
                 emptied = λ b q. absurd (not_emptied b q);
               });
-          unmarked = unmarked13;
-          known = λ lock e. subst (IsLockKnown (stored m (Lock slot) (v.allowance.place + 1)) (record v { locks = locks13 }) slot)
-              (now13 lock e) (record {
+          unmarked = locked_unmarked;
+          known = λ lock e. subst (IsLockKnown (stored m (Lock slot) (v.allowance.place + 1)) (record v { locks = locked_locks }) slot)
+              (locked_now lock e) (record {
                 own = λ field number q. absurd (let z : None ≡ Some number = q in cc);
                 tags = λ b number q. absurd (let z : None ≡ Some number = q in cc);
                 fields = λ r generation number field has loaded same q. absurd (let z : None ≡ Some number = q in cc);
@@ -321,26 +321,28 @@ module _ (k : Shape) (m : Memory) (vs : List View) (h : List Mark) (id : ℕ) (v
         not_emptied Right q = absurd (let z : false ≡ true = q in cc)
 
   -- K14: a lock is given up
-  module _ (lock : HeldLock) (needs : NeedsUnlock v lock slot) where
-    abbrev locks14 : List HeldLock
-    locks14 = without_lock slot v.locks
+  module _ (needs : NeedsUnlock v slot) where
+    open needs use {lock}
 
-    gone14 : (l : HeldLock) → lock_of locks14 slot ≡ Some l → ⊥
-    gone14 l e = absurd (let q : None ≡ Some l = sym (without_here slot v.locks) ∙ e in cc)
+    abbrev unlocked_locks : List HeldLock
+    unlocked_locks = without_lock slot v.locks
 
-    settled14 : (l : HeldLock) (b : Side) → lock_of v.locks slot ≡ Some l → is_emptied l b ≡ true → ⊥
-    settled14 l b is e = let q : Some lock ≡ Some l = sym needs.held ∙ is in let same : lock ≡ l = cc in
+    unlocked_gone : (l : HeldLock) → lock_of unlocked_locks slot ≡ Some l → ⊥
+    unlocked_gone l e = absurd (let q : None ≡ Some l = sym (without_here slot v.locks) ∙ e in cc)
+
+    unlocked_settled : (l : HeldLock) (b : Side) → lock_of v.locks slot ≡ Some l → is_emptied l b ≡ true → ⊥
+    unlocked_settled l b is e = let q : Some lock ≡ Some l = sym needs.held ∙ is in let same : lock ≡ l = cc in
         side b (ap (λ (x : HeldLock). is_emptied x b) same ∙ e)
       where
         side : (b : Side) → is_emptied lock b ≡ true → ⊥
         side Left is_left = absurd (let q : false ≡ true = sym needs.left ∙ is_left in cc)
         side Right is_right = absurd (let q : false ≡ true = sym needs.right ∙ is_right in cc)
 
-    no_end14 : (move : Move) → v.moving ≡ Some move → (move.copy.slot ≢ slot) × (move.old ≢ slot) × (move.parent ≢ slot)
-    no_end14 move is = subst (IsNoEnd slot) is needs.no_end
+    unlocked_no_end : (move : Move) → v.moving ≡ Some move → (move.copy.slot ≢ slot) × (move.old ≢ slot) × (move.parent ≢ slot)
+    unlocked_no_end move is = subst (IsNoEnd slot) is needs.no_end
 
-    alone14 : (j : ℕ) (u : View) (s : ℕ) (l : HeldLock) → j ≢ id → get_elem? vs j ≡ some u → lock_of u.locks s ≡ Some l → s ≢ slot
-    alone14 j u s l ne e is same =
+    unlocked_alone : (j : ℕ) (u : View) (s : ℕ) (l : HeldLock) → j ≢ id → get_elem? vs j ≡ some u → lock_of u.locks s ≡ Some l → s ≢ slot
+    unlocked_alone j u s l ne e is same =
         let mine = (i.locks.locked.held id v there slot lock needs.held).0 in
         let theirs = (i.locks.locked.held j u e s l is).0 in
         let f = ap (λ z. m (Lock z)) same in
@@ -349,27 +351,29 @@ module _ (k : Shape) (m : Memory) (vs : List View) (h : List Mark) (id : ℕ) (v
         absurd (let q : None ≡ Some l = sym (ap (λ (z : View). lock_of z.locks s) spent) ∙ is in cc)) in
         apart k m vs h i id v there works j u ne e has (omega arith)
 
-    unmarked14 : i.chart.linked slot ≡ true → IsOdd (m (Life slot)) → ⊥
-    unmarked14 l o = absurd (let q : false ≡ true = sym needs.unmarked ∙ (i.locks.kept id v there slot lock needs.held).own_mark l o in cc)
+    unlocked_unmarked : i.chart.linked slot ≡ true → IsOdd (m (Life slot)) → ⊥
+    unlocked_unmarked l o = absurd (let q : false ≡ true = sym needs.unmarked
+        ∙ (i.locks.kept id v there slot lock needs.held).own_mark l o in cc)
 
-    few14 : HasFewLocks (record v { locks = locks14 })
-    few14 = let f = i.locks.few id v there in record {
+    unlocked_few : HasFewLocks (record v { locks = unlocked_locks })
+    unlocked_few = let f = i.locks.few id v there in record {
       once = λ s. (let r = (without_fewer slot s v.locks).0 in let o = f.once s in omega arith);
       few = (let r = (without_fewer slot 0 v.locks).1 in let o = f.few in omega arith);
       outside = λ section is. (let r = f.outside section is in (ap (without_lock slot) r.0, r.1));
     }
 
-    law14 : HoldsNow k (stored m (Lock slot) 0) (set vs id (record v { locks = locks14 })) h
-    law14 =
-        relock_law k m vs h id v i there works slot 0 locks14 (λ s ne. without_other slot s v.locks ne) settled14 no_end14 (record {
+    unlocked_law : HoldsNow k (stored m (Lock slot) 0) (set vs id (record v { locks = unlocked_locks })) h
+    unlocked_law =
+        relock_law k m vs h id v i there works slot 0 unlocked_locks (λ s ne. without_other slot s v.locks ne) unlocked_settled
+        unlocked_no_end (record {
           small = small;
-          word = λ l e. absurd (gone14 l e);
+          word = λ l e. absurd (unlocked_gone l e);
           named = λ nz. absurd (nz refl);
-          alone = alone14;
-          few = few14;
-          kept = λ l e. absurd (gone14 l e);
-          unmarked = unmarked14;
-          known = λ l e. absurd (gone14 l e);
+          alone = unlocked_alone;
+          few = unlocked_few;
+          kept = λ l e. absurd (unlocked_gone l e);
+          unmarked = unlocked_unmarked;
+          known = λ l e. absurd (unlocked_gone l e);
         }) ((without_fewer slot 0 v.locks).2)
 
 module _ (k : Shape) (m : Memory) (vs : List View) (h : List Mark) (id : ℕ) (v : View) (i : HoldsNow k m vs h)
@@ -379,7 +383,7 @@ module _ (k : Shape) (m : Memory) (vs : List View) (h : List Mark) (id : ℕ) (v
       → IsKept k m h (stored m (Lock slot) (cond free (v.allowance.place + 1) (m (Lock slot))))
       (set vs id (cond free (record v { locks = new_lock slot ∷ v.locks }) v)) h
   takes slot true small needs free = record {
-    invariant = law13 k m vs h id v i there works slot small needs (eqb-true (m (Lock slot)) 0 free);
+    invariant = locked_law k m vs h id v i there works slot small needs (eqb-true (m (Lock slot)) 0 free);
     past = lock_past m slot (v.allowance.place + 1) h;
   }
   takes slot false small needs free = only_loaded k m h (Lock slot) (set vs id v) h
@@ -394,9 +398,8 @@ module _ (z : Stepper) where
       no_mark k m (stored m (Lock slot) (cond (m (Lock slot) == 0) (v.allowance.place + 1) (m (Lock slot)))) h
       (set vs id (after_lock v slot (m (Lock slot)))) (takes k m vs h id v inv there works slot (m (Lock slot) == 0) small needs refl)
 
-  pub keeps_unlock : (slot : ℕ) (lock : HeldLock) → slot < slot_count k → NeedsUnlock v lock slot
-      → StepKeeps z (Lock slot) 0 (after_unlock v slot) []
-  keeps_unlock slot lock small needs = no_mark k m (stored m (Lock slot) 0) h (set vs id (after_unlock v slot)) (record {
-    invariant = law14 k m vs h id v inv there works slot small lock needs;
+  pub keeps_unlock : (slot : ℕ) → slot < slot_count k → NeedsUnlock v slot → StepKeeps z (Lock slot) 0 (after_unlock v slot) []
+  keeps_unlock slot small needs = no_mark k m (stored m (Lock slot) 0) h (set vs id (after_unlock v slot)) (record {
+    invariant = unlocked_law k m vs h id v inv there works slot small needs;
     past = lock_past m slot 0 h;
   })

@@ -35,7 +35,9 @@ use Rattle.core_frames.proofs.WholeFrames.{Stepper, StepKeeps, no_mark}
 
 module _ (k : Shape) (m : Memory) (vs : List View) (h : List Mark) (id : ℕ) (v : View) (i : HoldsNow k m vs h)
     (there : get_elem? vs id ≡ some v) (works : Works v)
-    (lock : HeldLock) (slot life : ℕ) (needs : NeedsMark v lock slot life) where
+    (slot life : ℕ) (needs : NeedsMark v slot life) where
+  open needs use {lock}
+
   abbrev g : Chart
   g = i.chart
 
@@ -278,9 +280,9 @@ module _ (k : Shape) (m : Memory) (vs : List View) (h : List Mark) (id : ℕ) (v
 module _ (z : Stepper) where
   open z use {k, m, vs, h, id, v, inv, there, works}
 
-  pub keeps_mark : (lock : HeldLock) (slot life : ℕ) → NeedsMark v lock slot life
+  pub keeps_mark : (slot life : ℕ) → NeedsMark v slot life
       → StepKeeps z (Life slot) (life + 1) (after_mark v slot life) []
-  keeps_mark lock slot life needs = no_mark k m (stored m (Life slot) (life + 1)) h (set vs id (after_mark v slot life)) (record {
-    invariant = node_marked k m vs h id v inv there works lock slot life needs;
-    past = past_marked k m vs h id v inv there works lock slot life needs;
+  keeps_mark slot life needs = no_mark k m (stored m (Life slot) (life + 1)) h (set vs id (after_mark v slot life)) (record {
+    invariant = node_marked k m vs h id v inv there works slot life needs;
+    past = past_marked k m vs h id v inv there works slot life needs;
   })

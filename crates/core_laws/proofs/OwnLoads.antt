@@ -11,7 +11,7 @@ use Rattle.core_state.specs.declared.words.Field.TheVariants.{Life}
 use Rattle.core_state.specs.declared.view.Retired.{Retired}
 use Rattle.core_state.specs.declared.view.View.{View}
 use Rattle.list_laws.specs.Counts.{times, IsIn, Each, numbers_from}
-use Rattle.core_state.specs.Memory.{has, IsEven, IsOdd, Memory, slot_count, stored}
+use Rattle.core_state.specs.Memory.{has, IsEven, IsOdd, Memory, slot_count}
 use Rattle.core_state.specs.Views.{known_in, Works, held_list, spares_of, joined_retired, retired_of, slots_of, unraised_among, unraised_of, note_option, noting, joined_spares}
 use Rattle.core_state.specs.Links.{IsContent, change_retired, after_own_life, hand_to_spare, after_kept_as_spare, after_retired_life, NeedsKeptAsSpare}
 use Rattle.core_state.specs.Tree.{Chart}

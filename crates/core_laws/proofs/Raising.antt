@@ -42,9 +42,8 @@ pub record RaiseStep : Type 0 where
   pub who : Stepper
   pub at : ℕ
   pub r : Retired
-  pub life : ℕ
   pub number : ℕ
-  pub needs : NeedsRaiseRetired who.v at r r.slot life number
+  pub needs : NeedsRaiseRetired who.v at r r.slot number
 
 -- the view with another spare, other retired slots, and what it has seen
 abbrev view_with : View → Option Held → List Retired → List Mark → View
@@ -72,7 +71,8 @@ module _ (z : RaiseStep) where
   odd = is.marked z.needs.unraised
 
   here : m' (Life s) ≡ m (Life s) + 1
-  here = stored_here m (Life s) number ∙ (let a = is.life z.life z.needs.unraised z.needs.loaded in let b = odd in let c = z.needs.next in
+  here = stored_here m (Life s) number
+      ∙ (let a = is.life z.needs.life z.needs.unraised z.needs.loaded in let b = odd in let c = z.needs.next in
       omega arith)
 
   among : 1 ≤ times s (slots_of v)
@@ -390,28 +390,28 @@ module _ (z : Stepper) where
       (content_filled k m vs h id v inv there works held field number holder.0
       (subst (λ x. IsContent x field) (sym holder.1) needs.content))
 
-  pub keeps_raise_in_hand : (held : Held) (slot life number : ℕ) → NeedsRaiseInHand v held slot life number
+  pub keeps_raise_in_hand : (held : Held) (slot number : ℕ) → NeedsRaiseInHand v held slot number
       → StepKeeps z (Life slot) number (after_raise_in_hand v slot number) []
-  keeps_raise_in_hand held slot life number needs =
-      subst (λ x. NeedsRaiseInHand v held x life number → StepKeeps z (Life x) number (after_raise_in_hand v x number) []) needs.in_hand.1
-      (λ same. life_filled k m vs h id v inv there works held life number same) needs
+  keeps_raise_in_hand held slot number needs =
+      subst (λ x. NeedsRaiseInHand v held x number → StepKeeps z (Life x) number (after_raise_in_hand v x number) []) needs.in_hand.1
+      (λ same. life_filled k m vs h id v inv there works held number same) needs
 
   -- the life of a retired slot is raised
-  abbrev raising : (at : ℕ) (r : Retired) (life number : ℕ) → NeedsRaiseRetired v at r r.slot life number → RaiseStep
-  raising at r life number needs = record { who = z; at = at; r = r; life = life; number = number; needs = needs }
+  abbrev raising : (at : ℕ) (r : Retired) (number : ℕ) → NeedsRaiseRetired v at r r.slot number → RaiseStep
+  raising at r number needs = record { who = z; at = at; r = r; number = number; needs = needs }
 
-  pub keeps_raise_to_spare : (at life : ℕ) (r : Retired) (slot number : ℕ) → NeedsRaiseRetired v at r slot life number
+  pub keeps_raise_to_spare : (at : ℕ) (r : Retired) (slot number : ℕ) → NeedsRaiseRetired v at r slot number
       → v.hands.spare ≡ None → StepKeeps z (Life slot) number (after_raise_to_spare v slot number h) (Given slot ∷ [])
-  keeps_raise_to_spare at life r slot number needs lacks =
-      subst (λ x. NeedsRaiseRetired v at r x life number
+  keeps_raise_to_spare at r slot number needs lacks =
+      subst (λ x. NeedsRaiseRetired v at r x number
       → StepKeeps z (Life x) number (after_raise_to_spare v x number h) (Given x ∷ [])) needs.retired.1
-      (λ same. becomes_spare (raising at r life number same) lacks) needs
+      (λ same. becomes_spare (raising at r number same) lacks) needs
 
-  pub keeps_raise_retired : (at life : ℕ) (r : Retired) (slot number : ℕ) → NeedsRaiseRetired v at r slot life number
+  pub keeps_raise_retired : (at : ℕ) (r : Retired) (slot number : ℕ) → NeedsRaiseRetired v at r slot number
       → v.hands.spare ≢ None → StepKeeps z (Life slot) number (after_raise_retired v slot) []
-  keeps_raise_retired at life r slot number needs spare =
-      subst (λ x. NeedsRaiseRetired v at r x life number → StepKeeps z (Life x) number (after_raise_retired v x) []) needs.retired.1
-      (λ same. stays_retired (raising at r life number same) spare) needs
+  keeps_raise_retired at r slot number needs spare =
+      subst (λ x. NeedsRaiseRetired v at r x number → StepKeeps z (Life x) number (after_raise_retired v x) []) needs.retired.1
+      (λ same. stays_retired (raising at r number same) spare) needs
 
   pub keeps_free_in_hand : (held : Held) (slot : ℕ) → slot < slot_count k → NeedsFreeInHand v held slot
       → StepKeeps z (State slot) 0 (after_free_in_hand v slot h) (Freed slot ∷ [])

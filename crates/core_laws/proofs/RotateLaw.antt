@@ -11,9 +11,9 @@ use Rattle.core_state.specs.declared.view.View.{View}
 use Rattle.core_state.specs.declared.words.Field.{Field}
 use Rattle.core_state.specs.declared.words.Field.TheVariants.{Life, Link}
 use Rattle.list_laws.specs.Counts.{times, IsIn, Each}
-use Rattle.core_state.specs.Memory.{IsOdd, flag, sum_below, has, Memory, slot_count, stored}
+use Rattle.core_state.specs.Memory.{IsOdd, flag, sum_below, has, Memory, slot_count}
 use Rattle.core_state.specs.Views.{known_in, known_under, HasLock, note_lock, change_lock, joined_retired, retired_of, slots_of, held_list, unraised_hand, unraised_of, emptied_among}
-use Rattle.core_state.specs.Links.{newly_retired, with_mark, NeedsRotate, after_rotate, rotate_marks, Rotation}
+use Rattle.core_state.specs.Links.{newly_retired, with_mark, NeedsRotate, after_rotate, rotate_marks}
 use Rattle.core_state.specs.Parts.{HasFewSlots, IsRetired, IsRetiredOf, IsHeldKnown, AreHandsKnown, SlotParts, linked_count, young_count, old_count, CountParts, FrontParts, IsClear, IsWaitedRetired, GraceParts, MarkParts, SeatParts, IsMoving, IsOldOf, AreMoving, WaiterParts, map_now}
 use Rattle.list_laws.proofs.Lists.{each_set, total_set, times_append, in_append, in_first, in_second, somewhere_here, somewhere_set}
 use Rattle.core_frames.proofs.First.{each_one, each_append}
@@ -33,15 +33,14 @@ use Rattle.core_frames.proofs.WaitFrames.{retired_still, grace_frame_by}
 use Rattle.core_frames.proofs.WholeFrames.{mark_frame_plain, seat_frame_plain, waiter_frame_plain, waited_early, waited_more, waited_back, grace_plain, Stepper, StepKeeps}
 use Rattle.core_frames.proofs.Marks.{PlainMarks}
 use Rattle.core_state.specs.Tree.{HoldsMap, IsPending}
-use Rattle.core_state.specs.declared.view.Reading.{Reading}
 use Rattle.prcu_marks.specs.declared.mark.Side.{Side}
 use Rattle.std.specs.FinMap as finite
 
 -- The parts on slots after a rotation: the spare and the slot in hand are linked, and two slots are retired.
 
 module _ (z : RotateStep) where
-  open z use {who, who.{k, m, vs, h, id, v, there, inv as i, inv.{chart as g}}, upper.{slot as top}, lower, lower.{slot as sub}}
-  open z use {p, b, x, y, needs}
+  open z use {who, who.{k, m, vs, h, id, v, there, inv as i, inv.{chart as g}}, upper.{slot as top}, p, b, x, y}
+  open z use {needs, needs.{lower}, needs.lower.{slot as sub}}
 
   abbrev n : ℕ
   n = slot_count k
@@ -569,22 +568,9 @@ module _ (z : RotateStep) where
     };
   }
 
-pub keeps_rotate : (z : Stepper) (r : Reading) (upper lower : Held) (p : ℕ) (b : Side) (x y top : ℕ) (turning : Rotation)
-    → NeedsRotate z.k.room z.v r upper lower p b x y top turning
+pub keeps_rotate : (z : Stepper) (upper : Held) (p : ℕ) (b : Side) (x y top : ℕ) → NeedsRotate z.k.room z.v upper p b x y top
     → StepKeeps z (Link p b) top (after_rotate z.v p b x y top z.h) (rotate_marks x y)
-keeps_rotate z r upper lower p b x y top turning needs =
-    subst (λ s. NeedsRotate z.k.room z.v r upper lower p b x y s turning
+keeps_rotate z upper p b x y top needs =
+    subst (λ s. NeedsRotate z.k.room z.v upper p b x y s
     → StepKeeps z (Link p b) s (after_rotate z.v p b x y s z.h) (rotate_marks x y)) needs.spare_is.1
-    (λ same. rotate_kept (record {
-      who = z;
-      r = r;
-      upper = upper;
-      lower = lower;
-      p = p;
-      b = b;
-      x = x;
-      y = y;
-      turning = turning;
-      needs = same;
-    }))
-    needs
+    (λ same. rotate_kept (record { who = z; upper = upper; p = p; b = b; x = x; y = y; needs = same })) needs

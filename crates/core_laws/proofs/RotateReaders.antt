@@ -32,7 +32,7 @@ use Rattle.core_state.specs.Steps.{narrowed}
 use Rattle.core_laws.proofs.Stores.{listings_kept}
 
 module _ (z : RotateStep) where
-  open z use {who.{k, m, vs, h, id, v, there, inv as i, inv.{chart as g}}, upper.{slot as top}, lower.{slot as sub}, p, b, x, y}
+  open z use {who.{k, m, vs, h, id, v, there, inv as i, inv.{chart as g}}, upper.{slot as top}, needs.lower.{slot as sub}, p, b, x, y}
 
   abbrev n : ℕ
   n = slot_count k

@@ -8,7 +8,7 @@ use Rattle.prcu_marks.proofs.Marks.{updates_of-append}
 use Rattle.core_state.specs.Marks.{AreMarks, Reuse}
 use Rattle.core_state.specs.Parts.{map_now, IsHeldKnown, IsUnraised, LockParts}
 use Rattle.core_frames.proofs.Marks.{PlainMarks, plain_one, plain_trans, unlinked_snoc, marks_unlinked, reuse_unlinked}
-use Rattle.core_state.specs.Links.{rotate_marks, newly_retired, IsKnownAs, Rotation, NeedsRotate, after_rotate, with_mark}
+use Rattle.core_state.specs.Links.{rotate_marks, newly_retired, IsKnownAs, NeedsRotate, after_rotate, with_mark}
 use mathlib.Core.Option.{some}
 use lib.ListN.{get_elem?}
 use Rattle.prcu_marks.specs.declared.mark.Side.{Side}
@@ -87,19 +87,16 @@ module _ (place : ℕ) (h : List Mark) (x y : ℕ) (ne : x ≢ y) where
 -- The step: the words, the view and what it has. Side b of p leads to x, and a side of x to y.
 pub record RotateStep : Type 0 where
   pub who : Stepper
-  pub r : Reading
   pub upper : Held
-  pub lower : Held
   pub p : ℕ
   pub b : Side
   pub x : ℕ
   pub y : ℕ
-  pub turning : Rotation
-  pub needs : NeedsRotate who.k.room who.v r upper lower p b x y upper.slot turning
+  pub needs : NeedsRotate who.k.room who.v upper p b x y upper.slot
 
 module _ (z : RotateStep) where
-  open z use {who, who.{k, m, vs, h, id, v, there, inv, inv.{chart as g}}, r, upper, upper.{slot as top}, lower, lower.{slot as sub}}
-  open z use {p, b, x, y, turning, turning.{turn as t}, needs}
+  open z use {who, who.{k, m, vs, h, id, v, there, inv, inv.{chart as g}}, upper, upper.{slot as top}, p, b, x, y, needs}
+  open z.needs use {reading as r, lower, lower.{slot as sub}, turning, turning.{turn as t}}
 
   abbrev n : ℕ
   n = slot_count k
@@ -319,7 +316,7 @@ module _ (d : ℕ) where
           (l, q, subst (IsUnmarked d s l) same f.2)
 
 module _ (z : RotateStep) where
-  open z use {who.{k, m, vs, h, id, v, there, inv as i, inv.{chart as g}}, upper.{slot as top}, lower.{slot as sub}, p, b, x, y}
+  open z use {who.{k, m, vs, h, id, v, there, inv as i, inv.{chart as g}}, upper.{slot as top}, needs.lower.{slot as sub}, p, b, x, y}
 
   abbrev later : Memory
   later = new z

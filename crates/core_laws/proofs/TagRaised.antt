@@ -114,7 +114,9 @@ emptied_less s f (x ∷ ls) l e once less =
 
 module _ (k : Shape) (m : Memory) (vs : List View) (h : List Mark) (id : ℕ) (v : View) (i : HoldsNow k m vs h)
     (there : get_elem? vs id ≡ some v) (works : Works v)
-    (lock : HeldLock) (slot : ℕ) (b : Side) (tag : ℕ) (needs : NeedsRaiseTag v lock slot b tag) where
+    (slot : ℕ) (b : Side) (tag : ℕ) (needs : NeedsRaiseTag v slot b tag) where
+  open needs use {lock}
+
   abbrev g : Chart
   g = i.chart
 
@@ -332,7 +334,9 @@ module _ (k : Shape) (m : Memory) (vs : List View) (h : List Mark) (id : ℕ) (v
 
 module _ (k : Shape) (m : Memory) (vs : List View) (h : List Mark) (id : ℕ) (v : View) (i : HoldsNow k m vs h)
     (there : get_elem? vs id ≡ some v) (works : Works v)
-    (lock : HeldLock) (slot : ℕ) (b : Side) (tag : ℕ) (needs : NeedsRaiseTag v lock slot b tag) where
+    (slot : ℕ) (b : Side) (tag : ℕ) (needs : NeedsRaiseTag v slot b tag) where
+  open needs use {lock}
+
   abbrev m_new : Memory
   m_new = stored m (Tag slot b) (tag + 1)
 
@@ -344,9 +348,9 @@ module _ (k : Shape) (m : Memory) (vs : List View) (h : List Mark) (id : ℕ) (v
 
   by_move : (o : Option Move) → v.moving ≡ o → HoldsNow k m_new (set vs id (after_raise_tag v slot b tag)) h
   by_move None e = subst (λ (z : View). HoldsNow k m_new (set vs id z) h)
-      ((λ j. record v { locks = raised; moving = e j }) ∙ sym (hands_same k m vs h id v i there works lock slot b tag needs None)
+      ((λ j. record v { locks = raised; moving = e j }) ∙ sym (hands_same k m vs h id v i there works slot b tag needs None)
       ∙ (λ j. record (after_raise_tag v slot b tag) { moving = note_moving slot noted (sym e j) }))
-      (raised_but_copy k m vs h id v i there works lock slot b tag needs (λ move is. absurd (let q : None ≡ Some move = sym e ∙ is in cc)))
+      (raised_but_copy k m vs h id v i there works slot b tag needs (λ move is. absurd (let q : None ≡ Some move = sym e ∙ is in cc)))
   by_move (Some move) e =
       let empty : View = record v { moving = Some (record move { copy = record move.copy { known = [] } }) } in
       let first : HoldsNow k m (set vs id empty) h =
@@ -354,13 +358,13 @@ module _ (k : Shape) (m : Memory) (vs : List View) (h : List Mark) (id : ℕ) (v
       let here = set_here vs id empty (at_below vs id v there) in
       let stored_view : View = record empty { locks = raised } in
       let second : HoldsNow k m_new (set vs id stored_view) h = subst (λ us. HoldsNow k m_new us h) (set_twice vs id empty stored_view)
-      (raised_but_copy k m (set vs id empty) h id empty first here works lock slot b tag
-      (record { held = needs.held; emptied = needs.emptied; known = needs.known })
+      (raised_but_copy k m (set vs id empty) h id empty first here works slot b tag
+      (record { lock = lock; held = needs.held; emptied = needs.emptied; known = needs.known })
       (λ other is field number known. absurd (none_known other is field number known))) in
       let ks = (note_held slot noted move.copy).known in
       let now : IsHeldKnown m_new (record move.copy { known = ks }) = λ field number known.
       (let r = held_noted m m_new slot (Tag slot b) (tag + 1) true refl (stored_here m (Tag slot b) (tag + 1))
-      (words k m vs h id v i there works lock slot b tag needs) (λ f own ne. stored_else m (Tag slot b) f (tag + 1) ne) move.copy
+      (words k m vs h id v i there works slot b tag needs) (λ f own ne. stored_else m (Tag slot b) f (tag + 1) ne) move.copy
       ((i.slots.hands id v there).copy move e).0 field number known in
       (subst (λ z. IsOwnField z field) (note_held-slot slot noted move.copy) r.0, r.1)) in
       let third : HoldsNow k m_new (set (set vs id stored_view) id
@@ -373,7 +377,7 @@ module _ (k : Shape) (m : Memory) (vs : List View) (h : List Mark) (id : ℕ) (v
       (record stored_view { moving = Some (record move { copy = record move.copy { known = ks } }) })) third in
       subst (λ (z : View). HoldsNow k m_new (set vs id z) h)
       ((λ j. record v { locks = raised; moving = Some (record move { copy = note_held-form slot noted move.copy j }) })
-      ∙ sym (hands_same k m vs h id v i there works lock slot b tag needs
+      ∙ sym (hands_same k m vs h id v i there works slot b tag needs
       (Some (record move { copy = note_held slot noted move.copy })))
       ∙ (λ j. record (after_raise_tag v slot b tag) { moving = note_moving slot noted (sym e j) }))
       fourth
@@ -390,10 +394,10 @@ module _ (k : Shape) (m : Memory) (vs : List View) (h : List Mark) (id : ℕ) (v
 module _ (z : Stepper) where
   open z use {k, m, vs, h, id, v, inv, there, works}
 
-  pub keeps_raise_tag : (lock : HeldLock) (slot : ℕ) (b : Side) (tag : ℕ) → NeedsRaiseTag v lock slot b tag
+  pub keeps_raise_tag : (slot : ℕ) (b : Side) (tag : ℕ) → NeedsRaiseTag v slot b tag
       → StepKeeps z (Tag slot b) (tag + 1) (after_raise_tag v slot b tag) []
-  keeps_raise_tag lock slot b tag needs =
+  keeps_raise_tag slot b tag needs =
       no_mark k m (stored m (Tag slot b) (tag + 1)) h (set vs id (after_raise_tag v slot b tag)) (record {
-        invariant = tag_raised k m vs h id v inv there works lock slot b tag needs;
-        past = past_raised k m vs h id v inv there works lock slot b tag needs;
+        invariant = tag_raised k m vs h id v inv there works slot b tag needs;
+        past = past_raised k m vs h id v inv there works slot b tag needs;
       })

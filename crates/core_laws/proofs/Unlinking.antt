@@ -295,23 +295,23 @@ module _ (who : Stepper) (move : Move) (lock : HeldLock) (child : ℕ) (b : Side
 
 -- The steps of K26 and K27 keep the invariant.
 
-module _ (z : Stepper) (move : Move) (lock : HeldLock) where
+module _ (z : Stepper) where
   open z use {m, vs, h, id, v}
 
-  pub keeps_unlink_left : (parent old child life : ℕ) → NeedsUnlinkOld v move lock parent old child life → parent ≢ move.copy.slot
+  pub keeps_unlink_left : (parent old child : ℕ) → NeedsUnlinkOld v parent Left old child
       → StepKeeps z (Link parent Left) child (after_unlink_old v parent Left old child h) (Unlinked old ∷ [])
-  keeps_unlink_left parent old child life needs apart =
+  keeps_unlink_left parent old child needs =
       subst (λ (x : ℕ × ℕ). StepKeeps z (Link x.0 Left) child (after_unlink_old v x.0 Left x.1 child h) (Unlinked x.1 ∷ []))
       (λ i. (needs.parent_is i, needs.old_is i))
-      (unlinked_kept z move lock child Left needs.moving needs.waited (ap (lock_of v.locks) needs.old_is ∙ needs.locked) needs.marked
-      (ap (λ o. known_in lock.known (Link o Right)) needs.old_is ∙ needs.right_now)
-      (ap (λ b. cond b Right Left) (ne_eqb move.parent move.copy.slot (λ e. apart (sym needs.parent_is ∙ e)))))
+      (unlinked_kept z needs.move needs.lock child Left needs.moving needs.waited (ap (lock_of v.locks) needs.old_is ∙ needs.locked)
+      needs.marked (ap (λ o. known_in needs.lock.known (Link o Right)) needs.old_is ∙ needs.right_now)
+      (ap (λ b. cond b Right Left) (ne_eqb needs.move.parent needs.move.copy.slot (λ e. needs.end (sym needs.parent_is ∙ e)))))
 
-  pub keeps_unlink_right : (copy old child life : ℕ) → NeedsUnlinkOld v move lock copy old child life → copy ≡ move.copy.slot
+  pub keeps_unlink_right : (copy old child : ℕ) → NeedsUnlinkOld v copy Right old child
       → StepKeeps z (Link copy Right) child (after_unlink_old v copy Right old child h) (Unlinked old ∷ [])
-  keeps_unlink_right copy old child life needs same =
+  keeps_unlink_right copy old child needs =
       subst (λ (x : ℕ × ℕ). StepKeeps z (Link x.0 Right) child (after_unlink_old v x.0 Right x.1 child h) (Unlinked x.1 ∷ []))
       (λ i. (needs.parent_is i, needs.old_is i))
-      (unlinked_kept z move lock child Right needs.moving needs.waited (ap (lock_of v.locks) needs.old_is ∙ needs.locked) needs.marked
-      (ap (λ o. known_in lock.known (Link o Right)) needs.old_is ∙ needs.right_now)
-      (ap (λ b. cond b Right Left) (eq-eqb move.parent move.copy.slot (needs.parent_is ∙ same))))
+      (unlinked_kept z needs.move needs.lock child Right needs.moving needs.waited (ap (lock_of v.locks) needs.old_is ∙ needs.locked)
+      needs.marked (ap (λ o. known_in needs.lock.known (Link o Right)) needs.old_is ∙ needs.right_now)
+      (ap (λ b. cond b Right Left) (eq-eqb needs.move.parent needs.move.copy.slot (needs.parent_is ∙ needs.end))))

@@ -198,9 +198,9 @@ module _ (z : Deletion) where
 
 -- The bypass of a marked node keeps the invariant.
 
-module _ (who : Stepper) (commit : Commit) (r : Reading) (p : ℕ) (b : Side) (d c left right : ℕ)
-    (needs : NeedsBypass who.k.room who.v commit r p b d c left right) where
+module _ (who : Stepper) (commit : Commit) (p : ℕ) (b : Side) (d c key : ℕ) (needs : NeedsBypass who.k.room who.v commit p b d c key) where
   open who use {k, m, vs, h, id, v, there, inv as i, inv.{chart as g}}
+  open needs use {reading as r, left, right}
 
   abbrev new : Memory
   new = stored m (Link p b) c
@@ -321,7 +321,9 @@ module _ (who : Stepper) (commit : Commit) (r : Reading) (p : ℕ) (b : Side) (d
 
 module _ (k : Shape) (m : Memory) (vs : List View) (h : List Mark) (i : HoldsNow k m vs h) (id : ℕ) (v : View)
     (there : get_elem? vs id ≡ some v) (works : Works v)
-    (commit : Commit) (r : Reading) (d generation value : ℕ) (needs : NeedsReplace v commit r d generation) where
+    (commit : Commit) (d key value : ℕ) (needs : NeedsReplace v commit d key) where
+  open needs use {reading as r, generation}
+
   abbrev g : Chart
   g = i.chart
 
@@ -607,13 +609,15 @@ module _ (k : Shape) (m : Memory) (vs : List View) (h : List Mark) (i : HoldsNow
 
 -- The steps of K21 and K36 keep the invariant.
 
-pub keeps_bypass : (z : Stepper) (commit : Commit) (r : Reading) (parent : ℕ) (b : Side) (node child left right : ℕ)
-    → NeedsBypass z.k.room z.v commit r parent b node child left right
-    → StepKeeps z (Link parent b) child (after_bypass z.v commit parent b node child r.key z.h)
-    (done_by z.v (Del r.key) ∷ Unlinked node ∷ [])
-keeps_bypass z commit r parent b node child left right needs = bypassed_kept z commit r parent b node child left right needs
+pub keeps_bypass : (z : Stepper) (commit : Commit) (parent : ℕ) (b : Side) (node child key : ℕ)
+    → NeedsBypass z.k.room z.v commit parent b node child key
+    → StepKeeps z (Link parent b) child (after_bypass z.v commit parent b node child key z.h) (done_by z.v (Del key) ∷ Unlinked node ∷ [])
+keeps_bypass z commit parent b node child key needs =
+    subst (λ x. StepKeeps z (Link parent b) child (after_bypass z.v commit parent b node child x z.h)
+    (done_by z.v (Del x) ∷ Unlinked node ∷ [])) needs.sought (bypassed_kept z commit parent b node child key needs)
 
-pub keeps_replace : (z : Stepper) (commit : Commit) (r : Reading) (slot generation value : ℕ) → NeedsReplace z.v commit r slot generation
-    → StepKeeps z (Value slot) value (after_replace z.v commit slot r.key value z.h) (done_by z.v (Set r.key value) ∷ [])
-keeps_replace z commit r slot generation value needs =
-    stored_kept z.k z.m z.vs z.h z.inv z.id z.v z.there z.works commit r slot generation value needs
+pub keeps_replace : (z : Stepper) (commit : Commit) (slot key value : ℕ) → NeedsReplace z.v commit slot key
+    → StepKeeps z (Value slot) value (after_replace z.v commit slot key value z.h) (done_by z.v (Set key value) ∷ [])
+keeps_replace z commit slot key value needs =
+    subst (λ x. StepKeeps z (Value slot) value (after_replace z.v commit slot x value z.h) (done_by z.v (Set x value) ∷ [])) needs.sought
+    (stored_kept z.k z.m z.vs z.h z.inv z.id z.v z.there z.works commit slot key value needs)

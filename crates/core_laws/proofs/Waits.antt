@@ -204,8 +204,8 @@ module _ (k : Shape) (m : Memory) (vs : List View) (h : List Mark) (id : ℕ) (v
       entered_more : (p : ℕ) → entered_at p hs ≡ entered_at p h
       entered_more p = let a = entered_at-append p h (mark ∷ []) in let b : entered_at p (mark ∷ []) ≡ 0 = refl in omega arith
 
-  law7 : HoldsNow k new (set vs id w) hs
-  law7 =
+  begun_law : HoldsNow k new (set vs id w) hs
+  begun_law =
       let slots = slots_stay m new refl in
       let clock = i.waiters.clock in
       let ticket = needs.ticket in
@@ -235,7 +235,7 @@ module _ (z : Stepper) where
       → StepKeeps z Clock (m Clock + 1) (after_begin v low high (m Clock) h) (Began v.allowance.place v.counts.waits low high ∷ [])
   keeps_begin low high needs =
       by_store z Clock (m Clock + 1) (after_begin v low high (m Clock) h) (Began v.allowance.place v.counts.waits low high ∷ [])
-      (slots_stay m (stored m Clock (m Clock + 1)) refl) (law7 k m vs h id v inv there works low high needs)
+      (slots_stay m (stored m Clock (m Clock + 1)) refl) (begun_law k m vs h id v inv there works low high needs)
 
 -- K32, the turn of a gate, keeps the invariant.
 
@@ -288,8 +288,8 @@ module _ (k : Shape) (m : Memory) (vs : List View) (h : List Mark) (id : ℕ) (v
       ap (λ b. cond b 0 (64 - length (class ∷ wait.turned))) needs.going in
       omega arith
 
-  law32 : HoldsNow k (stored m (Gate class) left) (set vs id (after_gate_turn v wait class)) h
-  law32 =
+  turned_law : HoldsNow k (stored m (Gate class) left) (set vs id (after_gate_turn v wait class)) h
+  turned_law =
       let m' : Memory = stored m (Gate class) left in
       wait_law k m m' vs h id v i there works turning (v.counts.turns + 1) refl refl
       (same_stands h v (after_gate_turn v wait class) wait wait.excused (class ∷ wait.turned) refl works refl
@@ -305,7 +305,7 @@ module _ (z : Stepper) where
   keeps_gate_turn wait class needs =
       let left : ℕ = turned_gate (m (Gate class)) in
       by_quiet_store z (Gate class) left (after_gate_turn v wait class) (slots_stay m (stored m (Gate class) left) refl)
-      (law32 k m vs h id v inv there works wait class left needs)
+      (turned_law k m vs h id v inv there works wait class left needs)
 
 -- What a list of marks says of a section that was entered: it was left, or is open. And that a wait began at one place of the list.
 

@@ -10,7 +10,7 @@ use Rattle.core_state.specs.declared.view.SearchState.{SearchState}
 use Rattle.core_state.specs.declared.view.Section.{Section}
 use Rattle.core_state.specs.declared.view.View.{View}
 use Rattle.core_state.specs.Views.{LoadedGeneration, loaded_in, known_under, known_in, known_of, lock_of, open_reading, Works}
-use Rattle.core_state.specs.Acts.{said, left, done, marks, in_slot, IsWord, noted}
+use Rattle.core_state.specs.Acts.{said, left, done, marks, in_slot, IsWord, noted, section_of}
 use Rattle.core_points.specs.declared.stage.Aim.TheVariants.{Leaf, Spare, Room}
 use Rattle.core_points.specs.declared.stage.Node.{Node}
 use Rattle.core_points.specs.declared.stage.Successor.{Successor}
@@ -38,10 +38,10 @@ use Rattle.prcu_marks.specs.declared.mark.Side.TheVariants.{Left, Right}
 use Rattle.core_state.specs.declared.view.Held.{Held}
 use Rattle.core_state.specs.Memory.{slot_count, Memory, stored}
 use Rattle.core_state.specs.Links.{IsInHand, IsRetiredAt}
-use Rattle.core_state.specs.Steps.{NeedsLockedLoad, NeedsSearchLoad}
+use Rattle.core_state.specs.Steps.{NeedsLockedLoad, NeedsSearchLoad, NeedsLeaveByStamp}
 use Rattle.core_points.specs.declared.stage.Target.{Target}
 use Rattle.core_state.specs.declared.act.Part.{Part}
-use Rattle.core_laws.proofs.Acting.{part_word}
+use Rattle.core_laws.proofs.Acting.{part_word, may_leave}
 use Rattle.core_laws.proofs.Whole.{acts_keep}
 use mathlib.Core.Option.{some}
 use lib.ListN.{get_elem?}
@@ -106,8 +106,8 @@ is_aside o v h word d u told owns p =
     }
 
 module _ (k : Shape) (h : List Mark) (o : Own) (w : View) (places : k.places ≡ o.places) (room : k.room ≡ o.room) where
-  leaves : (key : ℕ) (state : SearchState) (more : Section → Type 0) → Inside w key state more → (s : Section) × (w.section ≡ Some s)
-  leaves key state more i = (i.section, i.is)
+  leaves : (key : ℕ) (state : SearchState) (more : Section → Type 0) → Inside w key state more → NeedsLeaveByStamp w (section_of w)
+  leaves key state more i = may_leave w i.is
 
   needs_all : (word : Field → ℕ) → IsTold o w h word → (n : ℕ) (stage : Stage) → (is_step (act_at o stage) ≡ false → k.waiter ≡ Eer)
       → Fits o stage w → Needs k w n (act_at o stage)
@@ -388,8 +388,8 @@ module _ (k : Shape) (h : List Mark) (o : Own) (v : View) (word : Field → ℕ)
   loaded_in_table s field x e = let l = lock_under v s field x (loaded_known (known_under v s) field x e) in told.locks_within s (l.0, l.1)
 
   -- a word of a slot that was searched, that is locked, in hand or the spare, or retired
-  searched : (s : ℕ) (p : Part) → (section : Section) × NeedsSearchLoad v section s (in_slot s p) → IsWord k (in_slot s p)
-  searched s p d = part_word k s p (slot_in s (told.stood d.0 (d.1).section_is s (d.1).stood))
+  searched : (s : ℕ) (p : Part) → NeedsSearchLoad v (section_of v) s (in_slot s p) → IsWord k (in_slot s p)
+  searched s p d = part_word k s p (slot_in s (told.stood (section_of v) d.section_is s d.stood))
 
   under_lock : (s : ℕ) → Holds v.locks s → s < slot_count k
   under_lock s holds = slot_in s (told.locks_within s holds)
@@ -436,7 +436,7 @@ module _ (k : Shape) (h : List Mark) (o : Own) (v : View) (word : Field → ℕ)
   within (at.Seize aim) eer f d = slot_in o.scan (let le = f.owns.scans_table in omega arith)
   within (at.Age aim s) eer f d = slot_in s (held_in_table d.0 s d.1)
   within (at.Keep s) eer f d = in_hand d.0 s (d.1).in_hand
-  within at.Raise eer f d = in_hand d.0 (or_root o.hand) (d.2).in_hand
+  within at.Raise eer f d = in_hand d.0 (or_root o.hand) (d.1).in_hand
   within at.Free eer f d = in_hand d.0 (or_root o.hand) (d.1).in_hand
   within at.Count eer f d = tt
   within (at.Begin waits) eer f d = tt
@@ -447,19 +447,19 @@ module _ (k : Shape) (h : List Mark) (o : Own) (v : View) (word : Field → ℕ)
   within (at.OldAge aim) eer f d = retired d.0 d.1 (first_or_root o.retired) d.2
   within (at.OldRaise aim life) eer f d =
       let s : ℕ = first_or_root o.retired in
-      either (is_some o.spare) _ _ d (λ x. retired x.0 x.2 s (x.3).retired) (λ x. retired x.0 x.2 s (x.3).retired)
+      either (is_some o.spare) _ _ d (λ x. retired x.0 x.1 s (x.2).retired) (λ x. retired x.0 x.1 s (x.2).retired)
   within (at.OldFree aim) eer f d = retired d.0 d.1 (first_or_root o.retired) (d.2).retired
   within (at.OldCount aim) eer f d = tt
   within (at.Commit u expected) eer f d = tt
-  within (at.Store (update.Leaf spot) front) eer f (t, r, l, held, generation, tag, needs, same) = under_lock spot.slot (l, needs.locked)
-  within (at.Store (update.Value s old) front) eer f (t, r, generation, needs, same) =
-      under_lock s (let l = lock_under v s (Life s) (2 * generation) needs.life_now in (l.0, l.1))
-  within (at.Store (update.Bypass x child) front) eer f (t, r, left, right, needs, same) =
-      linked x.parent x.node x.side ((needs.records).records).link_now
-  within (at.Store (update.Copy x u next_key copy) front) eer f (t, r, held, left, right, value, needs, same) =
-      linked x.parent x.node x.side ((needs.records).records).link_now
+  within (at.Store (update.Leaf spot) front) eer f d = under_lock spot.slot (d.lock, d.locked)
+  within (at.Store (update.Value s old) front) eer f d =
+      under_lock s (let l = lock_under v s (Life s) (2 * d.generation) d.life_now in (l.0, l.1))
+  within (at.Store (update.Bypass x child) front) eer f d =
+      linked x.parent x.node x.side ((d.records).records).link_now
+  within (at.Store (update.Copy x u next_key copy) front) eer f d =
+      linked x.parent x.node x.side ((d.records).records).link_now
   within (at.Even u front) eer f d = tt
-  within (at.Unlock l) eer f d = under_lock (first_or_root o.locks) (d.0, (d.1).held)
+  within (at.Unlock l) eer f d = under_lock (first_or_root o.locks) (d.lock, d.held)
   within (at.SetLife s) eer f d = searched s part.Life d
   within (at.SetLock s generation) eer f d = slot_in s ((f.point).found).inside
   within (at.SetCheck s generation) eer f d = locked s part.Life d
@@ -473,21 +473,21 @@ module _ (k : Shape) (h : List Mark) (o : Own) (v : View) (word : Field → ℕ)
   within (at.SuccessorLife x u) eer f d = searched u.slot part.Life d
   within (at.TargetLock t i) eer f d = slot_in (target_lock t i) (target_within o v t i f)
   within (at.TargetLoad t i found) eer f d = locked (target_slot t i) (target_part t i) d
-  within (at.Mark x child) eer f d = under_lock x.node (d.0, (d.1).locked)
+  within (at.Mark x child) eer f d = under_lock x.node (d.lock, d.locked)
   within (at.EmptyTag number s b) eer f d = locked s (part.Tag b) d
-  within (at.EmptyRaise number s b tag) eer f d = under_lock s (d.0, (d.1).held)
+  within (at.EmptyRaise number s b tag) eer f d = under_lock s (d.lock, d.held)
   within (at.SuccessorKey x u) eer f d = locked u.slot part.Key d
   within (at.SuccessorValue x u next_key) eer f d = locked u.slot part.Value d
   within (at.CopyField x u next_key value i) eer f d = filled d.0 (or_root o.spare) (content_part i) (d.1).holder
   within (at.CopyAge x u next_key) eer f d = slot_in (or_root o.spare) (held_in_table d.0 (or_root o.spare) d.1)
   within (at.CopyLock x u next_key) eer f d = slot_in (or_root o.spare) (copy_within o v h word x u next_key told f)
-  within (at.CopyMark x u next_key) eer f d = under_lock x.node (d.0, (d.1).locked)
-  within (at.OldMark m) eer f d = under_lock m.successor.slot (d.0, (d.1).locked)
+  within (at.CopyMark x u next_key) eer f d = under_lock x.node (d.lock, d.locked)
+  within (at.OldMark m) eer f d = under_lock m.successor.slot (d.lock, d.locked)
   within (at.OldRight m) eer f d = locked m.successor.slot (part.Link Right) d
   within (at.Unlink m child) eer f d =
       either (m.successor.parent == m.node.node) _ _ d
-      (λ x. slot_in m.copy (subst (λ t. t < table_of o) (x.3).parent_is (told.move_within x.0 (x.3).moving)))
-      (λ x. slot_in m.successor.parent (subst (λ t. t < table_of o) (x.3).parent_is (told.move_within x.0 (x.3).moving)))
+      (λ x. slot_in m.copy (subst (λ t. t < table_of o) x.parent_is (told.move_within x.move x.moving)))
+      (λ x. slot_in m.successor.parent (subst (λ t. t < table_of o) x.parent_is (told.move_within x.move x.moving)))
 
 pub acts_are_within : ActsAreWithin
 acts_are_within k h o v word stage eer slots places room told f =

@@ -18,9 +18,9 @@ use Rattle.core_state.specs.declared.view.View.{View}
 use Rattle.core_state.specs.Memory.{same_field}
 use Rattle.core_state.specs.Views.{known_in, known_of, loaded_in, lock_of, change_lock, note_lock, note_option, noting}
 use Rattle.core_state.specs.Steps.{spare_slot, new_lock}
-use Rattle.core_state.specs.Links.{BothChildren, newly_retired, with_mark, after_copy_link, new_move, IsContent}
-use Rattle.core_state.specs.Acts.{spare_of}
-use Rattle.core_laws.proofs.Acting.{commit_is, spare_is}
+use Rattle.core_state.specs.Links.{BothChildren, newly_retired, with_mark, after_copy_link, new_move, IsContent, NeedsCopyLink}
+use Rattle.core_state.specs.Acts.{spare_of, commit_of}
+use Rattle.core_laws.proofs.Acting.{commit_is, spare_is, may_update}
 use Rattle.core_points.specs.declared.stage.Last.TheVariants as last
 use Rattle.core_points.specs.declared.stage.Node.{Node}
 use Rattle.core_points.specs.declared.stage.Successor.{Successor}
@@ -379,23 +379,22 @@ module _ (k : Shape) (h : List Mark) (o : Own) (v : View) (n : ℕ) where
       let p = f.point in
       let both = (p.copying).both in
       let r : Reading = both.0 in
-      let held = held_by_load v d.node (Life d.node) (2 * d.generation) p.unmarked in (
-        held.0,
-        record {
-          locked = held.1;
-          life_now = held.2;
-          unmarked = omega arith;
-          why = inl (record {
-            reading = r;
-            parent = d.parent;
-            left = d.left;
-            right = d.right;
-            side = d.side;
-            unmarked = (d.generation, (both.2).recorded, p.unmarked);
-            children = inr (u.parent, u.slot, both_children v r d u both.2 both.3);
-          });
-        },
-      )
+      let held = held_by_load v d.node (Life d.node) (2 * d.generation) p.unmarked in
+      record {
+        lock = held.0;
+        locked = held.1;
+        life_now = held.2;
+        unmarked = omega arith;
+        why = inl (record {
+          reading = r;
+          parent = d.parent;
+          left = d.left;
+          right = d.right;
+          side = d.side;
+          unmarked = (d.generation, (both.2).recorded, p.unmarked);
+          children = inr (u.parent, u.slot, both_children v r d u both.2 both.3);
+        });
+      }
 
   pub next_copy_mark : (d : Node) (u : Successor) (next_key : ℕ) → GoesOn h o v n (at.CopyMark d u next_key)
   next_copy_mark d u next_key f =
@@ -451,30 +450,28 @@ module _ (k : Shape) (h : List Mark) (o : Own) (v : View) (n : ℕ) where
       let both = c.both in
       let r : Reading = both.0 in
       let x = p.filled in
-      let has = x.has_copy in (
-        record { found = front; stored = false },
-        r,
-        has.held,
-        d.left,
-        d.right,
-        x.value,
-        record {
-          has_commit = record { commit_is = (c.quiet).turn_is; unmade = refl; ticket = (let t = f.tickets in omega arith) };
-          room = (let few = ((c.deleting).1).room (c.deleting).0 in
-              let long = same_length v.hands.retired o.retired f.owns.retired_are in omega arith);
-          records = both_children v r d u both.2 both.3;
-          marked = marked_node v r d both.2 p.marked;
-          spare_is = (has.spare_is, has.slot_is);
-          locked = p.copy_held;
-          old_key = (x.knows).key;
-          old_value = (x.knows).value_is;
-          key_is = has.known 0 (omega arith);
-          value_is = has.known 1 (omega arith);
-          left_is = has.known 2 (omega arith);
-          right_is = has.known 3 (omega arith);
-        },
-        both.1,
-      )
+      let has = x.has_copy in
+      subst (λ y. NeedsCopyLink k.room v (commit_of v) y d.parent d.side d.node copy u.slot u.parent (key_now o) next_key)
+      (sym (spare_is v has.held has.spare_is)) (record {
+        has_commit = may_update v (c.quiet).turn_is (let t = f.tickets in omega arith);
+        room = (let few = ((c.deleting).1).room (c.deleting).0 in
+            let long = same_length v.hands.retired o.retired f.owns.retired_are in omega arith);
+        reading = r;
+        sought = both.1;
+        left = d.left;
+        right = d.right;
+        value = x.value;
+        records = both_children v r d u both.2 both.3;
+        marked = marked_node v r d both.2 p.marked;
+        spare_is = (has.spare_is, has.slot_is);
+        locked = p.copy_held;
+        old_key = (x.knows).key;
+        old_value = (x.knows).value_is;
+        key_is = has.known 0 (omega arith);
+        value_is = has.known 1 (omega arith);
+        left_is = has.known 2 (omega arith);
+        right_is = has.known 3 (omega arith);
+      })
 
   pub next_copy_store : (d : Node) (u : Successor) (next_key copy front : ℕ)
       → GoesOn h o v n (at.Store (update.Copy d u next_key copy) front)

@@ -26,7 +26,8 @@ use Rattle.core_state.specs.declared.view.Section.{Section}
 use Rattle.core_state.specs.declared.view.SearchState.TheVariants.{Found as FoundAt}
 use Rattle.list_laws.specs.Counts.{IsIn}
 use Rattle.core_state.specs.Acts.{section_of}
-use Rattle.core_laws.proofs.Acting.{section_is}
+use Rattle.core_state.specs.declared.act.Part.TheVariants as part
+use Rattle.core_laws.proofs.Acting.{section_is, may_search}
 use Rattle.core_points.specs.declared.stage.Node.{Node}
 use Rattle.core_points.specs.declared.stage.Successor.{Successor}
 use Rattle.core_points.specs.declared.stage.Target.{Target}
@@ -171,8 +172,7 @@ left_walks r d p b parent slot n e w =
 
 module _ (k : Shape) (h : List Mark) (o : Own) (v : View) (n : ℕ) where
   pub needs_parent_life : (p : ℕ) (b : Side) (d : ℕ) → IsGiven k o v n (at.ParentLife p b d)
-  needs_parent_life p b d f = let i = (f.point).2 in
-      (i.section, record { section_is = i.is; searches = (i.stands).searches; stood = (i.known).0; loadable = refl })
+  needs_parent_life p b d f = let i = (f.point).2 in may_search v p part.Life i.is (i.stands).searches (i.known).0
 
   pub next_parent_life : (p : ℕ) (b : Side) (d : ℕ) → GoesOn h o v n (at.ParentLife p b d)
   next_parent_life p b d f =
@@ -187,10 +187,7 @@ module _ (k : Shape) (h : List Mark) (o : Own) (v : View) (n : ℕ) where
       (λ section i. ((f.point).0, (f.point).1, i))
 
   pub needs_node_life : (d : Node) → IsGiven k o v n (at.NodeLife d)
-  needs_node_life d f = let i = (f.point).2 in (
-    i.section,
-    record { section_is = i.is; searches = (i.stands).searches; stood = (i.stands).here; loadable = refl },
-  )
+  needs_node_life d f = let i = (f.point).2 in may_search v d.node part.Life i.is (i.stands).searches (i.stands).here
 
   pub next_node_life : (d : Node) → GoesOn h o v n (at.NodeLife d)
   next_node_life d f =
@@ -216,10 +213,7 @@ module _ (k : Shape) (h : List Mark) (o : Own) (v : View) (n : ℕ) where
       (λ section i. ((f.point).0, (f.point).1, i))
 
   pub needs_node_left : (d : Node) → IsGiven k o v n (at.NodeLeft d)
-  needs_node_left d f = let i = (f.point).2 in (
-    i.section,
-    record { section_is = i.is; searches = (i.stands).searches; stood = (i.stands).here; loadable = refl },
-  )
+  needs_node_left d f = let i = (f.point).2 in may_search v d.node (part.Link Left) i.is (i.stands).searches (i.stands).here
 
   pub next_node_left : (d : Node) → GoesOn h o v n (at.NodeLeft d)
   next_node_left d f =
@@ -245,10 +239,7 @@ module _ (k : Shape) (h : List Mark) (o : Own) (v : View) (n : ℕ) where
       (λ section i. ((f.point).0, (f.point).1, i))
 
   pub needs_node_right : (d : Node) → IsGiven k o v n (at.NodeRight d)
-  needs_node_right d f = let i = (f.point).2 in (
-    i.section,
-    record { section_is = i.is; searches = (i.stands).searches; stood = (i.stands).here; loadable = refl },
-  )
+  needs_node_right d f = let i = (f.point).2 in may_search v d.node (part.Link Right) i.is (i.stands).searches (i.stands).here
 
   pub next_node_right : (d : Node) → GoesOn h o v n (at.NodeRight d)
   next_node_right d f = by ((d.left == 0) || (n == 0)) refl
@@ -319,8 +310,7 @@ module _ (k : Shape) (h : List Mark) (o : Own) (v : View) (n : ℕ) where
           (λ section i. ((f.point).0, (f.point).1, i))
 
   pub needs_successor_left : (d : Node) (u : Successor) → IsGiven k o v n (at.SuccessorLeft d u)
-  needs_successor_left d u f = let i = (f.point).2 in
-      (i.section, record { section_is = i.is; searches = (i.stands).searches; stood = (((i.known).1).1).slot_stood; loadable = refl })
+  needs_successor_left d u f = let i = (f.point).2 in may_search v u.slot (part.Link Left) i.is (i.stands).searches (((i.known).1).1).slot_stood
 
   pub next_successor_left : (d : Node) (u : Successor) → GoesOn h o v n (at.SuccessorLeft d u)
   next_successor_left d u f = by (n == 0) refl (u.parent == d.node) refl
@@ -405,8 +395,7 @@ module _ (k : Shape) (h : List Mark) (o : Own) (v : View) (n : ℕ) where
           (λ section i. ((f.point).0, (f.point).1, i))
 
   pub needs_successor_parent : (d : Node) (u : Successor) → IsGiven k o v n (at.SuccessorParentLife d u)
-  needs_successor_parent d u f = let i = (f.point).2 in
-      (i.section, record { section_is = i.is; searches = (i.stands).searches; stood = (((i.known).1).1).parent_stood; loadable = refl })
+  needs_successor_parent d u f = let i = (f.point).2 in may_search v u.parent part.Life i.is (i.stands).searches (((i.known).1).1).parent_stood
 
   pub next_successor_parent : (d : Node) (u : Successor) → GoesOn h o v n (at.SuccessorParentLife d u)
   next_successor_parent d u f =
@@ -435,8 +424,7 @@ module _ (k : Shape) (h : List Mark) (o : Own) (v : View) (n : ℕ) where
       (λ section i. ((f.point).0, (f.point).1, i))
 
   pub needs_successor_life : (d : Node) (u : Successor) → IsGiven k o v n (at.SuccessorLife d u)
-  needs_successor_life d u f = let i = (f.point).2 in
-      (i.section, record { section_is = i.is; searches = (i.stands).searches; stood = (((i.known).1).0).slot_stood; loadable = refl })
+  needs_successor_life d u f = let i = (f.point).2 in may_search v u.slot part.Life i.is (i.stands).searches (((i.known).1).0).slot_stood
 
   pub next_successor_life : (d : Node) (u : Successor) → GoesOn h o v n (at.SuccessorLife d u)
   next_successor_life d u f =

@@ -24,8 +24,7 @@ use Rattle.core_points.proofs.Notes.{fits, ready_put, owns_noted, bare_noted, on
 use Rattle.core_points.proofs.Locks.{goes_locking, own_lock, clear_one}
 use Rattle.prcu_marks.specs.declared.mark.Side.{Side}
 use Rattle.core_state.specs.declared.view.Held.{Held}
-use Rattle.core_state.specs.declared.view.Reading.{Reading}
-use Rattle.core_laws.proofs.Acting.{commit_is}
+use Rattle.core_laws.proofs.Acting.{commit_is, may_update}
 use Rattle.core_state.specs.declared.act.Act.TheVariants.{LinkLeaf, RaiseInHand, FreeInHand}
 use Rattle.core_laws.proofs.LockSteps.{known_here}
 use Rattle.prcu_model.specs.declared.operation.Reply.TheVariants.{Old}
@@ -267,37 +266,32 @@ module _ (k : Shape) (h : List Mark) (o : Own) (v : View) (n : ℕ) where
       let b = p.bare in
       let has = p.has_spot in
       let leaf = subst (λ x. HandFits x o.hand_life (key_now o) (value_in o.op) v.hands.hand) hand.1 p.hand in
-      let held : Held = leaf.0 in
       let is = leaf.2 in
-      let r : Reading = has.reading in
-      subst (λ s. Needs k v n (LinkLeaf spot.slot spot.side s (key_now o) (value_in o.op))) (sym (ap or_root hand.1)) (
-        record { found = front; stored = false },
-        r,
-        record { slot = spot.slot; known = spot_known spot; left_emptied = false; right_emptied = false; marked = false },
-        held,
-        spot.generation,
-        spot.tag,
-        record {
-          has_commit = record { commit_is = b.turn_is; unmade = refl; ticket = (let t = f.tickets in omega arith) };
-          kept = has.kept;
-          missed = has.missed;
-          generation_is = has.recorded;
-          tag_is = has.tag_is;
-          locked = ap (λ ls. lock_of ls spot.slot) b.locks_are ∙ one_locked spot.slot (spot_known spot);
-          life_now = known_here [] (Life spot.slot) (2 * spot.generation) false;
-          empty_now = known_here (read_at (Life spot.slot) (2 * spot.generation) ∷ []) (Link spot.slot spot.side) 0 false;
-          tag_now = known_here (read_at (Link spot.slot spot.side) 0 ∷ (read_at (Life spot.slot) (2 * spot.generation) ∷ []))
-              (Tag spot.slot spot.side) spot.tag false;
-          settled = settled spot.side;
-          in_hand = (leaf.1, is.slot_is);
-          unraised = is.unraised;
-          key_is = is.key_is ∙ ap Some (sym has.key_is);
-          value_is = is.value_is;
-          left_is = is.left_is;
-          right_is = is.right_is;
-        },
-        has.key_is,
-      )
+      subst (λ s. Needs k v n (LinkLeaf spot.slot spot.side s (key_now o) (value_in o.op))) (sym (ap or_root hand.1)) (record {
+        has_commit = may_update v b.turn_is (let t = f.tickets in omega arith);
+        reading = has.reading;
+        kept = has.kept;
+        sought = has.key_is;
+        missed = has.missed;
+        generation = spot.generation;
+        generation_is = has.recorded;
+        tag = spot.tag;
+        tag_is = has.tag_is;
+        lock = record { slot = spot.slot; known = spot_known spot; left_emptied = false; right_emptied = false; marked = false };
+        locked = ap (λ ls. lock_of ls spot.slot) b.locks_are ∙ one_locked spot.slot (spot_known spot);
+        life_now = known_here [] (Life spot.slot) (2 * spot.generation) false;
+        empty_now = known_here (read_at (Life spot.slot) (2 * spot.generation) ∷ []) (Link spot.slot spot.side) 0 false;
+        tag_now = known_here (read_at (Link spot.slot spot.side) 0 ∷ (read_at (Life spot.slot) (2 * spot.generation) ∷ []))
+            (Tag spot.slot spot.side) spot.tag false;
+        settled = settled spot.side;
+        held = leaf.0;
+        in_hand = (leaf.1, is.slot_is);
+        unraised = is.unraised;
+        key_is = is.key_is ∙ ap Some (sym has.key_is);
+        value_is = is.value_is;
+        left_is = is.left_is;
+        right_is = is.right_is;
+      })
     where
       settled : (b : Side) → is_emptied (record {
         slot = spot.slot;
@@ -346,7 +340,7 @@ module _ (k : Shape) (h : List Mark) (o : Own) (v : View) (n : ℕ) where
       let leaf = subst (λ x. HandFits x o.hand_life (key_now o) (value_in o.op) v.hands.hand) hand.1 ((f.point).2).hand in
       let is = leaf.2 in
       subst (λ s. Needs k v n (RaiseInHand s (2 * (o.hand_life / 2 + 1)))) (sym (ap or_root hand.1))
-      (leaf.0, o.hand_life, record { in_hand = (leaf.1, is.slot_is); unraised = is.unraised; loaded = is.life_is; next = refl })
+      (leaf.0, record { in_hand = (leaf.1, is.slot_is); unraised = is.unraised; life = o.hand_life; loaded = is.life_is; next = refl })
 
   pub next_raise : GoesOn h o v n at.Raise
   next_raise f =

@@ -14,10 +14,11 @@ use Rattle.core_state.specs.declared.view.SearchState.TheVariants.{At, Unread, F
 use Rattle.core_state.specs.declared.view.View.{View}
 use Rattle.list_laws.specs.Counts.{IsIn, Each}
 use Rattle.core_state.specs.Memory.{step_side}
-use Rattle.core_state.specs.Steps.{new_section, key_stand, after_search_load, leaving}
+use Rattle.core_state.specs.Steps.{new_section, key_stand, after_search_load, leaving, NeedsEnterByStamp}
 use Rattle.core_frames.proofs.Views.{link_moves, key_moves, value_moves, missed_stays}
 use Rattle.core_state.specs.Acts.{clocked_at, section_of}
-use Rattle.core_laws.proofs.Acting.{section_is}
+use Rattle.core_state.specs.declared.act.Part.TheVariants as part
+use Rattle.core_laws.proofs.Acting.{section_is, may_search, clocked_is}
 use Rattle.core_points.specs.Programs.{Own, go, key_now, after, ended, found, key_read, is_some, value_in, answer, left_section, taking, is_none_left, none_free}
 use Rattle.core_points.specs.Facts.{Calm, Inside, InsideParts, Nothing, Stands, is_delete, is_put, is_set, HandFits, HasSpot, Owns, table_of, read_at}
 use Rattle.core_points.specs.Fits.{owed, owed_op, Fits, Point, owed_reserve, owed_taken, IsGiven, GoesOn}
@@ -61,15 +62,13 @@ module _ (k : Shape) (h : List Mark) (o : Own) (v : View) (n : ℕ) where
   pub needs_stamp : (clock : ℕ) → IsGiven k o v n (at.EnterStamp clock)
   needs_stamp clock f =
       let p = f.point in
-      let c = p.2 in (
-        c.0,
-        record {
-          entry = record { outside = p.0; free = ((p.1).bare).locks_are; key_fits = f.owns.key_fits };
-          clock = c.1;
-          stamp_is = sym c.2;
-          announced = p.3;
-        },
-      )
+      let c = p.2 in
+      subst (NeedsEnterByStamp v (key_now o) clock) (sym (clocked_is v c.0 c.1)) (record {
+        entry = record { outside = p.0; free = ((p.1).bare).locks_are; key_fits = f.owns.key_fits };
+        clock = c.1;
+        stamp_is = sym c.2;
+        announced = p.3;
+      })
 
   pub next_stamp : (clock : ℕ) → GoesOn h o v n (at.EnterStamp clock)
   next_stamp clock f =
@@ -85,10 +84,7 @@ module _ (k : Shape) (h : List Mark) (o : Own) (v : View) (n : ℕ) where
       )
 
   pub needs_link : (s : ℕ) (b : Side) → IsGiven k o v n (at.AtLink s b)
-  needs_link s b f = let i = (f.point).1 in (
-    i.section,
-    record { section_is = i.is; searches = (i.stands).searches; stood = (i.stands).here; loadable = refl },
-  )
+  needs_link s b f = let i = (f.point).1 in may_search v s (part.Link b) i.is (i.stands).searches (i.stands).here
 
   ended_point : (op : Op) → o.op ≡ op → (s : ℕ) (b : Side) (w : View) → Calm o w → Inside w (key_now o) (Missed s b) Nothing
       → Point (go o (ended op s b)) (ended op s b) w
@@ -148,10 +144,7 @@ module _ (k : Shape) (h : List Mark) (o : Own) (v : View) (n : ℕ) where
       )
 
   pub needs_read : (s p : ℕ) (b : Side) → IsGiven k o v n (at.AtKey s p b)
-  needs_read s p b f = let i = (f.point).1 in (
-    i.section,
-    record { section_is = i.is; searches = (i.stands).searches; stood = (i.stands).here; loadable = refl },
-  )
+  needs_read s p b f = let i = (f.point).1 in may_search v s part.Key i.is (i.stands).searches (i.stands).here
 
   is_get : (key : ℕ) → o.op ≡ Get key → o.op ≡ Get (key_now o)
   is_get key e = e ∙ ap (λ x. Get x) (sym (ap key_of e))
@@ -223,10 +216,7 @@ module _ (k : Shape) (h : List Mark) (o : Own) (v : View) (n : ℕ) where
       )
 
   pub needs_value : (s : ℕ) → IsGiven k o v n (at.Value s)
-  needs_value s f = let i = ((f.point).2).2 in (
-    i.section,
-    record { section_is = i.is; searches = (i.stands).searches; stood = (i.stands).here; loadable = refl },
-  )
+  needs_value s f = let i = ((f.point).2).2 in may_search v s part.Value i.is (i.stands).searches (i.stands).here
 
   pub next_value : (s : ℕ) → GoesOn h o v n (at.Value s)
   next_value s f =
@@ -363,10 +353,7 @@ more_owed Room retired = omega arith
 module _ (k : Shape) (h : List Mark) (o : Own) (v : View) (n : ℕ) where
   -- the record: the tag and the life, in the section
   pub needs_spot_tag : (s : ℕ) (b : Side) → IsGiven k o v n (at.SpotTag s b)
-  needs_spot_tag s b f = let i = (f.point).2 in (
-    i.section,
-    record { section_is = i.is; searches = (i.stands).searches; stood = (i.stands).here; loadable = refl },
-  )
+  needs_spot_tag s b f = let i = (f.point).2 in may_search v s (part.Tag b) i.is (i.stands).searches (i.stands).here
 
   pub next_spot_tag : (s : ℕ) (b : Side) → GoesOn h o v n (at.SpotTag s b)
   next_spot_tag s b f =
@@ -388,8 +375,7 @@ module _ (k : Shape) (h : List Mark) (o : Own) (v : View) (n : ℕ) where
       )))
 
   pub needs_spot_life : (s : ℕ) (b : Side) (tag : ℕ) → IsGiven k o v n (at.SpotLife s b tag)
-  needs_spot_life s b tag f = let i = (f.point).2 in
-      (i.section, record { section_is = i.is; searches = (i.stands).searches; stood = (i.stands).here; loadable = refl })
+  needs_spot_life s b tag f = let i = (f.point).2 in may_search v s part.Life i.is (i.stands).searches (i.stands).here
 
   pub next_spot_life : (s : ℕ) (b : Side) (tag : ℕ) → GoesOn h o v n (at.SpotLife s b tag)
   next_spot_life s b tag f =

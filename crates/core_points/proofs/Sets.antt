@@ -13,7 +13,8 @@ use Rattle.list_laws.specs.Counts.{IsIn}
 use Rattle.core_state.specs.Views.{known_in, known_of, LoadedGeneration, noting}
 use Rattle.core_state.specs.Links.{after_replace}
 use Rattle.core_state.specs.Steps.{new_lock, leaving}
-use Rattle.core_laws.proofs.Acting.{commit_is, section_is}
+use Rattle.core_state.specs.declared.act.Part.TheVariants as part
+use Rattle.core_laws.proofs.Acting.{commit_is, section_is, may_search, may_update}
 use Rattle.core_points.specs.declared.stage.Last.TheVariants as last
 use Rattle.core_points.specs.declared.stage.Stage.{Stage}
 use Rattle.core_points.specs.declared.stage.Stage.TheVariants as at
@@ -29,8 +30,7 @@ use Rattle.core_laws.proofs.LockSteps.{known_here}
 
 module _ (k : Shape) (h : List Mark) (o : Own) (v : View) (n : ℕ) where
   pub needs_set_life : (s : ℕ) → IsGiven k o v n (at.SetLife s)
-  needs_set_life s f = let i = ((f.point).2).2 in
-      (i.section, record { section_is = i.is; searches = (i.stands).searches; stood = (i.stands).here; loadable = refl })
+  needs_set_life s f = let i = ((f.point).2).2 in may_search v s part.Life i.is (i.stands).searches (i.stands).here
 
   pub next_set_life : (s : ℕ) → GoesOn h o v n (at.SetLife s)
   next_set_life s f =
@@ -129,20 +129,18 @@ module _ (k : Shape) (h : List Mark) (o : Own) (v : View) (n : ℕ) where
   needs_set_store s old front f =
       let g : ℕ = (f.point).0 in
       let p = (f.point).1 in
-      let has = p.found in (
-        record { found = front; stored = false },
-        has.reading,
-        g,
-        record {
-          has_commit = record { commit_is = (p.quiet).turn_is; unmade = refl; ticket = (let t = f.tickets in omega arith) };
-          kept = has.kept;
-          found = has.found;
-          generation_is = has.recorded;
-          life_now = ap (λ x. known_in (known_of x) (Life s)) (one_held o v s (set_known s g old) p.locks_are)
-              ∙ known_here [] (Life s) (2 * g) false;
-        },
-        has.key_is,
-      )
+      let has = p.found in
+      record {
+        has_commit = may_update v (p.quiet).turn_is (let t = f.tickets in omega arith);
+        reading = has.reading;
+        kept = has.kept;
+        sought = has.key_is;
+        found = has.found;
+        generation = g;
+        generation_is = has.recorded;
+        life_now = ap (λ x. known_in (known_of x) (Life s)) (one_held o v s (set_known s g old) p.locks_are)
+            ∙ known_here [] (Life s) (2 * g) false;
+      }
 
   pub next_set_store : (s old front : ℕ) → GoesOn h o v n (at.Store (update.Value s old) front)
   next_set_store s old front f =

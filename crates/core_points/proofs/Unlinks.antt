@@ -16,8 +16,8 @@ use Rattle.core_state.specs.declared.view.View.{View}
 use Rattle.list_laws.specs.Counts.{Each, times}
 use Rattle.list_laws.proofs.Lists.{at_end}
 use Rattle.core_state.specs.Views.{known_in, loaded_in, lock_of, change_lock, is_emptied, note_lock, noting, with_emptied, note_held, note_moving, note_option}
-use Rattle.core_state.specs.Links.{FewChildren, IsMarkedNode, NodeRecords, after_bypass, newly_retired, relinked, with_mark, NeedsUnlinkOld, after_unlink_old}
-use Rattle.core_laws.proofs.Acting.{commit_is}
+use Rattle.core_state.specs.Links.{FewChildren, IsMarkedNode, NodeRecords, after_bypass, newly_retired, relinked, with_mark, NeedsUnlinkOld, after_unlink_old, IsEndOf}
+use Rattle.core_laws.proofs.Acting.{commit_is, may_update}
 use Rattle.core_points.specs.declared.stage.Node.{Node}
 use Rattle.core_points.specs.Programs.{Needs, view_after, Own, key_now, act_at, after, go, move_locks, target_lock}
 use Rattle.core_points.specs.Facts.{stored_at, read_at, Owns, Quiet}
@@ -162,23 +162,22 @@ module _ (k : Shape) (h : List Mark) (o : Own) (v : View) (n : ℕ) where
       let p = f.point in
       let few = p.few in
       let r : Reading = few.0 in
-      let held = held_by_load v d.node (Life d.node) (2 * d.generation) p.unmarked in (
-        held.0,
-        record {
-          locked = held.1;
-          life_now = held.2;
-          unmarked = omega arith;
-          why = inl (record {
-            reading = r;
-            parent = d.parent;
-            left = d.left;
-            right = d.right;
-            side = d.side;
-            unmarked = (d.generation, (few.2).recorded, p.unmarked);
-            children = inl (few_children v r d few.2 few.3);
-          });
-        },
-      )
+      let held = held_by_load v d.node (Life d.node) (2 * d.generation) p.unmarked in
+      record {
+        lock = held.0;
+        locked = held.1;
+        life_now = held.2;
+        unmarked = omega arith;
+        why = inl (record {
+          reading = r;
+          parent = d.parent;
+          left = d.left;
+          right = d.right;
+          side = d.side;
+          unmarked = (d.generation, (few.2).recorded, p.unmarked);
+          children = inl (few_children v r d few.2 few.3);
+        });
+      }
 
   pub next_mark : (d : Node) (child : ℕ) → GoesOn h o v n (at.Mark d child)
   next_mark d child f =
@@ -206,21 +205,19 @@ module _ (k : Shape) (h : List Mark) (o : Own) (v : View) (n : ℕ) where
   needs_bypass d child front room some_room f =
       let p = f.point in
       let few = p.few in
-      let r : Reading = few.0 in (
-        record { found = front; stored = false },
-        r,
-        d.left,
-        d.right,
-        record {
-          has_commit = record { commit_is = (p.quiet).turn_is; unmade = refl; ticket = (let t = f.tickets in omega arith) };
-          room = (let few = ((p.deleting).1).room (p.deleting).0 in
-              let long = same_length v.hands.retired o.retired f.owns.retired_are in omega arith);
-          records = few_children v r d few.2 few.3;
-          marked = marked_node v r d few.2 p.marked;
-          child_is = p.child_is;
-        },
-        few.1,
-      )
+      let r : Reading = few.0 in
+      record {
+        has_commit = may_update v (p.quiet).turn_is (let t = f.tickets in omega arith);
+        room = (let few = ((p.deleting).1).room (p.deleting).0 in
+            let long = same_length v.hands.retired o.retired f.owns.retired_are in omega arith);
+        reading = r;
+        sought = few.1;
+        left = d.left;
+        right = d.right;
+        records = few_children v r d few.2 few.3;
+        marked = marked_node v r d few.2 p.marked;
+        child_is = p.child_is;
+      }
 
   pub next_bypass : (d : Node) (child front : ℕ) → GoesOn h o v n (at.Store (update.Bypass d child) front)
   next_bypass d child front f =
@@ -276,7 +273,8 @@ module _ (k : Shape) (h : List Mark) (o : Own) (v : View) (n : ℕ) where
       )
 
   pub needs_empty_raise : (number s : ℕ) (b : Side) (tag : ℕ) → IsGiven k o v n (at.EmptyRaise number s b tag)
-  needs_empty_raise number s b tag f = let e = (f.point).2 in (e.lock, record { held = e.locked; emptied = e.emptied; known = e.known })
+  needs_empty_raise number s b tag f =
+      let e = (f.point).2 in record { lock = e.lock; held = e.locked; emptied = e.emptied; known = e.known }
 
   pub next_empty_raise : (number s : ℕ) (b : Side) (tag : ℕ) → GoesOn h o v n (at.EmptyRaise number s b tag)
   next_empty_raise number s b tag f =
@@ -371,7 +369,13 @@ module _ (k : Shape) (h : List Mark) (o : Own) (v : View) (n : ℕ) where
       let p = f.point in
       let is = (p.0).move in
       let old = p.1 in
-      (old.lock, record { locked = old.locked; life_now = old.life; unmarked = omega arith; why = inr (inl (is.move, is.is, is.old_is)) })
+      record {
+        lock = old.lock;
+        locked = old.locked;
+        life_now = old.life;
+        unmarked = omega arith;
+        why = inr (inl (is.move, is.is, is.old_is));
+      }
 
   pub next_old_mark : (m : Moving) → GoesOn h o v n (at.OldMark m)
   next_old_mark m f =
@@ -424,21 +428,22 @@ module _ (k : Shape) (h : List Mark) (o : Own) (v : View) (n : ℕ) where
   pub needs_unlink : (m : Moving) (child : ℕ) → IsGiven k o v n (at.Unlink m child)
   needs_unlink m child f = by (m.successor.parent == m.node.node) refl
     where
-      move : moves.Move
-      move = (((f.point).0).move).move
-
-      unlinks : (parent : ℕ) → move_parent m ≡ parent
-          → NeedsUnlinkOld v move ((f.point).1).lock parent m.successor.slot child (2 * m.successor.generation + 1)
-      unlinks parent e =
+      unlinks : (parent : ℕ) (b : Side) → move_parent m ≡ parent → IsEndOf ((((f.point).0).move).move).copy.slot parent b
+          → NeedsUnlinkOld v parent b m.successor.slot child
+      unlinks parent b e end =
           let p = f.point in
           let is = (p.0).move in
           let old = p.1 in record {
+            move = is.move;
+            end = end;
             moving = is.is;
             old_is = is.old_is;
             parent_is = is.parent_is ∙ e;
             waited = is.waited_is;
+            lock = old.lock;
             locked = old.locked;
             marked = old.marked_is;
+            life = 2 * m.successor.generation + 1;
             life_now = old.life;
             odd = omega arith;
             right_now = under_lock v m.successor.slot old.lock (Link m.successor.slot Right) child old.locked p.3;
@@ -446,20 +451,9 @@ module _ (k : Shape) (h : List Mark) (o : Own) (v : View) (n : ℕ) where
 
       by : (z : Bool) → (m.successor.parent == m.node.node) ≡ z
           → Needs k v n (cond z (UnlinkRight m.copy m.successor.slot child) (UnlinkLeft m.successor.parent m.successor.slot child))
-      by true e = let is = ((f.point).0).move in (
-        move,
-        ((f.point).1).lock,
-        2 * m.successor.generation + 1,
-        unlinks m.copy (ap (λ z. cond z m.copy m.successor.parent) e),
-        sym is.copy_is,
-      )
-      by false e = let is = ((f.point).0).move in (
-        move,
-        ((f.point).1).lock,
-        2 * m.successor.generation + 1,
-        unlinks m.successor.parent (ap (λ z. cond z m.copy m.successor.parent) e),
-        (λ same. ((f.point).0).apart (sym (same ∙ is.copy_is))),
-      )
+      by true e = unlinks m.copy Right (ap (λ z. cond z m.copy m.successor.parent) e) (sym (((f.point).0).move).copy_is)
+      by false e = unlinks m.successor.parent Left (ap (λ z. cond z m.copy m.successor.parent) e)
+          (λ same. ((f.point).0).apart (sym (same ∙ (((f.point).0).move).copy_is)))
 
   pub next_unlink : (m : Moving) (child : ℕ) → Fits o (at.Unlink m child) v
       → Fits (after o n (at.Unlink m child)) (after o n (at.Unlink m child)).stage

@@ -16,7 +16,7 @@ use Rattle.core_state.specs.declared.shape.Shape.{Shape}
 use Rattle.core_state.specs.declared.shape.Waiter.TheVariants.{Eer, Domain, Deer}
 use Rattle.core_state.specs.Memory.{idle}
 use mathlib.Core.Option.{some, some-injective}
-use Rattle.core_laws.proofs.Acting.{wait_is}
+use Rattle.core_laws.proofs.Acting.{wait_is, may_look}
 use Rattle.core_points.specs.declared.stage.Spot.{Spot}
 use Rattle.core_points.specs.declared.stage.Aim.{Aim}
 use Rattle.core_points.specs.declared.stage.Aim.TheVariants.{Leaf, Spare, Room}
@@ -167,28 +167,16 @@ module _ (k : Shape) (h : List Mark) (o : Own) (v : View) (n : ℕ) where
 
   pub needs_look_key : (aim : Aim) (clock p : ℕ) → k.waiter ≡ Eer → k.places ≡ o.places → IsGiven k o v n (at.LookKey (Reuse aim) clock p)
   needs_look_key aim clock p eer places f =
-      let q = (f.point).3 in (
-        q.0,
-        record {
-          wait_is = q.1;
-          going = (q.2).going;
-          rest = λ is_last other spot. seen_all q.0 p (Announced p) (p + 1 == o.places) eer places refl refl (f.point).2
-              (q.2).past is_last other spot;
-        },
-      )
+      let q = (f.point).3 in
+      may_look k v q.1 (q.2).going (λ is_last other spot. seen_all q.0 p (Announced p) (p + 1 == o.places) eer places
+      refl refl (f.point).2 (q.2).past is_last other spot)
 
   pub needs_look_stamp : (aim : Aim) (clock p key : ℕ) → k.waiter ≡ Eer → k.places ≡ o.places
       → IsGiven k o v n (at.LookStamp (Reuse aim) clock p key)
   needs_look_stamp aim clock p key eer places f =
-      let q = (f.point).3 in (
-        q.0,
-        record {
-          wait_is = q.1;
-          going = (q.2).going;
-          rest = λ is_last other spot. seen_all q.0 p (Stamp p) (p + 1 == o.places) eer places refl refl (f.point).2
-              (q.2).past is_last other spot;
-        },
-      )
+      let q = (f.point).3 in
+      may_look k v q.1 (q.2).going (λ is_last other spot. seen_all q.0 p (Stamp p) (p + 1 == o.places) eer places
+      refl refl (f.point).2 (q.2).past is_last other spot)
 
   -- a look that excuses a place
   excused_fits : (aim : Aim) (clock p : ℕ) (field : Field) (wait : Waiting) → SpareComes o → spot_seen field ≡ Stamp p → Owns o v → Idle o v
@@ -388,22 +376,22 @@ module _ (k : Shape) (h : List Mark) (o : Own) (v : View) (n : ℕ) where
         unraised = head_each (λ (r : Retired). r.raised ≡ false) r q.rest v.hands.retired q.are (f.unraised refl);
         unlocked = λ l. absurd (let z : None ≡ Some l.0 = ap (λ ls. lock_of ls slot) (sym b.locks_are) ∙ l.1 in cc);
         waited = head_each (λ (r : Retired). r.waited ≡ true) r q.rest v.hands.retired q.are (f.point).2;
+        life = life;
         loaded = q.loaded;
         next = refl;
       })
     where
       by_spare : (z : Bool) → is_some o.spare ≡ z → first_or_root o.retired ≡ (((f.point).3).first).slot
-          → ((slot : ℕ) → slot ≡ (((f.point).3).first).slot → NeedsRaiseRetired v 0 ((f.point).3).first slot life (2 * (life / 2 + 1)))
+          → ((slot : ℕ) → slot ≡ (((f.point).3).first).slot → NeedsRaiseRetired v 0 ((f.point).3).first slot (2 * (life / 2 + 1)))
           → Needs k v n (cond z (RaiseRetired (first_or_root o.retired) (2 * (life / 2 + 1)))
           (RaiseToSpare (first_or_root o.retired) (2 * (life / 2 + 1))))
       by_spare true e is make = (
         0,
-        life,
         ((f.point).3).first,
         make _ is,
         (λ none. absurd (let q : false ≡ true = ap is_some (ap spare_slot (sym none) ∙ f.owns.spare_is) ∙ e in cc)),
       )
-      by_spare false e is make = (0, life, ((f.point).3).first, make _ is, no_spare v.hands.spare o.spare f.owns.spare_is e)
+      by_spare false e is make = (0, ((f.point).3).first, make _ is, no_spare v.hands.spare o.spare f.owns.spare_is e)
 
   pub next_old_raise : (aim : Aim) (life : ℕ) → TellsAlone v → Fits o (at.OldRaise aim life) v
       → Fits (after o n (at.OldRaise aim life)) (after o n (at.OldRaise aim life)).stage
@@ -609,29 +597,17 @@ module _ (k : Shape) (h : List Mark) (o : Own) (v : View) (n : ℕ) where
   pub needs_move_key : (m : Moving) (clock p : ℕ) → k.waiter ≡ Eer → k.places ≡ o.places → IsGiven k o v n (at.LookKey (Move m) clock p)
   needs_move_key m clock p eer places f =
       let w = (f.point).3 in
-      let q = w.1 in (
-        q.0,
-        record {
-          wait_is = q.1;
-          going = (q.2).going;
-          rest = λ is_last other spot. seen_all k h o v n q.0 p (Announced p) (p + 1 == o.places) eer places refl refl w.0
-              (q.2).past is_last other spot;
-        },
-      )
+      let q = w.1 in
+      may_look k v q.1 (q.2).going (λ is_last other spot. seen_all k h o v n q.0 p (Announced p) (p + 1 == o.places) eer places
+      refl refl w.0 (q.2).past is_last other spot)
 
   pub needs_move_stamp : (m : Moving) (clock p key : ℕ) → k.waiter ≡ Eer → k.places ≡ o.places
       → IsGiven k o v n (at.LookStamp (Move m) clock p key)
   needs_move_stamp m clock p key eer places f =
       let w = (f.point).3 in
-      let q = w.1 in (
-        q.0,
-        record {
-          wait_is = q.1;
-          going = (q.2).going;
-          rest = λ is_last other spot. seen_all k h o v n q.0 p (Stamp p) (p + 1 == o.places) eer places refl refl w.0
-              (q.2).past is_last other spot;
-        },
-      )
+      let q = w.1 in
+      may_look k v q.1 (q.2).going (λ is_last other spot. seen_all k h o v n q.0 p (Stamp p) (p + 1 == o.places) eer places
+      refl refl w.0 (q.2).past is_last other spot)
 
   -- a look that excuses a place
   excused_move : (m : Moving) (clock p : ℕ) (field : Field) (wait : Waiting) → spot_seen field ≡ Stamp p

@@ -15,17 +15,14 @@ use Rattle.core_state.specs.declared.words.Kind.{Kind}
 use Rattle.core_state.specs.declared.words.Kind.TheVariants.{K3, K4, K5, K6, K7, K8, K9, K10, K11, K12, K13, K14, K15, K16, K17, K18, K19, K20, K21, K22, K23, K24, K25, K26, K27, K28, K29, K30, K31, K32, K33, K34, K35, K36, K37, K38, K39}
 use Rattle.core_state.specs.declared.view.Clocked.{Clocked}
 use Rattle.core_state.specs.declared.view.Held.{Held}
-use Rattle.core_state.specs.declared.view.HeldLock.{HeldLock}
 use Rattle.core_state.specs.declared.view.Listing.{Listing}
-use Rattle.core_state.specs.declared.view.Move.{Move}
-use Rattle.core_state.specs.declared.view.Reading.{Reading}
 use Rattle.core_state.specs.declared.view.Retired.{Retired}
 use Rattle.core_state.specs.declared.view.Section.{Section}
 use Rattle.core_state.specs.declared.view.View.{View}
 use Rattle.core_state.specs.declared.view.Waiting.{Waiting}
 use Rattle.core_state.specs.Memory.{slot_count, idle, apart, is_field, lock_base, state_base, waiter_base, word_of, word_count}
 use Rattle.core_state.specs.Steps.{stepped, unknown_slot, after_clock_load, NeedsAnnounce, after_announce, fresh_reading, entering, NeedsEnterByStamp, NeedsLeaveByStamp, NeedsGateLoad, after_gate_load, NeedsEnterByCount, after_enter_by_count, NeedsLeaveByCount, NeedsEnterByRow, NeedsLeaveByRow, leaving, NeedsBegin, after_begin, NeedsGateTurn, after_gate_turn, IsSpot, spot_seen, after_look, look_marks, NeedsLock, after_lock, NeedsUnlock, after_unlock, NeedsLockedLoad, after_locked_load, NeedsOpenCommit, after_open_commit, NeedsRaiseTag, after_raise_tag, NeedsCloseCommit, after_close_commit, NeedsGiveFrontBack, new_listing, NeedsSearchLoad, after_search_load, NeedsFrontLook, after_front_look, NeedsListLoad, after_list_load, done_by}
-use Rattle.core_state.specs.Links.{IsRetiredAt, after_retired_life, NeedsRaiseRetired, after_raise_to_spare, after_raise_retired, NeedsFreeRetired, after_free_retired, NeedsOwnLife, after_own_life, NeedsKeptAsSpare, after_kept_as_spare, NeedsReserve, after_reserve, NeedsSeize, after_seize, NeedsFill, after_fill, NeedsRaiseInHand, after_raise_in_hand, NeedsFreeInHand, after_free_in_hand, NeedsCountFree, after_count_free, NeedsLeafLink, after_leaf_link, NeedsBypass, after_bypass, NeedsMark, after_mark, NeedsReplace, after_replace, NeedsCopyLink, after_copy_link, NeedsUnlinkOld, after_unlink_old, Rotation, NeedsRotate, after_rotate, rotate_marks}
+use Rattle.core_state.specs.Links.{IsRetiredAt, after_retired_life, NeedsRaiseRetired, after_raise_to_spare, after_raise_retired, NeedsFreeRetired, after_free_retired, NeedsOwnLife, after_own_life, NeedsKeptAsSpare, after_kept_as_spare, NeedsReserve, after_reserve, NeedsSeize, after_seize, NeedsFill, after_fill, NeedsRaiseInHand, after_raise_in_hand, NeedsFreeInHand, after_free_in_hand, NeedsCountFree, after_count_free, NeedsLeafLink, after_leaf_link, NeedsBypass, after_bypass, NeedsMark, after_mark, NeedsReplace, after_replace, NeedsCopyLink, after_copy_link, NeedsUnlinkOld, after_unlink_old, NeedsRotate, after_rotate, rotate_marks}
 use Rattle.prcu_marks.specs.declared.access.Access.{Access}
 use Rattle.prcu_marks.specs.Marks.{left_by, said_by}
 use Rattle.prcu_marks.specs.declared.access.Access.TheVariants.{Load, Store, Exchange, Add, Subtract, Flip}
@@ -199,76 +196,12 @@ IsWord k (word.Value s) = s < slot_count k
 IsWord k (word.Link s b) = s < slot_count k
 IsWord k (word.Tag s b) = s < slot_count k
 
--- K8, K31 and K35: a waiter loads a word. The last look comes after all other spots were excused by loads of this wait: where it excuses
--- too, the wait ends.
-pub record MayLook (k : Shape) (v : View) (wait : Waiting) (field : Field) (last : Bool) : Type 0 where
-  pub wait_is : v.wait ≡ Some wait
-  pub going : wait.ended ≡ false
-  pub rest : last ≡ true → (other : Field) → IsSpot k wait other → IsIn (spot_seen field ∷ wait.excused) other
-
--- what it needs of the view
-abbrev pub Needs : Shape → View → Act → Type 0
-Needs k v LoadClock = Unit {0}
-Needs k v (AnnounceKey key) = NeedsAnnounce v
-Needs k v (EnterByStamp key stamp) = (clocked : Clocked) × NeedsEnterByStamp v key stamp clocked
-Needs k v LeaveByStamp = (section : Section) × NeedsLeaveByStamp v section
-Needs k v (BeginWait low high) = NeedsBegin v low high
-Needs k v (LookKey p last) = (wait : Waiting) × MayLook k v wait (word.Announced p) last
-Needs k v (LookStamp p last) = (wait : Waiting) × MayLook k v wait (word.Stamp p) last
-Needs k v (LoadOwnLife slot) = (held : Held) × NeedsOwnLife v held slot
-Needs k v (KeepAsSpare slot) = (held : Held) × NeedsKeptAsSpare v held slot
-Needs k v (LoadRetiredLife slot) = (i : ℕ) × (r : Retired) × IsRetiredAt v i r slot
-Needs k v (Reserve expected) = NeedsReserve v expected
-Needs k v (Seize slot) = NeedsSeize v slot
-Needs k v (Fill slot p number) = (held : Held) × NeedsFill v held slot (in_slot slot p)
-Needs k v (RaiseInHand slot number) = (held : Held) × (life : ℕ) × NeedsRaiseInHand v held slot life number
-Needs k v (RaiseToSpare slot number) = (i life : ℕ) × (r : Retired) × NeedsRaiseRetired v i r slot life number × (v.hands.spare ≡ None)
-Needs k v (RaiseRetired slot number) = (i life : ℕ) × (r : Retired) × NeedsRaiseRetired v i r slot life number × (v.hands.spare ≢ None)
-Needs k v (Lock slot) = NeedsLock v
-Needs k v (Unlock slot) = (lock : HeldLock) × NeedsUnlock v lock slot
-Needs k v (FreeInHand slot) = (held : Held) × NeedsFreeInHand v held slot
-Needs k v (FreeRetired slot) = (i : ℕ) × (r : Retired) × NeedsFreeRetired v i r slot
-Needs k v CountFree = NeedsCountFree v
-Needs k v (SearchLoad slot p) = (section : Section) × NeedsSearchLoad v section slot (in_slot slot p)
-Needs k v (ListLoad slot p) = (section : Section) × (listing : Listing) × NeedsListLoad v section listing slot (in_slot slot p)
-Needs k v (LockedLoad slot p) = NeedsLockedLoad v slot (in_slot slot p)
-Needs k v (OpenCommit expected) = NeedsOpenCommit v expected
-Needs k v (LinkLeaf slot b leaf key value) = (commit : Commit) × (r : Reading) × (lock : HeldLock) × (held : Held) × (generation tag : ℕ)
-    × NeedsLeafLink v commit r lock held slot b leaf value generation tag × (r.key ≡ key)
-Needs k v (Bypass parent b node child key) = (commit : Commit) × (r : Reading) × (left right : ℕ)
-    × NeedsBypass k.room v commit r parent b node child left right × (r.key ≡ key)
-Needs k v (MarkNode slot life) = (lock : HeldLock) × NeedsMark v lock slot life
-Needs k v (RaiseTag slot b tag) = (lock : HeldLock) × NeedsRaiseTag v lock slot b tag
-Needs k v (CloseCommit front) = NeedsCloseCommit v front
-Needs k v (LinkCopy parent b node copy old old_parent key next_key) =
-    (commit : Commit) × (r : Reading) × (held : Held) × (left right value : ℕ)
-    × NeedsCopyLink k.room v commit r held parent b node copy old old_parent left right next_key value × (r.key ≡ key)
-Needs k v (UnlinkLeft parent old child) = (move : Move) × (lock : HeldLock) × (life : ℕ) × NeedsUnlinkOld v move lock parent old child life
-    × (parent ≢ move.copy.slot)
-Needs k v (UnlinkRight copy old child) = (move : Move) × (lock : HeldLock) × (life : ℕ) × NeedsUnlinkOld v move lock copy old child life
-    × (copy ≡ move.copy.slot)
-Needs k v (LoadGate class) = NeedsGateLoad v
-Needs k v (EnterByCount key side) = (gate : ℕ) × NeedsEnterByCount v key side gate
-Needs k v (LeaveByCount class side) = (section : Section) × NeedsLeaveByCount v section class side
-Needs k v (LookCount class side last) = (wait : Waiting) × MayLook k v wait (word.Count class side) last
-Needs k v (TurnGate class) = (wait : Waiting) × NeedsGateTurn v wait class
-Needs k v (EnterByRow key stamp) = (clocked : Clocked) × NeedsEnterByRow v key stamp clocked
-Needs k v (LeaveByRow class) = (section : Section) × NeedsLeaveByRow v section class
-Needs k v (LookRow p class last) = (wait : Waiting) × MayLook k v wait (word.Row p class) last
-Needs k v (ReplaceValue slot key value) = (commit : Commit) × (r : Reading) × (generation : ℕ) × NeedsReplace v commit r slot generation
-    × (r.key ≡ key)
-Needs k v LookAtFront = (section : Section) × NeedsFrontLook v section
-Needs k v (Rotate parent b node child top) = (r : Reading) × (upper lower : Held) × (turning : Rotation)
-    × NeedsRotate k.room v r upper lower parent b node child top turning
-Needs k v (GiveFrontBack front) = NeedsGiveFrontBack v front
-
--- What the act asks of the table and of the view.
-abbrev pub Asks : Shape → View → Act → Type 0
-Asks k v a = IsWord k (field_of v.allowance.place a) × Needs k v a
-
 -- What a view has open, or anything where it has nothing open: an act that needs it says that it is there.
+abbrev pub clocked_of : View → Clocked
+clocked_of v = unwrap_or v.enter.clock (record { number = 0; at = 0 })
+
 abbrev pub clocked_at : View → ℕ
-clocked_at v = (unwrap_or v.enter.clock (record { number = 0; at = 0 })).at
+clocked_at v = (clocked_of v).at
 
 abbrev pub some_section : Section
 some_section = record { key = 0; count = 0; entered = 0; from = 0; stamp = 0; clocked = 0; reading = fresh_reading 0; listing = None }
@@ -290,6 +223,66 @@ commit_of v = unwrap_or v.commit (record { found = 0; stored = false })
 
 abbrev pub spare_of : View → Held
 spare_of v = unwrap_or v.hands.spare (unknown_slot 0)
+
+-- K8, K31 and K35: a waiter loads a word. The last look comes after all other spots were excused by loads of this wait: where it excuses
+-- too, the wait ends.
+pub record MayLook (k : Shape) (v : View) (wait : Waiting) (field : Field) (last : Bool) : Type 0 where
+  pub wait_is : v.wait ≡ Some wait
+  pub going : wait.ended ≡ false
+  pub rest : last ≡ true → (other : Field) → IsSpot k wait other → IsIn (spot_seen field ∷ wait.excused) other
+
+-- what it needs of the view
+abbrev pub Needs : Shape → View → Act → Type 0
+Needs k v LoadClock = Unit {0}
+Needs k v (AnnounceKey key) = NeedsAnnounce v
+Needs k v (EnterByStamp key stamp) = NeedsEnterByStamp v key stamp (clocked_of v)
+Needs k v LeaveByStamp = NeedsLeaveByStamp v (section_of v)
+Needs k v (BeginWait low high) = NeedsBegin v low high
+Needs k v (LookKey p last) = MayLook k v (wait_of v) (word.Announced p) last
+Needs k v (LookStamp p last) = MayLook k v (wait_of v) (word.Stamp p) last
+Needs k v (LoadOwnLife slot) = NeedsOwnLife v slot
+Needs k v (KeepAsSpare slot) = (held : Held) × NeedsKeptAsSpare v held slot
+Needs k v (LoadRetiredLife slot) = (i : ℕ) × (r : Retired) × IsRetiredAt v i r slot
+Needs k v (Reserve expected) = NeedsReserve v expected
+Needs k v (Seize slot) = NeedsSeize v slot
+Needs k v (Fill slot p number) = (held : Held) × NeedsFill v held slot (in_slot slot p)
+Needs k v (RaiseInHand slot number) = (held : Held) × NeedsRaiseInHand v held slot number
+Needs k v (RaiseToSpare slot number) = (i : ℕ) × (r : Retired) × NeedsRaiseRetired v i r slot number × (v.hands.spare ≡ None)
+Needs k v (RaiseRetired slot number) = (i : ℕ) × (r : Retired) × NeedsRaiseRetired v i r slot number × (v.hands.spare ≢ None)
+Needs k v (Lock slot) = NeedsLock v
+Needs k v (Unlock slot) = NeedsUnlock v slot
+Needs k v (FreeInHand slot) = (held : Held) × NeedsFreeInHand v held slot
+Needs k v (FreeRetired slot) = (i : ℕ) × (r : Retired) × NeedsFreeRetired v i r slot
+Needs k v CountFree = NeedsCountFree v
+Needs k v (SearchLoad slot p) = NeedsSearchLoad v (section_of v) slot (in_slot slot p)
+Needs k v (ListLoad slot p) = NeedsListLoad v (section_of v) (listing_of (section_of v)) slot (in_slot slot p)
+Needs k v (LockedLoad slot p) = NeedsLockedLoad v slot (in_slot slot p)
+Needs k v (OpenCommit expected) = NeedsOpenCommit v expected
+Needs k v (LinkLeaf slot b leaf key value) = NeedsLeafLink v (commit_of v) slot b leaf key value
+Needs k v (Bypass parent b node child key) = NeedsBypass k.room v (commit_of v) parent b node child key
+Needs k v (MarkNode slot life) = NeedsMark v slot life
+Needs k v (RaiseTag slot b tag) = NeedsRaiseTag v slot b tag
+Needs k v (CloseCommit front) = NeedsCloseCommit v front
+Needs k v (LinkCopy parent b node copy old old_parent key next_key) =
+    NeedsCopyLink k.room v (commit_of v) (spare_of v) parent b node copy old old_parent key next_key
+Needs k v (UnlinkLeft parent old child) = NeedsUnlinkOld v parent Left old child
+Needs k v (UnlinkRight copy old child) = NeedsUnlinkOld v copy Right old child
+Needs k v (LoadGate class) = NeedsGateLoad v
+Needs k v (EnterByCount key side) = NeedsEnterByCount v key side
+Needs k v (LeaveByCount class side) = NeedsLeaveByCount v (section_of v) class side
+Needs k v (LookCount class side last) = MayLook k v (wait_of v) (word.Count class side) last
+Needs k v (TurnGate class) = NeedsGateTurn v (wait_of v) class
+Needs k v (EnterByRow key stamp) = NeedsEnterByRow v key stamp (clocked_of v)
+Needs k v (LeaveByRow class) = NeedsLeaveByRow v (section_of v) class
+Needs k v (LookRow p class last) = MayLook k v (wait_of v) (word.Row p class) last
+Needs k v (ReplaceValue slot key value) = NeedsReplace v (commit_of v) slot key
+Needs k v LookAtFront = NeedsFrontLook v (section_of v)
+Needs k v (Rotate parent b node child top) = NeedsRotate k.room v (spare_of v) parent b node child top
+Needs k v (GiveFrontBack front) = NeedsGiveFrontBack v front
+
+-- What the act asks of the table and of the view.
+abbrev pub Asks : Shape → View → Act → Type 0
+Asks k v a = IsWord k (field_of v.allowance.place a) × Needs k v a
 
 -- The view after it, by all marks before it and the number that it tells; v is the view before, with the step in its trail.
 abbrev pub after : View → Act → List Mark → ℕ → View

@@ -18,7 +18,7 @@ use Rattle.core_state.specs.Views.{IsLoadable}
 use Rattle.core_state.specs.declared.act.Part.{Part}
 use Rattle.core_state.specs.declared.act.Act.TheVariants.{ListLoad}
 use Rattle.core_state.specs.Acts.{in_slot, noted, Asks, section_of, listing_of}
-use Rattle.core_laws.proofs.Acting.{part_word, section_is}
+use Rattle.core_laws.proofs.Acting.{part_word, section_is, may_list}
 use Rattle.seat_table.specs.Gains.{IsSlot, Told}
 use Rattle.seat_table.proofs.SeveralSteps.{made_none, made_more, made_both}
 use Rattle.exact_list.specs.Tries.{is_load, IsListing, HasFoundMore, HasLoaded, KnowsKey, Leads}
@@ -135,7 +135,7 @@ module _ (k : Shape) (v : View) where
       → (s ≡ 0) ⊎ ((t : Visit) × IsIn x.listing.visits t × (t.slot ≡ s)) → IsLoadable s (in_slot s p) → Asks k u (ListLoad s p)
   may_load u x s p below been loadable = (
     part_word k s p below,
-    (x.section, x.listing, record { section_is = x.inside; lists = x.lists; been = been; loadable = loadable }),
+    may_list u s p x.inside x.lists been loadable,
   )
 
   -- one load more

@@ -16,7 +16,7 @@ use Rattle.core_state.specs.Steps.{new_listing, looked, with_front}
 use Rattle.core_frames.proofs.Roles.{works_there}
 use Rattle.core_state.specs.declared.act.Act.TheVariants.{LookAtFront, GiveFrontBack}
 use Rattle.core_state.specs.Acts.{noted, Asks, section_of}
-use Rattle.core_laws.proofs.Acting.{section_is}
+use Rattle.core_laws.proofs.Acting.{section_is, may_look_at_front}
 use Rattle.seat_table.specs.Seats.{SeatAt, IsQuietSeat}
 use Rattle.seat_table.specs.Gains.{Told, IsAsked, IsListedNow}
 use Rattle.seat_table.specs.Sections.{Makes, is_entry, is_exit, HasEntered, HasLeft}
@@ -120,7 +120,7 @@ module _ (v : View) (key : ℕ) where
 
   module _ (numbers : List ℕ) (u : View) (i : InTry v key numbers u) where
     pub may_look : (k : Shape) → Asks k u LookAtFront
-    may_look k = (tt, (i.section, record { section_is = i.inside; first = i.unread }))
+    may_look k = (tt, may_look_at_front u i.inside i.unread)
 
     place_is : u.allowance.place ≡ v.allowance.place
     place_is = ap (λ (z : View). z.allowance.place) i.others

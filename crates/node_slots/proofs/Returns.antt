@@ -362,12 +362,13 @@ module _ (k : Shape) (v : View) (slot : ℕ) (ready : IsReady v slot) (unlocked 
       })
 
   -- its life may be raised
-  raises : NeedsRaiseRetired loaded ready.i (to ready.r) slot life number
+  raises : NeedsRaiseRetired loaded ready.i (to ready.r) slot number
   raises = record {
     retired = (at_changed v.hands.retired ready.i ready.r slot to ready.at.0 ready.at.1, ready.at.1);
     unraised = ready.unraised;
     unlocked = λ (has : HasLock loaded slot). no_lock (subst (λ ls. (lock : HeldLock) × (lock_of ls slot ≡ Some lock)) unlocked has);
     waited = ready.waited;
+    life = life;
     loaded = refl;
     next = refl;
   }
@@ -377,13 +378,13 @@ module _ (k : Shape) (v : View) (slot : ℕ) (ready : IsReady v slot) (unlocked 
 
   pub needs_spare : v.hands.spare ≡ None → IsAsked k v1 (RaiseToSpare slot number)
   needs_spare none = subst (λ z. IsAsked k z (RaiseToSpare slot number)) (sym loaded_is)
-      (λ told. (retired_inside k loaded ready.i slot (to ready.r) raises.retired told, (ready.i, life, to ready.r, raises, none)))
+      (λ told. (retired_inside k loaded ready.i slot (to ready.r) raises.retired told, (ready.i, to ready.r, raises, none)))
 
   pub needs_raised : (spare : Held) → v.hands.spare ≡ Some spare → IsAsked k v1 (RaiseRetired slot number)
   needs_raised spare has = subst (λ z. IsAsked k z (RaiseRetired slot number)) (sym loaded_is)
       (λ told. (
         retired_inside k loaded ready.i slot (to ready.r) raises.retired told,
-        (ready.i, life, to ready.r, raises, (λ none. let e : Some spare ≡ None = sym has ∙ none in cc)),
+        (ready.i, to ready.r, raises, (λ none. let e : Some spare ≡ None = sym has ∙ none in cc)),
       ))
 
   pub becomes_spare : v.hands.spare ≡ None → (w : View) → Told k v1 (RaiseToSpare slot number) number w → BecomesSpare v slot w

@@ -498,14 +498,12 @@ module _ (k : Shape) (v : View) (held : Held) (slot life : ℕ) (hand : IsInHand
 
 -- A lock that was got may be given up again.
 
-pub may_unlock : (v w : View) (slot : ℕ) → v.moving ≡ None → HasLocked v slot w → (lock : HeldLock) × NeedsUnlock w lock slot
-may_unlock v w slot settled is = (
-  new_lock slot,
-  subst (λ z. NeedsUnlock z (new_lock slot) slot) (sym is) (record {
-    held = ap (λ b. cond b (Some (new_lock slot)) (lock_of v.locks slot)) (eq-eqb slot slot refl);
-    no_end = subst (IsNoEnd slot) (sym settled) tt;
-    left = refl;
-    right = refl;
-    unmarked = refl;
-  }),
-)
+pub may_unlock : (v w : View) (slot : ℕ) → v.moving ≡ None → HasLocked v slot w → NeedsUnlock w slot
+may_unlock v w slot settled is = subst (λ z. NeedsUnlock z slot) (sym is) (record {
+  lock = new_lock slot;
+  held = ap (λ b. cond b (Some (new_lock slot)) (lock_of v.locks slot)) (eq-eqb slot slot refl);
+  no_end = subst (IsNoEnd slot) (sym settled) tt;
+  left = refl;
+  right = refl;
+  unmarked = refl;
+})

@@ -1,6 +1,5 @@
 //! The locks of slots.
 ghost use Rattle.std.specs.Prelude.{◌≡◌, ◌+◌, ◌≤◌, ◌<◌, length, None};
-ghost use Rattle.core_state.specs.declared.view.HeldLock.{HeldLock};
 ghost use Rattle.core_state.specs.Views.{HasLock};
 ghost use Rattle.core_state.specs.Steps.{NeedsUnlock};
 ghost use Rattle.seat_table.specs.Seats.{shape_of};
@@ -33,7 +32,7 @@ pub fn try_lock<W: WaitWords>(table: &CitrusTable<W>, seat: &mut Seat<W>, slot: 
 /// a linked slot that this place marked.
 pub fn unlock<W: WaitWords>(table: &CitrusTable<W>, seat: &mut Seat<W>, slot: u32)
     requires table { seat.old.table ≡ table.now }
-    requires held { (lock : HeldLock) × NeedsUnlock seat.old.view lock slot }
+    requires held { NeedsUnlock seat.old.view slot }
     ensures seat { (seat.new.table ≡ seat.old.table) × (seat.new.listed ≡ seat.old.listed) }
     ensures view { Unlocks seat.old.view slot seat.new.view }
     ensures told { Told (shape_of W.WAY table.now) seat.old.view (acts.Unlock slot) 0 seat.new.view }

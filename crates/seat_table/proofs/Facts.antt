@@ -42,7 +42,7 @@ use Rattle.core_state.specs.declared.act.Act.{Act}
 use Rattle.core_state.specs.declared.act.Act.TheVariants.{BeginWait, CountFree, EnterByCount, LeaveByCount}
 use Rattle.prcu_marks.specs.declared.access.Access.{Access}
 use Rattle.prcu_marks.specs.declared.access.Access.TheVariants.{Load, Store, Exchange, Add, Subtract, Flip}
-use Rattle.core_state.specs.Acts.{field_of, access_of, Asks}
+use Rattle.core_state.specs.Acts.{field_of, access_of, Asks, section_of}
 use Rattle.core_laws.proofs.Acting.{has_word}
 use Rattle.core_frames.proofs.Views.{way_short}
 use Rattle.seat_table.specs.Gains.{Sees, IsInformed, WordFits, IsApart, IsSlot, StoodInside, HasSide, StaysIn, TellsApart, TellsNow, Numbers, IsSeat}
@@ -238,7 +238,7 @@ module _ (k : Shape) (m : Memory) (vs : List View) (h : List Mark) (i : HoldsNow
   fits CountFree asks = let small = small_free in omega arith
   fits (EnterByCount key side) (has, needs) = let small = small_count (class_of key) side has.0 (omega arith) has.2 in omega arith
   fits (LeaveByCount class side) (has, needs) =
-      own_count class side needs.0 has.0 has.1 has.2 needs.1.section_is needs.1.class_is needs.1.side_is
+      own_count class side (section_of v) has.0 has.1 has.2 needs.section_is needs.class_is needs.side_is
   fits _ asks = tt
 
   -- the number in a word is small

@@ -40,8 +40,8 @@ use Rattle.core_frames.proofs.Roles.{works_there, places_apart}
 use Rattle.core_frames.proofs.Counting.{empty_is_full}
 use Rattle.core_state.specs.declared.act.Act.{Act}
 use Rattle.core_state.specs.declared.act.Act.TheVariants.{LoadClock, LeaveByStamp, BeginWait, LoadRetiredLife, Reserve, Seize, Lock as TakeLock, SearchLoad, LinkLeaf, Bypass, LinkCopy, LeaveByCount, LeaveByRow, ReplaceValue, LookAtFront}
-use Rattle.core_state.specs.Acts.{field_of, noted, Asks, access_of, said, done, marks}
-use Rattle.core_laws.proofs.Acting.{section_is, has_word}
+use Rattle.core_state.specs.Acts.{field_of, noted, Asks, access_of, said, done, marks, section_of, commit_of, spare_of}
+use Rattle.core_laws.proofs.Acting.{has_word}
 use Rattle.core_laws.proofs.Whole.{acts_keep}
 use Rattle.seat_table.proofs.Facts.{is_apart, sees, informed, fits, word_fits, said_fits, stood_inside, has_side, stays_in, still_works, tells_apart, word_below}
 use Rattle.core_frames.proofs.Views.{same_is, same_self}
@@ -267,11 +267,6 @@ module _ (k : Shape) (m : Memory) (vs : List View) (h : List Mark) (i : HoldsNow
         }) none);
   }
 
-  -- leaving a section
-  leaves : (section : Section) → v.section ≡ Some section → (w : View) (count : ℕ) → count ≡ section.count
-      → w.seen ≡ h ++ LeftMark v.allowance.place count ∷ [] → LeavesAnswer v w
-  leaves section inside w count is seen = left_gives w section inside (seen ∙ ap (λ c. h ++ LeftMark v.allowance.place c ∷ []) is)
-
   -- what the open section of a view has found by a step
   abbrev FindsBy : View → List Mark → Type 0
   FindsBy w marks = (section : Section) → w.section ≡ Some section → GivesAnswer (h ++ marks) section
@@ -285,66 +280,65 @@ module _ (k : Shape) (m : Memory) (vs : List View) (h : List Mark) (i : HoldsNow
       → FindsBy (done v a h (m (field_of v.allowance.place a))) (marks v a (m (field_of v.allowance.place a)))
       → Gains k v a h (said v a (m (field_of v.allowance.place a))) (done v a h (m (field_of v.allowance.place a)))
   gains LoadClock works asks by = record { each = (i.seats.owned id v at).joined }
-  gains LeaveByStamp works (has, needs) by = leaves needs.0 needs.1 _ _ (ap (λ (s : Section). s.count) (section_is v needs.0 needs.1)) refl
+  gains LeaveByStamp works (has, inside) by = left_gives _ (section_of v) inside refl
   gains (BeginWait low high) works asks by = are_gone _ low high refl
   gains (LoadRetiredLife slot) works asks by = is_apart k m vs h i id v at slot
   gains (Reserve expected) works (has, needs) by = finds_full expected works needs
   gains (Seize slot) works (has, needs) by = was_no_own slot has
   gains (TakeLock slot) works (has, needs) by = is_others slot has works
   gains (SearchLoad slot p) works asks by = finds _ by
-  gains (LinkLeaf slot b leaf key value) works (has, (commit, r, lock, held, generation, tag, needs, key_is)) by =
-      counted _ commit _ refl refl needs.has_commit.commit_is needs.has_commit.unmade
-  gains (Bypass parent b node child key) works (has, (commit, r, left, right, needs, key_is)) by = record {
-    counted = counted _ commit _ refl refl needs.has_commit.commit_is needs.has_commit.unmade;
-    was = subst (λ x. KnowsValue v h node x) key_is (value_taken (record {
+  gains (LinkLeaf slot b leaf key value) works (has, needs) by =
+      counted _ (commit_of v) _ refl refl needs.has_commit.commit_is needs.has_commit.unmade
+  gains (Bypass parent b node child key) works (has, needs) by = record {
+    counted = counted _ (commit_of v) _ refl refl needs.has_commit.commit_is needs.has_commit.unmade;
+    was = subst (λ x. KnowsValue v h node x) needs.sought (value_taken (record {
       who = record { k = k; m = m; vs = vs; h = h; id = id; v = v; inv = i; there = at; works = works };
-      commit = commit;
-      r = r;
+      commit = commit_of v;
+      r = needs.reading;
       p = parent;
       b = b;
       d = node;
-      left = left;
-      right = right;
+      left = needs.left;
+      right = needs.right;
       has_commit = needs.has_commit;
       records = needs.records.records;
       marked = needs.marked;
     }));
   }
-  gains (LinkCopy parent b node copy old old_parent key next_key) works (has, (commit, r, held, left, right, value, needs, key_is)) by =
+  gains (LinkCopy parent b node copy old old_parent key next_key) works (has, needs) by =
       record {
-        counted = counted _ commit _ refl refl needs.has_commit.commit_is needs.has_commit.unmade;
-        was = subst (λ x. KnowsValue v h node x) key_is (value_taken (record {
+        counted = counted _ (commit_of v) _ refl refl needs.has_commit.commit_is needs.has_commit.unmade;
+        was = subst (λ x. KnowsValue v h node x) needs.sought (value_taken (record {
           who = record { k = k; m = m; vs = vs; h = h; id = id; v = v; inv = i; there = at; works = works };
-          commit = commit;
-          r = r;
+          commit = commit_of v;
+          r = needs.reading;
           p = parent;
           b = b;
           d = node;
-          left = left;
-          right = right;
+          left = needs.left;
+          right = needs.right;
           has_commit = needs.has_commit;
           records = needs.records.records;
           marked = needs.marked;
         }));
-        next = subst (λ x. IsNextKey (map_of (updates_of h)) x next_key) key_is
-            (copy_next k m vs h id v i at works commit r held parent b node copy old old_parent left right next_key value needs);
+        next = copy_next k m vs h id v i at works (commit_of v) (spare_of v) parent b node copy old old_parent key next_key needs;
       }
-  gains (ReplaceValue slot key value) works (has, (commit, r, generation, needs, key_is)) by = record {
-    counted = counted _ commit _ refl refl needs.has_commit.commit_is needs.has_commit.unmade;
-    was = λ old known. subst (λ x. map_now h x ≡ Some old) key_is
-        (value_now k m vs h i id v at slot r old (i.front.settled id v at commit needs.has_commit.commit_is needs.has_commit.unmade)
+  gains (ReplaceValue slot key value) works (has, needs) by = record {
+    counted = counted _ (commit_of v) _ refl refl needs.has_commit.commit_is needs.has_commit.unmade;
+    was = λ old known. subst (λ x. map_now h x ≡ Some old) needs.sought
+        (value_now k m vs h i id v at slot needs.reading old
+        (i.front.settled id v at (commit_of v) needs.has_commit.commit_is needs.has_commit.unmade)
         (record {
           kept = needs.kept;
           found = needs.found;
-          generation = generation;
+          generation = needs.generation;
           recorded = needs.generation_is;
           life = needs.life_now;
         }) known);
   }
   gains (LeaveByCount class side) works (has, needs) by =
-      leaves needs.0 needs.1.section_is _ _ (ap (λ (s : Section). s.count) (section_is v needs.0 needs.1.section_is)) refl
-  gains (LeaveByRow class) works (has, needs) by = leaves needs.0 needs.1.section_is _ _ (ap (λ (s : Section). s.count)
-      (section_is v needs.0 needs.1.section_is)) refl
+      left_gives _ (section_of v) needs.section_is refl
+  gains (LeaveByRow class) works (has, needs) by = left_gives _ (section_of v) needs.section_is refl
   gains LookAtFront works asks by = looks_again
   gains _ works asks by = tt
 

@@ -3,7 +3,7 @@ use Rattle.std.proofs.Common.{◌≡◌, ℕ, ap, ◌∙◌, Bool, true, cond, a
 use Rattle.core_state.specs.declared.shape.Shape.{Shape}
 use Rattle.core_state.specs.declared.view.View.{View}
 use Rattle.core_state.specs.declared.act.Act.{Act}
-use Rattle.core_state.specs.Acts.{noted, after, clocked_at, section_of, field_of, kind_of}
+use Rattle.core_state.specs.Acts.{noted, after, clocked_at, section_of, field_of, kind_of, clocked_of}
 use Rattle.seat_table.specs.Gains.{Told, Sees, IsInformed, GivesAnswer, LeavesAnswer}
 use Rattle.std.specs.List.{AllByRecursion}
 use mathlib.Core.List.{IsPrefix}
@@ -15,7 +15,6 @@ use Rattle.prcu_marks.proofs.Marks.{own_of-append}
 use Rattle.core_frames.proofs.Roles.{works_there}
 use Rattle.core_state.specs.declared.words.Field.{Field}
 use Rattle.core_state.specs.declared.words.Kind.{Kind}
-use Rattle.core_state.specs.declared.view.Clocked.{Clocked}
 use Rattle.core_state.specs.declared.view.Section.{Section}
 use Rattle.core_state.specs.declared.view.StepMade.{StepMade}
 use Rattle.core_state.specs.declared.view.Trail.{Trail}
@@ -145,18 +144,13 @@ module _ (k : Shape) (v : View) (key stamp : ℕ) (v1 v2 : View) (first : Told k
   second_is = second.goes ∙ ap (λ z. after_announce (noted z (AnnounceKey key) key) key) first.goes
 
   -- what the third step of enter needs
-  pub needs_entry : v.section ≡ None → v.locks ≡ [] → key < 2 ^ 64 → (clocked : Clocked) × NeedsEnterByStamp v2 key stamp clocked
-  needs_entry outside free fits =
-      let clocked : Clocked = record { number = stamp; at = length first.marks } in (
-        clocked,
-        subst (λ z. NeedsEnterByStamp z key stamp clocked) (sym second_is)
-            (record {
-              entry = record { outside = outside; free = free; key_fits = fits };
-              clock = refl;
-              stamp_is = refl;
-              announced = refl;
-            }),
-      )
+  pub needs_entry : v.section ≡ None → v.locks ≡ [] → key < 2 ^ 64 → NeedsEnterByStamp v2 key stamp (clocked_of v2)
+  needs_entry outside free fits = subst (λ z. NeedsEnterByStamp z key stamp (clocked_of z)) (sym second_is) (record {
+    entry = record { outside = outside; free = free; key_fits = fits };
+    clock = refl;
+    stamp_is = refl;
+    announced = refl;
+  })
 
   pub entered : (w : View) → Told k v2 (EnterByStamp key stamp) stamp w → HasEntered v key w
   entered w third =
@@ -186,13 +180,9 @@ module _ (k : Shape) (v : View) (key stamp : ℕ) (v1 v2 : View) (first : Told k
 
 -- the third waiter: the clock, then the stamp
 module _ (k : Shape) (v v1 : View) (key stamp : ℕ) (first : Told k v LoadClock stamp v1) where
-  pub needs_row : v.section ≡ None → v.locks ≡ [] → key < 2 ^ 64 → (clocked : Clocked) × NeedsEnterByRow v1 key stamp clocked
-  needs_row outside free fits =
-      let clocked : Clocked = record { number = stamp; at = length first.marks } in (
-        clocked,
-        subst (λ z. NeedsEnterByRow z key stamp clocked) (sym first.goes)
-            (record { entry = record { outside = outside; free = free; key_fits = fits }; clock = refl; stamp_is = refl }),
-      )
+  pub needs_row : v.section ≡ None → v.locks ≡ [] → key < 2 ^ 64 → NeedsEnterByRow v1 key stamp (clocked_of v1)
+  needs_row outside free fits = subst (λ z. NeedsEnterByRow z key stamp (clocked_of z)) (sym first.goes)
+      (record { entry = record { outside = outside; free = free; key_fits = fits }; clock = refl; stamp_is = refl })
 
   pub entered_row : (w : View) → Told k v1 (EnterByRow key stamp) stamp w → HasEntered v key w
   entered_row w second =
@@ -224,16 +214,13 @@ module _ (k : Shape) (v v1 : View) (key gate : ℕ) (outside : v.section ≡ Non
   gate_is : v1 ≡ gated read (class_of key) gate None
   gate_is = first.goes ∙ ap (gated read (class_of key) gate) outside
 
-  pub needs_count : (side : ℕ) → v.locks ≡ [] → key < 2 ^ 64 → side ≡ gate % 2 → (g : ℕ) × NeedsEnterByCount v1 key side g
-  needs_count side free fits side_is = (
-    gate,
-    subst (λ z. NeedsEnterByCount z key side gate) (sym gate_is)
-        (record {
-          entry = record { outside = outside; free = free; key_fits = fits };
-          gate_is = ap (λ same. cond same (Some gate) (gate_in v.enter.gates (class_of key))) (eq-eqb (class_of key) (class_of key) refl);
-          side_is = side_is;
-        }),
-  )
+  pub needs_count : (side : ℕ) → v.locks ≡ [] → key < 2 ^ 64 → side ≡ gate % 2 → NeedsEnterByCount v1 key side
+  needs_count side free fits side_is = subst (λ z. NeedsEnterByCount z key side) (sym gate_is) (record {
+    entry = record { outside = outside; free = free; key_fits = fits };
+    gate = gate;
+    gate_is = ap (λ same. cond same (Some gate) (gate_in v.enter.gates (class_of key))) (eq-eqb (class_of key) (class_of key) refl);
+    side_is = side_is;
+  })
 
   pub entered_count : (w : View) (side found : ℕ) → Told k v1 (EnterByCount key side) found w → HasEntered v key w
   entered_count w side found second =
@@ -467,13 +454,13 @@ module _ (k : Shape) (v : View) (slot found : ℕ) (v1 : View) (free : found ≡
   pub seized_is : v1 ≡ in_hand
   seized_is = first.goes ∙ ap (λ n. after_seize (noted v (Seize slot) n) slot n first.marks) free
 
-  pub needs_life : (held : Held) × NeedsOwnLife v1 held slot
+  pub needs_life : NeedsOwnLife v1 slot
   needs_life = (seized slot, inl (subst (λ z. IsInHand z (seized slot) slot) (sym seized_is) (refl, refl)))
 
 -- its life is raised, and it is freed
 module _ (v : View) (slot life number : ℕ) (next : number ≡ 2 * (life / 2 + 1)) (hand : HasUnraised v slot life) where
-  pub needs_raise : (held : Held) × (life : ℕ) × NeedsRaiseInHand v held slot life number
-  needs_raise = (hand.held, life, record { in_hand = hand.in_hand; unraised = hand.unraised; loaded = hand.loaded; next = next })
+  pub needs_raise : (held : Held) × NeedsRaiseInHand v held slot number
+  needs_raise = (hand.held, record { in_hand = hand.in_hand; unraised = hand.unraised; life = life; loaded = hand.loaded; next = next })
 
   abbrev note : Known
   note = record { field = Life slot; number = number; stored = true }

@@ -25,8 +25,7 @@ use Rattle.core_frames.proofs.Views.{side_self}
 use Rattle.core_state.specs.declared.act.Act.TheVariants.{SearchLoad}
 use Rattle.core_state.specs.declared.act.Part.{Part}
 use Rattle.core_state.specs.Acts.{in_slot, noted}
-use Rattle.core_laws.proofs.Acting.{part_word, section_is as opened}
-use Rattle.core_points.proofs.Locks.{part_loadable}
+use Rattle.core_laws.proofs.Acting.{part_word, section_is as opened, may_search}
 use Rattle.list_laws.specs.Counts.{IsIn}
 use Rattle.seat_table.specs.Gains.{IsSlot, IsAsked, Told}
 use Rattle.seat_table.specs.Sections.{is_entry, is_exit, HasEntered, HasLeft}
@@ -120,10 +119,7 @@ module _ (k : Shape) (v : View) (key : ℕ) where
     pub asks : (s : ℕ) (p : Part) → IsIn r.stood s → IsSlot k s → IsAsked k w (SearchLoad s p)
     asks s p stood slot = λ now. (
       part_word k s p slot.inside,
-      (
-        record i.entered.section { reading = r },
-        record { section_is = i.inside; searches = i.entered.no_list; stood = stood; loadable = part_loadable s p },
-      ),
+      may_search w s p i.inside i.entered.no_list stood,
     )
 
     pub in_section : (section : Section) × (w.section ≡ Some section)

@@ -25,6 +25,7 @@ use Rattle.list_laws.specs.Counts.{IsIn}
 use Rattle.seat_table.proofs.SeveralSteps.{goes_from}
 use Rattle.tree_turn.specs.declared.turn.Content.{Content}
 use Rattle.tree_turn.specs.declared.turn.TurnWords.{TurnWords}
+use Rattle.core_laws.proofs.Acting.{spare_is}
 
 -- The three locks are got or not, and given up; the words are loaded under them.
 
@@ -341,34 +342,32 @@ module _ {k : Shape} {v : View} {t : Turn} {words : TurnWords} {bottom top : ℕ
       marks : {u : View} {locks : List HeldLock} {steps : List StepMade} → Stands v locks (Some lower) (Some upper) steps u
           → (s life generation : ℕ) (known : List Known) → lock_of locks s ≡ Some (held_lock s known false)
           → LoadedGeneration recorded.reading s generation → life ≡ 2 * generation → known_in known (Life s) ≡ Some life
-          → loaded_in known (Life s) ≡ Some life → s ≢ 0 → (lock : HeldLock) × NeedsMark u lock s life
-      marks {u} st s life generation known locked age even there loaded some = (
-        held_lock s known false,
-        record {
-          locked = lock_there st s (held_lock s known false) locked;
-          life_now = there;
-          unmarked = let e = even in omega arith;
-          why = inr (inr (record {
-            settled = ap (λ (z : View). z.moving) st.is ∙ may.settled;
-            reading = recorded.reading;
-            kept = subst (λ (z : View). IsIn z.records recorded.reading) (sym st.is) recorded.kept;
-            unmarked = (
-              generation,
-              age,
-              ap (λ o. loaded_in (known_of o) (Life s)) (lock_there st s (held_lock s known false) locked)
-                  ∙ loaded ∙ ap Some even,
-            );
-            some_slot = some;
-          }));
-        },
-      )
+          → loaded_in known (Life s) ≡ Some life → s ≢ 0 → NeedsMark u s life
+      marks {u} st s life generation known locked age even there loaded some = record {
+        lock = held_lock s known false;
+        locked = lock_there st s (held_lock s known false) locked;
+        life_now = there;
+        unmarked = let e = even in omega arith;
+        why = inr (inr (record {
+          settled = ap (λ (z : View). z.moving) st.is ∙ may.settled;
+          reading = recorded.reading;
+          kept = subst (λ (z : View). IsIn z.records recorded.reading) (sym st.is) recorded.kept;
+          unmarked = (
+            generation,
+            age,
+            ap (λ o. loaded_in (known_of o) (Life s)) (lock_there st s (held_lock s known false) locked)
+                ∙ loaded ∙ ap Some even,
+          );
+          some_slot = some;
+        }));
+      }
 
       pub asks_mark_node : IsAsked k v2 (MarkNode t.node words.node.life)
       asks_mark_node = λ told.
           (let needs = marks stands_2 t.node words.node.life t.node_generation (node_known t.node t.turn words.node)
           (lock_node t recorded.three child_lock node_lock parent_lock refl refl refl) recorded.node_age may.as_recorded.node_life
           (known_first (Life t.node) words.node.life false []) (loaded_first (Life t.node) words.node.life []) recorded.three.some_node in
-          (told.tells.locks_within t.node (needs.0, needs.1.locked), needs))
+          (told.tells.locks_within t.node (needs.lock, needs.locked), needs))
 
       node_off : IsOff t.node (Some lower) × IsOff t.node (Some upper)
       node_off = (
@@ -413,7 +412,7 @@ module _ {k : Shape} {v : View} {t : Turn} {words : TurnWords} {bottom top : ℕ
             (lock_child t recorded.three child_lock node_marked parent_lock refl refl refl) recorded.child_age may.as_recorded.child_life
             (known_first (Life t.child) words.child.life false []) (loaded_first (Life t.child) words.child.life [])
             recorded.three.some_child in
-            (told.tells.locks_within t.child (needs.0, needs.1.locked), needs))
+            (told.tells.locks_within t.child (needs.lock, needs.locked), needs))
 
         -- the child is marked
         abbrev fourth_locks : List HeldLock
@@ -488,11 +487,12 @@ module _ {k : Shape} {v : View} {t : Turn} {words : TurnWords} {bottom top : ℕ
             bottom = bottom;
           }
 
-          needs : NeedsRotate k.room v4 recorded.reading upper lower t.parent t.side t.node t.child top turning
+          needs : NeedsRotate k.room v4 upper t.parent t.side t.node t.child top
           needs = record {
             settled = ap (λ (z : View). z.moving) stands_4.is ∙ may.settled;
             ticket = subst (λ (z : View). 1 ≤ z.allowance.tickets) (sym stands_4.is) may.ticket;
             room = subst (λ (z : View). length z.hands.retired + 1 < k.room) (sym stands_4.is) may.room;
+            reading = recorded.reading;
             kept = subst (λ (z : View). IsIn z.records recorded.reading) (sym stands_4.is) recorded.kept;
             parent_now = (
               t.parent_generation,
@@ -510,6 +510,7 @@ module _ {k : Shape} {v : View} {t : Turn} {words : TurnWords} {bottom top : ℕ
                 node_there may.as_recorded.node_life;
             child_marked = is_marked t.child t.child_generation words.child.life (node_known t.child t.turn words.child) recorded.child_age
                 child_there may.as_recorded.child_life;
+            turning = turning;
             node_is = record {
               key_is = under t.node node_marked _ node_there
                   ∙ key_known t.node t.turn up.key up.value up.turn_link up.other_link false node_rest;
@@ -531,6 +532,7 @@ module _ {k : Shape} {v : View} {t : Turn} {words : TurnWords} {bottom top : ℕ
                   ∙ other_known t.child t.turn down.key down.value down.turn_link down.other_link false child_rest;
             };
             spare_is = (ap (λ (z : View). z.hands.spare) stands_4.is, may.spare_is.1);
+            lower = lower;
             hand_is = (ap (λ (z : View). z.hands.hand) stands_4.is, may.hand_is.1);
             unraised = may.unraised;
             top_is = record {
@@ -550,7 +552,7 @@ module _ {k : Shape} {v : View} {t : Turn} {words : TurnWords} {bottom top : ℕ
           pub asks_rotate : IsAsked k v4 (Rotate t.parent t.side t.node t.child top)
           asks_rotate = λ told. (
             told.tells.locks_within t.parent (parent_lock, parent_there),
-            (recorded.reading, upper, lower, turning, needs),
+            subst (λ z. NeedsRotate k.room v4 z t.parent t.side t.node t.child top) (sym (spare_is v4 upper needs.spare_is.0)) needs,
           )
 
           -- the two are replaced

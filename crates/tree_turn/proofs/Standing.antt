@@ -335,16 +335,14 @@ module _ {k : Shape} {v : View} {locks : List HeldLock} {hand spare : Option Hel
       → lock.right_emptied ≡ false → lock.marked ≡ false → IsAsked k u (Unlock s)
   asks_unlock settled s lock held left right unmarked = λ told. (
     told.tells.locks_within s (lock, lock_there st s lock held),
-    (
-      lock,
-      record {
-        held = lock_there st s lock held;
-        no_end = subst (IsNoEnd s) (sym (ap (λ (z : View). z.moving) st.is ∙ settled)) tt;
-        left = left;
-        right = right;
-        unmarked = unmarked;
-      },
-    ),
+    record {
+      lock = lock;
+      held = lock_there st s lock held;
+      no_end = subst (IsNoEnd s) (sym (ap (λ (z : View). z.moving) st.is ∙ settled)) tt;
+      left = left;
+      right = right;
+      unmarked = unmarked;
+    },
   )
 
 -- What is known of the words of a node: each word that was loaded or stored is found among them.

@@ -20,8 +20,9 @@ use Rattle.core_state.specs.declared.shape.Waiter.TheVariants.{Eer, Domain, Deer
 use Rattle.core_state.specs.declared.view.Waiting.{Waiting}
 use Rattle.core_state.specs.Steps.{IsSpot, keys_of}
 use Rattle.list_laws.specs.Counts.{IsIn}
-use Rattle.core_state.specs.Acts.{MayLook}
+use Rattle.core_state.specs.Acts.{MayLook, wait_of}
 use Rattle.waiters.specs.declared.image.Image.{Image}
+use Rattle.core_laws.proofs.Acting.{may_look as looks}
 
 -- The classes of an interval's keys, by how the interval lies.
 
@@ -233,15 +234,9 @@ module _ {W : Type 0} (k : Shape) (deer : k.waiter ≡ Deer) (grace : Grace W) w
   up_to wait r _ spot less = absurd spot
 
   pub may_look : (v : View) (last : Bool) → (last ≡ true → (grace.place + 1 ≡ k.places) × IsLastClass grace.keys grace.class)
-      → IsLatestOf k grace v → (wait : Waiting) × MayLook k v wait (Row grace.place grace.class) last
-  may_look v last end latest = (
-    latest.0,
-    record {
-      wait_is = latest.1;
-      going = latest.2.going;
-      rest = λ is other spot. up_to latest.0 latest.2 other spot (λ p c same. at p c other spot (end is) same);
-    },
-  )
+      → IsLatestOf k grace v → MayLook k v (wait_of v) (Row grace.place grace.class) last
+  may_look v last end latest = looks k v latest.1 latest.2.going
+      (λ is other spot. up_to latest.0 latest.2 other spot (λ p c same. at p c other spot (end is) same))
     where
       at : (p c : ℕ) (other : Field) → IsSpot k latest.0 other → (grace.place + 1 ≡ k.places) × IsLastClass grace.keys grace.class
           → other ≡ Row p c → row_of p c ≤ row_of grace.place grace.class

@@ -21,8 +21,8 @@ use Rattle.core_state.specs.Steps.{gated, IsSpot, keys_of, with_excused, after_l
 use Rattle.key_interval.specs.Keys.{Interval, MeetsClass, IsLastClass}
 use Rattle.list_laws.specs.Counts.{times, IsIn}
 use Rattle.list_laws.proofs.Lists.{times_here, times_other}
-use Rattle.core_state.specs.Acts.{MayLook, noted}
-use Rattle.core_laws.proofs.Acting.{wait_is}
+use Rattle.core_state.specs.Acts.{MayLook, noted, wait_of}
+use Rattle.core_laws.proofs.Acting.{wait_is, may_look as looks}
 use Rattle.core_laws.proofs.Waits.{in_times}
 use Rattle.core_frames.proofs.Views.{times_sum, sum_times, sum_equal}
 use Rattle.core_state.specs.declared.words.Kind.TheVariants as kinds
@@ -169,16 +169,9 @@ module _ {W : Type 0} (k : Shape) (domain : k.waiter ≡ Domain) (grace : Grace 
 
   pub may_look : (v : View) (side : ℕ) (last : Bool)
       → (last ≡ true → (grace.turned ≡ true) × (side ≡ grace.gate % 2) × IsLastClass grace.keys grace.class) → IsLatestOf k grace v
-      → (wait : Waiting) × MayLook k v wait (Count grace.class side) last
-  may_look v side last end latest = (
-    latest.0,
-    record {
-      wait_is = latest.1;
-      going = latest.2.going;
-      rest = λ is. let e = end is in
-          rest latest.0 side latest.2 e.0 e.1 e.2;
-    },
-  )
+      → MayLook k v (wait_of v) (Count grace.class side) last
+  may_look v side last end latest = looks k v latest.1 latest.2.going
+      (λ is. let e = end is in rest latest.0 side latest.2 e.0 e.1 e.2)
 
   abbrev with_gate : ℕ → Grace W
   with_gate gate = record grace { gate = gate }
@@ -235,17 +228,14 @@ module _ {W : Type 0} (k : Shape) (domain : k.waiter ≡ Domain) (grace : Grace 
         (λ (on : (grace.class ≡ grace.class) × (grace.turned ≡ true)). let e : false ≡ true = sym unturned ∙ on.1 in cc)
         (latest.2.turned domain grace.class there)
 
-    pub may_turn : MeetsClass grace.keys grace.class → (wait : Waiting) × NeedsGateTurn u wait grace.class
-    may_turn met = (
-      between,
-      record {
-        wait_is = looked.wait_is;
-        going = latest.2.going;
-        small = latest.2.small;
-        met = image_same latest.0 grace.keys latest.2.low_is latest.2.high_is grace.class met;
-        once = not_turned;
-      },
-    )
+    pub may_turn : MeetsClass grace.keys grace.class → NeedsGateTurn u (wait_of u) grace.class
+    may_turn met = subst (λ z. NeedsGateTurn u z grace.class) (sym (wait_is u between looked.wait_is)) (record {
+      wait_is = looked.wait_is;
+      going = latest.2.going;
+      small = latest.2.small;
+      met = image_same latest.0 grace.keys latest.2.low_is latest.2.high_is grace.class met;
+      once = not_turned;
+    })
 
     abbrev after : Waiting
     after = record between { turned = grace.class ∷ latest.0.turned }

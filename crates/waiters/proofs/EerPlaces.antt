@@ -14,13 +14,14 @@ use Rattle.core_state.specs.Steps.{IsSpot, is_for, spot_seen, excuses}
 use Rattle.key_interval.specs.Keys.{Interval, Holds}
 use Rattle.list_laws.specs.Counts.{IsIn}
 use Rattle.seat_table.specs.declared.wait.Grace.{Grace}
-use Rattle.core_state.specs.Acts.{MayLook}
+use Rattle.core_state.specs.Acts.{MayLook, wait_of}
 use Rattle.seat_table.specs.Waits.{Reached, reached, IsBefore, HasReached, Made, Passed, IsLatestOf, IsGoingOn}
 use Rattle.seat_table.specs.Looks.{HasPassed, LooksAt, IsOnward, one_step}
 use Rattle.seat_table.specs.Gains.{Told}
 use Rattle.core_state.specs.declared.act.Act.TheVariants.{LookKey, LookStamp}
 use Rattle.core_state.specs.declared.words.Kind.TheVariants.{K8}
 use Rattle.seat_table.proofs.Waiting.{made_then, look_trail, looks_then, looks_as, look_at, key_in, key_out, goes_on, begins_on}
+use Rattle.core_laws.proofs.Acting.{may_look as looks}
 
 -- a key, as a wait tests it
 module _ (wait : Waiting) (keys : Interval) (key : ℕ) (low : wait.low ≡ keys.low) (high : wait.high ≡ keys.high) where
@@ -56,16 +57,10 @@ module _ {W : Type 0} (k : Shape) (eer : k.waiter ≡ Eer) (grace : Grace W) whe
 
   -- the key or the stamp may be looked at
   pub may_look : (v : View) (field : Field) → spot_seen field ≡ Stamp grace.place → (last : Bool)
-      → (last ≡ true → grace.place + 1 ≡ k.places) → IsLatestOf k grace v → (wait : Waiting) × MayLook k v wait field last
-  may_look v field here last end latest = (
-    latest.0,
-    record {
-      wait_is = latest.1;
-      going = latest.2.going;
-      rest = λ is other spot. subst (λ f. IsIn (f ∷ latest.0.excused) other) (sym here)
-          (up_to latest.0 latest.2 other spot (at other spot (end is)));
-    },
-  )
+      → (last ≡ true → grace.place + 1 ≡ k.places) → IsLatestOf k grace v → MayLook k v (wait_of v) field last
+  may_look v field here last end latest = looks k v latest.1 latest.2.going
+      (λ is other spot. subst (λ f. IsIn (f ∷ latest.0.excused) other) (sym here)
+      (up_to latest.0 latest.2 other spot (at other spot (end is))))
     where
       at : (other : Field) → IsSpot k latest.0 other → grace.place + 1 ≡ k.places → (q : ℕ) → other ≡ Stamp q → q ≤ grace.place
       at other spot ends q is = let s = subst (IsSpot k latest.0) is spot in omega (arith, s.1, ends)

@@ -1,4 +1,4 @@
 use Rattle.node_slots.proofs.locks.unlock.Goals as goal
 
 pub unlock-requires-clause-asks : goal.unlock-requires-clause-asks
-unlock-requires-clause-asks g c = λ told. (told.tells.locks_within c.args.slot (c.requires.held.0, c.requires.held.1.held), c.requires.held)
+unlock-requires-clause-asks g c = λ told. (told.tells.locks_within c.args.slot (c.requires.held.lock, c.requires.held.held), c.requires.held)
