@@ -89,15 +89,15 @@ module _ (m m' : Memory) (nodes : SameNodes m m') (states : (s : ℕ) → m' (St
   }
 
 -- A slot that is retired of some view stays so, where the step's view has its own ones still.
-pub retired_of_by : (vs : List View) (id : ℕ) (v w : View) → get_elem? vs id ≡ some v → (s : ℕ)
-    → ((r : Retired) → IsIn (retired_of v) r → r.slot ≡ s → (x : Retired) × IsIn (retired_of w) x × (x.slot ≡ s)) → IsRetiredOf vs s
-    → IsRetiredOf (set vs id w) s
-retired_of_by vs id v w there s own r = somewhere_still vs id v w there (λ (x : HasRetired v s). own x.0 x.1 x.2) r
+pub retired_of_by : (vs : List View) (id : ℕ) (v w : View) → get_elem? vs id ≡ some v
+    → ((r : Retired) → IsIn (retired_of v) r → IsIn (retired_of w) r) → (s : ℕ) → IsRetiredOf vs s → IsRetiredOf (set vs id w) s
+retired_of_by vs id v w there keeps s = somewhere_still vs id v w there (λ (x : HasRetired v s).
+    record { retired = x.retired; has = keeps x.retired x.has; slot = x.slot })
 
 -- Where the view changes what it has in hand, it has to say what that leaves.
 module _ (m : Memory) (n : ℕ) (g : Chart) (vs : List View) (id : ℕ) (v w : View) (h : List Mark) (there : get_elem? vs id ≡ some v) where
   pub retired_of_still : retired_of w ≡ retired_of v → (s : ℕ) → IsRetiredOf vs s → IsRetiredOf (set vs id w) s
-  retired_of_still same s = retired_of_by vs id v w there s (λ r has is. (r, subst (λ rs. IsIn rs r) (sym same) has, is))
+  retired_of_still same = retired_of_by vs id v w there (λ r has. subst (λ rs. IsIn rs r) (sym same) has)
 
   pub slots_by : {room : ℕ} → ((s : ℕ) → times s (slots_of w) ≡ times s (slots_of v)) → (HasFewSlots room v → HasFewSlots room w)
       → (AreHandsKnown m v → AreHandsKnown m w) → (Each (retired_of v) (IsRetired m h) → Each (retired_of w) (IsRetired m h))
@@ -476,20 +476,20 @@ odd_by m vs h id v there t commit mine = ⊎_elim
 -- a section of a place is open by the marks only where a view has it open
 module _ (places : ℕ) (vs : List View) (id : ℕ) (v : View) (h : List Mark) (there : get_elem? vs id ≡ some v) (works : Works v)
     (t : SeatParts places vs h) where
-  open_is : (o : Open) → open_at v.allowance.place h ≡ Some o → (section : Section) × (v.section ≡ Some section) × (o ≡ open_of section)
+  open_is : (o : Open) → open_at v.allowance.place h ≡ Some o → HasOpen v v.allowance.place o
   open_is o e =
       let i = t.opened v.allowance.place o e in
-      let s = t.sections i.id i.view i.there i.has.1 i.has.2 in
+      let s = t.sections i.id i.view i.there i.has.section i.has.is_open in
       let same = places_apart places vs t.placed i.id id v.allowance.place i.view v i.there there
-      (subst (λ p. 1 ≤ times p (places_of i.view)) i.has.0 (works_there i.view s.works)) (works_there v works) in
-      let has : HasOpen v v.allowance.place o = somewhere_at vs id v there i same in (has.1, has.2, has.3)
+      (subst (λ p. 1 ≤ times p (places_of i.view)) i.has.place (works_there i.view s.works)) (works_there v works) in
+      somewhere_at vs id v there i same
 
   pub open_none : v.section ≡ None → open_at v.allowance.place h ≡ None
   open_none outside = cases (open_at v.allowance.place h) refl
     where
       cases : (o : Option Open) → open_at v.allowance.place h ≡ o → o ≡ None
       cases None e = refl
-      cases (Some o) e = let i = open_is o e in absurd (let q : None ≡ Some i.0 = sym outside ∙ i.1 in cc)
+      cases (Some o) e = let i = open_is o e in absurd (let q : None ≡ Some i.section = sym outside ∙ i.is_open in cc)
 
 -- a section stands after more marks, in a view that is at the same place
 section_stands : (h h' : List Mark) (u z : View) (section : Section) → IsPrefix h h' → z.allowance.place ≡ u.allowance.place → Works z
@@ -542,8 +542,7 @@ module _ (places : ℕ) (vs : List View) (id : ℕ) (v w : View) (h h' : List Ma
 
   -- the step says how its own section stands, and that it is the one that is open
   pub seat_frame_by : ((section : Section) → w.section ≡ Some section → SectionStands h' w section)
-      → ((o : Open) → open_at v.allowance.place h' ≡ Some o → (section : Section) × (w.section ≡ Some section) × (o ≡ open_of section))
-      → SeatParts places (set vs id w) h'
+      → ((o : Open) → open_at v.allowance.place h' ≡ Some o → HasOpen w v.allowance.place o) → SeatParts places (set vs id w) h'
   seat_frame_by own opened = record {
     placed = λ p. total_same (λ (u : View). times p (places_of u)) vs id v w there (ap (times p) (places_same v w same)) ∙ t.placed p;
     spent = each_change (λ (u : View). u.allowance.places ≡ 0 → u ≡ spent_view)
@@ -562,9 +561,9 @@ module _ (places : ℕ) (vs : List View) (id : ℕ) (v w : View) (h h' : List Ma
         section_stands h h' u u section others.begins refl s.works
         (others.opens u.allowance.place (far j u.allowance.place u ne e (works_there u s.works))) s));
     opened = λ p o e. dite (ℕ_discrete p v.allowance.place)
-        (λ here. (let i = opened o (ap (λ q. open_at q h') (sym here) ∙ e) in
-        somewhere_here vs id v w there (same.place ∙ sym here, i.0, i.1, i.2)))
-        (λ ne. somewhere_still vs id v w there (λ (own : HasOpen v p o). absurd (ne (sym own.0)))
+        (λ here. somewhere_here vs id v w there
+        (subst (λ q. HasOpen w q o) (sym here) (opened o (ap (λ q. open_at q h') (sym here) ∙ e))))
+        (λ ne. somewhere_still vs id v w there (λ (own : HasOpen v p o). absurd (ne (sym own.place)))
         (t.opened p o (sym (others.opens p ne) ∙ e)));
     counted = each_set (λ j u. Works u → IsCounted h' u) vs id w (λ _. counted)
         (λ j u ne e here. (let c = t.counted j u e here in let f = far j u.allowance.place u ne e (works_there u here) in
@@ -580,7 +579,8 @@ module _ (places : ℕ) (vs : List View) (id : ℕ) (v w : View) (h h' : List Ma
   seat_frame_still section opens =
       seat_frame_by
       (λ s is. section_stands h h' v w s others.begins same.place works_still opens (t.sections id v there s (sym section ∙ is)))
-      (λ o e. (let i = open_is places vs id v h there works t o (sym opens ∙ e) in (i.0, section ∙ i.1, i.2)))
+      (λ o e. (let i = open_is places vs id v h there works t o (sym opens ∙ e) in
+      record { place = same.place; section = i.section; is_open = section ∙ i.is_open; by_marks = i.by_marks }))
 
 -- What a step leaves of a view for the parts on seats, where it leaves no mark.
 pub record SameForSeats (v w : View) : Type 0 where
@@ -633,7 +633,7 @@ module _ (places : ℕ) (vs : List View) (id : ℕ) (v : View) (h : List Mark) (
       (record { sections = omega arith; waits = c.waits ∙ sym (begun_at-same v.allowance.place h mark tt) }) t
       (λ s is. (let e : section ≡ s = cc in subst (SectionStands (h ++ mark ∷ []) w) e stands))
       (λ o e. (let now : Some (open_of section) ≡ Some o = sym (open_entered v.allowance.place h v.counts.sections key) ∙ e in
-      let same : open_of section ≡ o = cc in (section, refl, sym same)))
+      let same : open_of section ≡ o = cc in record { place = refl; section = section; is_open = refl; by_marks = sym same }))
 
   -- a section is left
   pub seats_left : (section : Section)

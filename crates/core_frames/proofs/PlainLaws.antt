@@ -294,7 +294,7 @@ pub gone_within : (k : Shape) (m : Memory) (vs : List View) (h : List Mark) → 
     → s < slot_count k
 gone_within k m vs h i s p gone =
     let r = i.slots.unlinked s p gone in
-    let one = subst (λ z. 1 ≤ times z (slots_of r.view)) r.has.2 (retired_own r.view r.has.0 r.has.1) in
+    let one = subst (λ z. 1 ≤ times z (slots_of r.view)) r.has.slot (retired_own r.view r.has.retired r.has.has) in
     let part = total_part (λ (v : View). times s (slots_of v)) vs r.id r.view r.there in
     dite (dec_le (slot_count k) s) (λ far. absurd (let none = i.slots.roles.beyond s far in omega arith)) (λ near. omega arith)
 

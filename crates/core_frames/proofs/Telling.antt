@@ -69,9 +69,9 @@ module _ (k : Shape) (m : Memory) (vs : List View) (h : List Mark) (inv : HoldsN
       (λ (back : IsHeldBack inv.chart h section.entered s × IsOdd (m (Life s))).
       (let held = back.0 in
       let of = inv.slots.unlinked s held.at held.gone in
-      let r = of.has.0 in
-      subst (λ x. x < slot_count k) of.has.2
-      (own_below m (slot_count k) inv.chart vs h inv.slots of.id of.view of.there r.slot (retired_own of.view r of.has.1))))
+      let r = of.has.retired in
+      subst (λ x. x < slot_count k) of.has.slot
+      (own_below m (slot_count k) inv.chart vs h inv.slots of.id of.view of.there r.slot (retired_own of.view r of.has.has))))
       ((inv.readers.served id v there section e).stood s has).here
 
   -- a place without a spare has a retired slot

@@ -20,7 +20,7 @@ use Rattle.core_state.specs.declared.view.Move.{Move}
 use Rattle.core_state.specs.declared.view.Reading.{Reading}
 use Rattle.core_state.specs.declared.view.View.{View}
 use Rattle.list_laws.specs.Counts.{IsIn, Each}
-use Rattle.core_state.specs.Views.{lock_of, is_emptied, readings_of, open_reading}
+use Rattle.core_state.specs.Views.{lock_of, readings_of, open_reading}
 use Rattle.core_state.specs.Parts.{HasGeneration, map_now, IsMoving, TreeParts, Answered, IsServed, IsAsRecorded, IsStillLinked, IsRecord, IsReading, IsMetBefore, ReaderParts, IsBetween, GoesOn, here, StandsNow, IsVisit, IsListing, ListingParts, HasMetBefore}
 use Rattle.list_laws.proofs.Lists.{each_set, each_change, somewhere_still, somewhere_was}
 use Rattle.core_frames.proofs.Marks.{QuietMarks}
@@ -352,16 +352,27 @@ module _ (vs : List View) (id : ℕ) (v w : View) (there : get_elem? vs id ≡ s
   }
 
 -- the view's locks still say which sides it emptied
-pub emptied_by : (vs : List View) (id : ℕ) (v w : View) → get_elem? vs id ≡ some v
-    → ((s : ℕ) (lock : HeldLock) → lock_of v.locks s ≡ Some lock → (b : Side) → is_emptied lock b ≡ true
-    → (l : HeldLock) × (lock_of w.locks s ≡ Some l) × (is_emptied l b ≡ true)) → (s : ℕ) (b : Side) → IsEmptied vs s b
-    → IsEmptied (set vs id w) s b
-emptied_by vs id v w there forth s b i = somewhere_still vs id v w there (λ (x : HasEmptied v s b). forth s x.0 x.1 b x.2) i
-
 pub emptied_still : (vs : List View) (id : ℕ) (v w : View) → get_elem? vs id ≡ some v → w.locks ≡ v.locks → (s : ℕ) (b : Side)
     → IsEmptied vs s b → IsEmptied (set vs id w) s b
-emptied_still vs id v w there locks = emptied_by vs id v w there (λ s lock holds b emptied.
-    (lock, ap (λ ls. lock_of ls s) locks ∙ holds, emptied))
+emptied_still vs id v w there locks s b = somewhere_still vs id v w there (λ (x : HasEmptied v s b).
+    record { lock = x.lock; held = ap (λ ls. lock_of ls s) locks ∙ x.held; emptied = x.emptied })
+
+-- who has a section open that was entered before a mark had so, where the step enters none before it
+pub met_by : (vs : List View) (id : ℕ) (v w : View) → get_elem? vs id ≡ some v → (at : ℕ)
+    → ((section : Section) → w.section ≡ Some section → section.entered < at → HasMetBefore v at) → IsMetBefore (set vs id w) at
+    → IsMetBefore vs at
+met_by vs id v w there at back = somewhere_was vs id v w there (λ (x : HasMetBefore w at). back x.section x.is_open x.before)
+
+-- the section is as it was, or none is open
+pub met_still : (vs : List View) (id : ℕ) (v w : View) → get_elem? vs id ≡ some v → w.section ≡ v.section → (at : ℕ)
+    → IsMetBefore (set vs id w) at → IsMetBefore vs at
+met_still vs id v w there same at = met_by vs id v w there at (λ section is before.
+    record { section = section; is_open = sym same ∙ is; before = before })
+
+pub met_outside : (vs : List View) (id : ℕ) (v w : View) → get_elem? vs id ≡ some v → w.section ≡ None → (at : ℕ)
+    → IsMetBefore (set vs id w) at → IsMetBefore vs at
+met_outside vs id v w there outside at = met_by vs id v w there at (λ section is before.
+    absurd (let q : None ≡ Some section = sym outside ∙ is in cc))
 
 -- What readers see of the views: who may pass an old successor, which slots are old for a key, and which sides were emptied.
 pub record ReadersSee (vs us : List View) : Type 0 where
@@ -465,7 +476,7 @@ module _ (m m' : Memory) (nodes : SameNodes m m') (g : Chart) (vs : List View) (
         (λ i. subst (λ rs. Each rs (IsRecord m' g (set vs id w))) (sym records) (λ j r e. record_stays r (i j r e)))
         (λ u i j r e. record_stays r (i j r e)) t.records;
     ages = λ s at c b gone met link ne.
-        (let before : IsMetBefore vs at = somewhere_was vs id v w there (λ (x : HasMetBefore w at). (x.0, sym section ∙ x.1, x.2)) met in
+        (let before = met_still vs id v w there section at met in
         let aged = t.ages s at c b (sym (quiet.gone s) ∙ gone) before (sym (nodes.link s b) ∙ link) ne in (
           aged.0,
           ⊎_elim (λ l. inl l) (λ (x : (later : ℕ) × (gone_at c h ≡ Some later) × (at < later)). inr (x.0, quiet.gone c ∙ x.1, x.2)) aged.1,
@@ -489,11 +500,14 @@ module _ (m m' : Memory) (nodes : SameNodes m m') (g : Chart) (vs : List View) (
         → (length h ≤ section.entered) ⊎ ((z : Section) × (v.section ≡ Some z) × (z.entered ≡ section.entered))
 
   met_back : OwnReaders → (at : ℕ) → at < length h → IsMetBefore (set vs id w) at → IsMetBefore vs at
-  met_back own at small i =
-      somewhere_was vs id v w there (λ (x : HasMetBefore w at). let lt = x.2 in
-      ⊎_elim (λ (late : length h ≤ x.0.entered). absurd (omega arith))
-      (λ (z : (z : Section) × (v.section ≡ Some z) × (z.entered ≡ x.0.entered)). (z.0, z.1, (let e = z.2 in omega arith)))
-      (own.older x.0 x.1)) i
+  met_back own at small = met_by vs id v w there at (λ section is before. ⊎_elim
+      (λ (late : length h ≤ section.entered). absurd (omega arith))
+      (λ (z : (z : Section) × (v.section ≡ Some z) × (z.entered ≡ section.entered)). record {
+        section = z.0;
+        is_open = z.1;
+        before = (let e = z.2 in omega arith);
+      })
+      (own.older section is))
 
   pub reader_frame : OwnReaders → ReaderParts m g vs h → ReaderParts m' g (set vs id w) h'
   reader_frame own t = record {

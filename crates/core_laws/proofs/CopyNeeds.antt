@@ -345,7 +345,7 @@ module _ (z : CopyStep) where
     spares = λ s has. (let a = spares_count w s in let b = spares_count v s in omega arith);
     retired = retired_or_gone (copy_step z) (copy_retires z);
     still_retired = retired_grows (copy_step z) (copy_retires z);
-    gone_retired = λ _. (gone, gone_in_retired (copy_step z) (copy_retires z), refl);
+    gone_retired = λ _. record { retired = gone; has = gone_in_retired (copy_step z) (copy_retires z); slot = refl };
   }
 
 -- The link of a copy: the parts on counts and on the front.

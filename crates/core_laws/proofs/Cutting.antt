@@ -418,7 +418,7 @@ module _ (z : Cut) where
     spares = λ s has. subst (λ ns. 1 ≤ times s ns) same_spares has;
     retired = retired_or_gone cut_step retires;
     still_retired = retired_grows cut_step retires;
-    gone_retired = λ _. (gone, gone_in_retired cut_step retires, refl);
+    gone_retired = λ _. record { retired = gone; has = gone_in_retired cut_step retires; slot = refl };
   }
     where
       same_spares : spares_of w ≡ spares_of v

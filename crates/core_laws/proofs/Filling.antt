@@ -201,7 +201,7 @@ module _ (k : Shape) (m : Memory) (vs : List View) (h : List Mark) (id : ℕ) (v
           });
           hands = record { hand = hand_known; spare = hands.spare; copy = hands.copy; spares = hands.spares };
           retired = λ j r e. retired_away step r (not_retired r (j, e)) (inv.slots.retired id v there j r e);
-          unlinked = λ t p gone r has is. (r, has, is);
+          unlinked = λ t p gone x. record { retired = x.retired; has = x.has; slot = x.slot };
         }) (outer_same k m m' vs h id v w inv there works stores.beside view refl)
             (counts_by k.tickets m m' n inv.chart inv.chart vs id v w h h there (record {
               free = (let a = stores.beside Free tt in let b : free_slots m' n ≡ free_slots m n =

@@ -270,10 +270,19 @@ module _ (k : Shape) (m : Memory) (vs : List View) (h : List Mark) (i : HoldsNow
   unlinked : (s : ℕ) → IsRetiredOf vs s → IsRetiredOf us s
   unlinked s r =
       let ours : (x : Retired) → IsIn (retired_of v ++ retired_of other) x → x.slot ≡ s → IsRetiredOf us s = (λ x has is.
-      record { id = id; view = both; there = both_there; has = (x, subst (λ rs. IsIn rs x) (sym retired_two) has, is) }) in
-      ⊎_elim (λ (x : HasRetired v s). ours x.0 (in_first (retired_of v) (retired_of other) x.0 x.1) x.2)
+      record {
+        id = id;
+        view = both;
+        there = both_there;
+        has = record {
+          retired = x;
+          has = subst (λ rs. IsIn rs x) (sym retired_two) has;
+          slot = is;
+        };
+      }) in
+      ⊎_elim (λ (x : HasRetired v s). ours x.retired (in_first (retired_of v) (retired_of other) x.retired x.has) x.slot)
       (λ (rest : IsRetiredOf (set vs id both) s). ⊎_elim
-      (λ (x : HasRetired other s). ours x.0 (in_second (retired_of v) (retired_of other) x.0 x.1) x.2) (λ left. left)
+      (λ (x : HasRetired other s). ours x.retired (in_second (retired_of v) (retired_of other) x.retired x.has) x.slot) (λ left. left)
       (somewhere_set (set vs id both) j other spent_view other_there rest)) (somewhere_set vs id v both there r)
 
   -- the one has seen what each of the two has

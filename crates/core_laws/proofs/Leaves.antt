@@ -349,10 +349,11 @@ module _ (z : LeafLink) where
   -- the key belongs there
   not_emptied : IsEmptied vs slot b → ⊥
   not_emptied x =
-      let is = view_is x.id x.view slot x.has.0 refl x.there x.has.1 in
-      let q : Some x.has.0 ≡ Some lock = sym x.has.1 ∙ ap (λ (u : View). lock_of u.locks slot) is ∙ needs.locked in
-      let same : x.has.0 ≡ lock = cc in
-      absurd (let f : true ≡ false = sym x.has.2 ∙ ap (λ l. is_emptied l b) same ∙ needs.settled in cc)
+      let has = x.has in
+      let is = view_is x.id x.view slot has.lock refl x.there has.held in
+      let q : Some has.lock ≡ Some lock = sym has.held ∙ ap (λ (u : View). lock_of u.locks slot) is ∙ needs.locked in
+      let same : has.lock ≡ lock = cc in
+      absurd (let f : true ≡ false = sym has.emptied ∙ ap (λ l. is_emptied l b) same ∙ needs.settled in cc)
 
   not_old : IsOldFor vs r.key slot → ⊥
   not_old o =

@@ -13,11 +13,10 @@ use Rattle.list_laws.specs.Counts.{IsIn, times, Each, numbers_from}
 use Rattle.core_state.specs.Memory.{IsEven, IsOdd, flag, Memory, slot_count}
 use Rattle.core_state.specs.Views.{lock_of, HasLock, is_emptied, note_option, open_reading, spares_of, joined_retired, retired_of, slots_of, held_list, joined_spares}
 use Rattle.core_state.specs.Links.{newly_retired}
-use Rattle.core_state.specs.Tree.{Chart, IsEmptied}
-use Rattle.core_state.specs.Parts.{IsUnraised, LockParts, HasFewSlots, IsRetired, IsRetiredOf, IsHeldKnown, AreHandsKnown, SlotParts}
-use Rattle.list_laws.proofs.Lists.{in_first, in_second, at_end, each_set, total_set, times_append, in_append, somewhere_here}
+use Rattle.core_state.specs.Tree.{Chart, IsEmptied, HasEmptied}
+use Rattle.core_state.specs.Parts.{IsUnraised, LockParts, HasFewSlots, IsRetired, IsRetiredOf, IsHeldKnown, AreHandsKnown, SlotParts, HasRetired}
+use Rattle.list_laws.proofs.Lists.{in_first, in_second, at_end, each_set, total_set, times_append, in_append, somewhere_here, somewhere_still}
 use Rattle.core_frames.proofs.Charts.{bool_cases}
-use Rattle.core_frames.proofs.TreeFrames.{emptied_by}
 use Rattle.core_laws.proofs.ChartChanges.{put, put-same, put-other, shape_after}
 use Rattle.core_laws.proofs.Locks.{one_holder, IsRelocked, relocked, relocked_forth, relocked_back, relocked_slots, relocked_length}
 use Rattle.core_laws.proofs.LinkSteps.{LinkStep, words_after, views_after, below, still_linked, not_gone, Retires, unlinked_off, off_not_gone}
@@ -180,11 +179,13 @@ module _ (z : LinkStep) where
             (bool_cases (g.linked s))
 
     pub emptied_still : (s : ℕ) (a : Side) → IsEmptied vs s a → IsEmptied us s a
-    emptied_still = emptied_by vs id v w there (λ s lock holds a emptied. (let f = forth s lock holds in (f.0, f.1, f.2.still a emptied)))
+    emptied_still s a = somewhere_still vs id v w there (λ (x : HasEmptied v s a).
+        (let f = forth s x.lock x.held in record { lock = f.0; held = f.1; emptied = f.2.still a x.emptied }))
 
     emptied_now : c ≡ 0 → IsEmptied us p b
     emptied_now e =
-        let f = forth p r.has_parent.0 r.has_parent.1 in somewhere_here vs id v w there (f.0, f.1, f.2.now refl (r.emptied e))
+        let f = forth p r.has_parent.0 r.has_parent.1 in
+        somewhere_here vs id v w there (record { lock = f.0; held = f.1; emptied = f.2.now refl (r.emptied e) })
 
     -- a side that is empty now, and wasn't emptied just now, was empty
     pub link_back : (s : ℕ) (a : Side) → (IsEmptied us s a → ⊥) → new (Link s a) ≡ 0 → m (Link s a) ≡ 0
@@ -262,7 +263,7 @@ module _ (z : LinkStep) where
     pub spares : (s : ℕ) → 1 ≤ times s (spares_of w) → 1 ≤ times s (spares_of v)
     pub retired : (x : Retired) → IsIn (retired_of w) x → IsIn (retired_of v) x ⊎ IsRetired new hs x
     pub still_retired : (x : Retired) → IsIn (retired_of v) x → IsIn (retired_of w) x
-    pub gone_retired : d ≢ 0 → (x : Retired) × IsIn (retired_of w) x × (x.slot ≡ d)
+    pub gone_retired : d ≢ 0 → HasRetired w d
 
   module _ (r : SlotsGo) where
     hands_mine : AreHandsKnown new w
@@ -316,10 +317,10 @@ module _ (z : LinkStep) where
     }
       where
         now : (s : ℕ) → s ≡ d → d ≢ 0 → IsRetiredOf us s
-        now s e nz = let x = r.gone_retired nz in somewhere_here vs id v w there (x.0, x.1, x.2 ∙ sym e)
+        now s e nz = somewhere_here vs id v w there (subst (HasRetired w) (sym e) (r.gone_retired nz))
 
         before : (s at : ℕ) → gone_at s h ≡ Some at → IsRetiredOf us s
-        before s at is = retired_of_by vs id v w there s (λ x has same. (x, r.still_retired x has, same)) (i.slots.unlinked s at is)
+        before s at is = retired_of_by vs id v w there r.still_retired s (i.slots.unlinked s at is)
 
   -- d is retired
   module _ (r : Retires z) where

@@ -13,7 +13,7 @@ use Rattle.core_state.specs.Marks.{AreMarks}
 use Rattle.core_state.specs.Memory.{IsEven, IsOdd, Memory, stored, slot_count}
 use Rattle.core_state.specs.Links.{newly_retired}
 use Rattle.core_state.specs.Tree.{Chart, IsBelow, low_of, Belongs, IsInRange, IsHeldBack, OnRightLeft, MayPass, IsOldFor, IsEmptied, Place, HoldsMap}
-use Rattle.core_state.specs.Parts.{MarkParts, SeatParts, WaiterParts, ListsNow, ListingParts, IsReadingKept, state_slot, StandsWell, GoesTo, IsReading, IsServed, IsAsRecorded, IsStillLinked, IsRecord, IsMetBefore, AreAged, ReaderParts, map_now, CountParts, FrontParts, GraceParts, LockParts, SlotParts, AreMoving, HasMetBefore}
+use Rattle.core_state.specs.Parts.{MarkParts, SeatParts, WaiterParts, ListsNow, ListingParts, IsReadingKept, state_slot, StandsWell, GoesTo, IsReading, IsServed, IsAsRecorded, IsStillLinked, IsRecord, AreAged, ReaderParts, map_now, CountParts, FrontParts, GraceParts, LockParts, SlotParts, AreMoving}
 use Rattle.core_frames.specs.Laws.{KeepsPast, IsKept}
 use Rattle.core_frames.proofs.PlainLaws.{entered_before, clocked_before, told_now}
 use Rattle.core_frames.proofs.Charts.{bool_cases}
@@ -30,10 +30,10 @@ use lib.ListN.{get_elem?}
 use Rattle.prcu_marks.proofs.Marks.{gone_at-below}
 use Rattle.core_state.specs.declared.view.Reading.{Reading}
 use Rattle.core_state.specs.declared.view.Section.{Section}
-use Rattle.core_frames.proofs.TreeFrames.{answered_by}
+use Rattle.core_frames.proofs.TreeFrames.{answered_by, met_still}
 use Rattle.list_laws.specs.Counts.{IsIn, Each}
 use Rattle.core_frames.proofs.Views.{way_same}
-use Rattle.list_laws.proofs.Lists.{each_set, in_second, somewhere_was}
+use Rattle.list_laws.proofs.Lists.{each_set, in_second}
 
 -- Side b of slot p led to d and leads to c from now on; the chart, the view and the marks after it.
 pub record LinkStep : Type 0 where
@@ -334,9 +334,6 @@ module _ (z : LinkStep) where
           path node l s even way = path_after m (words_after z) n g to p b d c lower upper i.tree.shape changes node s l way
               (not_gone z s (inr (recorded_even s even)))
 
-    met_back : (at : ℕ) → IsMetBefore (views_after z) at → IsMetBefore vs at
-    met_back at y = somewhere_was vs id v w there (λ (x : HasMetBefore w at). (x.0, sym z.same.section ∙ x.1, x.2)) y
-
     aged_after : AreAged (words_after z) to (views_after z) hs
     aged_after s at y a gone met link nz = ⊎_elim (λ (e : s ≡ d). at_gone e (cases_eq d 0)) (λ ne. other (λ e. absurd (ne e)))
         (cases_eq s d)
@@ -362,7 +359,7 @@ module _ (z : LinkStep) where
         other not =
             let was : gone_at s h ≡ Some at = sym (z.gone_same s not) ∙ gone in
             let off = unlinked_off z s at was in
-            let aged = i.readers.ages s at y a was (met_back at met)
+            let aged = i.readers.ages s at y a was (met_still vs id v w there z.same.section at met)
             (sym (changes.stores.link s a (λ e. absurd (let on = changes.parent in cc (ap g.linked e)))) ∙ link) nz in
             let lt = aged.0 in
             let rank_y : to.rank y ≡ g.rank y =

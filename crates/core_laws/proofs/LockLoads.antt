@@ -119,7 +119,7 @@ module _ (k : Shape) (m m' : Memory) (vs : List View) (h : List Mark) (id : ℕ)
       retired = each_set (λ j u. Each (retired_of u) (IsRetired m' h)) vs id w
           (λ j x e. retired_is id v x there (j, e) (t.retired id v there j x e))
           (λ j u ne e l x is. retired_is j u x e (l, is) (t.retired j u e l x is));
-      unlinked = λ s p gone. retired_of_by vs id v w there s (λ r has is. (r, has, is)) (t.unlinked s p gone);
+      unlinked = λ s p gone. retired_of_by vs id v w there (λ r has. has) s (t.unlinked s p gone);
     }
       where
         free_off : (s : ℕ) → s < slot_count k → m (State s) ≡ 0 → g.linked s ≡ false

@@ -16,7 +16,7 @@ use Rattle.list_laws.specs.Counts.{times, IsIn, Each, numbers_from, total}
 use Rattle.core_state.specs.Memory.{IsOdd, Memory, same_field, IsEven, stored, slot_count, flag}
 use Rattle.core_state.specs.Views.{lock_of, HasLock, is_emptied, IsOwnField, known_in, readings_of, change_lock, note_lock, note_held, note_option, note_moving, noting, joined_spares, held_list, unraised_hand, joined_retired, spares_of, retired_of, slots_of}
 use Rattle.core_state.specs.Tree.{Chart, IsEmptied, HasEmptied}
-use Rattle.core_state.specs.Parts.{IsHolderOf, HasFewLocks, IsUnraised, IsLockKept, HasGeneration, IsLockKnown, IsReadingKept, LockParts, IsUnraisedOf, IsHeldKnown, AreHandsKnown, HasSpareToCome, HasFewSlots, IsRetired, IsRetiredOf, SlotParts}
+use Rattle.core_state.specs.Parts.{IsHolderOf, HasFewLocks, IsUnraised, IsLockKept, HasGeneration, IsLockKnown, IsReadingKept, LockParts, IsUnraisedOf, IsHeldKnown, AreHandsKnown, HasSpareToCome, HasFewSlots, IsRetired, SlotParts}
 use Rattle.list_laws.proofs.Lists.{each_set, total_same, somewhere_here, somewhere_set, somewhere_still}
 use Rattle.core_laws.proofs.Locks.{change_here, change_other, slots_change, length_change, one_holder, linked_apart}
 use Rattle.core_state.specs.declared.view.Known.{Known}
@@ -175,9 +175,13 @@ pub emptied_after : (vs : List View) (id : ℕ) (v w : View) (slot : ℕ) (lock 
     → IsEmptied vs s a → IsEmptied (set vs id w) s a
 emptied_after vs id v w slot lock new there one s a says x =
     somewhere_still vs id v w there (λ (had : HasEmptied v s a). dite (ℕ_discrete s slot)
-    (λ same. (let q : Some had.0 ≡ Some lock = sym had.1 ∙ ap (lock_of v.locks) same ∙ one.held in let l : had.0 ≡ lock = cc in
-    (new, ap (lock_of w.locks) same ∙ one.now, says same (ap (λ z. is_emptied z a) (sym l) ∙ had.2))))
-    (λ ne. (had.0, one.other s ne ∙ had.1, had.2))) x
+    (λ same. (let q : Some had.lock ≡ Some lock = sym had.held ∙ ap (lock_of v.locks) same ∙ one.held in let l : had.lock ≡ lock = cc in
+    record {
+      lock = new;
+      held = ap (lock_of w.locks) same ∙ one.now;
+      emptied = says same (ap (λ z. is_emptied z a) (sym l) ∙ had.emptied);
+    }))
+    (λ ne. record { lock = had.lock; held = one.other s ne ∙ had.held; emptied = had.emptied })) x
 
 module _ (m m' : Memory) (n : ℕ) (g to : Chart) (vs : List View) (id : ℕ) (v w : View) (there : get_elem? vs id ≡ some v) (slot : ℕ)
     (lock new : HeldLock) (one : OneLock v w slot lock new) where
@@ -662,10 +666,6 @@ module _ (k : Shape) (m : Memory) (vs : List View) (h : List Mark) (i : HoldsNow
           (note_option-none p slots_entry v.hands.spare (sym c.spare ∙ none)) in (r.0, more r.0 r.1, r.2));
     }
 
-    still_retired : ((r : Retired) → IsIn (retired_of v) r → IsIn (retired_of w) r) → (s : ℕ) → IsRetiredOf vs s
-        → IsRetiredOf (set vs id w) s
-    still_retired keeps s = retired_of_by vs id v w there s (λ r has is. (r, keeps r has, is))
-
     -- the same where the step unlinks no slot
     module _ (same_retired : w.hands.retired ≡ v.hands.retired) (gone : (s : ℕ) → gone_at s h' ≡ gone_at s h) where
       retired_same : retired_of w ≡ retired_of v
@@ -691,8 +691,8 @@ module _ (k : Shape) (m : Memory) (vs : List View) (h : List Mark) (i : HoldsNow
         retired = each_set (λ j u. Each (retired_of u) (IsRetired slots_memory h')) vs id w
             (subst (λ rs. Each rs (IsRetired slots_memory h')) (sym retired_same) (λ j r e. retired_kept id v r there (j, e)))
             (λ j u ne e l r is. retired_kept j u r e (l, is));
-        unlinked = λ s q is. (let r = i.slots.unlinked s q (sym (gone s) ∙ is) in
-            still_retired (λ x has. subst (λ rs. IsIn rs x) (sym retired_same) has) s r);
+        unlinked = λ s q is. retired_of_by vs id v w there (λ x has. subst (λ rs. IsIn rs x) (sym retired_same) has) s
+            (i.slots.unlinked s q (sym (gone s) ∙ is));
       }
         where
           whole : (s : ℕ) → total (λ (u : View). times s (slots_of u)) (set vs id w) ≡ total (λ (u : View). times s (slots_of u)) vs

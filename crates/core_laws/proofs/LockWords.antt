@@ -17,9 +17,9 @@ use Rattle.atomic_table.proofs.Lists.{set_again}
 use Rattle.prcu_marks.specs.declared.mark.Side.{Side}
 use Rattle.core_state.specs.declared.view.Move.{Move}
 use Rattle.core_state.specs.declared.view.View.{View}
-use Rattle.core_state.specs.Tree.{Chart, IsEmptied}
+use Rattle.core_state.specs.Tree.{Chart, IsEmptied, HasEmptied}
 use Rattle.core_state.specs.Parts.{IsHolderOf, HasFewLocks, IsUnraised, IsLockKept, IsLockKnown, IsReadingKept, LockParts, ReaderParts, IsMoving, TreeParts}
-use Rattle.core_frames.proofs.TreeFrames.{moves_same, tree_by, moving_by, moving_same, may_still, old_still, readers_stay, emptied_by, listing_frame_still}
+use Rattle.core_frames.proofs.TreeFrames.{moves_same, tree_by, moving_by, moving_same, may_still, old_still, readers_stay, listing_frame_still}
 use Rattle.core_frames.proofs.Marks.{quiet_same}
 use Rattle.core_state.specs.declared.view.Reading.{Reading}
 use Rattle.core_frames.proofs.PlaceFrames.{kept_same, known_same, reading_same, counts_still, sums_same, slot_frame, slots_elsewhere, front_frame}
@@ -28,7 +28,6 @@ use Rattle.core_state.specs.declared.shape.Shape.{Shape}
 use Rattle.core_state.specs.Steps.{new_lock, IsNoEnd, NeedsLock, NeedsUnlock, after_lock, after_unlock}
 use Rattle.core_state.specs.Invariant.{HoldsNow}
 use Rattle.core_laws.proofs.Entering.{apart}
-use Rattle.core_state.specs.declared.words.Kind.TheVariants.{K13, K14}
 use Rattle.core_frames.proofs.WholeFrames.{no_mark, seat_half, wait_still, waiters_stay, whole, Stepper, StepKeeps, only_loaded}
 use Rattle.std.proofs.lemmas.Bool.{eqb-true}
 
@@ -111,11 +110,11 @@ module _ (vs : List View) (id : ℕ) (v : View) (there : get_elem? vs id ≡ som
   holder_on s lock ne i = somewhere_still vs id v w there (λ held. other s ne ∙ held) i
 
   emptied_on : (s : ℕ) (b : Side) → IsEmptied vs s b → IsEmptied (set vs id w) s b
-  emptied_on = emptied_by vs id v w there (λ s lock holds b emptied. (
-    lock,
-    other s (λ on. settled lock b (ap (lock_of v.locks) (sym on) ∙ holds) emptied) ∙ holds,
-    emptied,
-  ))
+  emptied_on s b = somewhere_still vs id v w there (λ (x : HasEmptied v s b). record {
+    lock = x.lock;
+    held = other s (λ on. settled x.lock b (ap (lock_of v.locks) (sym on) ∙ x.held) x.emptied) ∙ x.held;
+    emptied = x.emptied;
+  })
 
   module _ (m m' : Memory) (nodes : SameNodes m m') (g : Chart) (h : List Mark) where
     moving_on : (move : Move) → v.moving ≡ Some move → IsMoving m g h v move → IsMoving m' g h w move

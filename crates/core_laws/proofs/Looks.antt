@@ -305,9 +305,9 @@ module _ (k : Shape) (m : Memory) (vs : List View) (h : List Mark) (id : ℕ) (v
       ⊎_elim (λ (l : WasLeft h q c e (length h)). l)
       (λ (now : open_at q h ≡ Some (entered_open c x e)).
       let o = i.seats.opened q (entered_open c x e) now in
-      let at = ap (λ (z : Open). z.at) o.has.3 in
-      let key = ap (λ (z : Open). z.key) o.has.3 in
-      absurd (clear o.id o.view o.has.1 o.there o.has.2 (omega arith) (omega arith) (omega arith)))
+      let at = ap (λ (z : Open). z.at) o.has.by_marks in
+      let key = ap (λ (z : Open). z.key) o.has.by_marks in
+      absurd (clear o.id o.view o.has.section o.there o.has.is_open (omega arith) (omega arith) (omega arith)))
       (left_or_open k.places h i.marks.marks e q c x entered)
 
   grace_end : Grace h'

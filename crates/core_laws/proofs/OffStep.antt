@@ -17,10 +17,9 @@ use Rattle.core_state.specs.declared.view.View.{View}
 use Rattle.list_laws.specs.Counts.{times, IsIn, Each}
 use Rattle.core_state.specs.Memory.{IsEven, Memory, slot_count, IsOdd, flag}
 use Rattle.core_state.specs.Views.{known_in, lock_of, HasLock, is_emptied, IsOwnField, LoadedGeneration, readings_of, slots_of, open_reading, joined_retired, held_list, retired_of, spares_of}
-use Rattle.core_state.specs.Tree.{IsHeldBack, Chart}
-use Rattle.core_state.specs.Parts.{HasFewLocks, IsUnraised, HasGeneration, IsAsRecorded, SlotParts, IsLockKept, IsLockKnown, IsReadingKept, LockParts, roles_of, HasFewSlots, IsRetired, IsHeldKnown, AreHandsKnown, CountParts, GraceParts, IsClear}
-use Rattle.list_laws.proofs.Lists.{in_second, in_first, each_set, total_set, at_end, past_snoc}
-use Rattle.core_frames.proofs.TreeFrames.{emptied_by}
+use Rattle.core_state.specs.Tree.{IsHeldBack, Chart, HasEmptied}
+use Rattle.core_state.specs.Parts.{HasFewLocks, IsUnraised, HasGeneration, IsAsRecorded, SlotParts, IsLockKept, IsLockKnown, IsReadingKept, LockParts, roles_of, HasFewSlots, IsRetired, IsHeldKnown, AreHandsKnown, CountParts, GraceParts, IsClear, HasRetired}
+use Rattle.list_laws.proofs.Lists.{in_second, in_first, each_set, total_set, at_end, past_snoc, somewhere_still}
 use Rattle.core_laws.proofs.Stores.{StoresIn, held_beside, content_away}
 use Rattle.core_laws.proofs.ChartStays.{SameOutside, ChartStep, OuterParts, chart_stays, grace_by}
 use Rattle.core_frames.proofs.WholeFrames.{Stepper, waited_more, waited_back, grace_plain}
@@ -33,7 +32,6 @@ use Rattle.core_state.specs.declared.view.Held.{Held}
 use Rattle.core_state.specs.declared.view.Move.{Move}
 use Rattle.core_state.specs.declared.view.Retired.{Retired}
 use Rattle.core_state.specs.Invariant.{HoldsNow}
-use Rattle.core_frames.proofs.PlaceFrames.{retired_of_by}
 use Rattle.atomic_table.proofs.Lists.{at_longer}
 use Rattle.prcu_marks.proofs.Marks.{updates_of-append, gone_at-snoc}
 use Rattle.core_state.specs.Marks.{IsReused, Reuse}
@@ -159,8 +157,8 @@ module _ (z : OffStep) where
     recorded = recorded_back;
     side = λ j u r t tag b e has known same settled. (
       sym (z.tag t b) ∙ same,
-      λ x. settled (emptied_by z.who.vs z.who.id z.who.v z.w z.who.there
-          (λ o lock holds a emptied. (let f = z.lock_forth o lock holds in (f.0, f.1, f.2.emptied a ∙ emptied))) t b x),
+      λ x. settled (somewhere_still z.who.vs z.who.id z.who.v z.w z.who.there (λ (y : HasEmptied z.who.v t b).
+          (let f = z.lock_forth t y.lock y.held in record { lock = f.0; held = f.1; emptied = f.2.emptied b ∙ y.emptied })) x),
     );
     held = λ t l. (let f = z.lock_forth t l.0 l.1 in (f.0, f.1));
     generation = λ j u t l generation ne e is on x. generation_away t generation l l (on_apart t on) refl x;
@@ -327,8 +325,7 @@ module _ (z : OffStep) where
     pub few : HasFewSlots k.room w
     pub hands : AreHandsKnown m' w
     pub retired : Each (retired_of w) (IsRetired m' hs)
-    pub unlinked : (t p : ℕ) → gone_at t hs ≡ Some p → (r : Retired) → IsIn (retired_of v) r → r.slot ≡ t
-        → (x : Retired) × IsIn (retired_of w) x × (x.slot ≡ t)
+    pub unlinked : (t p : ℕ) → gone_at t hs ≡ Some p → HasRetired v t → HasRetired w t
 
   module _ (c : OwnSlots) where
     pub once_now : (t : ℕ) → t < n → roles_of m' g us t ≡ 1
@@ -364,7 +361,7 @@ module _ (z : OffStep) where
       retired = each_set (λ j u. Each (retired_of u) (IsRetired m' hs)) vs id w c.retired
           (λ j u ne e i r f. retired_away r (λ same. (let none = z.others j u ne e in let one = retired_own u r (i, f) in
           let a = ap (λ x. times x (slots_of u)) same in absurd (omega arith))) (t.retired j u e i r f));
-      unlinked = λ x p gone. retired_of_by vs id v w z.who.there x (c.unlinked x p gone) (t.unlinked x p (z.marks.back x p gone));
+      unlinked = λ x p gone. somewhere_still vs id v w z.who.there (c.unlinked x p gone) (t.unlinked x p (z.marks.back x p gone));
     }
 
     -- the invariant, with the parts on counts and grace, and those that speak of no slot
@@ -501,12 +498,13 @@ pub entered_later : (k : Shape) (m : Memory) (vs : List View) (h : List Mark) �
     → IsClear vs a 0 greatest_key → last_unlinked s h ≡ Some a → open_at p h ≡ Some o → a < o.at
 entered_later k m vs h i s a p o clear last now =
     let x = i.seats.opened p o now in
-    let at = ap (λ (z : Open). z.at) x.has.3 in
-    let fits = (i.seats.sections x.id x.view x.there x.has.1 x.has.2).key_fits in
+    let section = x.has.section in
+    let at = ap (λ (z : Open). z.at) x.has.by_marks in
+    let fits = (i.seats.sections x.id x.view x.there section x.has.is_open).key_fits in
     let ne = entered_apart p s a h o now last in
     dite (dec_le (suc a) o.at) (λ late. late)
     (λ early. dite (ℕ_discrete o.at a) (λ e. absurd (ne e))
-    (λ n. absurd (clear x.id x.view x.has.1 x.there x.has.2 (omega arith) (omega arith) (omega arith))))
+    (λ n. absurd (clear x.id x.view section x.there x.has.is_open (omega arith) (omega arith) (omega arith))))
 
 -- What a step leaves of marks, of waits and of reuse, where a slot is given or freed.
 

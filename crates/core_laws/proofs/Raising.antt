@@ -191,11 +191,15 @@ module _ (z : RaiseStep) where
           (λ (a : IsIn (joined_retired v.allowance.joined) y). (let b = in_second v.hands.retired (joined_retired v.allowance.joined) y a in
           retired_away step y (joined_apart y a) (inv.slots.retired id v there b.0 y b.1)))
           (in_append c.retired (joined_retired v.allowance.joined) y (j, e));
-      unlinked = λ t p gone y has at. ⊎_elim
-          (λ (a : IsIn v.hands.retired y). (let x = d.kept t p y gone a at in
-          (x.0, in_first c.retired (joined_retired v.allowance.joined) x.0 x.1, x.2)))
-          (λ a. (y, in_second c.retired (joined_retired v.allowance.joined) y a, at))
-          (in_append v.hands.retired (joined_retired v.allowance.joined) y has);
+      unlinked = λ t p gone y. ⊎_elim
+          (λ (a : IsIn v.hands.retired y.retired). (let x = d.kept t p y.retired gone a y.slot in
+          record { retired = x.0; has = in_first c.retired (joined_retired v.allowance.joined) x.0 x.1; slot = x.2 }))
+          (λ a. record {
+            retired = y.retired;
+            has = in_second c.retired (joined_retired v.allowance.joined) y.retired a;
+            slot = y.slot;
+          })
+          (in_append v.hands.retired (joined_retired v.allowance.joined) y.retired y.has);
     }) outer (counts_by k.tickets m m' n inv.chart inv.chart vs id v w h c.hs there (record {
       free = refl;
       clock = (let a = ap length c.marks.updates in omega arith);

@@ -148,7 +148,11 @@ module _ (k : Shape) (m : Memory) (vs : List View) (h : List Mark) (id : ℕ) (v
           hands = c.known;
           retired = λ j y e. (let q = c.retired y (j, e) in let o = q.1 in
               retired_away step y q.0 (inv.slots.retired id v there o.0 y o.1));
-          unlinked = λ t p gone y has at. (y, c.kept y has (λ e. (used_back given slot h t p gone).0 (sym at ∙ e)), at);
+          unlinked = λ t p gone y. record {
+            retired = y.retired;
+            has = c.kept y.retired y.has (λ e. (used_back given slot h t p gone).0 (sym y.slot ∙ e));
+            slot = y.slot;
+          };
         }) (outer_marked k m m' vs h id v w inv there works (stores_in m slot (State slot) x refl).beside same (used_mark given slot)
             (used_plain given slot h v.allowance.place) (used_new given slot h k.places) refl)
             (counts_by k.tickets m m' n inv.chart inv.chart vs id v w h hs there (record {
@@ -201,7 +205,7 @@ module _ (k : Shape) (m : Memory) (vs : List View) (h : List Mark) (id : ℕ) (v
         cases None e = refl
         cases (Some p) e =
             let r = inv.slots.unlinked slot p e in
-            let has = subst (λ z. 1 ≤ times z (slots_of r.view)) r.has.2 (retired_own r.view r.has.0 r.has.1) in
+            let has = subst (λ z. 1 ≤ times z (slots_of r.view)) r.has.slot (retired_own r.view r.has.retired r.has.has) in
             let none = nobody r.id r.view r.there in
             absurd (omega arith)
 

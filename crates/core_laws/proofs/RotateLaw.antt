@@ -11,7 +11,7 @@ use Rattle.core_state.specs.declared.view.View.{View}
 use Rattle.core_state.specs.declared.words.Field.{Field}
 use Rattle.core_state.specs.declared.words.Field.TheVariants.{Life, Link}
 use Rattle.list_laws.specs.Counts.{times, IsIn, Each}
-use Rattle.core_state.specs.Memory.{IsOdd, flag, sum_below, has, Memory, slot_count, stored}
+use Rattle.core_state.specs.Memory.{IsOdd, flag, sum_below, has, Memory, slot_count}
 use Rattle.core_state.specs.Views.{known_in, known_under, HasLock, note_lock, change_lock, joined_retired, retired_of, slots_of, held_list, unraised_hand, unraised_of, emptied_among}
 use Rattle.core_state.specs.Links.{newly_retired, with_mark, NeedsRotate, after_rotate, rotate_marks, Rotation}
 use Rattle.core_state.specs.Parts.{HasFewSlots, IsRetired, IsRetiredOf, IsHeldKnown, AreHandsKnown, SlotParts, linked_count, young_count, old_count, CountParts, FrontParts, IsClear, IsWaitedRetired, GraceParts, MarkParts, SeatParts, IsMoving, IsOldOf, AreMoving, WaiterParts, map_now}
@@ -261,10 +261,11 @@ module _ (z : RotateStep) where
   }
     where
       now : (s : ℕ) (r : Retired) → IsIn (w z).hands.retired r → r.slot ≡ s → IsRetiredOf (us z) s
-      now s r has e = somewhere_here vs id v (w z) there (r, in_first (w z).hands.retired (joined_retired v.allowance.joined) r has, e)
+      now s r has e = somewhere_here vs id v (w z) there
+          (record { retired = r; has = in_first (w z).hands.retired (joined_retired v.allowance.joined) r has; slot = e })
 
       before : (s at : ℕ) → gone_at s h ≡ Some at → IsRetiredOf (us z) s
-      before s at is = retired_of_by vs id v (w z) there s (λ r has same. (r, retired_grows r has, same)) (i.slots.unlinked s at is)
+      before s at is = retired_of_by vs id v (w z) there retired_grows s (i.slots.unlinked s at is)
 
   -- The other parts after a rotation: marks, seats and waiters, counts, pending moves, the front, and grace.
   plain : PlainMarks v.allowance.place h (hs z)

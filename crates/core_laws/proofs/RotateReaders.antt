@@ -15,12 +15,12 @@ use Rattle.list_laws.specs.Counts.{IsIn, Each}
 use Rattle.core_state.specs.Memory.{IsOdd, Memory, slot_count}
 use Rattle.core_state.specs.Views.{note_moving, LoadedGeneration, readings_of, open_reading}
 use Rattle.core_state.specs.Tree.{IsHeldBack, MayPass, Place}
-use Rattle.core_state.specs.Parts.{IsReadingKept, state_slot, IsReading, IsServed, IsAsRecorded, IsStillLinked, IsRecord, IsMetBefore, AreAged, ReaderParts, map_now, IsBetween, HasBounds, GoesOn, here, ListsNow, ListingParts, HasMetBefore}
+use Rattle.core_state.specs.Parts.{IsReadingKept, state_slot, IsReading, IsServed, IsAsRecorded, IsStillLinked, IsRecord, AreAged, ReaderParts, map_now, IsBetween, HasBounds, GoesOn, here, ListsNow, ListingParts}
 use Rattle.core_frames.proofs.Views.{way_by}
-use Rattle.list_laws.proofs.Lists.{each_set, in_second, somewhere_was}
+use Rattle.list_laws.proofs.Lists.{each_set, in_second}
 use Rattle.core_frames.proofs.Charts.{ended_is, bool_cases, carry_going, unlinked_going}
 use Rattle.core_frames.proofs.PlainLaws.{entered_before, told_now}
-use Rattle.core_frames.proofs.TreeFrames.{answered_by, may_still, old_still}
+use Rattle.core_frames.proofs.TreeFrames.{answered_by, may_still, old_still, met_outside}
 use Rattle.core_frames.proofs.Roles.{gone_off}
 use Rattle.core_laws.proofs.Turns.{Stays, which, not_top, not_sub, rank_else, still, x_off, y_off, x_not_p, y_not_p, link_off, child_stays, low_else, high_else, at_y}
 use Rattle.core_laws.proofs.TurnReaders.{stays_by, readers_turn, walks_turn, path_turn, belongs_turn}
@@ -258,10 +258,6 @@ module _ (z : RotateStep) where
         back : (s : ℕ) → Stay s → IsStillLinked later (to z) q s → IsStillLinked m g q s
         back s r l = record { linked = r.on; generation = l.generation; recorded = l.recorded; same = l.same }
 
-  met_back : (at : ℕ) → IsMetBefore (us z) at → IsMetBefore vs at
-  met_back at r =
-      somewhere_was vs id v (w z) there (λ (x : HasMetBefore (w z) at). absurd (let q : None ≡ Some x.0 = sym (outside z) ∙ x.1 in cc)) r
-
   -- where a slot that goes leads
   abbrev Leads : ℕ → ℕ → Type 0
   Leads at c = ((to z).linked c ≡ true) ⊎ ((after : ℕ) × (gone_at c (hs z) ≡ Some after) × (at < after))
@@ -318,7 +314,7 @@ module _ (z : RotateStep) where
       other nx ny =
           let was : gone_at s h ≡ Some at = sym (two_gone_other v.allowance.place h x y (not_same z) s nx ny) ∙ gone in
           let off = unlinked_off s at was in
-          let aged = i.readers.ages s at c a was (met_back at met)
+          let aged = i.readers.ages s at c a was (met_outside vs id v (w z) there (outside z) at met)
           (sym (link_off m later n g (turn z) i.tree.shape (turns z) s a
           (λ e. (let on = (turns z).parent in let q : true ≡ false = sym on ∙ ap g.linked (sym e) ∙ off in absurd (cc)))) ∙ link) nz in
           let lt = aged.0 in

@@ -23,8 +23,8 @@ use Rattle.core_state.specs.declared.view.View.{View}
 use Rattle.list_laws.specs.Counts.{times, IsIn}
 use Rattle.core_state.specs.Memory.{IsEven, IsOdd, Memory, stored, slot_count, across}
 use Rattle.core_state.specs.Views.{known_in, known_under, HasLock, LoadedGeneration, readings_of, open_reading, spares_of, slots_of, lock_of, is_emptied, change_lock}
-use Rattle.core_state.specs.Tree.{Chart, IsEmptied}
-use Rattle.list_laws.proofs.Lists.{in_second, in_first}
+use Rattle.core_state.specs.Tree.{Chart, IsEmptied, HasEmptied}
+use Rattle.list_laws.proofs.Lists.{in_second, in_first, somewhere_still}
 use Rattle.core_frames.proofs.Roles.{hand_own, spare_own, spare_among, held_there, slots_count, own_below, own_off, own_once, not_gone}
 use Rattle.core_frames.proofs.WholeFrames.{Stepper, SameForMore, same_for_more}
 use Rattle.core_laws.proofs.Locks.{marked_lock, marked_linked, marked_field, marked_some, lock_outside, loaded_known, no_end_of, young_locked, IsAlive, alive, alive_field, one_holder, changed, lock_of-change, slots_change, length_change, IsRelocked, relocked, relocked_forth, relocked_back, relocked_slots, relocked_length}
@@ -33,7 +33,6 @@ use Rattle.core_laws.proofs.Turns.{Turn, Turns, turned, x_not_y, Stays, which, s
 use Rattle.std.proofs.lemmas.Bool.{cases_eq}
 use Rattle.prcu_marks.specs.declared.mark.Side.TheVariants.{Left, Right}
 use Rattle.core_state.specs.declared.view.HeldLock.{HeldLock}
-use Rattle.core_frames.proofs.TreeFrames.{emptied_by}
 use Rattle.core_laws.proofs.ChartChanges.{put, put-same, put-other}
 use Rattle.core_laws.proofs.LinkParts.{locks_more}
 use Rattle.core_laws.proofs.LockSteps.{LockChange, locks_stored}
@@ -453,8 +452,8 @@ module _ (z : RotateStep) where
           (which m later (slot_count k) g (turn z) i.tree.shape (turns z) s l)
 
   pub emptied_still : (s : ℕ) (a : Side) → IsEmptied vs s a → IsEmptied (us z) s a
-  emptied_still = emptied_by vs id v (w z) there (λ s lock holds a emptied.
-      (let f = forth s lock holds in (f.0, f.1, f.2.second.emptied a ∙ f.2.first.still a emptied)))
+  emptied_still s a = somewhere_still vs id v (w z) there (λ (x : HasEmptied v s a). (let f = forth s x.lock x.held in
+      record { lock = f.0; held = f.1; emptied = f.2.second.emptied a ∙ f.2.first.still a x.emptied }))
 
   -- a side that is empty now was so
   pub link_back : (s : ℕ) (a : Side) → later (Link s a) ≡ 0 → m (Link s a) ≡ 0

@@ -108,8 +108,8 @@ module _ (k : Shape) (m : Memory) (vs : List View) (h : List Mark) (id : ℕ) (v
     where
       opened_at : (p : ℕ) (o : Open) → IsOpenOf vs p o → IsOpenOf (set vs id w) p o
       opened_at p o x = somewhere_still vs id v w there (λ (own : HasOpen v p o).
-          (let is : Some own.1 ≡ Some section = sym own.2 ∙ inside in let it : own.1 ≡ section = cc in
-          (own.0, new, refl, own.3 ∙ ap open_of it ∙ sym open_same))) x
+          (let is : Some own.section ≡ Some section = sym own.is_open ∙ inside in let it : own.section ≡ section = cc in
+          record { place = own.place; section = new; is_open = refl; by_marks = own.by_marks ∙ ap open_of it ∙ sym open_same })) x
 
   waiters : WaiterParts k m (set vs id w) h
   waiters = let t = i.waiters in record {
@@ -254,13 +254,13 @@ module _ (k : Shape) (m : Memory) (vs : List View) (h : List Mark) (i : HoldsNow
       → gone_at s h ≡ Some p → section.entered < p → IsOdd (m (Life s))
   unraised_life id s p v section there inside gone since =
       let r = i.slots.unlinked s p gone in
-      let own : Retired = r.has.0 in
-      let has = r.has.1 in
+      let own : Retired = r.has.retired in
+      let has = r.has.has in
       let is = i.slots.retired r.id r.view r.there has.0 own has.1 in
-      let at : Some own.unlinked ≡ Some p = sym is.unlinked ∙ ap (λ z. gone_at z h) r.has.2 ∙ gone in
+      let at : Some own.unlinked ≡ Some p = sym is.unlinked ∙ ap (λ z. gone_at z h) r.has.slot ∙ gone in
       let same : own.unlinked ≡ p = cc in
       let fits = (i.seats.sections id v there section inside).key_fits in
-      subst (λ z. IsOdd (m (Life z))) r.has.2 (is.marked
+      subst (λ z. IsOdd (m (Life z))) r.has.slot (is.marked
       (⊎_elim (λ raised. absurd (retired_clear r.id r.view own r.there has (is.after_wait raised) id v section there inside
       (omega arith) (omega arith) (omega arith))) (λ not. not) (bool_cases own.raised)))
 
@@ -272,7 +272,7 @@ module _ (k : Shape) (m : Memory) (vs : List View) (h : List Mark) (i : HoldsNow
   child_met id s c b v section there inside may link nz =
       ⊎_elim (λ l. (let below = i.tree.shape.below s c b l link nz in (below.rank, inl below.linked)))
       (λ (back : IsHeldBack i.chart h section.entered s). (let aged = i.readers.ages s back.at c b back.gone
-      (record { id = id; view = v; there = there; has = (section, inside, back.later) }) link nz in (
+      (record { id = id; view = v; there = there; has = record { section = section; is_open = inside; before = back.later } }) link nz in (
         aged.0,
         ⊎_elim (λ l. inl l)
             (λ (x : (later : ℕ) × (gone_at c h ≡ Some later) × (back.at < later)).

@@ -12,7 +12,7 @@ use Rattle.core_state.specs.Links.{IsContent, HasCommit}
 use Rattle.core_state.specs.Tree.{after, next, answer_at, Chart, Hangs, IsHeldBack, OnRightLeft, Belongs, MayPass, IsOldFor, IsEmptied, Place, Walks, IsPending}
 use Rattle.core_frames.proofs.Views.{stored_here, stored_else, own_one, way_same, sum_one_other, sum_equal}
 use Rattle.core_state.specs.declared.view.Held.{Held}
-use Rattle.core_state.specs.Parts.{IsHeldKnown, FrontParts, ListsNow, IsListing, ListingParts, IsReadingKept, StandsWell, GoesTo, IsServed, IsAsRecorded, IsStillLinked, IsRecord, IsReading, IsMetBefore, AreAged, ReaderParts, turns_to_come, linked_count, young_count, old_count, CountParts, HasGeneration, IsMoving, IsOldOf, AreMoving, HasMetBefore}
+use Rattle.core_state.specs.Parts.{IsHeldKnown, FrontParts, ListsNow, IsListing, ListingParts, IsReadingKept, StandsWell, GoesTo, IsServed, IsAsRecorded, IsStillLinked, IsRecord, IsReading, AreAged, ReaderParts, turns_to_come, linked_count, young_count, old_count, CountParts, HasGeneration, IsMoving, IsOldOf, AreMoving}
 use mathlib.Core.Option.{some}
 use lib.ListN.{get_elem?}
 use Rattle.prcu_marks.specs.declared.mark.Mark.{Mark}
@@ -21,11 +21,11 @@ use Rattle.prcu_model.specs.Dictionary.{IsLegal, WasSaid, map_of}
 use Rattle.prcu_marks.specs.declared.commit.Commit.{Commit}
 use Rattle.core_state.specs.declared.view.View.{View}
 use Rattle.core_frames.proofs.PlaceFrames.{odd_by, free_slots, counts_by}
-use Rattle.list_laws.proofs.Lists.{each_set, in_second, somewhere_set, somewhere_was, only_here}
+use Rattle.list_laws.proofs.Lists.{each_set, in_second, somewhere_set, only_here}
 use Rattle.core_state.specs.declared.view.Listing.{Listing}
 use Rattle.core_state.specs.declared.view.Section.{Section}
 use Rattle.core_state.specs.declared.view.Reading.{Reading}
-use Rattle.core_frames.proofs.TreeFrames.{answered_by}
+use Rattle.core_frames.proofs.TreeFrames.{answered_by, met_outside}
 use Rattle.list_laws.specs.Counts.{Each, IsIn}
 use Rattle.core_state.specs.declared.shape.Shape.{Shape}
 use Rattle.core_state.specs.Invariant.{HoldsNow}
@@ -379,15 +379,11 @@ module _ (m m' : Memory) (g to : Chart) (vs : List View) (id : ℕ) (v w : View)
             record_after r (t.readings j u e a.0 r a.1) (kept j u e a.0 r a.1) (t.records j u e l r is)
 
   -- how old the links of unlinked slots are
-  met_back : w.section ≡ None → (at : ℕ) → IsMetBefore (set vs id w) at → IsMetBefore vs at
-  met_back outside at i =
-      somewhere_was vs id v w there (λ (x : HasMetBefore w at). absurd (let q : None ≡ Some x.0 = sym outside ∙ x.1 in cc)) i
-
   pub aged_same : w.section ≡ None → ((s : ℕ) → gone_at s h' ≡ gone_at s h) → ((s : ℕ) (a : Side) → m' (Link s a) ≡ m (Link s a))
       → ((s : ℕ) → g.linked s ≡ true → to.linked s ≡ true) → ((s : ℕ) → to.rank s ≡ g.rank s) → AreAged m g vs h
       → AreAged m' to (set vs id w) h'
   aged_same outside gone away still rank t s at c a is met link ne =
-      let aged = t s at c a (sym (gone s) ∙ is) (met_back outside at met) (sym (away s a) ∙ link) ne in
+      let aged = t s at c a (sym (gone s) ∙ is) (met_outside vs id v w there outside at met) (sym (away s a) ∙ link) ne in
       let lt = aged.0 in (
         omega (arith, lt, rank s, rank c),
         ⊎_elim (λ l. inl (still c l)) (λ (x : (later : ℕ) × (gone_at c h ≡ Some later) × (at < later)). inr (x.0, gone c ∙ x.1, x.2)) aged.1,

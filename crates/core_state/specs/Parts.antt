@@ -304,8 +304,10 @@ pub record IsRecord (m : Memory) (g : Chart) (vs : List View) (r : Reading) : Ty
       → SaysOfWalk m g r node walk
 
 -- the view's section is open and was entered before this mark
-abbrev pub HasMetBefore : View → ℕ → Type 0
-HasMetBefore v at = (section : Section) × (v.section ≡ Some section) × (section.entered < at)
+pub record HasMetBefore (v : View) (at : ℕ) : Type 0 where
+  pub section : Section
+  pub is_open : v.section ≡ Some section
+  pub before : section.entered < at
 
 -- that of some view is
 abbrev pub IsMetBefore : List View → ℕ → Type 0
@@ -365,8 +367,10 @@ pub record IsRetired (m : Memory) (h : List Mark) (r : Retired) : Type 0 where
   pub after_wait : r.raised ≡ true → r.waited ≡ true
 
 -- the slot is among the retired ones of the view
-abbrev pub HasRetired : View → ℕ → Type 0
-HasRetired v s = (r : Retired) × IsIn (retired_of v) r × (r.slot ≡ s)
+pub record HasRetired (v : View) (s : ℕ) : Type 0 where
+  pub retired : Retired
+  pub has : IsIn (retired_of v) retired
+  pub slot : retired.slot ≡ s
 
 -- it is among those of some view
 abbrev pub IsRetiredOf : List View → ℕ → Type 0
@@ -556,8 +560,11 @@ pub record IsCounted (h : List Mark) (v : View) : Type 0 where
   pub waits : v.counts.waits ≡ begun_at v.allowance.place h
 
 -- the view works at this place and has this section open
-abbrev pub HasOpen : View → ℕ → Open → Type 0
-HasOpen v p o = (v.allowance.place ≡ p) × (section : Section) × (v.section ≡ Some section) × (o ≡ open_of section)
+pub record HasOpen (v : View) (p : ℕ) (o : Open) : Type 0 where
+  pub place : v.allowance.place ≡ p
+  pub section : Section
+  pub is_open : v.section ≡ Some section
+  pub by_marks : o ≡ open_of section
 
 -- an open section, by the marks, is that of the view that works at its place
 abbrev pub IsOpenOf : List View → ℕ → Open → Type 0
