@@ -262,7 +262,7 @@ joined_some (s ∷ ss) spare =
     omega arith
   where
     one : (o : Option ℕ) → s.spare ≡ o → 1 ≤ length (slot_list s.spare) + length s.retired
-    one None e = let r = spare 0 s refl e in let a = length_some s.retired r.0 r.1 in omega arith
+    one None e = let r = spare 0 s refl e in let a = length_some s.retired r.retired r.has in omega arith
     one (Some t) e = let a = ap (λ x. length (slot_list x)) e in omega arith
 
 -- so does one that is worked at
@@ -276,7 +276,7 @@ share_least v few spent =
     (λ none. (let z : length (places_of v) ≡ 0 = ap (λ u. length (places_of u)) (spent (omega arith)) in omega arith))
   where
     one : 1 ≤ v.allowance.places → (o : Option Held) → v.hands.spare ≡ o → 1 ≤ length (held_list v.hands.spare) + length v.hands.retired
-    one works None e = let r = few.next_spare works e in let a = length_some v.hands.retired r.0 r.1 in omega arith
+    one works None e = let r = few.next_spare works e in let a = length_some v.hands.retired r.retired r.has in omega arith
     one works (Some held) e = let a = ap (λ x. length (held_list x)) e in omega arith
 
 module _ (k : Shape) (m : Memory) (vs : List View) (h : List Mark) (i : HoldsNow k m vs h) where

@@ -13,7 +13,7 @@ use Rattle.list_laws.specs.Counts.{times, total, IsIn, Each}
 use Rattle.core_state.specs.Memory.{flag, IsEven, IsOdd, Memory, sum_below, count_below, has}
 use Rattle.core_state.specs.Views.{retired_of, slots_of, known_in, lock_of, LoadedGeneration, readings_of, unraised_of, emptied_among, Works, places_of, open_of, IsUnused}
 use Rattle.core_state.specs.Tree.{Chart}
-use Rattle.core_state.specs.Parts.{HasSpareToCome, HasFewSlots, IsRetired, IsRetiredOf, IsHeldKnown, AreHandsKnown, SlotParts, IsHolderOf, HasFewLocks, IsUnraised, IsLockKept, IsLockKnown, IsReadingKept, LockParts, turns_to_come, CountParts, linked_count, young_count, old_count, IsTurned, IsOddBy, FrontParts, HasMet, IsOwned, SectionStands, IsCounted, SeatParts, HasRetired, HasOpen, MakesOdd}
+use Rattle.core_state.specs.Parts.{HasSpareToCome, HasFewSlots, IsRetired, IsRetiredOf, IsHeldKnown, AreHandsKnown, SlotParts, IsHolderOf, HasFewLocks, IsUnraised, IsLockKept, IsLockKnown, IsReadingKept, LockParts, turns_to_come, CountParts, linked_count, young_count, old_count, IsTurned, IsOddBy, FrontParts, HasMet, IsOwned, SectionStands, IsCounted, SeatParts, HasRetired, HasOpen, MakesOdd, HasUnraised}
 use Rattle.list_laws.proofs.Lists.{each_change, total_same, total_set, each_set, somewhere_at, somewhere_here, somewhere_still, only_at, only_change}
 use Rattle.core_frames.proofs.Marks.{QuietMarks, begun_at-same, OtherMarks, cut_at, others_same, others_snoc}
 use Rattle.core_frames.proofs.Views.{SameSlots, own_same, content_same, retired_same, spares_same, slots_same, OwnSlots, SameNodes, own_slots, SamePlaces, places_same}
@@ -134,8 +134,8 @@ few_same {most} v w e i = record {
   room = λ move is. subst (λ (x : OwnSlots). length x.retired < most) (sym e.own) (i.room move (sym e.moving ∙ is));
   joined = subst (λ (x : OwnSlots). Each x.joined (λ (s : Spent). length s.retired ≤ most)) (sym e.own) i.joined;
   joined_spare = subst (λ (x : OwnSlots). Each x.joined HasSpareToCome) (sym e.own) i.joined_spare;
-  next_spare = λ works none. (let r = i.next_spare (subst (λ (x : OwnSlots). 1 ≤ x.places) e.own works)
-      ((λ n. (sym e.own n).spare) ∙ none) in (r.0, subst (λ (x : OwnSlots). IsIn x.retired r.0) (sym e.own) r.1, r.2));
+  next_spare = λ works none. subst (λ (x : OwnSlots). HasUnraised x.retired) (sym e.own)
+      (i.next_spare (subst (λ (x : OwnSlots). 1 ≤ x.places) e.own works) ((λ n. (sym e.own n).spare) ∙ none));
 }
 
 hands_view : (m : Memory) (v w : View) → SameForSlots v w → AreHandsKnown m v → AreHandsKnown m w

@@ -77,7 +77,7 @@ module _ (k : Shape) (m : Memory) (vs : List View) (h : List Mark) (inv : HoldsN
   -- a place without a spare has a retired slot
   tells_spare : Works v → v.hands.spare ≡ None → v.hands.retired ≢ []
   tells_spare works none e = let x = (inv.slots.few id v there).next_spare works none in
-      absurd (let i = x.1 in let q : IsIn [] x.0 = subst (λ (rs : List Retired). IsIn rs x.0) e i in some-ne-none x.0 (sym q.1))
+      absurd (let q : IsIn [] x.retired = subst (λ rs. IsIn rs x.retired) e x.has in some-ne-none x.retired (sym q.1))
 
   -- each lock once, and none of them is free
   tells_once : TellsOnce v

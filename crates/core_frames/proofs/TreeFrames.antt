@@ -21,7 +21,7 @@ use Rattle.core_state.specs.declared.view.Reading.{Reading}
 use Rattle.core_state.specs.declared.view.View.{View}
 use Rattle.list_laws.specs.Counts.{IsIn, Each}
 use Rattle.core_state.specs.Views.{lock_of, readings_of, open_reading}
-use Rattle.core_state.specs.Parts.{HasGeneration, map_now, IsMoving, TreeParts, Answered, IsServed, IsAsRecorded, IsStillLinked, IsRecord, IsReading, IsMetBefore, ReaderParts, IsBetween, GoesOn, here, StandsNow, IsVisit, IsListing, ListingParts, HasMetBefore}
+use Rattle.core_state.specs.Parts.{HasGeneration, map_now, IsMoving, TreeParts, Answered, IsServed, IsAsRecorded, IsStillLinked, IsRecord, IsReading, IsMetBefore, ReaderParts, IsBetween, GoesOn, here, StandsNow, IsVisit, IsListing, ListingParts, HasMetBefore, AreAged, IsGoneSince}
 use Rattle.list_laws.proofs.Lists.{each_set, each_change, somewhere_still, somewhere_was}
 use Rattle.core_frames.proofs.Marks.{QuietMarks}
 use Rattle.prcu_marks.specs.Marks.{updates_of, gone_at}
@@ -374,6 +374,19 @@ pub met_outside : (vs : List View) (id : ℕ) (v w : View) → get_elem? vs id �
 met_outside vs id v w there outside at = met_by vs id v w there at (λ section is before.
     absurd (let q : None ≡ Some section = sym outside ∙ is in cc))
 
+-- Links of unlinked slots are as old after a step that leaves these links, and who is linked and who unlinked.
+pub aged_by : (m m' : Memory) (g : Chart) (vs us : List View) (h h' : List Mark) → ((s : ℕ) → gone_at s h' ≡ gone_at s h)
+    → ((s : ℕ) (b : Side) → m' (Link s b) ≡ m (Link s b)) → ((at : ℕ) → at < length h → IsMetBefore us at → IsMetBefore vs at)
+    → AreAged m g vs h → AreAged m' g us h'
+aged_by m m' g vs us h h' gone links met t s at c b is now link ne =
+    let was = sym (gone s) ∙ is in
+    let aged = t s at c b was (met at (gone_at-below s h at was) now) (sym (links s b) ∙ link) ne in
+    record {
+      rank = aged.rank;
+      leads = ⊎_elim (λ l. inl l)
+          (λ (x : IsGoneSince h at c). inr (record { at = x.at; gone = gone c ∙ x.gone; later = x.later })) aged.leads;
+    }
+
 -- What readers see of the views: who may pass an old successor, which slots are old for a key, and which sides were emptied.
 pub record ReadersSee (vs us : List View) : Type 0 where
   pub may : (key entered s : ℕ) → MayPass vs key entered s → MayPass us key entered s
@@ -475,12 +488,7 @@ module _ (m m' : Memory) (nodes : SameNodes m m') (g : Chart) (vs : List View) (
         (λ (u : View). Each u.records (IsRecord m' g (set vs id w))) vs id v w there
         (λ i. subst (λ rs. Each rs (IsRecord m' g (set vs id w))) (sym records) (λ j r e. record_stays r (i j r e)))
         (λ u i j r e. record_stays r (i j r e)) t.records;
-    ages = λ s at c b gone met link ne.
-        (let before = met_still vs id v w there section at met in
-        let aged = t.ages s at c b (sym (quiet.gone s) ∙ gone) before (sym (nodes.link s b) ∙ link) ne in (
-          aged.0,
-          ⊎_elim (λ l. inl l) (λ (x : (later : ℕ) × (gone_at c h ≡ Some later) × (at < later)). inr (x.0, quiet.gone c ∙ x.1, x.2)) aged.1,
-        ));
+    ages = aged_by m m' g vs (set vs id w) h h' quiet.gone nodes.link (λ at small. met_still vs id v w there section at) t.ages;
   }
 
 module _ (m m' : Memory) (nodes : SameNodes m m') (g : Chart) (vs : List View) (id : ℕ) (v w : View) (h h' : List Mark)
@@ -516,12 +524,7 @@ module _ (m m' : Memory) (nodes : SameNodes m m') (g : Chart) (vs : List View) (
         (λ j u other e section is. served_same section (t.served j u e section is));
     records = each_set (λ j u. Each u.records (IsRecord m' g (set vs id w))) vs id w own.records
         (λ j u other e i r is. record_same r (t.records j u e i r is));
-    ages = λ s at c b gone met link ne.
-        (let was_gone = sym (quiet.gone s) ∙ gone in
-        let aged = t.ages s at c b was_gone (met_back own at (gone_at-below s h at was_gone) met) (sym (nodes.link s b) ∙ link) ne in (
-          aged.0,
-          ⊎_elim (λ l. inl l) (λ (x : (later : ℕ) × (gone_at c h ≡ Some later) × (at < later)). inr (x.0, quiet.gone c ∙ x.1, x.2)) aged.1,
-        ));
+    ages = aged_by m m' g vs (set vs id w) h h' quiet.gone nodes.link (met_back own) t.ages;
   }
 
 -- The parts on listings read nodes, where slots were unlinked, the updates, and the listings of views. A step that leaves nodes keeps the

@@ -1,6 +1,6 @@
 -- A step that leaves the chart: it leaves keys, values and links of all slots of one kind, which linked slots and those that a section can
 -- meet are of. It frames all parts but those on slots, locks, counts and grace; a step that changes the view's hands alone is such a one.
-use Rattle.std.proofs.Common.{◌≡◌, ◌≢◌, ℕ, ◌/◌, true, List, set, Some, refl, sym, ap, subst, ◌∙◌, ◌+◌, ◌*◌, ◌<◌, ◌≤◌, length, None, ⊎_elim, inl, inr, arith, ◌++◌, false, [], ◌∷◌, ◌-◌, map, Option}
+use Rattle.std.proofs.Common.{◌≡◌, ◌≢◌, ℕ, ◌/◌, true, List, set, Some, refl, sym, ap, subst, ◌∙◌, ◌+◌, ◌*◌, ◌≤◌, length, None, ⊎_elim, inl, inr, arith, ◌++◌, false, [], ◌∷◌, ◌-◌, map, Option}
 use mathlib.Core.Option.{some}
 use lib.ListN.{get_elem?}
 use Rattle.prcu_model.specs.declared.operation.Update.{Update}
@@ -20,7 +20,7 @@ use Rattle.list_laws.specs.Counts.{IsIn, Each, times, numbers_from}
 use Rattle.core_state.specs.Memory.{Memory, slot_count, IsOdd}
 use Rattle.core_state.specs.Views.{known_in, lock_of, HasLock, open_reading, readings_of, Works, held_list, joined_spares, retired_of, slots_of, unraised_hand}
 use Rattle.core_state.specs.Tree.{HoldsMap, Belongs, IsHeldBack, IsEmptied, MayPass, IsOldFor, OnRightLeft, Chart}
-use Rattle.core_state.specs.Parts.{HasGeneration, IsAsRecorded, state_slot, IsReading, StandsWell, Answered, IsServed, IsStillLinked, IsRecord, AreAged, ReaderParts, map_now, IsMoving, TreeParts, IsBetween, GoesOn, here, StandsNow, IsVisit, IsListing, ListingParts, MarkParts, SeatParts, WaiterParts, SlotParts, LockParts, IsUnraised, CountParts, GraceParts, IsClear, IsWaitedRetired, IsWaitedMove, AreHandsKnown}
+use Rattle.core_state.specs.Parts.{HasGeneration, IsAsRecorded, state_slot, IsReading, StandsWell, Answered, IsServed, IsStillLinked, IsRecord, AreAged, ReaderParts, map_now, IsMoving, TreeParts, IsBetween, GoesOn, here, StandsNow, IsVisit, IsListing, ListingParts, MarkParts, SeatParts, WaiterParts, SlotParts, LockParts, IsUnraised, CountParts, GraceParts, IsClear, IsWaitedRetired, IsWaitedMove, AreHandsKnown, IsGoneSince}
 use Rattle.list_laws.proofs.Lists.{each_set, in_second}
 use Rattle.core_frames.proofs.Views.{SamePlaces, was, reader_words, same_slots}
 use Rattle.core_frames.proofs.TreeFrames.{pending_still, SameContents, shape_same, map_same, right_left_same, walks_same, place_same, belongs_same, may_still, old_still, emptied_still, met_still}
@@ -245,18 +245,23 @@ module _ (P : ℕ → Type 0) (z : ChartStep P) where
   aged_stays s at c b gone met link ne =
       let was_gone = z.gone s at gone in
       let past = met_still vs id v w there z.view.section at met in
-      let aged = z.who.inv.readers.ages s at c b was_gone.0 past (sym (was_gone.1 b) ∙ link) ne in (
-        aged.0,
-        ⊎_elim (λ l. inl l) (λ (x : (later : ℕ) × (gone_at c h ≡ Some later) × (at < later)). ⊎_elim (λ (l : g.linked c ≡ true). inl l)
-            (λ (off : g.linked c ≡ false). inr (
-              x.0,
-              (z.met past.id past.view past.has.section past.there past.has.is_open c
-                  (record { out = off; at = x.0; gone = x.1; later = (let a = x.2 in let d = past.has.before in omega arith) })).1 ∙ x.1,
-              x.2,
-            ))
+      let aged = z.who.inv.readers.ages s at c b was_gone.0 past (sym (was_gone.1 b) ∙ link) ne in
+      record {
+        rank = aged.rank;
+        leads = ⊎_elim (λ l. inl l) (λ (x : IsGoneSince h at c). ⊎_elim (λ (l : g.linked c ≡ true). inl l)
+            (λ (off : g.linked c ≡ false). inr (record {
+              at = x.at;
+              gone = (z.met past.id past.view past.has.section past.there past.has.is_open c (record {
+                out = off;
+                at = x.at;
+                gone = x.gone;
+                later = (let a = x.later in let d = past.has.before in omega arith);
+              })).1 ∙ x.gone;
+              later = x.later;
+            }))
             (bool_cases (g.linked c)))
-            aged.1,
-      )
+            aged.leads;
+      }
 
   readings_same : readings_of w ≡ readings_of v
   readings_same = λ j. open_reading (z.view.section j) ++ z.view.records j

@@ -328,7 +328,7 @@ module _ (z : CopyStep) where
         room = λ move is. omega arith;
         joined = i.joined;
         joined_spare = i.joined_spare;
-        next_spare = λ works none. (gone, gone_among (copy_step z) (copy_retires z), refl);
+        next_spare = λ works none. record { retired = gone; has = gone_among (copy_step z) (copy_retires z); unraised = refl };
       }
 
   pub copy_slots : SlotsGo (copy_step z)

@@ -404,7 +404,7 @@ module _ (z : Cut) where
     room = λ move is. absurd (let q : None ≡ Some move = sym z.moving ∙ is in cc);
     joined = subst (λ js. Each js (λ (s : Spent). length s.retired ≤ k.room)) (sym z.same.places.joined) t.joined;
     joined_spare = subst (λ js. Each js HasSpareToCome) (sym z.same.places.joined) t.joined_spare;
-    next_spare = λ works none. (gone, gone_among cut_step retires, refl);
+    next_spare = λ works none. record { retired = gone; has = gone_among cut_step retires; unraised = refl };
   }
 
   slots : SlotsGo cut_step

@@ -13,7 +13,7 @@ use Rattle.core_state.specs.Marks.{AreMarks}
 use Rattle.core_state.specs.Memory.{IsEven, IsOdd, Memory, stored, slot_count}
 use Rattle.core_state.specs.Links.{newly_retired}
 use Rattle.core_state.specs.Tree.{Chart, IsBelow, low_of, Belongs, IsInRange, IsHeldBack, OnRightLeft, MayPass, IsOldFor, IsEmptied, Place, HoldsMap}
-use Rattle.core_state.specs.Parts.{MarkParts, SeatParts, WaiterParts, ListsNow, ListingParts, IsReadingKept, state_slot, StandsWell, GoesTo, IsReading, IsServed, IsAsRecorded, IsStillLinked, IsRecord, AreAged, ReaderParts, map_now, CountParts, FrontParts, GraceParts, LockParts, SlotParts, AreMoving}
+use Rattle.core_state.specs.Parts.{MarkParts, SeatParts, WaiterParts, ListsNow, ListingParts, IsReadingKept, state_slot, StandsWell, GoesTo, IsReading, IsServed, IsAsRecorded, IsStillLinked, IsRecord, AreAged, ReaderParts, map_now, CountParts, FrontParts, GraceParts, LockParts, SlotParts, AreMoving, IsGoneSince, LeadsOn}
 use Rattle.core_frames.specs.Laws.{KeepsPast, IsKept}
 use Rattle.core_frames.proofs.PlainLaws.{entered_before, clocked_before, told_now}
 use Rattle.core_frames.proofs.Charts.{bool_cases}
@@ -346,36 +346,37 @@ module _ (z : LinkStep) where
         rank_on : (t : ℕ) → g.linked t ≡ true → to.rank t ≡ g.rank t
         rank_on t l = changes.rank t (λ e. ap g.linked (sym e) ∙ l)
 
-        led : at < length h → (g.linked y ≡ true) ⊎ ((after : ℕ) × (gone_at y h ≡ Some after) × (at < after))
-            → (to.linked y ≡ true) ⊎ ((after : ℕ) × (gone_at y hs ≡ Some after) × (at < after))
+        led : at < length h → (g.linked y ≡ true) ⊎ IsGoneSince h at y → (to.linked y ≡ true) ⊎ IsGoneSince hs at y
         led small (inl l) = ⊎_elim
             (λ (e : y ≡ d). (let now = z.gone_now (λ q. nz (e ∙ q)) in
-            inr (now.0, ap (λ q. gone_at q hs) e ∙ now.1, (let q = now.2 in omega arith))))
+            inr (record { at = now.0; gone = ap (λ q. gone_at q hs) e ∙ now.1; later = (let q = now.2 in omega arith) })))
             (λ ne. inl (still_linked z y l ne)) (cases_eq y d)
-        led small (inr q) = inr (q.0, z.gone_same y (off_not_gone z y (unlinked_off z y q.0 q.1)) ∙ q.1, q.2)
+        led small (inr q) = inr (record {
+          at = q.at;
+          gone = z.gone_same y (off_not_gone z y (unlinked_off z y q.at q.gone)) ∙ q.gone;
+          later = q.later;
+        })
 
-        other : (s ≡ d → s ≡ 0)
-            → (to.rank s < to.rank y) × ((to.linked y ≡ true) ⊎ ((after : ℕ) × (gone_at y hs ≡ Some after) × (at < after)))
+        other : (s ≡ d → s ≡ 0) → LeadsOn to hs at s y
         other not =
             let was : gone_at s h ≡ Some at = sym (z.gone_same s not) ∙ gone in
             let off = unlinked_off z s at was in
             let aged = i.readers.ages s at y a was (met_still vs id v w there z.same.section at met)
             (sym (changes.stores.link s a (λ e. absurd (let on = changes.parent in cc (ap g.linked e)))) ∙ link) nz in
-            let lt = aged.0 in
             let rank_y : to.rank y ≡ g.rank y =
-            ⊎_elim (λ l. rank_on y l) (λ (x : (after : ℕ) × (gone_at y h ≡ Some after) × (at < after)). rank_gone y x.0 x.1) aged.1 in
-            (omega (arith, lt, rank_gone s at was, rank_y), led (gone_at-below s h at was) aged.1)
+            ⊎_elim (λ l. rank_on y l) (λ (x : IsGoneSince h at y). rank_gone y x.at x.gone) aged.leads in
+            record { rank = omega (arith, aged.rank, rank_gone s at was, rank_y); leads = led (gone_at-below s h at was) aged.leads }
 
-        at_gone : s ≡ d → (d ≡ 0) ⊎ (d ≢ 0)
-            → (to.rank s < to.rank y) × ((to.linked y ≡ true) ⊎ ((after : ℕ) × (gone_at y hs ≡ Some after) × (at < after)))
+        at_gone : s ≡ d → (d ≡ 0) ⊎ (d ≢ 0) → LeadsOn to hs at s y
         at_gone e (inl q) = other (λ _. e ∙ q)
         at_gone e (inr some_d) =
             let apart : s ≢ p = λ f. omega (arith, (below z some_d).rank, ap g.rank (sym f ∙ e)) in
             let child = i.tree.shape.below d y a (below z some_d).linked
-            (ap (λ q. m (Link q a)) (sym e) ∙ sym (changes.stores.link s a (λ f. absurd (apart f))) ∙ link) nz in (
-              omega (arith, child.rank, rank_on y child.linked, rank_on d (below z some_d).linked, ap to.rank e),
-              inl (still_linked z y child.linked (λ f. omega (arith, child.rank, ap g.rank f))),
-            )
+            (ap (λ q. m (Link q a)) (sym e) ∙ sym (changes.stores.link s a (λ f. absurd (apart f))) ∙ link) nz in
+            record {
+              rank = omega (arith, child.rank, rank_on y child.linked, rank_on d (below z some_d).linked, ap to.rank e);
+              leads = inl (still_linked z y child.linked (λ f. omega (arith, child.rank, ap g.rank f)));
+            }
 
     readings : readings_of w ≡ readings_of v
     readings = λ y. open_reading (z.same.section y) ++ z.records y

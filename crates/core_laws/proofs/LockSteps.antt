@@ -663,7 +663,8 @@ module _ (k : Shape) (m : Memory) (vs : List View) (h : List Mark) (i : HoldsNow
       joined = subst (λ x. Each x (λ (s : Spent). length s.retired ≤ k.room)) (sym c.places.joined) t.joined;
       joined_spare = subst (λ ss. Each ss HasSpareToCome) (sym c.places.joined) t.joined_spare;
       next_spare = λ works none. (let r = t.next_spare (subst (λ x. 1 ≤ x) c.places.places works)
-          (note_option-none p slots_entry v.hands.spare (sym c.spare ∙ none)) in (r.0, more r.0 r.1, r.2));
+          (note_option-none p slots_entry v.hands.spare (sym c.spare ∙ none)) in
+          record { retired = r.retired; has = more r.retired r.has; unraised = r.unraised });
     }
 
     -- the same where the step unlinks no slot

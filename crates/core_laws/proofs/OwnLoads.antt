@@ -156,8 +156,8 @@ module _ (k : Shape) (m : Memory) (vs : List View) (h : List Mark) (id : ℕ) (v
         room = λ move is. subst (λ n. n < k.room) (sym (length_map v.hands.retired)) (x.room move is);
         joined = x.joined;
         joined_spare = x.joined_spare;
-        next_spare = λ here none. (let y = x.next_spare here none in let z = own_forth y.0 y.1 in let q = z.1 in
-            (one y.0, z.0, q.raised ∙ y.2));
+        next_spare = λ here none. (let y = x.next_spare here none in let z = own_forth y.retired y.has in
+            record { retired = one y.retired; has = z.0; unraised = z.1.raised ∙ y.unraised });
       })
       (λ x. record { hand = x.hand; spare = x.spare; copy = x.copy; spares = x.spares }) each_retired retired_forth i.slots
 

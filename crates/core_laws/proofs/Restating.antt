@@ -447,8 +447,11 @@ module _ (k : Shape) (m : Memory) (vs : List View) (h : List Mark) (id : ℕ) (v
       room = λ move has. (let a = f.room move has in omega arith);
       joined = f.joined;
       joined_spare = f.joined_spare;
-      next_spare = λ has none. (let x = f.next_spare has none in
-          (x.0, without_in slot v.hands.retired x.0 x.1 (unraised_else x.0 x.1 x.2), x.2));
+      next_spare = λ has none. (let x = f.next_spare has none in record {
+        retired = x.retired;
+        has = without_in slot v.hands.retired x.retired x.has (unraised_else x.retired x.has x.unraised);
+        unraised = x.unraised;
+      });
     });
     known = state_hands k m vs h id v inv there works freeing_retired freed_view refl refl refl stands_once.not_spare
         (λ held is_held. (let i = (inv.slots.hands id v there).hand held is_held in (

@@ -224,7 +224,7 @@ module _ (z : RotateStep) where
         room = λ move is. absurd (no_move move is);
         joined = f.joined;
         joined_spare = f.joined_spare;
-        next_spare = λ works none. (gone_upper z, upper_among, refl);
+        next_spare = λ works none. record { retired = gone_upper z; has = upper_among; unraised = refl };
       }
 
   swaps : (s : ℕ) → times s (slots_of (w z)) + flag ((to z).linked s) ≡ times s (slots_of v) + flag (g.linked s)

@@ -21,7 +21,7 @@ use Rattle.core_state.specs.Memory.{Memory, slot_count, IsOdd, IsEven}
 use Rattle.core_state.specs.Views.{lock_of, Works, places_of, open_of, open_reading, readings_of, joined_retired, retired_of, IsLoadable, known_in}
 use Rattle.core_state.specs.Marks.{begun}
 use Rattle.core_state.specs.Steps.{spent_view, keys_of, spot_of, no_bounds, narrowed, visits_by_link, gaps_by_link, visits_by, facts_by, gaps_by, by_visits, listed_below, listed_root, listed, loaded, NeedsSearchLoad, after_search_load, NeedsListLoad, after_list_load, new_listing, looked, NeedsFrontLook, after_front_look}
-use Rattle.core_state.specs.Parts.{IsHolderOf, HasFewLocks, IsLockKept, IsLockKnown, IsReadingKept, LockParts, IsOwned, SectionStands, IsCounted, IsOpenOf, SeatParts, IsClocked, IsTurnedOnce, inside_count, WaiterParts, IsReading, IsServed, IsListing, IsClear, map_now, IsBetween, GoesOn, here, past, StandsNow, IsVisit, HasOpen}
+use Rattle.core_state.specs.Parts.{IsHolderOf, HasFewLocks, IsLockKept, IsLockKnown, IsReadingKept, LockParts, IsOwned, SectionStands, IsCounted, IsOpenOf, SeatParts, IsClocked, IsTurnedOnce, inside_count, WaiterParts, IsReading, IsServed, IsListing, IsClear, map_now, IsBetween, GoesOn, here, past, StandsNow, IsVisit, HasOpen, IsGoneSince}
 use Rattle.core_state.specs.Invariant.{HoldsNow}
 use Rattle.list_laws.proofs.Lists.{at_below, each_set, each_change, total_same, in_second, in_append, set_twice, somewhere_still}
 use Rattle.core_frames.proofs.Marks.{quiet_same, waits_same}
@@ -273,15 +273,15 @@ module _ (k : Shape) (m : Memory) (vs : List View) (h : List Mark) (i : HoldsNow
       ⊎_elim (λ l. (let below = i.tree.shape.below s c b l link nz in (below.rank, inl below.linked)))
       (λ (back : IsHeldBack i.chart h section.entered s). (let aged = i.readers.ages s back.at c b back.gone
       (record { id = id; view = v; there = there; has = record { section = section; is_open = inside; before = back.later } }) link nz in (
-        aged.0,
+        aged.rank,
         ⊎_elim (λ l. inl l)
-            (λ (x : (later : ℕ) × (gone_at c h ≡ Some later) × (back.at < later)).
-            (let since = back.later in let more = x.2 in let lt : section.entered < x.0 = omega arith in
+            (λ (x : IsGoneSince h back.at c).
+            (let since = back.later in let more = x.later in let lt : section.entered < x.at = omega arith in
             inr (
-              record { out = gone_off m (slot_count k) i.chart vs h i.slots c x.0 x.1; at = x.0; gone = x.1; later = lt },
-              unraised_life id c x.0 v section there inside x.1 lt,
+              record { out = gone_off m (slot_count k) i.chart vs h i.slots c x.at x.gone; at = x.at; gone = x.gone; later = lt },
+              unraised_life id c x.at v section there inside x.gone lt,
             )))
-            aged.1,
+            aged.leads,
       )))
       may
 

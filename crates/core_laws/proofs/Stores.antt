@@ -16,7 +16,7 @@ use Rattle.core_state.specs.Parts.{IsHeldKnown, FrontParts, ListsNow, IsListing,
 use mathlib.Core.Option.{some}
 use lib.ListN.{get_elem?}
 use Rattle.prcu_marks.specs.declared.mark.Mark.{Mark}
-use Rattle.prcu_marks.specs.Marks.{updates_of, gone_at}
+use Rattle.prcu_marks.specs.Marks.{updates_of}
 use Rattle.prcu_model.specs.Dictionary.{IsLegal, WasSaid, map_of}
 use Rattle.prcu_marks.specs.declared.commit.Commit.{Commit}
 use Rattle.core_state.specs.declared.view.View.{View}
@@ -25,7 +25,7 @@ use Rattle.list_laws.proofs.Lists.{each_set, in_second, somewhere_set, only_here
 use Rattle.core_state.specs.declared.view.Listing.{Listing}
 use Rattle.core_state.specs.declared.view.Section.{Section}
 use Rattle.core_state.specs.declared.view.Reading.{Reading}
-use Rattle.core_frames.proofs.TreeFrames.{answered_by, met_outside}
+use Rattle.core_frames.proofs.TreeFrames.{answered_by}
 use Rattle.list_laws.specs.Counts.{Each, IsIn}
 use Rattle.core_state.specs.declared.shape.Shape.{Shape}
 use Rattle.core_state.specs.Invariant.{HoldsNow}
@@ -377,17 +377,6 @@ module _ (m m' : Memory) (g to : Chart) (vs : List View) (id : ℕ) (v w : View)
         one j u e l r is =
             let a = in_second (open_reading u.section) u.records r (l, is) in
             record_after r (t.readings j u e a.0 r a.1) (kept j u e a.0 r a.1) (t.records j u e l r is)
-
-  -- how old the links of unlinked slots are
-  pub aged_same : w.section ≡ None → ((s : ℕ) → gone_at s h' ≡ gone_at s h) → ((s : ℕ) (a : Side) → m' (Link s a) ≡ m (Link s a))
-      → ((s : ℕ) → g.linked s ≡ true → to.linked s ≡ true) → ((s : ℕ) → to.rank s ≡ g.rank s) → AreAged m g vs h
-      → AreAged m' to (set vs id w) h'
-  aged_same outside gone away still rank t s at c a is met link ne =
-      let aged = t s at c a (sym (gone s) ∙ is) (met_outside vs id v w there outside at met) (sym (away s a) ∙ link) ne in
-      let lt = aged.0 in (
-        omega (arith, lt, rank s, rank c),
-        ⊎_elim (λ l. inl (still c l)) (λ (x : (later : ℕ) × (gone_at c h ≡ Some later) × (at < later)). inr (x.0, gone c ∙ x.1, x.2)) aged.1,
-      )
 
 -- Counts of numbers below another, where the test changes at one number.
 

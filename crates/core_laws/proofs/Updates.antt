@@ -33,7 +33,7 @@ use Rattle.core_frames.proofs.WholeFrames.{Stepper, same_for_more, seat_frame_pl
 use Rattle.core_state.specs.declared.view.View.{View}
 use Rattle.core_state.specs.Tree.{HoldsMap, Chart, HoldsPair, IsHeldBack, IsPending, MayPass, IsEmptied, HasEmptied}
 use Rattle.core_frames.specs.Laws.{IsKept}
-use Rattle.core_laws.proofs.Stores.{stores_link, front_made, StoresAt, value_stores, StoresRead, readers_after, aged_same, moves_stored, counts_made, listings_behind}
+use Rattle.core_laws.proofs.Stores.{stores_link, front_made, StoresAt, value_stores, StoresRead, readers_after, moves_stored, counts_made, listings_behind}
 use Rattle.core_laws.proofs.LinkSteps.{listings_past}
 use Rattle.core_laws.proofs.Cutting.{Cut, cut_step, cut_kept, counts_without_node, OnlyChild, Bypasses, lower_past, upper_past, bypassed, bypass_splice, bypass_map}
 use Rattle.core_state.specs.declared.view.Move.{Move}
@@ -48,7 +48,7 @@ use Rattle.core_state.specs.Invariant.{HoldsNow}
 use Rattle.core_laws.proofs.LockSteps.{LockChange, locks_stored, slots_stored, note_option-unraised}
 use Rattle.core_frames.proofs.Views.{stored_here}
 use Rattle.core_frames.proofs.PlainLaws.{clocked_before}
-use Rattle.core_frames.proofs.TreeFrames.{any, SameContents, shape_same, place_same, walks_by, right_left_by, belongs_same, pair_by}
+use Rattle.core_frames.proofs.TreeFrames.{any, SameContents, shape_same, place_same, walks_by, right_left_by, belongs_same, pair_by, aged_by, met_outside}
 use Rattle.core_state.specs.Steps.{done_by}
 use Rattle.std.specs.FinMap as finite
 
@@ -584,8 +584,8 @@ module _ (k : Shape) (m : Memory) (vs : List View) (h : List Mark) (i : HoldsNow
       });
     };
     readers = readers_after m m' g g vs id v w there h h' read
-        (aged_same m m' g g vs id v w there h h' outside (gone_done h update) (λ s a. refl)
-        (λ s l. l) (λ s. refl) i.readers.ages) i.locks.readings i.readers;
+        (aged_by m m' g vs (set vs id w) h h' (gone_done h update) (λ s a. refl) (λ at small. met_outside vs id v w there outside at)
+        i.readers.ages) i.locks.readings i.readers;
     front = front_made m m' vs id v w there h h' (stores.within.beside Front tt) i.front commit needs.has_commit refl one_longer
         (subst IsLegal (sym more_updates) (legal_more (updates_of h) update i.front.legal there_now));
     listings = listings_behind m m' g g vs id w h h' outside stores.key

@@ -509,8 +509,11 @@ module _ (vs : List View) (id : ℕ) (v : View) (there : get_elem? vs id ≡ som
           let f = i.room x.before x.had in omega arith);
       joined = i.joined;
       joined_spare = i.joined_spare;
-      next_spare = λ works none. (let r = i.next_spare works none in
-          (waited_retired wait r.0, (r.1.0, at_map (waited_retired wait) v.hands.retired r.1.0 r.0 r.1.1), r.2));
+      next_spare = λ works none. (let r = i.next_spare works none in record {
+        retired = waited_retired wait r.retired;
+        has = (r.has.0, at_map (waited_retired wait) v.hands.retired r.has.0 r.retired r.has.1);
+        unraised = r.unraised;
+      });
     }
 
     unlinked_noted : (s : ℕ) → IsRetiredOf vs s → IsRetiredOf (set vs id view_noted) s

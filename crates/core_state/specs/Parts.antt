@@ -313,11 +313,22 @@ pub record HasMetBefore (v : View) (at : ℕ) : Type 0 where
 abbrev pub IsMetBefore : List View → ℕ → Type 0
 IsMetBefore vs at = Somewhere vs (λ v. HasMetBefore v at)
 
+-- the slot was unlinked after this mark, and neither given nor freed since
+pub record IsGoneSince (h : List Mark) (since s : ℕ) : Type 0 where
+  pub at : ℕ
+  pub gone : gone_at s h ≡ Some at
+  pub later : since < at
+
+-- a slot leads to another of a greater rank that is linked, or was unlinked after this mark
+pub record LeadsOn (g : Chart) (h : List Mark) (since s c : ℕ) : Type 0 where
+  pub rank : g.rank s < g.rank c
+  pub leads : (g.linked c ≡ true) ⊎ IsGoneSince h since c
+
 -- A link of an unlinked slot that a section may still meet is 0, or leads to a linked slot, or to one that was unlinked later; of a
 -- greater rank.
 abbrev pub AreAged : Memory → Chart → List View → List Mark → Type 0
 AreAged m g vs h = (s at c : ℕ) (b : Side) → gone_at s h ≡ Some at → IsMetBefore vs at → m (Link s b) ≡ c → c ≢ 0
-    → (g.rank s < g.rank c) × ((g.linked c ≡ true) ⊎ ((later : ℕ) × (gone_at c h ≡ Some later) × (at < later)))
+    → LeadsOn g h at s c
 
 -- Each open search will answer what the dictionary said since it was entered; walks, records and slots met are as they should be.
 pub record ReaderParts (m : Memory) (g : Chart) (vs : List View) (h : List Mark) : Type 0 where
@@ -339,9 +350,15 @@ pub record HaveOneRole (m : Memory) (n : ℕ) (g : Chart) (vs : List View) : Typ
   pub beyond : (s : ℕ) → n ≤ s → total (λ v. times s (slots_of v)) vs ≡ 0
   pub states : (s : ℕ) → s < n → m (State s) ≤ 1
 
+-- one of these retired slots has a generation that wasn't raised
+pub record HasUnraised (rs : List Retired) : Type 0 where
+  pub retired : Retired
+  pub has : IsIn rs retired
+  pub unraised : retired.raised ≡ false
+
 -- a place that was joined has a spare, or a retired slot whose generation wasn't raised
 abbrev pub HasSpareToCome : Spent → Type 0
-HasSpareToCome s = s.spare ≡ None → (r : Retired) × IsIn s.retired r × (r.raised ≡ false)
+HasSpareToCome s = s.spare ≡ None → HasUnraised s.retired
 
 -- A place has at most one slot reserved or in hand, and at most so many retired, while a move is pending one less; without a spare it has
 -- a retired slot whose generation wasn't raised. So had those that were joined.
@@ -351,7 +368,7 @@ pub record HasFewSlots (most : ℕ) (v : View) : Type 0 where
   pub room : (move : Move) → v.moving ≡ Some move → length v.hands.retired < most
   pub joined : Each v.allowance.joined (λ (s : Spent). length s.retired ≤ most)
   pub joined_spare : Each v.allowance.joined HasSpareToCome
-  pub next_spare : Works v → v.hands.spare ≡ None → (r : Retired) × IsIn v.hands.retired r × (r.raised ≡ false)
+  pub next_spare : Works v → v.hands.spare ≡ None → HasUnraised v.hands.retired
 
 -- A retired slot was unlinked where the view says, and neither given nor freed since. Until its generation is raised its node is
 -- marked, and its life, its key, its value and its links are as they were known; once it is raised, the node is unmarked, and it was waited
