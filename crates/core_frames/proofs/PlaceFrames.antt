@@ -13,7 +13,7 @@ use Rattle.list_laws.specs.Counts.{times, total, IsIn, Each}
 use Rattle.core_state.specs.Memory.{flag, IsEven, IsOdd, Memory, sum_below, count_below, has}
 use Rattle.core_state.specs.Views.{retired_of, slots_of, known_in, lock_of, LoadedGeneration, readings_of, unraised_of, emptied_among, Works, places_of, open_of, IsUnused}
 use Rattle.core_state.specs.Tree.{Chart}
-use Rattle.core_state.specs.Parts.{HasSpareToCome, HasFewSlots, IsRetired, IsRetiredOf, IsHeldKnown, AreHandsKnown, SlotParts, IsHolderOf, HasFewLocks, IsUnraised, IsLockKept, IsLockKnown, IsReadingKept, LockParts, turns_to_come, CountParts, linked_count, young_count, old_count, IsTurned, IsOddBy, FrontParts, HasMet, IsOwned, SectionStands, IsCounted, SeatParts, HasRetired, HasOpen, MakesOdd, HasUnraised}
+use Rattle.core_state.specs.Parts.{HasSpareToCome, HasFewSlots, IsRetired, IsRetiredOf, IsHeldKnown, AreHandsKnown, SlotParts, IsHolderOf, HasFewLocks, IsUnraised, IsLockKept, IsLockKnown, IsReadingKept, LockParts, turns_to_come, CountParts, linked_count, young_count, old_count, IsTurned, IsOddBy, FrontParts, HasMet, IsOwned, SectionStands, IsCounted, SeatParts, HasRetired, HasOpen, MakesOdd, HasUnraised, IsHandKnown}
 use Rattle.list_laws.proofs.Lists.{each_change, total_same, total_set, each_set, somewhere_at, somewhere_here, somewhere_still, only_at, only_change}
 use Rattle.core_frames.proofs.Marks.{QuietMarks, begun_at-same, OtherMarks, cut_at, others_same, others_snoc}
 use Rattle.core_frames.proofs.Views.{SameSlots, own_same, content_same, retired_same, spares_same, slots_same, OwnSlots, SameNodes, own_slots, SamePlaces, places_same}
@@ -52,11 +52,14 @@ module _ (m m' : Memory) (nodes : SameNodes m m') (states : (s : ℕ) → m' (St
   held_same : (held : Held) → IsHeldKnown m held → IsHeldKnown m' held
   held_same held i field number e = let r = i field number e in (r.0, own_same m m' nodes states held.slot field r.0 ∙ r.1)
 
+  hand_same : (held : Held) → IsHandKnown m held → IsHandKnown m' held
+  hand_same held i = record { known = held_same held i.known; even = even_same held.slot i.even }
+
   hands_same : (u : View) → AreHandsKnown m u → AreHandsKnown m' u
   hands_same u i = record {
-    hand = λ held is. (let r = i.hand held is in (held_same held r.0, even_same held.slot r.1));
+    hand = λ held is. hand_same held (i.hand held is);
     spare = λ held is. held_same held (i.spare held is);
-    copy = λ move is. (let r = i.copy move is in (held_same move.copy r.0, even_same move.copy.slot r.1));
+    copy = λ move is. hand_same move.copy (i.copy move is);
     spares = λ s has. even_same s (i.spares s has);
   }
 

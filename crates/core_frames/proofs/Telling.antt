@@ -39,7 +39,7 @@ module _ (k : Shape) (m : Memory) (vs : List View) (h : List Mark) (inv : HoldsN
     (there : get_elem? vs id ≡ some v) where
   -- a load of a field of the slot in hand finds what is known of it
   tells_loads : (s : ℕ) (field : Field) → Tells v s field (m field)
-  tells_loads s field held is same number known = ((((inv.slots.hands id v there).hand held is).0) field number known).1
+  tells_loads s field held is same number known = (((inv.slots.hands id v there).hand held is).known field number known).1
 
   -- each unlinking of its retired slots is an old mark
   tells_older : Each v.hands.retired (λ (r : Retired). r.unlinked < length h)

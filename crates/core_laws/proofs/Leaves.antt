@@ -398,10 +398,10 @@ module _ (z : LeafLink) where
   some_leaf e = absurd (let q : false ≡ true = sym leaf_off ∙ ap g.linked e ∙ i.tree.shape.root in cc)
 
   hand_known : (field : Field) (number : ℕ) → known_in held.known field ≡ Some number → m field ≡ number
-  hand_known field number known = (((i.slots.hands id v there).hand held hand_is).0 field number known).1
+  hand_known field number known = (((i.slots.hands id v there).hand held hand_is).known field number known).1
 
   pub leaf_even : IsEven (m (Life leaf))
-  leaf_even = subst (λ z. IsEven (m (Life z))) leaf_is ((i.slots.hands id v there).hand held hand_is).1
+  leaf_even = subst (λ z. IsEven (m (Life z))) leaf_is ((i.slots.hands id v there).hand held hand_is).even
 
   pub leaf_key : m (Key leaf) ≡ r.key
   leaf_key = hand_known (Key leaf) r.key needs.key_is

@@ -14,7 +14,7 @@ use Rattle.core_state.specs.Memory.{IsEven, IsOdd, flag, Memory, slot_count}
 use Rattle.core_state.specs.Views.{lock_of, HasLock, is_emptied, note_option, open_reading, spares_of, joined_retired, retired_of, slots_of, held_list, joined_spares}
 use Rattle.core_state.specs.Links.{newly_retired}
 use Rattle.core_state.specs.Tree.{Chart, IsEmptied, HasEmptied}
-use Rattle.core_state.specs.Parts.{IsUnraised, LockParts, HasFewSlots, IsRetired, IsRetiredOf, IsHeldKnown, AreHandsKnown, SlotParts, HasRetired}
+use Rattle.core_state.specs.Parts.{IsUnraised, LockParts, HasFewSlots, IsRetired, IsRetiredOf, IsHeldKnown, AreHandsKnown, SlotParts, HasRetired, IsHandKnown}
 use Rattle.list_laws.proofs.Lists.{in_first, in_second, at_end, each_set, total_set, times_append, in_append, somewhere_here, somewhere_still}
 use Rattle.core_frames.proofs.Charts.{bool_cases}
 use Rattle.core_laws.proofs.ChartChanges.{put, put-same, put-other, shape_after}
@@ -203,9 +203,11 @@ module _ (z : LinkStep) where
   held_stays : (x : Held) → x.slot ≢ p → IsHeldKnown m x → IsHeldKnown new x
   held_stays x ne t field number known = let y = t field number known in (y.0, (link_stores m p b c).away x.slot field ne y.0 ∙ y.1)
 
-  pub hand_stays : (j : ℕ) (u : View) (x : Held) → get_elem? vs j ≡ some u → u.hands.hand ≡ Some x
-      → IsHeldKnown new x × IsEven (m (Life x.slot))
-  hand_stays j u x e is = let t = (i.slots.hands j u e).hand x is in (held_stays x (own_apart j u x.slot e (hand_own u x is)) t.0, t.1)
+  hand_known : (x : Held) → x.slot ≢ p → IsHandKnown m x → IsHandKnown new x
+  hand_known x ne t = record { known = held_stays x ne t.known; even = t.even }
+
+  pub hand_stays : (j : ℕ) (u : View) (x : Held) → get_elem? vs j ≡ some u → u.hands.hand ≡ Some x → IsHandKnown new x
+  hand_stays j u x e is = hand_known x (own_apart j u x.slot e (hand_own u x is)) ((i.slots.hands j u e).hand x is)
 
   pub spare_stays : (j : ℕ) (u : View) (x : Held) → get_elem? vs j ≡ some u → u.hands.spare ≡ Some x → IsHeldKnown new x
   spare_stays j u x e is = held_stays x (own_apart j u x.slot e (spare_own u x is)) ((i.slots.hands j u e).spare x is)
@@ -259,7 +261,7 @@ module _ (z : LinkStep) where
     pub swaps : (s : ℕ) → times s (slots_of w) + flag (to.linked s) ≡ times s (slots_of v) + flag (g.linked s)
     pub hand : (x : Held) → w.hands.hand ≡ Some x → v.hands.hand ≡ Some x
     pub spare : (x : Held) → w.hands.spare ≡ Some x → v.hands.spare ≡ Some x
-    pub copy : (move : Move) → w.moving ≡ Some move → IsHeldKnown new move.copy × IsEven (m (Life move.copy.slot))
+    pub copy : (move : Move) → w.moving ≡ Some move → IsHandKnown new move.copy
     pub spares : (s : ℕ) → 1 ≤ times s (spares_of w) → 1 ≤ times s (spares_of v)
     pub retired : (x : Retired) → IsIn (retired_of w) x → IsIn (retired_of v) x ⊎ IsRetired new hs x
     pub still_retired : (x : Retired) → IsIn (retired_of v) x → IsIn (retired_of w) x
@@ -279,9 +281,9 @@ module _ (z : LinkStep) where
       hand = λ x is. hand_stays j u x e is;
       spare = λ x is. spare_stays j u x e is;
       copy = λ move is.
-          (let q = t.copy move is in
-          let lock = (i.tree.moves.each j u e move is).copy_lock in
-          (held_stays move.copy (λ same. ne (one_holder k m vs h i j id u v p e there (subst (HasLock u) same lock) r.mine)) q.0, q.1));
+          (let lock = (i.tree.moves.each j u e move is).copy_lock in
+          hand_known move.copy (λ same. ne (one_holder k m vs h i j id u v p e there (subst (HasLock u) same lock) r.mine))
+          (t.copy move is));
       spares = t.spares;
     }
 

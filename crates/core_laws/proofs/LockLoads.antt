@@ -17,7 +17,7 @@ use Rattle.core_state.specs.Memory.{flag, IsEven, IsOdd, Memory, slot_count, sto
 use Rattle.core_state.specs.Views.{known_in, lock_of, HasLock, IsOwnField, Works, retired_of, slots_of, emptied_among, change_lock, note_lock, note_held, note_option, note_moving, noting}
 use Rattle.core_state.specs.Links.{IsContent}
 use Rattle.core_state.specs.Tree.{Chart, IsEmptied, IsPending}
-use Rattle.core_state.specs.Parts.{HasGeneration, LockParts, HasFewSlots, IsRetired, AreHandsKnown, SlotParts, CountParts, IsAsRecorded, IsHeldKnown, IsMoving, TreeParts, ReaderParts, IsWaitedMove, GraceParts, IsLockKept, IsLockKnown}
+use Rattle.core_state.specs.Parts.{HasGeneration, LockParts, HasFewSlots, IsRetired, AreHandsKnown, SlotParts, CountParts, IsAsRecorded, IsHeldKnown, IsMoving, TreeParts, ReaderParts, IsWaitedMove, GraceParts, IsLockKept, IsLockKnown, IsHandKnown}
 use Rattle.core_state.specs.Invariant.{HoldsNow}
 use Rattle.list_laws.proofs.Lists.{each_set, each_change, total_same, at_below, set_twice, somewhere_here, somewhere_set}
 use Rattle.core_frames.proofs.Charts.{bool_cases}
@@ -269,7 +269,7 @@ module _ (k : Shape) (m : Memory) (vs : List View) (h : List Mark) (id : ℕ) (v
         hand = x.hand;
         spare = x.spare;
         copy = λ a is. (let q : with_copy ≡ a = cc in
-            subst (λ (z : Move). IsHeldKnown m z.copy × IsEven (m (Life z.copy.slot))) q (known, (x.copy move moving).1));
+            subst (λ (z : Move). IsHandKnown m z.copy) q (record { known = known; even = (x.copy move moving).even }));
         spares = x.spares;
       }) (λ x. x) (retired_of_still m (slot_count k) i.chart vs id v copy_view h there refl) i.slots
 
@@ -460,7 +460,7 @@ module _ (k : Shape) (m : Memory) (vs : List View) (h : List Mark) (id : ℕ) (v
       let ks = (note_held slot note move.copy).known in
       let told : IsHeldKnown m (record move.copy { known = ks }) = λ f n known.
       (let r = held_noted m m slot field number by_store own now (λ t x ne y. refl) (λ x y ne. refl) move.copy
-      ((i.slots.hands id v there).copy move e).0 f n known in
+      ((i.slots.hands id v there).copy move e).known f n known in
       (subst (λ z. IsOwnField z f) (note_held-slot slot note move.copy) r.0, r.1)) in
       let third : HoldsNow k m (set (set vs id handed_view) id
       (record handed_view { moving = Some (record move { copy = record move.copy { known = ks } }) })) h =

@@ -16,7 +16,7 @@ use Rattle.list_laws.specs.Counts.{times, IsIn, Each, numbers_from, total}
 use Rattle.core_state.specs.Memory.{IsOdd, Memory, same_field, IsEven, stored, slot_count, flag}
 use Rattle.core_state.specs.Views.{lock_of, HasLock, is_emptied, IsOwnField, known_in, readings_of, change_lock, note_lock, note_held, note_option, note_moving, noting, joined_spares, held_list, unraised_hand, joined_retired, spares_of, retired_of, slots_of}
 use Rattle.core_state.specs.Tree.{Chart, IsEmptied, HasEmptied}
-use Rattle.core_state.specs.Parts.{IsHolderOf, HasFewLocks, IsUnraised, IsLockKept, HasGeneration, IsLockKnown, IsReadingKept, LockParts, IsUnraisedOf, IsHeldKnown, AreHandsKnown, HasSpareToCome, HasFewSlots, IsRetired, SlotParts}
+use Rattle.core_state.specs.Parts.{IsHolderOf, HasFewLocks, IsUnraised, IsLockKept, HasGeneration, IsLockKnown, IsReadingKept, LockParts, IsUnraisedOf, IsHeldKnown, AreHandsKnown, HasSpareToCome, HasFewSlots, IsRetired, SlotParts, IsHandKnown}
 use Rattle.list_laws.proofs.Lists.{each_set, total_same, somewhere_here, somewhere_set, somewhere_still}
 use Rattle.core_laws.proofs.Locks.{change_here, change_other, slots_change, length_change, one_holder, linked_apart}
 use Rattle.core_state.specs.declared.view.Known.{Known}
@@ -412,7 +412,7 @@ module _ (m m' : Memory) (s : ℕ) (field : Field) (number : ℕ) (by_store : Bo
   pub hands_noted : (v : View) → ((t : ℕ) → IsEven (m (Life t)) → IsEven (m' (Life t))) → AreHandsKnown m v
       → AreHandsKnown m' (noting v s field number by_store)
   hands_noted v even t = record {
-    hand = λ held is. (option_noted v.hands.hand (λ h e. (t.hand h e).0) held is, hand_even v.hands.hand refl held is);
+    hand = λ held is. hand_noted v.hands.hand t.hand held is;
     spare = λ held is. option_noted v.hands.spare t.spare held is;
     copy = λ move is. copy_noted v.moving (λ x e. t.copy x e) move is;
     spares = λ x has. even x (t.spares x (subst (λ l. 1 ≤ times x l)
@@ -420,20 +420,23 @@ module _ (m m' : Memory) (s : ℕ) (field : Field) (number : ℕ) (by_store : Bo
         ++ (numbers_from (v.allowance.place + 2) (v.allowance.places - 1) ++ joined_spares v.allowance.joined)) has));
   }
     where
-      hand_even : (o : Option Held) → v.hands.hand ≡ o → (held : Held) → note_option s entry o ≡ Some held → IsEven (m' (Life held.slot))
-      hand_even None e held is = absurd (cc)
-      hand_even (Some was) e held is = let q : note_held s entry was ≡ held = cc in
-          subst (λ (z : Held). IsEven (m' (Life z.slot))) q
-          (subst (λ z. IsEven (m' (Life z))) (sym (note_held-slot s entry was)) (even was.slot (t.hand was e).1))
+      one_noted : (held : Held) → IsHandKnown m held → IsHandKnown m' (note_held s entry held)
+      one_noted held r = record {
+        known = held_noted held r.known;
+        even = subst (λ z. IsEven (m' (Life z))) (sym (note_held-slot s entry held)) (even held.slot r.even);
+      }
 
-      copy_noted : (o : Option Move) → ((move : Move) → o ≡ Some move → IsHeldKnown m move.copy × IsEven (m (Life move.copy.slot)))
-          → (move : Move) → note_moving s entry o ≡ Some move → IsHeldKnown m' move.copy × IsEven (m' (Life move.copy.slot))
+      hand_noted : (o : Option Held) → ((held : Held) → o ≡ Some held → IsHandKnown m held) → (held : Held)
+          → note_option s entry o ≡ Some held → IsHandKnown m' held
+      hand_noted None all held is = absurd (cc)
+      hand_noted (Some was) all held is = let q : note_held s entry was ≡ held = cc in subst (IsHandKnown m') q (one_noted was (all was refl))
+
+      copy_noted : (o : Option Move) → ((move : Move) → o ≡ Some move → IsHandKnown m move.copy) → (move : Move)
+          → note_moving s entry o ≡ Some move → IsHandKnown m' move.copy
       copy_noted None all move is = absurd (cc)
       copy_noted (Some was) all move is =
           let q : record was { copy = note_held s entry was.copy } ≡ move = cc in
-          let r = all was refl in
-          subst (λ (z : Move). IsHeldKnown m' z.copy × IsEven (m' (Life z.copy.slot))) q
-          (held_noted was.copy r.0, subst (λ z. IsEven (m' (Life z))) (sym (note_held-slot s entry was.copy)) (even was.copy.slot r.1))
+          subst (λ (z : Move). IsHandKnown m' z.copy) q (one_noted was.copy (all was refl))
 
 -- the slot in hand and the spare stay what they are
 pub note_option-unraised : (s : ℕ) (known : Known) (o : Option Held) → unraised_hand (note_option s known o) ≡ unraised_hand o
@@ -614,17 +617,17 @@ module _ (k : Shape) (m : Memory) (vs : List View) (h : List Mark) (i : HoldsNow
           spares = λ s has. even_same s (t.spares s (subst (λ l. 1 ≤ times s l) spares_noted has));
         }
 
+    hand_same : (held : Held) → held.slot ≢ p → IsHandKnown m held → IsHandKnown slots_memory held
+    hand_same held ne r = record { known = held_same held ne r.known; even = even_same held.slot r.even }
+
     hands_others : (j : ℕ) (u : View) → j ≢ id → get_elem? vs j ≡ some u → AreHandsKnown m u → AreHandsKnown slots_memory u
     hands_others j u ne e t = record {
-      hand = λ held is. (let r = t.hand held is in
-          (held_same held (not_mine held.slot j u e (hand_own u held is)) r.0, even_same held.slot r.1));
+      hand = λ held is. hand_same held (not_mine held.slot j u e (hand_own u held is)) (t.hand held is);
       spare = λ held is. held_same held (not_mine held.slot j u e (spare_own u held is)) (t.spare held is);
       copy = λ move is.
-          (let r = t.copy move is in
-          let lock = (i.tree.moves.each j u e move is).copy_lock in (
-            held_same move.copy (λ same. ne (one_holder k m vs h i j id u v p e there (subst (HasLock u) same lock) c.mine)) r.0,
-            even_same move.copy.slot r.1,
-          ));
+          (let lock = (i.tree.moves.each j u e move is).copy_lock in
+          hand_same move.copy (λ same. ne (one_holder k m vs h i j id u v p e there (subst (HasLock u) same lock) c.mine))
+          (t.copy move is));
       spares = λ s has. even_same s (t.spares s has);
     }
 

@@ -21,7 +21,7 @@ use Rattle.core_state.specs.Memory.{has, IsEven, Memory, stored, slot_count}
 use Rattle.core_state.specs.Views.{known_in, lock_of, known_under, HasLock, is_emptied, change_lock, note_lock, IsOwnField, LoadedGeneration, Works, readings_of, open_reading, spares_of}
 use Rattle.core_state.specs.Links.{NodeRecords, IsUnmarkedNode, FewChildren, BothChildren, IsNodeOfDelete, IsOldOfMove, IsRecordedNode, NeedsMark, with_mark, after_mark}
 use Rattle.core_state.specs.Tree.{Chart, IsEmptied}
-use Rattle.core_state.specs.Parts.{AreHandsKnown, HasGeneration, IsLockKept, IsLockKnown, IsReadingKept, LockParts, StandsWell}
+use Rattle.core_state.specs.Parts.{AreHandsKnown, HasGeneration, IsLockKept, IsLockKnown, IsReadingKept, LockParts, StandsWell, IsHandKnown}
 use Rattle.core_state.specs.Invariant.{HoldsNow}
 use Rattle.core_frames.specs.Laws.{KeepsPast}
 use Rattle.list_laws.proofs.Lists.{in_second}
@@ -222,17 +222,17 @@ module _ (k : Shape) (m : Memory) (vs : List View) (h : List Mark) (id : ℕ) (v
   spare_off : (j : ℕ) (u : View) (s : ℕ) → get_elem? vs j ≡ some u → 1 ≤ times s (spares_of u) → s ≢ slot
   spare_off j u s e has = off_slot s (own_off m (slot_count k) g vs h i.slots j u e s (let a = slots_count u s in omega arith))
 
+  hand_else : (x : Held) → x.slot ≢ slot → IsHandKnown m x → IsHandKnown marked_memory x
+  hand_else x ne t = record {
+    known = held_beside m marked_memory slot stores x ne t.known;
+    even = subst IsEven (sym (life_else x.slot ne)) t.even;
+  }
+
   hands_else : (j : ℕ) (u : View) → get_elem? vs j ≡ some u → AreHandsKnown m u → AreHandsKnown marked_memory u
   hands_else j u e t = record {
-    hand = λ x is. (let y = t.hand x is in (
-      held_beside m marked_memory slot stores x (hand_apart j u x e is) y.0,
-      subst IsEven (sym (life_else x.slot (hand_apart j u x e is))) y.1,
-    ));
+    hand = λ x is. hand_else x (hand_apart j u x e is) (t.hand x is);
     spare = λ x is. held_beside m marked_memory slot stores x (spare_apart j u x e is) (t.spare x is);
-    copy = λ move is. (let y = t.copy move is in (
-      held_beside m marked_memory slot stores move.copy (copy_apart j u move e is) y.0,
-      subst IsEven (sym (life_else move.copy.slot (copy_apart j u move e is))) y.1,
-    ));
+    copy = λ move is. hand_else move.copy (copy_apart j u move e is) (t.copy move is);
     spares = λ s has. subst IsEven (sym (life_else s (spare_off j u s e has))) (t.spares s has);
   }
 

@@ -18,7 +18,7 @@ use Rattle.list_laws.specs.Counts.{times, IsIn, Each}
 use Rattle.core_state.specs.Memory.{IsEven, Memory, slot_count, IsOdd, flag}
 use Rattle.core_state.specs.Views.{known_in, lock_of, HasLock, is_emptied, IsOwnField, LoadedGeneration, readings_of, slots_of, open_reading, joined_retired, held_list, retired_of, spares_of}
 use Rattle.core_state.specs.Tree.{IsHeldBack, Chart, HasEmptied}
-use Rattle.core_state.specs.Parts.{HasFewLocks, IsUnraised, HasGeneration, IsAsRecorded, SlotParts, IsLockKept, IsLockKnown, IsReadingKept, LockParts, roles_of, HasFewSlots, IsRetired, IsHeldKnown, AreHandsKnown, CountParts, GraceParts, IsClear, HasRetired}
+use Rattle.core_state.specs.Parts.{HasFewLocks, IsUnraised, HasGeneration, IsAsRecorded, SlotParts, IsLockKept, IsLockKnown, IsReadingKept, LockParts, roles_of, HasFewSlots, IsRetired, IsHeldKnown, AreHandsKnown, CountParts, GraceParts, IsClear, HasRetired, IsHandKnown}
 use Rattle.list_laws.proofs.Lists.{in_second, in_first, each_set, total_set, at_end, past_snoc, somewhere_still}
 use Rattle.core_laws.proofs.Stores.{StoresIn, held_beside, content_away}
 use Rattle.core_laws.proofs.ChartStays.{SameOutside, ChartStep, OuterParts, chart_stays, grace_by}
@@ -296,20 +296,19 @@ module _ (z : OffStep) where
     after_wait = i.after_wait;
   }
 
-  pub copy_away : (j : ℕ) (u : View) → get_elem? vs j ≡ some u → (move : Move) → u.moving ≡ Some move
-      → IsHeldKnown m' move.copy × IsEven (m' (Life move.copy.slot))
-  copy_away j u e move q =
-      let a = (z.who.inv.slots.hands j u e).copy move q in
-      let ne = on_apart z move.copy.slot (z.who.inv.tree.moves.each j u e move q).copy_linked in
-      (held_away move.copy ne a.0, even_away move.copy.slot ne a.1)
+  pub hand_away : (held : Held) → held.slot ≢ s → IsHandKnown m held → IsHandKnown m' held
+  hand_away held ne a = record { known = held_away held ne a.known; even = even_away held.slot ne a.even }
+
+  pub copy_away : (j : ℕ) (u : View) → get_elem? vs j ≡ some u → (move : Move) → u.moving ≡ Some move → IsHandKnown m' move.copy
+  copy_away j u e move q = hand_away move.copy (on_apart z move.copy.slot (z.who.inv.tree.moves.each j u e move q).copy_linked)
+      ((z.who.inv.slots.hands j u e).copy move q)
 
   -- of a view that has the slot neither in hand nor as a spare
   pub hands_away : (j : ℕ) (u : View) → get_elem? vs j ≡ some u → times s (held_list u.hands.hand) + times s (spares_of u) ≡ 0
       → AreHandsKnown m' u
   hands_away j u e none = let i = z.who.inv.slots.hands j u e in record {
-    hand = λ held q. (let far : held.slot ≢ s = (λ same. (let a = held_there u.hands.hand held q in
-        let b = ap (λ x. times x (held_list u.hands.hand)) same in absurd (omega arith))) in let a = i.hand held q in
-        (held_away held far a.0, even_away held.slot far a.1));
+    hand = λ held q. hand_away held (λ same. (let a = held_there u.hands.hand held q in
+        let b = ap (λ x. times x (held_list u.hands.hand)) same in absurd (omega arith))) (i.hand held q);
     spare = λ held q. held_away held (λ same. (let a = spare_among u held q in let b = ap (λ x. times x (spares_of u)) same in
         absurd (omega arith))) (i.spare held q);
     copy = λ move q. copy_away j u e move q;

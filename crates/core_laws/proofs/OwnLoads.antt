@@ -216,7 +216,7 @@ module _ (k : Shape) (m : Memory) (vs : List View) (h : List Mark) (id : ℕ) (v
       by_hand : (o : Option Held) → v.hands.hand ≡ o → 1 ≤ times s (held_list o) → IsEven (m (Life s))
       by_hand None e has = absurd (omega arith)
       by_hand (Some held) e has = dite (ℕ_discrete held.slot s)
-          (λ same. subst (λ z. IsEven (m (Life z))) same ((i.slots.hands id v there).hand held e).1)
+          (λ same. subst (λ z. IsEven (m (Life z))) same ((i.slots.hands id v there).hand held e).even)
           (λ ne. absurd (let c = times_other s held.slot [] ne in omega arith))
 
   kept_slots : SlotParts k.room m (slot_count k) i.chart (set vs id kept_view) h
@@ -231,7 +231,7 @@ module _ (k : Shape) (m : Memory) (vs : List View) (h : List Mark) (id : ℕ) (v
       })
       (λ x. record {
         hand = λ held is. absurd (let q : None ≡ Some held = is in cc);
-        spare = λ held is. (x.hand held is).0;
+        spare = λ held is. (x.hand held is).known;
         copy = x.copy;
         spares = spare_even;
       }) (λ x. x) (retired_of_still m (slot_count k) i.chart vs id v kept_view h there refl) i.slots

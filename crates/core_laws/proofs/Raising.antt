@@ -17,7 +17,7 @@ use Rattle.core_frames.proofs.Views.{stored_here, sum_one_more, in_one, not_one}
 use Rattle.core_laws.proofs.Stores.{StoresIn, stores_in}
 use Rattle.core_frames.proofs.PlaceFrames.{counts_by, generations_in}
 use Rattle.core_laws.proofs.ChartStays.{SameOutside, same_but, outer_same, outer_marked, OuterParts, grace_same}
-use Rattle.core_laws.proofs.OffStep.{OffStep, no_marks, same_lock, SameElse, no_others, off_law, retired_away, held_away, even_away, copy_away, used_marks, grace_used, used_back}
+use Rattle.core_laws.proofs.OffStep.{OffStep, no_marks, same_lock, SameElse, no_others, off_law, retired_away, held_away, even_away, copy_away, used_marks, grace_used, used_back, hand_away}
 use Rattle.core_frames.proofs.Roles.{slots_count, held_there, own_off, own_once, spare_among, spares_count, own_below, retired_own, waited_unmet, retired_count, slots_in, without_in, raise, without_none, change_in, in_change, without_else, one_in, unraised_append, change_slots, change_length, without_length, change_unraised, in_without, without_unraised}
 use Rattle.prcu_marks.specs.Marks.{gone_at, last_unlinked, greatest_key}
 use Rattle.core_state.specs.Parts.{IsHeldKnown, IsRetired, HasFewSlots, IsUnraised, GraceParts, IsClear}
@@ -178,10 +178,8 @@ module _ (z : RaiseStep) where
       even = λ _. even_now;
       few = d.few;
       hands = record {
-        hand = λ held q. (let a = (inv.slots.hands id v there).hand held q in
-            let ne : held.slot ≢ s = (λ e. (let b = one_role.not_held in let x = held_there v.hands.hand held q in
-            let y = ap (λ o. times o (held_list v.hands.hand)) e in omega arith)) in
-            (held_away step held ne a.0, even_away step held.slot ne a.1));
+        hand = λ held q. hand_away step held (λ e. (let b = one_role.not_held in let x = held_there v.hands.hand held q in
+            let y = ap (λ o. times o (held_list v.hands.hand)) e in omega arith)) ((inv.slots.hands id v there).hand held q);
         spare = d.spare;
         copy = λ move q. copy_away step id v there move q;
         spares = λ t has. ⊎_elim (λ (e : t ≡ s). subst (λ x. IsEven (m' (Life x))) (sym e) even_now)

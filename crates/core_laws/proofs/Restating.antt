@@ -23,7 +23,7 @@ use Rattle.core_laws.proofs.ChartStays.{SameOutside, same_but, outer_marked}
 use Rattle.core_laws.proofs.OffStep.{OffStep, same_lock, off_law, retired_away, used_marks, grace_used, used_mark, used_plain, used_new, used_updates, used_back, no_others}
 use Rattle.core_state.specs.Links.{IsContent, seized, NeedsFreeInHand, after_free_in_hand, without_retired, NeedsFreeRetired, after_free_retired}
 use Rattle.core_frames.proofs.Roles.{spare_among, slots_count, not_gone, retired_there, retired_own, held_there, retired_count, slots_in, one_in, without_in, without_none, without_else, without_length, in_without, unraised_append, without_raised, own_off}
-use Rattle.core_state.specs.Parts.{AreHandsKnown, IsHeldKnown, HasFewSlots, IsUnraised, IsClear, IsRetired}
+use Rattle.core_state.specs.Parts.{AreHandsKnown, IsHeldKnown, HasFewSlots, IsUnraised, IsClear, IsRetired, IsHandKnown}
 use Rattle.core_state.specs.declared.view.Hands.{Hands}
 use Rattle.core_state.specs.Tree.{IsHeldBack}
 use Rattle.prcu_marks.proofs.Marks.{last_gone}
@@ -78,7 +78,7 @@ module _ (k : Shape) (m : Memory) (vs : List View) (h : List Mark) (id : ℕ) (v
 
     -- what is known of the slots in the view's hands, where this one is no spare
     pub state_hands : (to : View) → to.hands.spare ≡ v.hands.spare → to.moving ≡ v.moving → spares_of to ≡ spares_of v
-        → times slot (spares_of v) ≡ 0 → ((held : Held) → to.hands.hand ≡ Some held → IsHeldKnown m' held × IsEven (m (Life held.slot)))
+        → times slot (spares_of v) ≡ 0 → ((held : Held) → to.hands.hand ≡ Some held → IsHandKnown m' held)
         → AreHandsKnown m' to
     state_hands to spare moving spares none hand = let i = inv.slots.hands id v there in record {
       hand = hand;
@@ -87,11 +87,12 @@ module _ (k : Shape) (m : Memory) (vs : List View) (h : List Mark) (id : ℕ) (v
           (i.spare held (sym spare ∙ is));
       copy = λ move is.
           (let on = (inv.tree.moves.each id v there move (sym moving ∙ is)).copy_linked in
-          let r = i.copy move (sym moving ∙ is) in (
-            held_beside m m' slot (stores_in m slot (State slot) x refl) move.copy
-                (λ e. (let q : true ≡ false = sym on ∙ ap inv.chart.linked e ∙ z.off in absurd (cc))) r.0,
-            r.1,
-          ));
+          let r = i.copy move (sym moving ∙ is) in
+          record {
+            known = held_beside m m' slot (stores_in m slot (State slot) x refl) move.copy
+                (λ e. (let q : true ≡ false = sym on ∙ ap inv.chart.linked e ∙ z.off in absurd (cc))) r.known;
+            even = r.even;
+          });
       spares = λ t has. i.spares t (subst (λ l. 1 ≤ times t l) spares has);
     }
 
@@ -261,8 +262,7 @@ module _ (k : Shape) (m : Memory) (vs : List View) (h : List Mark) (id : ℕ) (v
           };
           known = state_hands k m vs h id v inv there works seizing w refl refl refl (let a = slots_count v slot in omega arith)
               (λ held is. (let e : seized slot ≡ held = cc in
-              subst (λ (z : Held). IsHeldKnown (stored m (State slot) 1) z × IsEven (m (Life z.slot))) e
-              (seized_known, inv.slots.free slot small free)));
+              subst (IsHandKnown (stored m (State slot) 1)) e (record { known = seized_known; even = inv.slots.free slot small free })));
           retired = λ y has. (no_retired y has, has);
           kept = λ y has _. has;
           came = λ y has. has;
@@ -302,7 +302,7 @@ module _ (k : Shape) (m : Memory) (vs : List View) (h : List Mark) (id : ℕ) (v
       small = small;
       low = omega arith;
       off = off_by mine_once.1;
-      even = subst (λ z. IsEven (m (Life z))) needs.in_hand.1 ((inv.slots.hands id v there).hand held needs.in_hand.0).1;
+      even = subst (λ z. IsEven (m (Life z))) needs.in_hand.1 ((inv.slots.hands id v there).hand held needs.in_hand.0).even;
       clear = clear_by (not_gone m (slot_count k) inv.chart vs h inv.slots id v there slot (let a = in_hand in omega arith));
       others = no_others m (slot_count k) inv.chart vs h inv.slots id v there slot (let a = mine_once.2 in omega arith);
     }
@@ -454,12 +454,12 @@ module _ (k : Shape) (m : Memory) (vs : List View) (h : List Mark) (id : ℕ) (v
       });
     });
     known = state_hands k m vs h id v inv there works freeing_retired freed_view refl refl refl stands_once.not_spare
-        (λ held is_held. (let i = (inv.slots.hands id v there).hand held is_held in (
-          held_beside m (stored m (State slot) 0) slot (stores_in m slot (State slot) 0 refl) held
+        (λ held is_held. (let i = (inv.slots.hands id v there).hand held is_held in record {
+          known = held_beside m (stored m (State slot) 0) slot (stores_in m slot (State slot) 0 refl) held
               (λ same. (let a = held_there v.hands.hand held is_held in let b = ap (λ s. times s (held_list v.hands.hand)) same in
-              let c = stands_once.not_held in omega arith)) i.0,
-          i.1,
-        )));
+              let c = stands_once.not_held in omega arith)) i.known;
+          even = i.even;
+        }));
     retired = λ x has. ⊎_elim (λ (o : IsIn (without_retired slot v.hands.retired) x). (let q = in_without slot v.hands.retired x o in
         (q.1, in_first v.hands.retired joined x q.0)))
         (λ (o : IsIn joined x). (joined_else x o, in_second v.hands.retired joined x o))

@@ -14,7 +14,7 @@ use Rattle.list_laws.specs.Counts.{times, IsIn, Each}
 use Rattle.core_state.specs.Memory.{IsOdd, flag, sum_below, has, Memory, slot_count}
 use Rattle.core_state.specs.Views.{known_in, known_under, HasLock, note_lock, change_lock, joined_retired, retired_of, slots_of, held_list, unraised_hand, unraised_of, emptied_among}
 use Rattle.core_state.specs.Links.{newly_retired, with_mark, NeedsRotate, after_rotate, rotate_marks, Rotation}
-use Rattle.core_state.specs.Parts.{HasFewSlots, IsRetired, IsRetiredOf, IsHeldKnown, AreHandsKnown, SlotParts, linked_count, young_count, old_count, CountParts, FrontParts, IsClear, IsWaitedRetired, GraceParts, MarkParts, SeatParts, IsMoving, IsOldOf, AreMoving, WaiterParts, map_now}
+use Rattle.core_state.specs.Parts.{HasFewSlots, IsRetired, IsRetiredOf, IsHeldKnown, AreHandsKnown, SlotParts, linked_count, young_count, old_count, CountParts, FrontParts, IsClear, IsWaitedRetired, GraceParts, MarkParts, SeatParts, IsMoving, IsOldOf, AreMoving, WaiterParts, map_now, IsHandKnown}
 use Rattle.list_laws.proofs.Lists.{each_set, total_set, times_append, in_append, in_first, in_second, somewhere_here, somewhere_set}
 use Rattle.core_frames.proofs.First.{each_one, each_append}
 use Rattle.core_frames.proofs.Charts.{bool_cases}
@@ -57,17 +57,17 @@ module _ (z : RotateStep) where
   held_stays : (held : Held) → held.slot ≢ p → IsHeldKnown m held → IsHeldKnown later held
   held_stays held ne r field number known = let q = r field number known in (q.0, (link_stores m p b top).away held.slot field ne q.0 ∙ q.1)
 
+  hand_known : (held : Held) → held.slot ≢ p → IsHandKnown m held → IsHandKnown later held
+  hand_known held ne r = record { known = held_stays held ne r.known; even = r.even }
+
   hands_other : (j : ℕ) (u : View) → j ≢ id → get_elem? vs j ≡ some u → AreHandsKnown later u
   hands_other j u ne e = let r = i.slots.hands j u e in record {
-    hand = λ held is. (let q = r.hand held is in (held_stays held (own_apart j u held.slot e (hand_own u held is)) q.0, q.1));
+    hand = λ held is. hand_known held (own_apart j u held.slot e (hand_own u held is)) (r.hand held is);
     spare = λ held is. held_stays held (own_apart j u held.slot e (spare_own u held is)) (r.spare held is);
     copy = λ move is.
-        (let q = r.copy move is in
-        let lock = (i.tree.moves.each j u e move is).copy_lock in (
-          held_stays move.copy (λ same. ne
-              (one_holder k m vs h i j id u v p e there (subst (HasLock u) same lock) (parent_lock z))) q.0,
-          q.1,
-        ));
+        (let lock = (i.tree.moves.each j u e move is).copy_lock in
+        hand_known move.copy (λ same. ne (one_holder k m vs h i j id u v p e there (subst (HasLock u) same lock) (parent_lock z)))
+        (r.copy move is));
     spares = r.spares;
   }
 

@@ -153,7 +153,7 @@ module _ (z : RotateStep) where
   top_known = (inv.slots.hands id v there).spare upper needs.spare_is.0
 
   sub_known : IsHeldKnown m lower
-  sub_known = ((inv.slots.hands id v there).hand lower needs.hand_is.0).0
+  sub_known = ((inv.slots.hands id v there).hand lower needs.hand_is.0).known
 
   top_own : 1 ≤ times top (slots_of v)
   top_own = spare_own v upper needs.spare_is.0
@@ -171,7 +171,7 @@ module _ (z : RotateStep) where
   top_even = (inv.slots.hands id v there).spares top (spare_among v upper needs.spare_is.0)
 
   pub sub_even : IsEven (m (Life sub))
-  sub_even = ((inv.slots.hands id v there).hand lower needs.hand_is.0).1
+  sub_even = ((inv.slots.hands id v there).hand lower needs.hand_is.0).even
 
   pub top_gone : gone_at top h ≡ None
   top_gone = let a = spare_among v upper needs.spare_is.0 in not_gone m n g vs h inv.slots id v there top (omega arith)

@@ -283,16 +283,17 @@ module _ (k : Shape) (m : Memory) (vs : List View) (h : List Mark) (id : ℕ) (v
   module _ (copy_known : (move : Move) → v.moving ≡ Some move → IsHeldKnown raised_memory move.copy) where
     hands_else : (j : ℕ) (u : View) → get_elem? vs j ≡ some u → AreHandsKnown m u → AreHandsKnown raised_memory u
     hands_else j u e t = record {
-      hand = λ x is. (let y = t.hand x is in (held_beside m raised_memory slot stores x (hand_apart j u x e is) y.0, y.1));
+      hand = λ x is. (let y = t.hand x is in
+          record { known = held_beside m raised_memory slot stores x (hand_apart j u x e is) y.known; even = y.even });
       spare = λ x is. held_beside m raised_memory slot stores x (spare_apart j u x e is) (t.spare x is);
-      copy = λ move is. (let y = t.copy move is in (
-        dite (ℕ_discrete j id)
+      copy = λ move is. (let y = t.copy move is in record {
+        known = dite (ℕ_discrete j id)
             (λ same. (let it : u ≡ v = some-injective u v (sym e ∙ subst (λ z. get_elem? vs z ≡ some v) (sym same) there) in
             copy_known move (ap (λ (z : View). z.moving) (sym it) ∙ is)))
             (λ ne. held_beside m raised_memory slot stores move.copy
-            (λ here. alone j u ne e (subst (HasLock u) here (i.tree.moves.each j u e move is).copy_lock)) y.0),
-        y.1,
-      ));
+            (λ here. alone j u ne e (subst (HasLock u) here (i.tree.moves.each j u e move is).copy_lock)) y.known);
+        even = y.even;
+      });
       spares = t.spares;
     }
 
@@ -361,7 +362,7 @@ module _ (k : Shape) (m : Memory) (vs : List View) (h : List Mark) (id : ℕ) (v
       let now : IsHeldKnown m_new (record move.copy { known = ks }) = λ field number known.
       (let r = held_noted m m_new slot (Tag slot b) (tag + 1) true refl (stored_here m (Tag slot b) (tag + 1))
       (words k m vs h id v i there works lock slot b tag needs) (λ f own ne. stored_else m (Tag slot b) f (tag + 1) ne) move.copy
-      ((i.slots.hands id v there).copy move e).0 field number known in
+      ((i.slots.hands id v there).copy move e).known field number known in
       (subst (λ z. IsOwnField z field) (note_held-slot slot noted move.copy) r.0, r.1)) in
       let third : HoldsNow k m_new (set (set vs id stored_view) id
       (record stored_view { moving = Some (record move { copy = record move.copy { known = ks } }) })) h =

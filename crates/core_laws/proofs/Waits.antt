@@ -5,13 +5,13 @@ use mathlib.Core.List.{IsPrefix}
 use lib.ListN.{get_elem?}
 use Rattle.prcu_marks.specs.declared.mark.Mark.{Mark}
 use Rattle.core_state.specs.declared.shape.Shape.{Shape}
-use Rattle.core_state.specs.declared.words.Field.TheVariants.{Clock, Front, Free, Gate, Life}
+use Rattle.core_state.specs.declared.words.Field.TheVariants.{Clock, Front, Free, Gate}
 use Rattle.core_state.specs.declared.view.Section.{Section}
 use Rattle.core_state.specs.declared.view.Waiting.{Waiting}
 use Rattle.core_state.specs.declared.view.View.{View}
-use Rattle.core_state.specs.Memory.{has, Memory, slot_count, stored, sum_below, IsEven}
+use Rattle.core_state.specs.Memory.{has, Memory, slot_count, stored, sum_below}
 use Rattle.core_state.specs.Views.{Works, slots_of, spares_of, held_list, joined_retired, unraised_hand, unraised_among, unraised_of}
-use Rattle.core_state.specs.Parts.{WaitStands, IsTurnedOnce, WaiterParts, turns_to_come, HasEnded, HasFewSlots, IsRetired, IsRetiredOf, IsHeldKnown, AreHandsKnown, IsMoving, HasRetired}
+use Rattle.core_state.specs.Parts.{WaitStands, IsTurnedOnce, WaiterParts, turns_to_come, HasEnded, HasFewSlots, IsRetired, IsRetiredOf, AreHandsKnown, IsMoving, HasRetired, IsHandKnown}
 use Rattle.core_state.specs.Invariant.{HoldsNow}
 use Rattle.core_frames.proofs.Marks.{quiet_same, QuietMarks, quiet_snoc, begun-append, begun_at-append, QuietWaits, others_snoc, prefix_snoc, at_some}
 use Rattle.core_frames.proofs.Views.{reader_words, slots_stay, quiet_words, times_sum, same_slots}
@@ -497,7 +497,7 @@ module _ (vs : List View) (id : ℕ) (v : View) (there : get_elem? vs id ≡ som
       hand = i.hand;
       spare = i.spare;
       copy = λ move is. (let x = move_back wait v.moving move is in
-          subst (λ (z : Move). IsHeldKnown m z.copy × IsEven (m (Life z.copy.slot))) x.same (i.copy x.before x.had));
+          subst (λ (z : Move). IsHandKnown m z.copy) x.same (i.copy x.before x.had));
       spares = i.spares;
     }
 

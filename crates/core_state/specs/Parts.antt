@@ -398,11 +398,16 @@ abbrev pub IsHeldKnown : Memory → Held → Type 0
 IsHeldKnown m held = (field : Field) (number : ℕ) → known_in held.known field ≡ Some number
     → IsOwnField held.slot field × (m field ≡ number)
 
+-- that is so, and the slot is unmarked
+pub record IsHandKnown (m : Memory) (held : Held) : Type 0 where
+  pub known : IsHeldKnown m held
+  pub even : IsEven (m (Life held.slot))
+
 -- What the view knows of the slot in hand, the spare, and the copy of its move is so; and none of them is marked.
 pub record AreHandsKnown (m : Memory) (v : View) : Type 0 where
-  pub hand : (held : Held) → v.hands.hand ≡ Some held → IsHeldKnown m held × IsEven (m (Life held.slot))
+  pub hand : (held : Held) → v.hands.hand ≡ Some held → IsHandKnown m held
   pub spare : (held : Held) → v.hands.spare ≡ Some held → IsHeldKnown m held
-  pub copy : (move : Move) → v.moving ≡ Some move → IsHeldKnown m move.copy × IsEven (m (Life move.copy.slot))
+  pub copy : (move : Move) → v.moving ≡ Some move → IsHandKnown m move.copy
   pub spares : (s : ℕ) → 1 ≤ times s (spares_of v) → IsEven (m (Life s))
 
 -- Each slot is in one role. Those that are free, in hand, spares or copies are unmarked, and what their holder knows of them is so;
