@@ -25,7 +25,7 @@ use Rattle.core_state.specs.declared.view.Section.{Section}
 use Rattle.core_frames.proofs.TreeFrames.{generation_back}
 use Rattle.prcu_marks.specs.declared.mark.Side.TheVariants.{Left, Right}
 use Rattle.prcu_model.specs.Dictionary.{map_of, IsLegal}
-use Rattle.prcu_marks.specs.Marks.{updates_of, Open, open_at, own_of, entered_at, updates_by}
+use Rattle.prcu_marks.specs.Marks.{updates_of, Open, open_at, own_of, entered_at, updates_by, gone_at}
 use Rattle.prcu_marks.specs.declared.commit.Commit.{Commit}
 use Rattle.std.proofs.Math.Seq.{take-append_seam}
 use Rattle.prcu_marks.specs.declared.mark.Mark.TheVariants.{Entered, Left as LeftMark}
@@ -37,17 +37,29 @@ use mathlib.Core.List.{IsPrefix}
 use Rattle.core_frames.proofs.WaitFrames.{Sees}
 use Rattle.prcu_marks.proofs.Marks.{open_at-below}
 use Rattle.std.specs.FinMap as finite
+use Rattle.core_state.specs.Links.{IsContent}
 
 -- The parts on slots read the slots' words, the hands, places and moves of views, and where slots were unlinked. A step that leaves
 -- these keeps them.
+
+-- A retired slot is what it was, where its life and contents are, and it was unlinked at the same mark.
+pub retired_by : (m m' : Memory) (h h' : List Mark) (r : Retired) → gone_at r.slot h' ≡ gone_at r.slot h
+    → m' (Life r.slot) ≡ m (Life r.slot) → ((field : Field) → IsContent r.slot field → m' field ≡ m field) → IsRetired m h r
+    → IsRetired m' h' r
+retired_by m m' h h' r gone life contents i = record {
+  unlinked = gone ∙ i.unlinked;
+  some_slot = i.some_slot;
+  marked = λ e. subst IsOdd (sym life) (i.marked e);
+  life = λ number e f. life ∙ i.life number e f;
+  stays = λ field number e c f. contents field c ∙ i.stays field number e c f;
+  unmarked = λ e. subst IsEven (sym life) (i.unmarked e);
+  after_wait = i.after_wait;
+}
 
 -- Where nodes and states are the same, so are these parts: no lock word is read.
 module _ (m m' : Memory) (nodes : SameNodes m m') (states : (s : ℕ) → m' (State s) ≡ m (State s)) where
   even_same : (s : ℕ) → IsEven (m (Life s)) → IsEven (m' (Life s))
   even_same s e = subst IsEven (sym (nodes.life s)) e
-
-  odd_same : (s : ℕ) → IsOdd (m (Life s)) → IsOdd (m' (Life s))
-  odd_same s e = subst IsOdd (sym (nodes.life s)) e
 
   held_same : (held : Held) → IsHeldKnown m held → IsHeldKnown m' held
   held_same held i field number e = let r = i field number e in (r.0, own_same m m' nodes states held.slot field r.0 ∙ r.1)
@@ -64,15 +76,8 @@ module _ (m m' : Memory) (nodes : SameNodes m m') (states : (s : ℕ) → m' (St
   }
 
   retired_is : (h h' : List Mark) (r : Retired) → QuietMarks h h' → IsRetired m h r → IsRetired m' h' r
-  retired_is h h' r quiet i = record {
-    unlinked = quiet.gone r.slot ∙ i.unlinked;
-    some_slot = i.some_slot;
-    marked = λ e. odd_same r.slot (i.marked e);
-    life = λ number e f. nodes.life r.slot ∙ i.life number e f;
-    stays = λ field number e c f. content_same m m' nodes r.slot field c ∙ i.stays field number e c f;
-    unmarked = λ e. even_same r.slot (i.unmarked e);
-    after_wait = i.after_wait;
-  }
+  retired_is h h' r quiet = retired_by m m' h h' r (quiet.gone r.slot) (nodes.life r.slot)
+      (λ field c. content_same m m' nodes r.slot field c)
 
   pub slots_elsewhere : {room : ℕ} (n : ℕ) (g : Chart) (vs : List View) (h h' : List Mark) → QuietMarks h h' → SlotParts room m n g vs h
       → SlotParts room m' n g vs h'

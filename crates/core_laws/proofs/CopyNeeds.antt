@@ -341,7 +341,7 @@ module _ (z : CopyStep) where
     copy = λ move is.
         (let e : new_move z.held z.r.key z.next_key z.d z.u z.q (length h) ≡ move = cc in
         subst (λ (x : Move). IsHandKnown new x.copy) e
-        (record { known = spare_stays (copy_step z) id v z.held there z.needs.spare_is.0; even = copy_even z }));
+        (record { known = spare_stays (copy_step z) z.held z.needs.spare_is.0; even = copy_even z }));
     spares = λ s has. (let a = spares_count w s in let b = spares_count v s in omega arith);
     retired = retired_or_gone (copy_step z) (copy_retires z);
     still_retired = retired_grows (copy_step z) (copy_retires z);

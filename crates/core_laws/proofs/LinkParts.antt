@@ -21,12 +21,12 @@ use Rattle.core_laws.proofs.ChartChanges.{put, put-same, put-other, shape_after}
 use Rattle.core_laws.proofs.Locks.{one_holder, IsRelocked, relocked, relocked_forth, relocked_back, relocked_slots, relocked_length}
 use Rattle.core_laws.proofs.LinkSteps.{LinkStep, words_after, views_after, below, still_linked, not_gone, Retires, unlinked_off, off_not_gone}
 use Rattle.core_laws.proofs.LockSteps.{LockChange, locks_stored, note_option-else}
-use Rattle.core_laws.proofs.Stores.{link_at, link_stores}
+use Rattle.core_laws.proofs.Stores.{link_at, link_stores, StoresIn, held_beside, hand_beside, hands_beside}
 use Rattle.prcu_marks.specs.Marks.{gone_at}
 use Rattle.core_state.specs.declared.view.Held.{Held}
 use Rattle.core_state.specs.declared.view.Move.{Move}
 use Rattle.core_frames.proofs.Roles.{hand_own, spare_own, retired_own, linked_none, map_append, slots_count, spares_count, retired_count}
-use Rattle.core_frames.proofs.PlaceFrames.{retired_of_by}
+use Rattle.core_frames.proofs.PlaceFrames.{retired_of_by, retired_by}
 
 -- The parts on locks after a step that stores a link under the lock of its slot and unlinks a slot that the view has locked.
 
@@ -200,17 +200,11 @@ module _ (z : LinkStep) where
   own_apart j u s e has same = let none = linked_none m n g vs h i.slots j u e p changes.parent in
       let f = ap (λ x. times x (slots_of u)) same in absurd (omega arith)
 
-  held_stays : (x : Held) → x.slot ≢ p → IsHeldKnown m x → IsHeldKnown new x
-  held_stays x ne t field number known = let y = t field number known in (y.0, (link_stores m p b c).away x.slot field ne y.0 ∙ y.1)
+  stores_p : StoresIn m new p
+  stores_p = (link_stores m p b c).within
 
-  hand_known : (x : Held) → x.slot ≢ p → IsHandKnown m x → IsHandKnown new x
-  hand_known x ne t = record { known = held_stays x ne t.known; even = t.even }
-
-  pub hand_stays : (j : ℕ) (u : View) (x : Held) → get_elem? vs j ≡ some u → u.hands.hand ≡ Some x → IsHandKnown new x
-  hand_stays j u x e is = hand_known x (own_apart j u x.slot e (hand_own u x is)) ((i.slots.hands j u e).hand x is)
-
-  pub spare_stays : (j : ℕ) (u : View) (x : Held) → get_elem? vs j ≡ some u → u.hands.spare ≡ Some x → IsHeldKnown new x
-  spare_stays j u x e is = held_stays x (own_apart j u x.slot e (spare_own u x is)) ((i.slots.hands j u e).spare x is)
+  pub spare_stays : (x : Held) → v.hands.spare ≡ Some x → IsHeldKnown new x
+  spare_stays x is = held_beside m new p stores_p x (own_apart id v x.slot there (spare_own v x is)) ((i.slots.hands id v there).spare x is)
 
   -- so what is noted of p is noted of neither
   pub hand_noted : (known : Known) → note_option p known v.hands.hand ≡ v.hands.hand
@@ -222,16 +216,8 @@ module _ (z : LinkStep) where
   retired_stays : (j : ℕ) (u : View) (x : Retired) → get_elem? vs j ≡ some u → IsIn (retired_of u) x → IsRetired new hs x
   retired_stays j u x e has =
       let t = i.slots.retired j u e has.0 x has.1 in
-      record {
-        unlinked = z.gone_same x.slot (off_not_gone z x.slot (unlinked_off z x.slot x.unlinked t.unlinked)) ∙ t.unlinked;
-        some_slot = t.some_slot;
-        marked = t.marked;
-        life = t.life;
-        stays = λ field number raised content known. (link_stores m p b c).content x.slot field
-            (own_apart j u x.slot e (retired_own u x has)) content ∙ t.stays field number raised content known;
-        unmarked = t.unmarked;
-        after_wait = t.after_wait;
-      }
+      retired_by m new h hs x (z.gone_same x.slot (off_not_gone z x.slot (unlinked_off z x.slot x.unlinked t.unlinked))) refl
+      (λ field content. (link_stores m p b c).content x.slot field (own_apart j u x.slot e (retired_own u x has)) content) t
 
   -- how often a slot is the view's, by what is in hand, the spare and the retired ones: all else stays
   pub slots_become : (s : ℕ) → times s (slots_of w) + times s (held_list v.hands.hand) + times s (held_list v.hands.spare)
@@ -270,22 +256,19 @@ module _ (z : LinkStep) where
   module _ (r : SlotsGo) where
     hands_mine : AreHandsKnown new w
     hands_mine = record {
-      hand = λ x is. hand_stays id v x there (r.hand x is);
-      spare = λ x is. spare_stays id v x there (r.spare x is);
+      hand = λ x is. (let was = r.hand x is in
+          hand_beside m new p stores_p x (own_apart id v x.slot there (hand_own v x was)) ((i.slots.hands id v there).hand x was));
+      spare = λ x is. spare_stays x (r.spare x is);
       copy = r.copy;
       spares = λ s has. (i.slots.hands id v there).spares s (r.spares s has);
     }
 
     hands_other : (j : ℕ) (u : View) → j ≢ id → get_elem? vs j ≡ some u → AreHandsKnown new u
-    hands_other j u ne e = let t = i.slots.hands j u e in record {
-      hand = λ x is. hand_stays j u x e is;
-      spare = λ x is. spare_stays j u x e is;
-      copy = λ move is.
-          (let lock = (i.tree.moves.each j u e move is).copy_lock in
-          hand_known move.copy (λ same. ne (one_holder k m vs h i j id u v p e there (subst (HasLock u) same lock) r.mine))
-          (t.copy move is));
-      spares = t.spares;
-    }
+    hands_other j u ne e = hands_beside m new p stores_p u
+        (let none = linked_none m n g vs h i.slots j u e p changes.parent in let a = slots_count u p in omega arith)
+        (λ move is same. ne
+        (one_holder k m vs h i j id u v p e there (subst (HasLock u) same (i.tree.moves.each j u e move is).copy_lock) r.mine))
+        (i.slots.hands j u e)
 
     in_range : (s : ℕ) → n ≤ s → flag (to.linked s) ≡ 0
     in_range s far = ⊎_elim

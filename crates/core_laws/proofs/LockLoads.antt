@@ -13,7 +13,7 @@ use Rattle.core_state.specs.declared.view.Reading.{Reading}
 use Rattle.core_state.specs.declared.view.Retired.{Retired}
 use Rattle.core_state.specs.declared.view.View.{View}
 use Rattle.list_laws.specs.Counts.{times, total, IsIn, Each}
-use Rattle.core_state.specs.Memory.{flag, IsEven, IsOdd, Memory, slot_count, stored, sum_below, count_below, has}
+use Rattle.core_state.specs.Memory.{flag, IsEven, Memory, slot_count, stored, sum_below, count_below, has}
 use Rattle.core_state.specs.Views.{known_in, lock_of, HasLock, IsOwnField, Works, retired_of, slots_of, emptied_among, change_lock, note_lock, note_held, note_option, note_moving, noting}
 use Rattle.core_state.specs.Links.{IsContent}
 use Rattle.core_state.specs.Tree.{Chart, IsEmptied, IsPending}
@@ -27,7 +27,7 @@ use Rattle.core_laws.proofs.ChartStays.{ChartStep, same_but, outer_same, chart_s
 use Rattle.core_frames.proofs.Views.{stored_else, same_slots, loadable_own}
 use Rattle.core_laws.proofs.LockSteps.{OneLock, known_still, note_side, emptied_after, one_changed, lock_stays, note_held-form, lock_noted, note_held-slot, note_option-slots, held_noted, hands_noted, note_option-unraised, note_option-none, note_option-still_none}
 use native.Mathlib.Decide.{ℕ_discrete}
-use Rattle.core_frames.proofs.PlaceFrames.{free_slots, generations_in, tags_raised, counts_by, retired_of_by, seat_frame, lock_frame, counts_kept, retired_of_still, slots_by, front_frame}
+use Rattle.core_frames.proofs.PlaceFrames.{free_slots, generations_in, tags_raised, counts_by, retired_of_by, seat_frame, lock_frame, counts_kept, retired_of_still, slots_by, front_frame, retired_by}
 use Rattle.atomic_table.proofs.Lists.{set_here, set_again}
 use Rattle.core_state.specs.declared.view.Known.{Known}
 use Rattle.core_state.specs.declared.view.Section.{Section}
@@ -128,16 +128,8 @@ module _ (k : Shape) (m m' : Memory) (vs : List View) (h : List Mark) (id : ℕ)
 
         retired_is : (j : ℕ) (u : View) (x : Retired) → get_elem? vs j ≡ some u → IsIn (retired_of u) x → IsRetired m h x → IsRetired m' h x
         retired_is j u x e is t =
-            let same = c.off x.slot (own_off m (slot_count k) g vs h i.slots j u e x.slot (retired_own u x is)) in
-            record {
-              unlinked = t.unlinked;
-              some_slot = t.some_slot;
-              marked = λ q. subst IsOdd (sym same) (t.marked q);
-              life = λ number q f. same ∙ t.life number q f;
-              stays = λ field number q content f. stores.content x.slot field content ∙ t.stays field number q content f;
-              unmarked = λ q. subst IsEven (sym same) (t.unmarked q);
-              after_wait = t.after_wait;
-            }
+            retired_by m m' h h x refl (c.off x.slot (own_off m (slot_count k) g vs h i.slots j u e x.slot (retired_own u x is)))
+            (λ field content. stores.content x.slot field content) t
 
     -- nothing is said of the kind of slots: all keep their contents
     abbrev any : ℕ → Type 0

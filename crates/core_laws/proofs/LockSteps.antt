@@ -20,7 +20,7 @@ use Rattle.core_state.specs.Parts.{IsHolderOf, HasFewLocks, IsUnraised, IsLockKe
 use Rattle.list_laws.proofs.Lists.{each_set, total_same, somewhere_here, somewhere_set, somewhere_still}
 use Rattle.core_laws.proofs.Locks.{change_here, change_other, slots_change, length_change, one_holder, linked_apart}
 use Rattle.core_state.specs.declared.view.Known.{Known}
-use Rattle.core_laws.proofs.Stores.{StoresIn, StoresAt, held_beside}
+use Rattle.core_laws.proofs.Stores.{StoresIn, StoresAt, hands_beside}
 use Rattle.core_frames.proofs.Views.{same_is, same_self, stored_here, stored_else, SamePlaces}
 use Rattle.std.proofs.lemmas.Bool.{eqb-true, cases_eq}
 use Rattle.core_state.specs.declared.view.Held.{Held}
@@ -31,8 +31,8 @@ use Rattle.core_state.specs.Invariant.{HoldsNow}
 use Rattle.prcu_marks.specs.Marks.{gone_at}
 use Rattle.core_state.specs.declared.view.Retired.{Retired}
 use Rattle.core_state.specs.declared.view.Spent.{Spent}
-use Rattle.core_frames.proofs.Roles.{hand_own, spare_own, retired_own}
-use Rattle.core_frames.proofs.PlaceFrames.{retired_of_by}
+use Rattle.core_frames.proofs.Roles.{retired_own, slots_count}
+use Rattle.core_frames.proofs.PlaceFrames.{retired_of_by, retired_by}
 
 -- The parts on locks, after a step that changes locks of one view; and after one that changes one lock and stores in that lock's slot
 -- alone.
@@ -577,16 +577,9 @@ module _ (k : Shape) (m : Memory) (vs : List View) (h : List Mark) (i : HoldsNow
   even_same : (s : ℕ) → IsEven (m (Life s)) → IsEven (slots_memory (Life s))
   even_same s e = subst IsEven (sym (stores.life s)) e
 
-  odd_same : (s : ℕ) → IsOdd (m (Life s)) → IsOdd (slots_memory (Life s))
-  odd_same s e = subst IsOdd (sym (stores.life s)) e
-
   not_mine : (s : ℕ) (j : ℕ) (u : View) → get_elem? vs j ≡ some u → 1 ≤ times s (slots_of u) → s ≢ p
   not_mine s j u e has same = let none = linked_apart k m vs h i p linked j u e in
       let one = subst (λ z. 1 ≤ times z (slots_of u)) same has in absurd (omega arith)
-
-  -- a slot held that isn't the one stored in
-  held_same : (held : Held) → held.slot ≢ p → IsHeldKnown m held → IsHeldKnown slots_memory held
-  held_same = held_beside m slots_memory p stores.within
 
   -- what a step has to say of the view's hands
   pub record StoresHands : Type 0 where
@@ -617,19 +610,11 @@ module _ (k : Shape) (m : Memory) (vs : List View) (h : List Mark) (i : HoldsNow
           spares = λ s has. even_same s (t.spares s (subst (λ l. 1 ≤ times s l) spares_noted has));
         }
 
-    hand_same : (held : Held) → held.slot ≢ p → IsHandKnown m held → IsHandKnown slots_memory held
-    hand_same held ne r = record { known = held_same held ne r.known; even = even_same held.slot r.even }
-
     hands_others : (j : ℕ) (u : View) → j ≢ id → get_elem? vs j ≡ some u → AreHandsKnown m u → AreHandsKnown slots_memory u
-    hands_others j u ne e t = record {
-      hand = λ held is. hand_same held (not_mine held.slot j u e (hand_own u held is)) (t.hand held is);
-      spare = λ held is. held_same held (not_mine held.slot j u e (spare_own u held is)) (t.spare held is);
-      copy = λ move is.
-          (let lock = (i.tree.moves.each j u e move is).copy_lock in
-          hand_same move.copy (λ same. ne (one_holder k m vs h i j id u v p e there (subst (HasLock u) same lock) c.mine))
-          (t.copy move is));
-      spares = λ s has. even_same s (t.spares s has);
-    }
+    hands_others j u ne e = hands_beside m slots_memory p stores.within u
+        (let none = linked_apart k m vs h i p linked j u e in let a = slots_count u p in omega arith)
+        (λ move is same. ne
+        (one_holder k m vs h i j id u v p e there (subst (HasLock u) same (i.tree.moves.each j u e move is).copy_lock) c.mine))
 
     pub hands_stored : Each (set vs id w) (AreHandsKnown slots_memory)
     hands_stored = each_set (λ j u. AreHandsKnown slots_memory u) vs id w (hands_mine (i.slots.hands id v there))
@@ -637,18 +622,9 @@ module _ (k : Shape) (m : Memory) (vs : List View) (h : List Mark) (i : HoldsNow
 
     -- a slot that was retired is what it was
     pub retired_kept : (j : ℕ) (u : View) (r : Retired) → get_elem? vs j ≡ some u → IsIn (retired_of u) r → IsRetired slots_memory h' r
-    retired_kept j u r e has =
-        let t = i.slots.retired j u e has.0 r has.1 in
-        let ne = not_mine r.slot j u e (retired_own u r has) in
-        record {
-          unlinked = c.same_gone r.slot (off j u r e has) ∙ t.unlinked;
-          some_slot = t.some_slot;
-          marked = λ q. odd_same r.slot (t.marked q);
-          life = λ number q is. stores.life r.slot ∙ t.life number q is;
-          stays = λ field number q content known. stores.content r.slot field ne content ∙ t.stays field number q content known;
-          unmarked = λ q. even_same r.slot (t.unmarked q);
-          after_wait = t.after_wait;
-        }
+    retired_kept j u r e has = retired_by m slots_memory h h' r (c.same_gone r.slot (off j u r e has)) (stores.life r.slot)
+        (λ field content. stores.content r.slot field (not_mine r.slot j u e (retired_own u r has)) content)
+        (i.slots.retired j u e has.0 r has.1)
       where
         off : (j : ℕ) (u : View) (r : Retired) → get_elem? vs j ≡ some u → IsIn (retired_of u) r → i.chart.linked r.slot ≡ false
         off j u r e has = cases (i.chart.linked r.slot) refl

@@ -20,10 +20,10 @@ use Rattle.core_state.specs.Views.{known_in, lock_of, HasLock, is_emptied, IsOwn
 use Rattle.core_state.specs.Tree.{IsHeldBack, Chart, HasEmptied}
 use Rattle.core_state.specs.Parts.{HasFewLocks, IsUnraised, HasGeneration, IsAsRecorded, SlotParts, IsLockKept, IsLockKnown, IsReadingKept, LockParts, roles_of, HasFewSlots, IsRetired, IsHeldKnown, AreHandsKnown, CountParts, GraceParts, IsClear, HasRetired, IsHandKnown}
 use Rattle.list_laws.proofs.Lists.{in_second, in_first, each_set, total_set, at_end, past_snoc, somewhere_still}
-use Rattle.core_laws.proofs.Stores.{StoresIn, held_beside, content_away}
+use Rattle.core_laws.proofs.Stores.{StoresIn, held_beside, content_away, hand_beside, hands_beside}
 use Rattle.core_laws.proofs.ChartStays.{SameOutside, ChartStep, OuterParts, chart_stays, grace_by}
 use Rattle.core_frames.proofs.WholeFrames.{Stepper, waited_more, waited_back, grace_plain}
-use Rattle.core_frames.proofs.Roles.{own_apart, retired_own, slots_count, held_there, spare_among}
+use Rattle.core_frames.proofs.Roles.{own_apart, retired_own, slots_count}
 use mathlib.Core.Logic.{dite}
 use native.Mathlib.Decide.{dec_le, ℕ_discrete}
 use Rattle.std.proofs.lemmas.Bool.{cases_eq, eqb-true}
@@ -38,6 +38,7 @@ use Rattle.core_state.specs.Marks.{IsReused, Reuse}
 use Rattle.core_frames.proofs.Marks.{open_mark, IsPlain, plain_one}
 use Rattle.core_frames.proofs.WaitFrames.{NewMark}
 use Rattle.core_state.specs.declared.shape.Shape.{Shape}
+use Rattle.core_frames.proofs.PlaceFrames.{retired_by}
 
 -- What becomes of a lock of the view: at most one thing more is known of the slot, which is so.
 pub record OffLock (m' : Memory) (s t : ℕ) (l l' : HeldLock) : Type 0 where
@@ -286,18 +287,11 @@ module _ (z : OffStep) where
   even_away t ne even = subst IsEven (sym (life_away z t ne)) even
 
   pub retired_away : (r : Retired) → r.slot ≢ s → IsRetired m h r → IsRetired m' hs r
-  retired_away r ne i = let e = life_away z r.slot ne in record {
-    unlinked = z.marks.else r.slot ne ∙ i.unlinked;
-    some_slot = i.some_slot;
-    marked = λ f. subst IsOdd (sym e) (i.marked f);
-    life = λ number f q. e ∙ i.life number f q;
-    stays = λ field number f c q. content_away m m' s z.stores r.slot field ne c ∙ i.stays field number f c q;
-    unmarked = λ f. subst IsEven (sym e) (i.unmarked f);
-    after_wait = i.after_wait;
-  }
+  retired_away r ne = retired_by m m' h hs r (z.marks.else r.slot ne) (life_away z r.slot ne)
+      (λ field c. content_away m m' s z.stores r.slot field ne c)
 
   pub hand_away : (held : Held) → held.slot ≢ s → IsHandKnown m held → IsHandKnown m' held
-  hand_away held ne a = record { known = held_away held ne a.known; even = even_away held.slot ne a.even }
+  hand_away = hand_beside m m' s z.stores
 
   pub copy_away : (j : ℕ) (u : View) → get_elem? vs j ≡ some u → (move : Move) → u.moving ≡ Some move → IsHandKnown m' move.copy
   copy_away j u e move q = hand_away move.copy (on_apart z move.copy.slot (z.who.inv.tree.moves.each j u e move q).copy_linked)
@@ -306,14 +300,8 @@ module _ (z : OffStep) where
   -- of a view that has the slot neither in hand nor as a spare
   pub hands_away : (j : ℕ) (u : View) → get_elem? vs j ≡ some u → times s (held_list u.hands.hand) + times s (spares_of u) ≡ 0
       → AreHandsKnown m' u
-  hands_away j u e none = let i = z.who.inv.slots.hands j u e in record {
-    hand = λ held q. hand_away held (λ same. (let a = held_there u.hands.hand held q in
-        let b = ap (λ x. times x (held_list u.hands.hand)) same in absurd (omega arith))) (i.hand held q);
-    spare = λ held q. held_away held (λ same. (let a = spare_among u held q in let b = ap (λ x. times x (spares_of u)) same in
-        absurd (omega arith))) (i.spare held q);
-    copy = λ move q. copy_away j u e move q;
-    spares = λ t has. even_away t (λ same. (let b = ap (λ x. times x (spares_of u)) same in absurd (omega arith))) (i.spares t has);
-  }
+  hands_away j u e none = hands_beside m m' s z.stores u none
+      (λ move q. on_apart z move.copy.slot (z.who.inv.tree.moves.each j u e move q).copy_linked) (z.who.inv.slots.hands j u e)
 
   -- what the step has to say of the slots of its own view
   pub record OwnSlots : Type 0 where

@@ -17,7 +17,7 @@ use Rattle.core_state.specs.Views.{Works, retired_of, spares_of, slots_of, unrai
 use Rattle.core_state.specs.Invariant.{HoldsNow}
 use Rattle.core_frames.specs.Laws.{IsKept}
 use Rattle.core_frames.proofs.Views.{stored_here, stored_else, sum_one_other}
-use Rattle.core_laws.proofs.Stores.{held_beside, stores_in}
+use Rattle.core_laws.proofs.Stores.{held_beside, stores_in, hand_beside}
 use Rattle.core_frames.proofs.PlaceFrames.{counts_by}
 use Rattle.core_laws.proofs.ChartStays.{SameOutside, same_but, outer_marked}
 use Rattle.core_laws.proofs.OffStep.{OffStep, same_lock, off_law, retired_away, used_marks, grace_used, used_mark, used_plain, used_new, used_updates, used_back, no_others}
@@ -87,12 +87,8 @@ module _ (k : Shape) (m : Memory) (vs : List View) (h : List Mark) (id : ℕ) (v
           (i.spare held (sym spare ∙ is));
       copy = λ move is.
           (let on = (inv.tree.moves.each id v there move (sym moving ∙ is)).copy_linked in
-          let r = i.copy move (sym moving ∙ is) in
-          record {
-            known = held_beside m m' slot (stores_in m slot (State slot) x refl) move.copy
-                (λ e. (let q : true ≡ false = sym on ∙ ap inv.chart.linked e ∙ z.off in absurd (cc))) r.known;
-            even = r.even;
-          });
+          hand_beside m m' slot (stores_in m slot (State slot) x refl) move.copy
+          (λ e. (let q : true ≡ false = sym on ∙ ap inv.chart.linked e ∙ z.off in absurd (cc))) (i.copy move (sym moving ∙ is)));
       spares = λ t has. i.spares t (subst (λ l. 1 ≤ times t l) spares has);
     }
 
@@ -454,12 +450,9 @@ module _ (k : Shape) (m : Memory) (vs : List View) (h : List Mark) (id : ℕ) (v
       });
     });
     known = state_hands k m vs h id v inv there works freeing_retired freed_view refl refl refl stands_once.not_spare
-        (λ held is_held. (let i = (inv.slots.hands id v there).hand held is_held in record {
-          known = held_beside m (stored m (State slot) 0) slot (stores_in m slot (State slot) 0 refl) held
-              (λ same. (let a = held_there v.hands.hand held is_held in let b = ap (λ s. times s (held_list v.hands.hand)) same in
-              let c = stands_once.not_held in omega arith)) i.known;
-          even = i.even;
-        }));
+        (λ held is_held. hand_beside m (stored m (State slot) 0) slot (stores_in m slot (State slot) 0 refl) held
+        (λ same. (let a = held_there v.hands.hand held is_held in let b = ap (λ s. times s (held_list v.hands.hand)) same in
+        let c = stands_once.not_held in omega arith)) ((inv.slots.hands id v there).hand held is_held));
     retired = λ x has. ⊎_elim (λ (o : IsIn (without_retired slot v.hands.retired) x). (let q = in_without slot v.hands.retired x o in
         (q.1, in_first v.hands.retired joined x q.0)))
         (λ (o : IsIn joined x). (joined_else x o, in_second v.hands.retired joined x o))

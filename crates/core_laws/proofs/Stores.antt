@@ -7,12 +7,12 @@ use Rattle.prcu_marks.specs.declared.mark.Side.TheVariants.{Left, Right}
 use Rattle.core_state.specs.declared.words.Field.{Field}
 use Rattle.core_state.specs.declared.words.Field.TheVariants.{Clock, Front, Free, Announced, Stamp, Gate, Count, Row, State, Lock, Life, Key, Value, Link, Tag}
 use Rattle.core_state.specs.Memory.{Memory, stored, same_side, IsEven, IsOdd, sum_below, flag, count_below, has, slot_count}
-use Rattle.core_state.specs.Views.{IsOwnField, readings_of, open_reading, unraised_of, emptied_among, lock_of, HasLock}
+use Rattle.core_state.specs.Views.{IsOwnField, readings_of, open_reading, unraised_of, emptied_among, lock_of, HasLock, held_list, spares_of}
 use Rattle.core_state.specs.Links.{IsContent, HasCommit}
 use Rattle.core_state.specs.Tree.{after, next, answer_at, Chart, Hangs, IsHeldBack, OnRightLeft, Belongs, MayPass, IsOldFor, IsEmptied, Place, Walks, IsPending}
 use Rattle.core_frames.proofs.Views.{stored_here, stored_else, own_one, way_same, sum_one_other, sum_equal}
 use Rattle.core_state.specs.declared.view.Held.{Held}
-use Rattle.core_state.specs.Parts.{IsHeldKnown, FrontParts, ListsNow, IsListing, ListingParts, IsReadingKept, StandsWell, GoesTo, IsServed, IsAsRecorded, IsStillLinked, IsRecord, IsReading, AreAged, ReaderParts, turns_to_come, linked_count, young_count, old_count, CountParts, HasGeneration, IsMoving, IsOldOf, AreMoving}
+use Rattle.core_state.specs.Parts.{IsHeldKnown, FrontParts, ListsNow, IsListing, ListingParts, IsReadingKept, StandsWell, GoesTo, IsServed, IsAsRecorded, IsStillLinked, IsRecord, IsReading, AreAged, ReaderParts, turns_to_come, linked_count, young_count, old_count, CountParts, HasGeneration, IsMoving, IsOldOf, AreMoving, IsHandKnown, AreHandsKnown}
 use mathlib.Core.Option.{some}
 use lib.ListN.{get_elem?}
 use Rattle.prcu_marks.specs.declared.mark.Mark.{Mark}
@@ -26,7 +26,7 @@ use Rattle.core_state.specs.declared.view.Listing.{Listing}
 use Rattle.core_state.specs.declared.view.Section.{Section}
 use Rattle.core_state.specs.declared.view.Reading.{Reading}
 use Rattle.core_frames.proofs.TreeFrames.{answered_by}
-use Rattle.list_laws.specs.Counts.{Each, IsIn}
+use Rattle.list_laws.specs.Counts.{Each, IsIn, times}
 use Rattle.core_state.specs.declared.shape.Shape.{Shape}
 use Rattle.core_state.specs.Invariant.{HoldsNow}
 use Rattle.prcu_marks.specs.declared.mark.Mark.TheVariants.{Done}
@@ -36,6 +36,7 @@ use Rattle.core_state.specs.declared.view.Move.{Move}
 use Rattle.core_laws.proofs.Locks.{one_holder}
 use Rattle.core_frames.proofs.Marks.{PlainMarks}
 use Rattle.std.specs.FinMap as finite
+use Rattle.core_frames.proofs.Roles.{held_there, spare_among}
 
 pub cases_side : (a b : Side) → (a ≡ b) ⊎ (a ≢ b)
 cases_side Left Left = inl refl
@@ -107,6 +108,27 @@ content_away m new p stores s field ne c = stores.away s field ne (own_content s
 -- what is known of a slot that is held, and isn't the one stored in
 pub held_beside : (m new : Memory) (p : ℕ) → StoresIn m new p → (held : Held) → held.slot ≢ p → IsHeldKnown m held → IsHeldKnown new held
 held_beside m new p stores held ne i field number e = let r = i field number e in (r.0, stores.away held.slot field ne r.0 ∙ r.1)
+
+-- what is known of one in hand, or of a copy
+pub hand_beside : (m new : Memory) (p : ℕ) → StoresIn m new p → (held : Held) → held.slot ≢ p → IsHandKnown m held → IsHandKnown new held
+hand_beside m new p stores held ne i = record {
+  known = held_beside m new p stores held ne i.known;
+  even = subst IsEven (sym (stores.away held.slot (Life held.slot) ne refl)) i.even;
+}
+
+-- what a view knows of its hands, where the slot stored in is neither in hand, nor a spare, nor the copy
+pub hands_beside : (m new : Memory) (p : ℕ) → StoresIn m new p → (u : View)
+    → times p (held_list u.hands.hand) + times p (spares_of u) ≡ 0
+    → ((move : Move) → u.moving ≡ Some move → move.copy.slot ≢ p) → AreHandsKnown m u → AreHandsKnown new u
+hands_beside m new p stores u none copy_apart i = record {
+  hand = λ held is. hand_beside m new p stores held (λ same. (let a = held_there u.hands.hand held is in
+      let b = ap (λ x. times x (held_list u.hands.hand)) same in absurd (omega arith))) (i.hand held is);
+  spare = λ held is. held_beside m new p stores held (λ same. (let a = spare_among u held is in
+      let b = ap (λ x. times x (spares_of u)) same in absurd (omega arith))) (i.spare held is);
+  copy = λ move is. hand_beside m new p stores move.copy (copy_apart move is) (i.copy move is);
+  spares = λ s has. subst IsEven (sym (stores.away s (Life s) (λ same. (let b = ap (λ x. times x (spares_of u)) same in
+      absurd (omega arith))) refl)) (i.spares s has);
+}
 
 -- What a store of a link or a value of a slot leaves to all parts.
 pub record StoresAt (m new : Memory) (p : ℕ) (f : Field) : Type 0 where

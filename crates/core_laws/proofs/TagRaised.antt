@@ -29,7 +29,7 @@ use Rattle.core_state.specs.Invariant.{HoldsNow}
 use Rattle.core_frames.specs.Laws.{KeepsPast}
 use Rattle.list_laws.proofs.Lists.{at_below, set_twice, in_first, in_second}
 use Rattle.core_laws.proofs.Locks.{lock_outside, lock_alone, emptied_change_same, emptied_slot, emptied_known, emptied_marked}
-use Rattle.core_laws.proofs.Stores.{cases_side, sum_more, StoresIn, stores_in, held_beside}
+use Rattle.core_laws.proofs.Stores.{cases_side, sum_more, StoresIn, stores_in, held_beside, hand_beside}
 use Rattle.core_laws.proofs.LockSteps.{note_side, emptied_after, OneLock, one_changed, noted_then, lock_stays, note_held-form, lock_noted, note_option-else, note_held-slot, held_noted}
 use Rattle.core_frames.proofs.Roles.{linked_none, not_gone, held_there, spare_among, slots_count}
 use Rattle.core_laws.proofs.LockLoads.{law_copy, life_or_tag_stores, under_lock}
@@ -283,8 +283,7 @@ module _ (k : Shape) (m : Memory) (vs : List View) (h : List Mark) (id : ℕ) (v
   module _ (copy_known : (move : Move) → v.moving ≡ Some move → IsHeldKnown raised_memory move.copy) where
     hands_else : (j : ℕ) (u : View) → get_elem? vs j ≡ some u → AreHandsKnown m u → AreHandsKnown raised_memory u
     hands_else j u e t = record {
-      hand = λ x is. (let y = t.hand x is in
-          record { known = held_beside m raised_memory slot stores x (hand_apart j u x e is) y.known; even = y.even });
+      hand = λ x is. hand_beside m raised_memory slot stores x (hand_apart j u x e is) (t.hand x is);
       spare = λ x is. held_beside m raised_memory slot stores x (spare_apart j u x e is) (t.spare x is);
       copy = λ move is. (let y = t.copy move is in record {
         known = dite (ℕ_discrete j id)
