@@ -7,13 +7,12 @@ use Rattle.prcu_marks.specs.declared.mark.Mark.{Mark}
 use Rattle.core_state.specs.declared.words.Field.TheVariants.{State, Life, Lock, Tag, Clock, Free, Front}
 use Rattle.core_state.specs.declared.view.Held.{Held}
 use Rattle.core_state.specs.declared.view.Retired.{Retired}
-use Rattle.core_state.specs.declared.view.Spent.{Spent}
 use Rattle.core_state.specs.declared.view.View.{View}
 use Rattle.list_laws.specs.Counts.{times, total, IsIn, Each}
 use Rattle.core_state.specs.Memory.{flag, IsEven, IsOdd, Memory, sum_below, count_below, has}
 use Rattle.core_state.specs.Views.{retired_of, slots_of, known_in, lock_of, LoadedGeneration, readings_of, unraised_of, emptied_among, Works, places_of, open_of, IsUnused}
 use Rattle.core_state.specs.Tree.{Chart}
-use Rattle.core_state.specs.Parts.{HasSpareToCome, HasFewSlots, IsRetired, IsRetiredOf, IsHeldKnown, AreHandsKnown, SlotParts, IsHolderOf, HasFewLocks, IsUnraised, IsLockKept, IsLockKnown, IsReadingKept, LockParts, turns_to_come, CountParts, linked_count, young_count, old_count, IsTurned, IsOddBy, FrontParts, HasMet, IsOwned, SectionStands, IsCounted, SeatParts, HasRetired, HasOpen, MakesOdd, HasUnraised, IsHandKnown}
+use Rattle.core_state.specs.Parts.{HasFewSpent, HasFewSlots, IsRetired, IsRetiredOf, IsHeldKnown, AreHandsKnown, SlotParts, IsHolderOf, HasFewLocks, IsUnraised, IsLockKept, IsLockKnown, IsReadingKept, LockParts, turns_to_come, CountParts, linked_count, young_count, old_count, IsTurned, IsOddBy, FrontParts, HasMet, IsOwned, SectionStands, IsCounted, SeatParts, HasRetired, HasOpen, MakesOdd, HasUnraised, IsHandKnown}
 use Rattle.list_laws.proofs.Lists.{each_change, total_same, total_set, each_set, somewhere_at, somewhere_here, somewhere_still, only_at, only_change}
 use Rattle.core_frames.proofs.Marks.{QuietMarks, begun_at-same, OtherMarks, cut_at, others_same, others_snoc}
 use Rattle.core_frames.proofs.Views.{SameSlots, own_same, content_same, retired_same, spares_same, slots_same, OwnSlots, SameNodes, own_slots, SamePlaces, places_same}
@@ -140,8 +139,7 @@ few_same {most} v w e i = record {
   one = e.one i.one;
   few = subst (λ (x : OwnSlots). length x.retired ≤ most) (sym e.own) i.few;
   room = λ move is. subst (λ (x : OwnSlots). length x.retired < most) (sym e.own) (i.room move (sym e.moving ∙ is));
-  joined = subst (λ (x : OwnSlots). Each x.joined (λ (s : Spent). length s.retired ≤ most)) (sym e.own) i.joined;
-  joined_spare = subst (λ (x : OwnSlots). Each x.joined HasSpareToCome) (sym e.own) i.joined_spare;
+  joined = subst (λ (x : OwnSlots). Each x.joined (HasFewSpent most)) (sym e.own) i.joined;
   next_spare = λ works none. subst (λ (x : OwnSlots). HasUnraised x.retired) (sym e.own)
       (i.next_spare (subst (λ (x : OwnSlots). 1 ≤ x.places) e.own works) ((λ n. (sym e.own n).spare) ∙ none));
 }

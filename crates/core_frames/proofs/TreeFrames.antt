@@ -330,26 +330,20 @@ answered_by us later section said (Found s parent b None) i = tt
 answered_by us later section said (Found s parent b (Some value)) i = said (Some value) i
 answered_by us later section said (Missed s b) i = said None i
 
+-- A reader may pass an old successor still where its move is pending still; and a slot is old for a key.
+pub may_by : {vs us : List View} {key entered s : ℕ} (i : MayPass vs key entered s) → IsPending us i.move → MayPass us key entered s
+may_by i pending = record { move = i.move; pending = pending; old = i.old; low = i.low; high = i.high; before = i.before }
+
+pub old_by : {vs us : List View} {key s : ℕ} (i : IsOldFor vs key s) → IsPending us i.move → IsOldFor us key s
+old_by i pending = record { move = i.move; pending = pending; old = i.old; low = i.low; high = i.high }
+
 -- The stepping view's moves and locks stay.
 module _ (vs : List View) (id : ℕ) (v w : View) (there : get_elem? vs id ≡ some v) (moving : w.moving ≡ v.moving) where
   pub may_still : (key entered s : ℕ) → MayPass vs key entered s → MayPass (set vs id w) key entered s
-  may_still key entered s i = record {
-    move = i.move;
-    pending = pending_still vs id v w there moving i.move i.pending;
-    old = i.old;
-    low = i.low;
-    high = i.high;
-    before = i.before;
-  }
+  may_still key entered s i = may_by i (pending_still vs id v w there moving i.move i.pending)
 
   pub old_still : (key s : ℕ) → IsOldFor vs key s → IsOldFor (set vs id w) key s
-  old_still key s i = record {
-    move = i.move;
-    pending = pending_still vs id v w there moving i.move i.pending;
-    old = i.old;
-    low = i.low;
-    high = i.high;
-  }
+  old_still key s i = old_by i (pending_still vs id v w there moving i.move i.pending)
 
 -- the view's locks still say which sides it emptied
 pub emptied_still : (vs : List View) (id : ℕ) (v w : View) → get_elem? vs id ≡ some v → w.locks ≡ v.locks → (s : ℕ) (b : Side)

@@ -519,7 +519,6 @@ module _ (k : Shape) (m : Memory) (vs : List View) (h : List Mark) (id : ℕ) (v
           few = x.few;
           room = x.room;
           joined = x.joined;
-          joined_spare = x.joined_spare;
           next_spare = λ working none. x.next_spare working (same.no_spare none);
         })
         (λ x. same.known) (λ x. x) (retired_of_still m (slot_count k) g vs id v w h there refl) i.slots

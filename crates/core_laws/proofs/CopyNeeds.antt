@@ -327,7 +327,6 @@ module _ (z : CopyStep) where
         few = omega arith;
         room = λ move is. omega arith;
         joined = i.joined;
-        joined_spare = i.joined_spare;
         next_spare = λ works none. record { retired = gone; has = gone_among (copy_step z) (copy_retires z); unraised = refl };
       }
 

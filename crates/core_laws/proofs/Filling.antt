@@ -196,7 +196,6 @@ module _ (k : Shape) (m : Memory) (vs : List View) (h : List Mark) (id : ℕ) (v
             few = i.few;
             room = λ move is. i.room move (sym view.moving ∙ is);
             joined = i.joined;
-            joined_spare = i.joined_spare;
             next_spare = λ here none. i.next_spare here (note_option-none s known v.hands.spare none);
           });
           hands = record { hand = hand_known; spare = hands.spare; copy = hands.copy; spares = hands.spares };

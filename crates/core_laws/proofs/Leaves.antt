@@ -557,7 +557,6 @@ module _ (z : LeafLink) where
       few = x.few;
       room = x.room;
       joined = x.joined;
-      joined_spare = x.joined_spare;
       next_spare = x.next_spare;
     };
     swaps = swaps;

@@ -107,7 +107,6 @@ module _ (k : Shape) (m m' : Memory) (vs : List View) (h : List Mark) (id : ℕ)
             few = x.few;
             room = x.room;
             joined = x.joined;
-            joined_spare = x.joined_spare;
             next_spare = x.next_spare;
           }) (λ u x. x) t.few;
       free = λ s lt e. (let zero_state = sym (stores.state s) ∙ e in
@@ -254,7 +253,6 @@ module _ (k : Shape) (m : Memory) (vs : List View) (h : List Mark) (id : ℕ) (v
         few = x.few;
         room = λ a is. x.room move moving;
         joined = x.joined;
-        joined_spare = x.joined_spare;
         next_spare = x.next_spare;
       })
       (λ x. record {

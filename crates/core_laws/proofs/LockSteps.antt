@@ -16,7 +16,7 @@ use Rattle.list_laws.specs.Counts.{times, IsIn, Each, numbers_from, total}
 use Rattle.core_state.specs.Memory.{IsOdd, Memory, same_field, IsEven, stored, slot_count, flag}
 use Rattle.core_state.specs.Views.{lock_of, HasLock, is_emptied, IsOwnField, known_in, readings_of, change_lock, note_lock, note_held, note_option, note_moving, noting, joined_spares, held_list, unraised_hand, joined_retired, spares_of, retired_of, slots_of}
 use Rattle.core_state.specs.Tree.{Chart, IsEmptied, HasEmptied}
-use Rattle.core_state.specs.Parts.{IsHolderOf, HasFewLocks, IsUnraised, IsLockKept, HasGeneration, IsLockKnown, IsReadingKept, LockParts, IsUnraisedOf, IsHeldKnown, AreHandsKnown, HasSpareToCome, HasFewSlots, IsRetired, SlotParts, IsHandKnown}
+use Rattle.core_state.specs.Parts.{IsHolderOf, HasFewLocks, IsUnraised, IsLockKept, HasGeneration, IsLockKnown, IsReadingKept, LockParts, IsUnraisedOf, IsHeldKnown, AreHandsKnown, HasFewSpent, HasFewSlots, IsRetired, SlotParts, IsHandKnown}
 use Rattle.list_laws.proofs.Lists.{each_set, total_same, somewhere_here, somewhere_set, somewhere_still}
 use Rattle.core_laws.proofs.Locks.{change_here, change_other, slots_change, length_change, one_holder, linked_apart}
 use Rattle.core_state.specs.declared.view.Known.{Known}
@@ -30,7 +30,6 @@ use Rattle.core_state.specs.declared.shape.Shape.{Shape}
 use Rattle.core_state.specs.Invariant.{HoldsNow}
 use Rattle.prcu_marks.specs.Marks.{gone_at}
 use Rattle.core_state.specs.declared.view.Retired.{Retired}
-use Rattle.core_state.specs.declared.view.Spent.{Spent}
 use Rattle.core_frames.proofs.Roles.{retired_own, slots_count}
 use Rattle.core_frames.proofs.PlaceFrames.{retired_of_by, retired_by}
 
@@ -639,8 +638,7 @@ module _ (k : Shape) (m : Memory) (vs : List View) (h : List Mark) (i : HoldsNow
       one = λ q. c.hand ∙ note_option-still_none p slots_entry v.hands.hand (t.one (sym c.reserved ∙ q));
       few = few;
       room = λ move is. absurd (let q : None ≡ Some move = sym c.moving ∙ is in cc);
-      joined = subst (λ x. Each x (λ (s : Spent). length s.retired ≤ k.room)) (sym c.places.joined) t.joined;
-      joined_spare = subst (λ ss. Each ss HasSpareToCome) (sym c.places.joined) t.joined_spare;
+      joined = subst (λ ss. Each ss (HasFewSpent k.room)) (sym c.places.joined) t.joined;
       next_spare = λ works none. (let r = t.next_spare (subst (λ x. 1 ≤ x) c.places.places works)
           (note_option-none p slots_entry v.hands.spare (sym c.spare ∙ none)) in
           record { retired = r.retired; has = more r.retired r.has; unraised = r.unraised });

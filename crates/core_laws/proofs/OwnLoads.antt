@@ -155,7 +155,6 @@ module _ (k : Shape) (m : Memory) (vs : List View) (h : List Mark) (id : ℕ) (v
         few = subst (λ n. n ≤ k.room) (sym (length_map v.hands.retired)) x.few;
         room = λ move is. subst (λ n. n < k.room) (sym (length_map v.hands.retired)) (x.room move is);
         joined = x.joined;
-        joined_spare = x.joined_spare;
         next_spare = λ here none. (let y = x.next_spare here none in let z = own_forth y.retired y.has in
             record { retired = one y.retired; has = z.0; unraised = z.1.raised ∙ y.unraised });
       })
@@ -226,7 +225,6 @@ module _ (k : Shape) (m : Memory) (vs : List View) (h : List Mark) (id : ℕ) (v
         few = x.few;
         room = x.room;
         joined = x.joined;
-        joined_spare = x.joined_spare;
         next_spare = λ here q. x.next_spare here none;
       })
       (λ x. record {

@@ -242,7 +242,6 @@ module _ (z : RaiseStep) where
             few = omega arith;
             room = λ move q. (let b = i.room move q in omega arith);
             joined = i.joined;
-            joined_spare = i.joined_spare;
             next_spare = λ _ none. absurd (let q : Some held ≡ None = none in cc);
           });
       spare = λ x e. subst (IsHeldKnown m') (let q : held ≡ x = cc in q) (λ field f known. ⊎_elim
@@ -318,7 +317,6 @@ module _ (z : RaiseStep) where
             few = omega arith;
             room = λ move q. (let b = i.room move q in omega arith);
             joined = i.joined;
-            joined_spare = i.joined_spare;
             next_spare = λ _ none. absurd (some_spare none);
           });
       spare = λ held q. held_away (step to_raised) held

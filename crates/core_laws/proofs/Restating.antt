@@ -253,7 +253,6 @@ module _ (k : Shape) (m : Memory) (vs : List View) (h : List Mark) (id : ℕ) (v
             few = few.few;
             room = few.room;
             joined = few.joined;
-            joined_spare = few.joined_spare;
             next_spare = few.next_spare;
           };
           known = state_hands k m vs h id v inv there works seizing w refl refl refl (let a = slots_count v slot in omega arith)
@@ -318,7 +317,6 @@ module _ (k : Shape) (m : Memory) (vs : List View) (h : List Mark) (id : ℕ) (v
             few = few.few;
             room = few.room;
             joined = few.joined;
-            joined_spare = few.joined_spare;
             next_spare = few.next_spare;
           };
           known = state_hands k m vs h id v inv there works freeing w refl refl refl
@@ -442,7 +440,6 @@ module _ (k : Shape) (m : Memory) (vs : List View) (h : List Mark) (id : ℕ) (v
       few = (let a = f.few in omega arith);
       room = λ move has. (let a = f.room move has in omega arith);
       joined = f.joined;
-      joined_spare = f.joined_spare;
       next_spare = λ has none. (let x = f.next_spare has none in record {
         retired = x.retired;
         has = without_in slot v.hands.retired x.retired x.has (unraised_else x.retired x.has x.unraised);

@@ -205,7 +205,6 @@ module _ (z : RotateStep) where
         few = omega arith;
         room = λ move is. absurd (no_move move is);
         joined = f.joined;
-        joined_spare = f.joined_spare;
         next_spare = λ works none. record { retired = gone_upper z; has = upper_among; unraised = refl };
       }
 

@@ -168,7 +168,6 @@ module _ (k : Shape) (m : Memory) (vs : List View) (h : List Mark) (i : HoldsNow
     few = f.few;
     room = f.room;
     joined = f.joined;
-    joined_spare = f.joined_spare;
     next_spare = λ works none. f.next_spare (let a = needs.few in omega arith) none;
   }
 
@@ -178,7 +177,6 @@ module _ (k : Shape) (m : Memory) (vs : List View) (h : List Mark) (i : HoldsNow
     few = omega arith;
     room = λ move none. absurd (let q : None ≡ Some move = none in cc);
     joined = λ j a e. absurd (some-ne-none a (sym e));
-    joined_spare = λ j a e. absurd (some-ne-none a (sym e));
     next_spare = λ works none. absurd (let q : Some (unknown_slot (second.allowance.place + 1)) ≡ None = none in cc);
   }
 

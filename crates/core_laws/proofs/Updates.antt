@@ -48,7 +48,7 @@ use Rattle.core_state.specs.Invariant.{HoldsNow}
 use Rattle.core_laws.proofs.LockSteps.{LockChange, locks_stored, slots_stored, note_option-unraised}
 use Rattle.core_frames.proofs.Views.{stored_here}
 use Rattle.core_frames.proofs.PlainLaws.{clocked_before}
-use Rattle.core_frames.proofs.TreeFrames.{any, SameContents, shape_same, place_same, walks_by, right_left_by, belongs_same, pair_by, aged_by, met_outside}
+use Rattle.core_frames.proofs.TreeFrames.{any, SameContents, shape_same, place_same, walks_by, right_left_by, belongs_same, pair_by, aged_by, met_outside, may_by, old_by}
 use Rattle.core_state.specs.Steps.{done_by}
 use Rattle.std.specs.FinMap as finite
 
@@ -477,14 +477,7 @@ module _ (k : Shape) (m : Memory) (vs : List View) (h : List Mark) (i : HoldsNow
       record { lock = f.0; held = f.1; emptied = f.2.emptied a ∙ x.emptied }))
 
   may_still : (key entered s : ℕ) → MayPass vs key entered s → MayPass (set vs id w) key entered s
-  may_still key entered s y = record {
-    move = y.move;
-    pending = pending_still y.move y.pending;
-    old = y.old;
-    low = y.low;
-    high = y.high;
-    before = y.before;
-  }
+  may_still key entered s y = may_by y (pending_still y.move y.pending)
 
   -- all keys and links are the same, and all values but one
   abbrev others : ℕ → Type 0
@@ -524,13 +517,7 @@ module _ (k : Shape) (m : Memory) (vs : List View) (h : List Mark) (i : HoldsNow
     side = λ y s a l even root none. belongs_same m m' any others contents g on y s a tt;
     link_back = λ s a free none. none;
     emptied = emptied_still;
-    old_for = λ y s even o. record {
-      move = o.move;
-      pending = pending_still o.move o.pending;
-      old = o.old;
-      low = o.low;
-      high = o.high;
-    };
+    old_for = λ y s even o. old_by o (pending_still o.move o.pending);
   }
 
   unraised_kept : unraised_of w ≡ unraised_of v

@@ -508,7 +508,6 @@ module _ (vs : List View) (id : ℕ) (v : View) (there : get_elem? vs id ≡ som
       room = λ move is. (let x = move_back wait v.moving move is in let e = length-map v.hands.retired (waited_retired wait) in
           let f = i.room x.before x.had in omega arith);
       joined = i.joined;
-      joined_spare = i.joined_spare;
       next_spare = λ works none. (let r = i.next_spare works none in record {
         retired = waited_retired wait r.retired;
         has = (r.has.0, at_map (waited_retired wait) v.hands.retired r.has.0 r.retired r.has.1);

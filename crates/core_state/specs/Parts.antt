@@ -356,9 +356,10 @@ pub record HasUnraised (rs : List Retired) : Type 0 where
   pub has : IsIn rs retired
   pub unraised : retired.raised ≡ false
 
--- a place that was joined has a spare, or a retired slot whose generation wasn't raised
-abbrev pub HasSpareToCome : Spent → Type 0
-HasSpareToCome s = s.spare ≡ None → HasUnraised s.retired
+-- a place that was joined has at most so many slots retired, and without a spare one whose generation wasn't raised
+pub record HasFewSpent (most : ℕ) (s : Spent) : Type 0 where
+  pub few : length s.retired ≤ most
+  pub next_spare : s.spare ≡ None → HasUnraised s.retired
 
 -- A place has at most one slot reserved or in hand, and at most so many retired, while a move is pending one less; without a spare it has
 -- a retired slot whose generation wasn't raised. So had those that were joined.
@@ -366,8 +367,7 @@ pub record HasFewSlots (most : ℕ) (v : View) : Type 0 where
   pub one : v.hands.reserved ≡ true → v.hands.hand ≡ None
   pub few : length v.hands.retired ≤ most
   pub room : (move : Move) → v.moving ≡ Some move → length v.hands.retired < most
-  pub joined : Each v.allowance.joined (λ (s : Spent). length s.retired ≤ most)
-  pub joined_spare : Each v.allowance.joined HasSpareToCome
+  pub joined : Each v.allowance.joined (HasFewSpent most)
   pub next_spare : Works v → v.hands.spare ≡ None → HasUnraised v.hands.retired
 
 -- A retired slot was unlinked where the view says, and neither given nor freed since. Until its generation is raised its node is
