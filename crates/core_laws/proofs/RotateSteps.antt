@@ -1,5 +1,5 @@
 -- A rotation: its marks, the step and what its needs give, and the parts on locks after it.
-use Rattle.std.proofs.Common.{◌≡◌, ◌≢◌, ℕ, ◌+◌, List, [], ◌∷◌, ◌++◌, length, Some, sym, ap, subst, ◌∙◌, arith, append_assoc, length-append, append-nil, ◌*◌, ◌/◌, ◌≤◌, true, false, set, None, refl, ◌⊎◌, cond, Option, ⊎_elim, inl, inr, Bool, eq-eqb, ne_eqb, ◌==◌}
+use Rattle.std.proofs.Common.{◌≡◌, ◌≢◌, ℕ, ◌+◌, List, [], ◌∷◌, ◌++◌, length, Some, sym, ap, subst, ◌∙◌, arith, append_assoc, length-append, append-nil, ◌*◌, ◌/◌, ◌≤◌, true, false, set, None, refl, ◌⊎◌, cond, ⊎_elim, inl, inr, Bool, eq-eqb, ne_eqb, ◌==◌}
 use Rattle.prcu_marks.specs.declared.mark.Mark.{Mark}
 use Rattle.prcu_marks.specs.declared.mark.Mark.TheVariants.{Unlinked}
 use Rattle.prcu_model.specs.Dictionary.{map_of}
@@ -27,7 +27,7 @@ use Rattle.core_state.specs.Tree.{Chart, IsEmptied, HasEmptied}
 use Rattle.list_laws.proofs.Lists.{in_second, in_first, somewhere_still}
 use Rattle.core_frames.proofs.Roles.{hand_own, spare_own, spare_among, held_there, slots_count, own_below, own_off, own_once, not_gone}
 use Rattle.core_frames.proofs.WholeFrames.{Stepper, SameForMore, same_for_more}
-use Rattle.core_laws.proofs.Locks.{marked_lock, marked_linked, marked_field, marked_some, lock_outside, loaded_known, no_end_of, young_locked, IsAlive, alive, alive_field, one_holder, changed, lock_of-change, slots_change, length_change, IsRelocked, relocked, relocked_forth, relocked_back, relocked_slots, relocked_length}
+use Rattle.core_laws.proofs.Locks.{marked_lock, marked_linked, marked_field, marked_some, lock_outside, loaded_known, no_end_of, young_locked, IsAlive, alive, alive_field, one_holder, changed, lock_of-change, slots_change, length_change, IsRelocked, relocked, relocked_forth, relocked_back, relocked_slots, relocked_length, locks_back}
 use Rattle.core_laws.proofs.Stores.{stores_link, link_at, link_stores}
 use Rattle.core_laws.proofs.Turns.{Turn, Turns, turned, x_not_y, Stays, which, still as stays_on}
 use Rattle.std.proofs.lemmas.Bool.{cases_eq}
@@ -306,16 +306,8 @@ module _ (d : ℕ) where
 
   unmark_back : (ls : List HeldLock) (s : ℕ) (l' : HeldLock) → lock_of (change_lock d (with_mark false) ls) s ≡ Some l'
       → (l : HeldLock) × (lock_of ls s ≡ Some l) × IsUnmarked d s l l'
-  unmark_back ls s l' e = cases (lock_of ls s) refl
-    where
-      cases : (o : Option HeldLock) → lock_of ls s ≡ o → (l : HeldLock) × (lock_of ls s ≡ Some l) × IsUnmarked d s l l'
-      cases None q = absurd (let r : None ≡ Some l' =
-          sym (lock_of-change d (with_mark false) (λ x. refl) ls s ∙ ap (changed (with_mark false) (s == d)) q) ∙ e in cc)
-      cases (Some l) q =
-          let f = unmark_forth ls s l q in
-          let r : Some f.0 ≡ Some l' = sym f.1 ∙ e in
-          let same : f.0 ≡ l' = cc in
-          (l, q, subst (IsUnmarked d s l) same f.2)
+  unmark_back ls s = locks_back ls (change_lock d (with_mark false) ls) s (IsUnmarked d s)
+      (λ none. lock_of-change d (with_mark false) (λ x. refl) ls s ∙ ap (changed (with_mark false) (s == d)) none) (unmark_forth ls s)
 
 module _ (z : RotateStep) where
   open z use {who.{k, m, vs, h, id, v, there, inv as i, inv.{chart as g}}, upper.{slot as top}, lower.{slot as sub}, p, b, x, y}
