@@ -587,7 +587,7 @@ linked_now : (m : Memory) (g : Chart) (h : List Mark) (section : Section) (s : �
     → IsAsRecorded m section.reading s → g.linked s ≡ true
 linked_now m g h section s stood as_recorded =
     ⊎_elim (λ l. l) (λ (x : IsHeldBack g h section.entered s × IsOdd (m (Life s))). absurd
-    (let odd = x.1 in let even = as_recorded.2 in omega arith)) stood.here
+    (let odd = x.1 in let even = as_recorded.same in omega arith)) stood.here
 
 -- What a section found out is a record that says the truth.
 pub record_of : (m : Memory) (n : ℕ) (g : Chart) (vs : List View) (h : List Mark) (section : Section) → IsShaped m n g
@@ -607,7 +607,7 @@ record_of m n g vs h section shape reading sought fits served = record {
 }
   where
     nothing : section.reading.loads ≡ [] → (s : ℕ) → IsAsRecorded m section.reading s → ⊥
-    nothing none s life = let l = life.1 in absurd (let e : None ≡ Some l.0 = ap (λ ls. known_in ls (Life s)) (sym none) ∙ l.1 in cc)
+    nothing none s life = let l = life.recorded in absurd (let e : None ≡ Some l.0 = ap (λ ls. known_in ls (Life s)) (sym none) ∙ l.1 in cc)
 
     side_case : (listing : Option Listing) → section.listing ≡ listing → (s : ℕ) (b : Side) → section.reading.state ≡ Missed s b
         → IsAsRecorded m section.reading s → m (Link s b) ≡ 0

@@ -3,7 +3,7 @@ use Rattle.std.proofs.Common.{◌≡◌, ◌≢◌, ℕ, zero, suc, ◌+◌, ◌
 use Rattle.prcu_marks.specs.declared.mark.Side.{Side}
 use Rattle.prcu_marks.specs.declared.mark.Side.TheVariants.{Left, Right}
 use Rattle.core_state.specs.declared.words.Field.TheVariants.{Key, Value, Link, Life}
-use Rattle.core_state.specs.Memory.{Memory, IsOdd}
+use Rattle.core_state.specs.Memory.{Memory, IsOdd, IsEven}
 use Rattle.core_state.specs.Tree.{after, next, answer_at, OnRightLeft, first, further, Chart, low_of, high_of, Belongs, IsShaped, HoldsMap, HoldsPair, Spine, bottom, more, Place, in_range, at_old, Walks, at_linked, at_stop, at_live, IsPending, IsHeldBack, MayPass, IsOldFor, IsEmptied, HasEmptied}
 use Rattle.core_frames.proofs.Charts.{carry, carry_going}
 use Rattle.core_frames.proofs.Views.{SameNodes, was}
@@ -21,7 +21,7 @@ use Rattle.core_state.specs.declared.view.Reading.{Reading}
 use Rattle.core_state.specs.declared.view.View.{View}
 use Rattle.list_laws.specs.Counts.{IsIn, Each}
 use Rattle.core_state.specs.Views.{lock_of, readings_of, open_reading}
-use Rattle.core_state.specs.Parts.{HasGeneration, map_now, IsMoving, TreeParts, Answered, IsServed, IsAsRecorded, IsStillLinked, IsRecord, IsReading, IsMetBefore, ReaderParts, IsBetween, GoesOn, here, StandsNow, IsVisit, IsListing, ListingParts, HasMetBefore, AreAged, IsGoneSince}
+use Rattle.core_state.specs.Parts.{HasGeneration, map_now, IsMoving, TreeParts, Answered, IsServed, IsAsRecorded, IsStillLinked, IsRecord, IsReading, IsMetBefore, ReaderParts, IsBetween, GoesOn, here, StandsNow, IsVisit, IsListing, ListingParts, HasMetBefore, AreAged, IsGoneSince, IsReadingKept}
 use Rattle.list_laws.proofs.Lists.{each_set, each_change, somewhere_still, somewhere_was}
 use Rattle.core_frames.proofs.Marks.{QuietMarks}
 use Rattle.prcu_marks.specs.Marks.{updates_of, gone_at}
@@ -301,16 +301,23 @@ tree_frame m m' n g vs id v w h h' there nodes same quiet t =
 -- The parts on readers read the words of nodes, the sections, records, moves and locks of views, the updates and where slots were
 -- unlinked. A step that leaves nodes, moves and locks keeps what holds of the other views' sections and records.
 
-module _ (m m' : Memory) (nodes : SameNodes m m') where
+-- a slot that is as recorded is unmarked, and linked
+pub recorded_even : (m : Memory) (r : Reading) (s : ℕ) → IsAsRecorded m r s → IsEven (m (Life s))
+recorded_even m r s i = omega (arith, i.same)
+
+pub recorded_linked : (m : Memory) (g : Chart) (r : Reading) (s : ℕ) → IsReadingKept m g r → IsAsRecorded m r s → g.linked s ≡ true
+recorded_linked m g r s kept i = let l = i.recorded in kept.linked s l.0 l.1 (i.same ∙ ap (λ x. 2 * x) l.2)
+
+module _ (m m' : Memory) (lives : (s : ℕ) → m' (Life s) ≡ m (Life s)) where
   pub recorded_back : (r : Reading) (s : ℕ) → IsAsRecorded m' r s → IsAsRecorded m r s
-  recorded_back r s i = (i.0, i.1, sym (nodes.life s) ∙ i.2)
+  recorded_back r s i = record { generation = i.generation; recorded = i.recorded; same = sym (lives s) ∙ i.same }
 
   pub linked_back : (g : Chart) (r : Reading) (s : ℕ) → IsStillLinked m' g r s → IsStillLinked m g r s
   linked_back g r s i = record {
     linked = i.linked;
     generation = i.generation;
     recorded = i.recorded;
-    same = ap (λ x. x / 2) (sym (nodes.life s)) ∙ i.same;
+    same = ap (λ x. x / 2) (sym (lives s)) ∙ i.same;
   }
 
 pub held_back_same : (g : Chart) (h h' : List Mark) (entered s : ℕ) → QuietMarks h h' → IsHeldBack g h entered s → IsHeldBack g h' entered s
@@ -452,12 +459,12 @@ module _ (m m' : Memory) (nodes : SameNodes m m') (g : Chart) (vs us : List View
     key_fits = i.key_fits;
     side = λ s tag b missed life known empty same settled.
         ⊎_elim (λ o. inl (see.old_for r.key s o)) (λ x. inr (belongs_same m m' any any contents g linked_any r.key s b tt x))
-        (i.side s tag b missed (recorded_back m m' nodes r s life) known (sym (nodes.link s b) ∙ empty) (sym (nodes.tag s b) ∙ same)
+        (i.side s tag b missed (recorded_back m m' nodes.life r s life) known (sym (nodes.link s b) ∙ empty) (sym (nodes.tag s b) ∙ same)
         (λ x. settled (see.emptied s b x)));
     walk = λ node parent b value walk found on. (let p = i.walk node parent b value walk found on in record {
       parent = λ x y. ⊎_elim (λ e. inl e) (λ e. inr (path_same node walk.parent e))
-          (p.parent (linked_back m m' nodes g r node x) (recorded_back m m' nodes r walk.parent y));
-      slot = λ x y. path_same node walk.slot (p.slot (linked_back m m' nodes g r node x) (recorded_back m m' nodes r walk.slot y));
+          (p.parent (linked_back m m' nodes.life g r node x) (recorded_back m m' nodes.life r walk.parent y));
+      slot = λ x y. path_same node walk.slot (p.slot (linked_back m m' nodes.life g r node x) (recorded_back m m' nodes.life r walk.slot y));
     });
   }
 

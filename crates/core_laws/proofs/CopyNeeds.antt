@@ -122,7 +122,7 @@ module _ (z : CopyStep) where
   on_path : OnRightLeft m z.d z.u
   on_path = (is_record.walk z.d z.p z.b z.needs.records.records.found.0
       (record { parent = z.q; slot = z.u }) z.needs.records.records.found.1 z.needs.records.walk).slot node_still
-      (old_alive.generation, old_alive.recorded, old_alive.life)
+      (record { generation = old_alive.generation; recorded = old_alive.recorded; same = old_alive.life })
 
   pub old_some : z.u ≢ 0
   old_some = ((reading deletion).walk (record { parent = z.q; slot = z.u }) z.needs.records.walk).some_slot

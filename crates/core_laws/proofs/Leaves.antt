@@ -370,8 +370,8 @@ module _ (z : LeafLink) where
 
   belongs : Belongs m g r.key slot b
   belongs = ⊎_elim (λ o. absurd (not_old o)) (λ x. x)
-      (told.side slot tag b needs.missed (generation, needs.generation_is, life_now) needs.tag_is empty_now
-      (known_here.tags b tag needs.tag_now) not_emptied)
+      (told.side slot tag b needs.missed (record { generation = generation; recorded = needs.generation_is; same = life_now }) needs.tag_is
+      empty_now (known_here.tags b tag needs.tag_now) not_emptied)
 
   root_side : slot ≡ 0 → b ≡ Right
   root_side z = ⊎_elim (λ (e : (slot ≡ 0) × (b ≡ Right)). e.1)

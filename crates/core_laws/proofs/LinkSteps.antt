@@ -30,7 +30,7 @@ use lib.ListN.{get_elem?}
 use Rattle.prcu_marks.proofs.Marks.{gone_at-below}
 use Rattle.core_state.specs.declared.view.Reading.{Reading}
 use Rattle.core_state.specs.declared.view.Section.{Section}
-use Rattle.core_frames.proofs.TreeFrames.{answered_by, met_still}
+use Rattle.core_frames.proofs.TreeFrames.{answered_by, met_still, recorded_even, recorded_linked, recorded_back}
 use Rattle.list_laws.specs.Counts.{IsIn, Each}
 use Rattle.core_frames.proofs.Views.{way_same}
 use Rattle.list_laws.proofs.Lists.{each_set, in_second}
@@ -290,12 +290,6 @@ module _ (z : LinkStep) where
 
     -- a kept record of a view
     module _ (x : Reading) (reading : IsReading x) (kept : IsReadingKept m g x) (t : IsRecord m g vs x) where
-      recorded_even : (s : ℕ) → IsAsRecorded m x s → IsEven (m (Life s))
-      recorded_even s q = let e = q.2 in omega arith
-
-      recorded_linked : (s : ℕ) → IsAsRecorded m x s → g.linked s ≡ true
-      recorded_linked s q = let l = q.1 in let e = q.2 in let f = l.2 in kept.linked s l.0 l.1 (omega arith)
-
       still_back : (s : ℕ) → IsStillLinked (words_after z) to x s → IsStillLinked m g x s
       still_back s q = record {
         linked = ⊎_elim (λ l. l) (λ off. absurd (unread off (changes.comes s q.linked off))) (bool_cases (g.linked s));
@@ -312,27 +306,33 @@ module _ (z : LinkStep) where
               let on = kept.linked s l.0 l.1 (let y = l.2 in omega arith) in
               cc
 
+      was_recorded : (s : ℕ) → IsAsRecorded (words_after z) x s → IsAsRecorded m x s
+      was_recorded = recorded_back m (words_after z) (λ s. refl) x
+
       record_after : IsRecord (words_after z) to (views_after z) x
       record_after = record {
         key_fits = t.key_fits;
-        side = λ s tag a missed life known empty same settled.
-            (let none = r.link_back s a settled empty in
+        side = λ s tag a missed as_now known empty same settled.
+            (let life = was_recorded s as_now in
+            let none = r.link_back s a settled empty in
             let goes : GoesTo x s a = (subst (StandsWell x) missed reading.well).0 in
             let root : s ≡ 0 → a ≡ Right = λ y. ⊎_elim (λ (q : (s ≡ 0) × (a ≡ Right)). q.1) (λ q. absurd (q.0 y)) goes in
-            ⊎_elim (λ o. inl (r.old_for x.key s (recorded_even s life) o))
-            (λ q. r.side x.key s a t.key_fits (recorded_linked s life) (recorded_even s life) root none q)
+            ⊎_elim (λ o. inl (r.old_for x.key s (recorded_even m x s life) o))
+            (λ q. r.side x.key s a t.key_fits (recorded_linked m g x s kept life) (recorded_even m x s life) root none q)
             (t.side s tag a missed life known none same (λ q. settled (r.emptied s a q))));
         walk = λ node parent a value walk found on. (let q = t.walk node parent a value walk found on in record {
-          parent = λ y even. ⊎_elim (λ o. inl o) (λ way. inr (path node (still_back node y).linked walk.parent even way))
-              (q.parent (still_back node y) even);
-          slot = λ y even. path node (still_back node y).linked walk.slot even (q.slot (still_back node y) even);
+          parent = λ y even. (let was = was_recorded walk.parent even in
+              ⊎_elim (λ o. inl o) (λ way. inr (path node (still_back node y).linked walk.parent was way))
+              (q.parent (still_back node y) was));
+          slot = λ y even. (let was = was_recorded walk.slot even in
+              path node (still_back node y).linked walk.slot was (q.slot (still_back node y) was));
         });
       }
         where
           path : (node : ℕ) → g.linked node ≡ true → (s : ℕ) → IsAsRecorded m x s → OnRightLeft m node s
               → OnRightLeft (words_after z) node s
           path node l s even way = path_after m (words_after z) n g to p b d c lower upper i.tree.shape changes node s l way
-              (not_gone z s (inr (recorded_even s even)))
+              (not_gone z s (inr (recorded_even m x s even)))
 
     aged_after : AreAged (words_after z) to (views_after z) hs
     aged_after s at y a gone met link nz = ⊎_elim (λ (e : s ≡ d). at_gone e (cases_eq d 0)) (λ ne. other (λ e. absurd (ne e)))

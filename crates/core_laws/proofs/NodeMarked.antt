@@ -236,13 +236,13 @@ module _ (k : Shape) (m : Memory) (vs : List View) (h : List Mark) (id : ℕ) (v
         half = half;
         off = λ s off. life_else s (off_slot s off);
         root = life_else 0 (λ e. ready.some_slot (sym e)) ∙ i.slots.root;
-        recorded = λ r s x. (
-          x.0,
-          x.1,
-          dite (ℕ_discrete s slot)
-              (λ same. absurd (odd_here x.0 (sym life_here ∙ ap (λ z. marked_memory (Life z)) (sym same) ∙ x.2)))
-              (λ ne. sym (life_else s ne) ∙ x.2),
-        );
+        recorded = λ r s x. record {
+          generation = x.generation;
+          recorded = x.recorded;
+          same = dite (ℕ_discrete s slot)
+              (λ same. absurd (odd_here x.generation (sym life_here ∙ ap (λ z. marked_memory (Life z)) (sym same) ∙ x.same)))
+              (λ ne. sym (life_else s ne) ∙ x.same);
+        };
         tags = λ j u r s tag b e has known same settled. (same, λ x. settled (emptied_now s b x));
         hands = hands_else;
         away = life_else;

@@ -128,8 +128,9 @@ module _ (z : OffStep) where
   pub recorded_back : (j : ℕ) (u : View) (r : Reading) → get_elem? vs j ≡ some u → IsIn u.records r → (t : ℕ) → IsAsRecorded m' r t
       → (t ≢ s) × IsAsRecorded m r t
   recorded_back j u r e has t i =
-      let far = unloaded j u r t i.0 e (in_second (open_reading u.section) u.records r has) i.1 (let a = i.2 in omega arith) in
-      (far, (i.0, i.1, sym (life_away t far) ∙ i.2))
+      let far = unloaded j u r t i.generation e (in_second (open_reading u.section) u.records r has) i.recorded
+      (let a = i.same in omega arith) in
+      (far, record { generation = i.generation; recorded = i.recorded; same = sym (life_away t far) ∙ i.same })
 
   pub generation_away : (t generation : ℕ) (l l' : HeldLock) → t ≢ s → l'.marked ≡ l.marked → HasGeneration m t generation l
       → HasGeneration m' t generation l'

@@ -20,7 +20,7 @@ use Rattle.core_frames.proofs.Views.{way_by}
 use Rattle.list_laws.proofs.Lists.{each_set, in_second}
 use Rattle.core_frames.proofs.Charts.{ended_is, bool_cases, carry_going, unlinked_going}
 use Rattle.core_frames.proofs.PlainLaws.{entered_before, told_now}
-use Rattle.core_frames.proofs.TreeFrames.{answered_by, may_still, old_still, met_outside}
+use Rattle.core_frames.proofs.TreeFrames.{answered_by, may_still, old_still, met_outside, recorded_even, recorded_linked, recorded_back}
 use Rattle.core_frames.proofs.Roles.{gone_off}
 use Rattle.core_laws.proofs.Turns.{Stays, which, not_top, not_sub, rank_else, still, x_off, y_off, x_not_p, y_not_p, link_off, child_stays, low_else, high_else, at_y}
 use Rattle.core_laws.proofs.TurnReaders.{stays_by, readers_turn, walks_turn, path_turn, belongs_turn}
@@ -223,9 +223,8 @@ module _ (z : RotateStep) where
     -- a slot that is as recorded stays
     recorded_stays : (s : ℕ) → IsAsRecorded m q s → Stay s
     recorded_stays s r =
-        let l = r.1 in let same = r.2 in let f = l.2 in
-        let ne = not_even z s (omega arith) in
-        record { on = kept.linked s l.0 l.1 (omega arith); not_x = ne.0; not_y = ne.1 }
+        let ne = not_even z s (recorded_even m q s r) in
+        record { on = recorded_linked m g q s kept r; not_x = ne.0; not_y = ne.1 }
 
     still_stays : (s : ℕ) → IsStillLinked later (to z) q s → Stay s
     still_stays s r = ⊎_elim
@@ -237,21 +236,25 @@ module _ (z : RotateStep) where
         (λ r. r) o)
         (which m later n g (turn z) i.tree.shape (turns z) s r.linked)
 
+    was_recorded : (s : ℕ) → IsAsRecorded later q s → IsAsRecorded m q s
+    was_recorded = recorded_back m later (λ s. refl) q
+
     record_after : IsRecord later (to z) (us z) q
     record_after = record {
       key_fits = rec.key_fits;
-      side = λ s tag a missed life known empty same settled.
-          (let r = recorded_stays s life in
+      side = λ s tag a missed as_now known empty same settled.
+          (let life = was_recorded s as_now in
+          let r = recorded_stays s life in
           ⊎_elim (λ o. inl (old_still vs id v (w z) there moving_same q.key s o))
           (λ o. inr (belongs_turn m later n g (turn z) i.tree.shape (turns z) q.key s a r.on o))
           (rec.side s tag a missed life known (link_back z s a empty) same (λ o. settled (emptied_still z s a o))));
       walk = λ node parent a value walk found on. (let o = rec.walk node parent a value walk found on in record {
-        parent = λ l even. (let r = still_stays node l in
+        parent = λ l even. (let r = still_stays node l in let was = was_recorded walk.parent even in
             ⊎_elim (λ c. inl c) (λ way. inr (path_turn m later n g (turn z) i.tree.shape (turns z) node walk.parent r way
-            (recorded_stays walk.parent even))) (o.parent (back node r l) even));
-        slot = λ l even. (let r = still_stays node l in
-            path_turn m later n g (turn z) i.tree.shape (turns z) node walk.slot r (o.slot (back node r l) even)
-            (recorded_stays walk.slot even));
+            (recorded_stays walk.parent was))) (o.parent (back node r l) was));
+        slot = λ l even. (let r = still_stays node l in let was = was_recorded walk.slot even in
+            path_turn m later n g (turn z) i.tree.shape (turns z) node walk.slot r (o.slot (back node r l) was)
+            (recorded_stays walk.slot was));
       });
     }
       where

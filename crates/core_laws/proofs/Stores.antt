@@ -12,7 +12,7 @@ use Rattle.core_state.specs.Links.{IsContent, HasCommit}
 use Rattle.core_state.specs.Tree.{after, next, answer_at, Chart, Hangs, IsHeldBack, OnRightLeft, Belongs, MayPass, IsOldFor, IsEmptied, Place, Walks, IsPending}
 use Rattle.core_frames.proofs.Views.{stored_here, stored_else, own_one, way_same, sum_one_other, sum_equal}
 use Rattle.core_state.specs.declared.view.Held.{Held}
-use Rattle.core_state.specs.Parts.{IsHeldKnown, FrontParts, ListsNow, IsListing, ListingParts, IsReadingKept, StandsWell, GoesTo, IsServed, IsAsRecorded, IsStillLinked, IsRecord, IsReading, AreAged, ReaderParts, turns_to_come, linked_count, young_count, old_count, CountParts, HasGeneration, IsMoving, IsOldOf, AreMoving, IsHandKnown, AreHandsKnown}
+use Rattle.core_state.specs.Parts.{IsHeldKnown, FrontParts, ListsNow, IsListing, ListingParts, IsReadingKept, StandsWell, GoesTo, IsServed, IsStillLinked, IsRecord, IsReading, AreAged, ReaderParts, turns_to_come, linked_count, young_count, old_count, CountParts, HasGeneration, IsMoving, IsOldOf, AreMoving, IsHandKnown, AreHandsKnown}
 use mathlib.Core.Option.{some}
 use lib.ListN.{get_elem?}
 use Rattle.prcu_marks.specs.declared.mark.Mark.{Mark}
@@ -25,7 +25,7 @@ use Rattle.list_laws.proofs.Lists.{each_set, in_second, somewhere_set, only_here
 use Rattle.core_state.specs.declared.view.Listing.{Listing}
 use Rattle.core_state.specs.declared.view.Section.{Section}
 use Rattle.core_state.specs.declared.view.Reading.{Reading}
-use Rattle.core_frames.proofs.TreeFrames.{answered_by}
+use Rattle.core_frames.proofs.TreeFrames.{answered_by, recorded_back, recorded_even, recorded_linked}
 use Rattle.list_laws.specs.Counts.{Each, IsIn, times}
 use Rattle.core_state.specs.declared.shape.Shape.{Shape}
 use Rattle.core_state.specs.Invariant.{HoldsNow}
@@ -343,15 +343,6 @@ module _ (m m' : Memory) (g to : Chart) (vs : List View) (id : ℕ) (v w : View)
       way = way_same g to section.reading (λ s has. c.rank s) i.way;
     }
 
-    recorded_back : (r : Reading) (s : ℕ) → IsAsRecorded m' r s → IsAsRecorded m r s
-    recorded_back r s x = (x.0, x.1, sym (c.life s) ∙ x.2)
-
-    recorded_even : (r : Reading) (s : ℕ) → IsAsRecorded m r s → IsEven (m (Life s))
-    recorded_even r s x = let e = x.2 in omega arith
-
-    recorded_linked : (r : Reading) (s : ℕ) → IsReadingKept m g r → IsAsRecorded m r s → g.linked s ≡ true
-    recorded_linked r s kept x = let l = x.1 in let e = x.2 in let q = l.2 in kept.linked s l.0 l.1 (omega arith)
-
     still_back : (r : Reading) (s : ℕ) → IsStillLinked m' to r s → IsStillLinked m g r s
     still_back r s x = record {
       linked = c.linked_back s x.linked;
@@ -364,19 +355,19 @@ module _ (m m' : Memory) (g to : Chart) (vs : List View) (id : ℕ) (v w : View)
     record_after r reading kept i = record {
       key_fits = i.key_fits;
       side = λ s tag b missed life known empty same settled.
-          (let was = recorded_back r s life in
+          (let was = recorded_back m m' c.life r s life in
           let none = c.link_back s b settled empty in
           let goes : GoesTo r s b = (subst (StandsWell r) missed reading.well).0 in
           let root : s ≡ 0 → b ≡ Right = λ z. ⊎_elim (λ (q : (s ≡ 0) × (b ≡ Right)). q.1) (λ q. absurd (q.0 z)) goes in
-          ⊎_elim (λ o. inl (c.old_for r.key s (recorded_even r s was) o))
-          (λ x. inr (c.side r.key s b (recorded_linked r s kept was) (recorded_even r s was) root none x))
+          ⊎_elim (λ o. inl (c.old_for r.key s (recorded_even m r s was) o))
+          (λ x. inr (c.side r.key s b (recorded_linked m g r s kept was) (recorded_even m r s was) root none x))
           (i.side s tag b missed was known none (sym (c.tag s b) ∙ same) (λ x. settled (c.emptied s b x))));
       walk = λ node parent b value walk found on. (let p = i.walk node parent b value walk found on in record {
-        parent = λ x y. (let was = recorded_back r walk.parent y in
-            ⊎_elim (λ q. inl q) (λ q. inr (c.path node walk.parent x.linked (inr (recorded_even r walk.parent was)) q))
+        parent = λ x y. (let was = recorded_back m m' c.life r walk.parent y in
+            ⊎_elim (λ q. inl q) (λ q. inr (c.path node walk.parent x.linked (inr (recorded_even m r walk.parent was)) q))
             (p.parent (still_back r node x) was));
-        slot = λ x y. (let was = recorded_back r walk.slot y in
-            c.path node walk.slot x.linked (inr (recorded_even r walk.slot was)) (p.slot (still_back r node x) was));
+        slot = λ x y. (let was = recorded_back m m' c.life r walk.slot y in
+            c.path node walk.slot x.linked (inr (recorded_even m r walk.slot was)) (p.slot (still_back r node x) was));
       });
     }
 

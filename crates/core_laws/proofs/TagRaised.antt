@@ -36,6 +36,7 @@ use Rattle.core_laws.proofs.LockLoads.{law_copy, life_or_tag_stores, under_lock}
 use Rattle.core_frames.proofs.Views.{same_is, stored_here, stored_else}
 use Rattle.core_frames.proofs.PlaceFrames.{tags_raised}
 use Rattle.core_frames.proofs.WholeFrames.{Stepper, StepKeeps, no_mark}
+use Rattle.core_frames.proofs.TreeFrames.{recorded_back}
 
 -- A side is emptied no more: what becomes of a lock, and of the number of sides that are emptied.
 
@@ -302,7 +303,7 @@ module _ (k : Shape) (m : Memory) (vs : List View) (h : List Mark) (id : ℕ) (v
           half = λ s. refl;
           off = λ s off. refl;
           root = i.slots.root;
-          recorded = λ r s x. x;
+          recorded = recorded_back m raised_memory (λ s. refl);
           tags = tag_back;
           hands = hands_else;
           away = λ s ne. refl;

@@ -272,8 +272,10 @@ pub record IsServed (m : Memory) (g : Chart) (h : List Mark) (vs : List View) (s
   pub way : IsWay g section.reading
 
 -- the slot has the generation that the section loaded, and is unmarked
-abbrev pub IsAsRecorded : Memory → Reading → ℕ → Type 0
-IsAsRecorded m r s = (generation : ℕ) × LoadedGeneration r s generation × (m (Life s) ≡ 2 * generation)
+pub record IsAsRecorded (m : Memory) (r : Reading) (s : ℕ) : Type 0 where
+  pub generation : ℕ
+  pub recorded : LoadedGeneration r s generation
+  pub same : m (Life s) ≡ 2 * generation
 
 -- A kept record of an empty side: where the slot has the recorded generation, the side is empty and has the recorded tag, the key
 -- belongs there. It says nothing of the old successor of a move whose interval holds the key, nor of a side that its lock's holder
