@@ -186,9 +186,6 @@ ends m x n rank V small step (suc fuel) a lt v =
     record { hops = suc r.hops; slot = r.slot; way = (ne, r.way); last = r.last; bound = omega (arith, r.bound); met = r.met })
     (cases_eq (next m x a) 0)
 
-pub last_of-stop : (m : Memory) (x fuel a : ℕ) → next m x a ≡ 0 → last_of m x (suc fuel) a ≡ a
-last_of-stop m x fuel a e = grind (arith, nat_tests)
-
 pub last_of-hop : (m : Memory) (x fuel a : ℕ) → next m x a ≢ 0 → last_of m x (suc fuel) a ≡ last_of m x fuel (next m x a)
 last_of-hop m x fuel a ne = grind (arith, nat_tests)
 

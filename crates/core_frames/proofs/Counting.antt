@@ -18,7 +18,7 @@ use Rattle.list_laws.specs.Counts.{times, numbers_from, total, IsIn, Each}
 use Rattle.core_state.specs.Memory.{sum_below, flag, count_below, has, Memory, slot_count}
 use Rattle.core_state.specs.Views.{places_of, slot_list, held_list, joined_spares, spares_of, joined_retired, retired_of, slots_of}
 use Rattle.core_state.specs.Steps.{spent_view}
-use Rattle.core_state.specs.Parts.{roles_of, HasSpareToCome, HasFewSlots, young_count, old_count}
+use Rattle.core_state.specs.Parts.{roles_of, HasFewSpent, HasFewSlots, young_count, old_count}
 use Rattle.core_state.specs.Invariant.{HoldsNow}
 use Rattle.core_frames.specs.Laws.{HoldsNothing, EmptyIsFull, PairsFit}
 use Rattle.list_laws.proofs.Lists.{total_part}
@@ -88,14 +88,14 @@ has_most None = omega arith
 has_most (Some move) = omega arith
 
 -- the slots that stay at spent places: a spare each, and so many retired ones at most
-joined_few : (most : ℕ) (ss : List Spent) → Each ss (λ (s : Spent). length s.retired ≤ most)
+joined_few : (most : ℕ) (ss : List Spent) → Each ss (HasFewSpent most)
     → length (joined_spares ss) + length (joined_retired ss) ≤ (most + 1) * length ss
 joined_few most [] few = omega arith
 joined_few most (s ∷ ss) few =
     let a = length-append (slot_list s.spare) (joined_spares ss) in
     let b = length-append s.retired (joined_retired ss) in
     let c = length_slot s.spare in
-    let d = few 0 s refl in
+    let d = (few 0 s refl).few in
     let e = joined_few most ss (λ i t at. few (suc i) t at) in
     omega arith
 
@@ -252,17 +252,17 @@ length_some [] a has = absurd (some-ne-none a (sym has.1))
 length_some (x ∷ xs) a has = omega arith
 
 -- a place that was joined keeps a slot
-joined_some : (ss : List Spent) → Each ss HasSpareToCome → length ss ≤ length (joined_spares ss) + length (joined_retired ss)
-joined_some [] spare = omega arith
-joined_some (s ∷ ss) spare =
+joined_some : {most : ℕ} (ss : List Spent) → Each ss (HasFewSpent most) → length ss ≤ length (joined_spares ss) + length (joined_retired ss)
+joined_some [] each = omega arith
+joined_some (s ∷ ss) each =
     let a = length-append (slot_list s.spare) (joined_spares ss) in
     let b = length-append s.retired (joined_retired ss) in
     let c = one s.spare refl in
-    let d = joined_some ss (λ i t at. spare (suc i) t at) in
+    let d = joined_some ss (λ i t at. each (suc i) t at) in
     omega arith
   where
     one : (o : Option ℕ) → s.spare ≡ o → 1 ≤ length (slot_list s.spare) + length s.retired
-    one None e = let r = spare 0 s refl e in let a = length_some s.retired r.0 r.1 in omega arith
+    one None e = let r = (each 0 s refl).next_spare e in let a = length_some s.retired r.retired r.has in omega arith
     one (Some t) e = let a = ap (λ x. length (slot_list x)) e in omega arith
 
 -- so does one that is worked at
@@ -270,13 +270,13 @@ share_least : {most : ℕ} (v : View) → HasFewSlots most v → (v.allowance.pl
 share_least v few spent =
     let a = slots_length v in
     let b = places_length v in
-    let c = joined_some v.allowance.joined few.joined_spare in
+    let c = joined_some v.allowance.joined few.joined in
     dite (dec_le 1 v.allowance.places)
     (λ works. (let d = one works v.hands.spare refl in omega arith))
     (λ none. (let z : length (places_of v) ≡ 0 = ap (λ u. length (places_of u)) (spent (omega arith)) in omega arith))
   where
     one : 1 ≤ v.allowance.places → (o : Option Held) → v.hands.spare ≡ o → 1 ≤ length (held_list v.hands.spare) + length v.hands.retired
-    one works None e = let r = few.next_spare works e in let a = length_some v.hands.retired r.0 r.1 in omega arith
+    one works None e = let r = few.next_spare works e in let a = length_some v.hands.retired r.retired r.has in omega arith
     one works (Some held) e = let a = ap (λ x. length (held_list x)) e in omega arith
 
 module _ (k : Shape) (m : Memory) (vs : List View) (h : List Mark) (i : HoldsNow k m vs h) where

@@ -1,5 +1,5 @@
 -- A table as it is made has the invariant.
-use Rattle.std.proofs.Common.{◌≡◌, ◌≢◌, ℕ, zero, suc, ◌+◌, ◌-◌, ◌/◌, ◌<◌, ◌≤◌, ◌==◌, nat_lt, not, ◌&&◌, ◌⊎◌, Bool, true, false, cond, List, [], ◌∷◌, ◌++◌, length, Some, None, refl, sym, ap, subst, ◌∙◌, ⊎_elim, inl, inr, arith, eq-eqb, ne_eqb}
+use Rattle.std.proofs.Common.{◌≡◌, ◌≢◌, ℕ, zero, suc, ◌+◌, ◌-◌, ◌/◌, ◌<◌, ◌≤◌, ◌==◌, nat_lt, not, ◌&&◌, ◌⊎◌, Bool, true, false, cond, List, [], ◌∷◌, ◌++◌, Some, None, refl, sym, ap, subst, ◌∙◌, ⊎_elim, inl, inr, arith, eq-eqb, ne_eqb}
 use Rattle.std.proofs.lemmas.Bool.{lt-ltb, le-ltb, le-leb, lt-leb, eqb-true}
 use Rattle.std.specs.FinMap as finite
 use Rattle.std.specs.Ordering.{nat_cmp}
@@ -25,7 +25,7 @@ use Rattle.core_state.specs.Views.{Works, slots_of, retired_of, readings_of, kno
 use Rattle.core_state.specs.Steps.{spent_view, unknown_slot}
 use Rattle.core_state.specs.declared.view.Held.{Held}
 use Rattle.core_state.specs.Invariant.{first_view, IsFresh, fresh_chart, IsShape, HoldsNow}
-use Rattle.core_state.specs.Parts.{WaitStands, IsOwned, SectionStands, IsCounted, IsClocked, IsTurnedOnce, HasSpareToCome, HasFewSlots, AreHandsKnown, IsRetired, HasFewLocks, IsReadingKept, linked_count, young_count, old_count, IsMoving, IsReading, IsServed, IsRecord, IsListing, IsWaitedRetired, IsWaitedMove}
+use Rattle.core_state.specs.Parts.{WaitStands, IsOwned, SectionStands, IsCounted, IsClocked, IsTurnedOnce, HasFewSpent, HasFewSlots, AreHandsKnown, IsRetired, HasFewLocks, IsReadingKept, linked_count, young_count, old_count, IsMoving, IsReading, IsServed, IsRecord, IsListing, IsWaitedRetired, IsWaitedMove}
 use Rattle.core_frames.specs.Laws.{FreshHolds}
 use Rattle.list_laws.proofs.Lists.{times_append, times_here, times_other, from_times, not_from, in_append}
 
@@ -219,8 +219,7 @@ module _ (k : Shape) (m : Memory) (table : IsShape k) (fresh : IsFresh k m) wher
         one = λ e. refl;
         few = omega arith;
         room = λ move is. omega arith;
-        joined = each_none (λ (s : Spent). length s.retired ≤ k.room);
-        joined_spare = each_none HasSpareToCome;
+        joined = each_none (HasFewSpent k.room);
         next_spare = λ works none. absurd (cc);
       });
       free = λ s lt e. even_life s;

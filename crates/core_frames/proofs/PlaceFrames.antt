@@ -7,13 +7,12 @@ use Rattle.prcu_marks.specs.declared.mark.Mark.{Mark}
 use Rattle.core_state.specs.declared.words.Field.TheVariants.{State, Life, Lock, Tag, Clock, Free, Front}
 use Rattle.core_state.specs.declared.view.Held.{Held}
 use Rattle.core_state.specs.declared.view.Retired.{Retired}
-use Rattle.core_state.specs.declared.view.Spent.{Spent}
 use Rattle.core_state.specs.declared.view.View.{View}
 use Rattle.list_laws.specs.Counts.{times, total, IsIn, Each}
 use Rattle.core_state.specs.Memory.{flag, IsEven, IsOdd, Memory, sum_below, count_below, has}
 use Rattle.core_state.specs.Views.{retired_of, slots_of, known_in, lock_of, LoadedGeneration, readings_of, unraised_of, emptied_among, Works, places_of, open_of, IsUnused}
 use Rattle.core_state.specs.Tree.{Chart}
-use Rattle.core_state.specs.Parts.{HasSpareToCome, HasFewSlots, IsRetired, IsRetiredOf, IsHeldKnown, AreHandsKnown, SlotParts, IsHolderOf, HasFewLocks, IsUnraised, IsLockKept, IsLockKnown, IsReadingKept, LockParts, turns_to_come, CountParts, linked_count, young_count, old_count, IsTurned, IsOddBy, FrontParts, HasMet, IsOwned, SectionStands, IsCounted, SeatParts, HasRetired, HasOpen, MakesOdd}
+use Rattle.core_state.specs.Parts.{HasFewSpent, HasFewSlots, IsRetired, IsRetiredOf, IsHeldKnown, AreHandsKnown, SlotParts, IsHolderOf, HasFewLocks, IsUnraised, IsLockKept, IsLockKnown, IsReadingKept, LockParts, turns_to_come, CountParts, linked_count, young_count, old_count, IsTurned, IsOddBy, FrontParts, HasMet, IsOwned, SectionStands, IsCounted, SeatParts, HasRetired, HasOpen, MakesOdd, HasUnraised, IsHandKnown}
 use Rattle.list_laws.proofs.Lists.{each_change, total_same, total_set, each_set, somewhere_at, somewhere_here, somewhere_still, only_at, only_change}
 use Rattle.core_frames.proofs.Marks.{QuietMarks, begun_at-same, OtherMarks, cut_at, others_same, others_snoc}
 use Rattle.core_frames.proofs.Views.{SameSlots, own_same, content_same, retired_same, spares_same, slots_same, OwnSlots, SameNodes, own_slots, SamePlaces, places_same}
@@ -25,7 +24,7 @@ use Rattle.core_state.specs.declared.view.Section.{Section}
 use Rattle.core_frames.proofs.TreeFrames.{generation_back}
 use Rattle.prcu_marks.specs.declared.mark.Side.TheVariants.{Left, Right}
 use Rattle.prcu_model.specs.Dictionary.{map_of, IsLegal}
-use Rattle.prcu_marks.specs.Marks.{updates_of, Open, open_at, own_of, entered_at, updates_by}
+use Rattle.prcu_marks.specs.Marks.{updates_of, Open, open_at, own_of, entered_at, updates_by, gone_at}
 use Rattle.prcu_marks.specs.declared.commit.Commit.{Commit}
 use Rattle.std.proofs.Math.Seq.{take-append_seam}
 use Rattle.prcu_marks.specs.declared.mark.Mark.TheVariants.{Entered, Left as LeftMark}
@@ -37,39 +36,47 @@ use mathlib.Core.List.{IsPrefix}
 use Rattle.core_frames.proofs.WaitFrames.{Sees}
 use Rattle.prcu_marks.proofs.Marks.{open_at-below}
 use Rattle.std.specs.FinMap as finite
+use Rattle.core_state.specs.Links.{IsContent}
 
 -- The parts on slots read the slots' words, the hands, places and moves of views, and where slots were unlinked. A step that leaves
 -- these keeps them.
+
+-- A retired slot is what it was, where its life and contents are, and it was unlinked at the same mark.
+pub retired_by : (m m' : Memory) (h h' : List Mark) (r : Retired) → gone_at r.slot h' ≡ gone_at r.slot h
+    → m' (Life r.slot) ≡ m (Life r.slot) → ((field : Field) → IsContent r.slot field → m' field ≡ m field) → IsRetired m h r
+    → IsRetired m' h' r
+retired_by m m' h h' r gone life contents i = record {
+  unlinked = gone ∙ i.unlinked;
+  some_slot = i.some_slot;
+  marked = λ e. subst IsOdd (sym life) (i.marked e);
+  life = λ number e f. life ∙ i.life number e f;
+  stays = λ field number e c f. contents field c ∙ i.stays field number e c f;
+  unmarked = λ e. subst IsEven (sym life) (i.unmarked e);
+  after_wait = i.after_wait;
+}
 
 -- Where nodes and states are the same, so are these parts: no lock word is read.
 module _ (m m' : Memory) (nodes : SameNodes m m') (states : (s : ℕ) → m' (State s) ≡ m (State s)) where
   even_same : (s : ℕ) → IsEven (m (Life s)) → IsEven (m' (Life s))
   even_same s e = subst IsEven (sym (nodes.life s)) e
 
-  odd_same : (s : ℕ) → IsOdd (m (Life s)) → IsOdd (m' (Life s))
-  odd_same s e = subst IsOdd (sym (nodes.life s)) e
-
   held_same : (held : Held) → IsHeldKnown m held → IsHeldKnown m' held
   held_same held i field number e = let r = i field number e in (r.0, own_same m m' nodes states held.slot field r.0 ∙ r.1)
 
+  hand_same : (held : Held) → IsHandKnown m held → IsHandKnown m' held
+  hand_same held i = record { known = held_same held i.known; even = even_same held.slot i.even }
+
   hands_same : (u : View) → AreHandsKnown m u → AreHandsKnown m' u
   hands_same u i = record {
-    hand = λ held is. (let r = i.hand held is in (held_same held r.0, even_same held.slot r.1));
+    hand = λ held is. hand_same held (i.hand held is);
     spare = λ held is. held_same held (i.spare held is);
-    copy = λ move is. (let r = i.copy move is in (held_same move.copy r.0, even_same move.copy.slot r.1));
+    copy = λ move is. hand_same move.copy (i.copy move is);
     spares = λ s has. even_same s (i.spares s has);
   }
 
   retired_is : (h h' : List Mark) (r : Retired) → QuietMarks h h' → IsRetired m h r → IsRetired m' h' r
-  retired_is h h' r quiet i = record {
-    unlinked = quiet.gone r.slot ∙ i.unlinked;
-    some_slot = i.some_slot;
-    marked = λ e. odd_same r.slot (i.marked e);
-    life = λ number e f. nodes.life r.slot ∙ i.life number e f;
-    stays = λ field number e c f. content_same m m' nodes r.slot field c ∙ i.stays field number e c f;
-    unmarked = λ e. even_same r.slot (i.unmarked e);
-    after_wait = i.after_wait;
-  }
+  retired_is h h' r quiet = retired_by m m' h h' r (quiet.gone r.slot) (nodes.life r.slot)
+      (λ field c. content_same m m' nodes r.slot field c)
 
   pub slots_elsewhere : {room : ℕ} (n : ℕ) (g : Chart) (vs : List View) (h h' : List Mark) → QuietMarks h h' → SlotParts room m n g vs h
       → SlotParts room m' n g vs h'
@@ -89,15 +96,15 @@ module _ (m m' : Memory) (nodes : SameNodes m m') (states : (s : ℕ) → m' (St
   }
 
 -- A slot that is retired of some view stays so, where the step's view has its own ones still.
-pub retired_of_by : (vs : List View) (id : ℕ) (v w : View) → get_elem? vs id ≡ some v → (s : ℕ)
-    → ((r : Retired) → IsIn (retired_of v) r → r.slot ≡ s → (x : Retired) × IsIn (retired_of w) x × (x.slot ≡ s)) → IsRetiredOf vs s
-    → IsRetiredOf (set vs id w) s
-retired_of_by vs id v w there s own r = somewhere_still vs id v w there (λ (x : HasRetired v s). own x.0 x.1 x.2) r
+pub retired_of_by : (vs : List View) (id : ℕ) (v w : View) → get_elem? vs id ≡ some v
+    → ((r : Retired) → IsIn (retired_of v) r → IsIn (retired_of w) r) → (s : ℕ) → IsRetiredOf vs s → IsRetiredOf (set vs id w) s
+retired_of_by vs id v w there keeps s = somewhere_still vs id v w there (λ (x : HasRetired v s).
+    record { retired = x.retired; has = keeps x.retired x.has; slot = x.slot })
 
 -- Where the view changes what it has in hand, it has to say what that leaves.
 module _ (m : Memory) (n : ℕ) (g : Chart) (vs : List View) (id : ℕ) (v w : View) (h : List Mark) (there : get_elem? vs id ≡ some v) where
   pub retired_of_still : retired_of w ≡ retired_of v → (s : ℕ) → IsRetiredOf vs s → IsRetiredOf (set vs id w) s
-  retired_of_still same s = retired_of_by vs id v w there s (λ r has is. (r, subst (λ rs. IsIn rs r) (sym same) has, is))
+  retired_of_still same = retired_of_by vs id v w there (λ r has. subst (λ rs. IsIn rs r) (sym same) has)
 
   pub slots_by : {room : ℕ} → ((s : ℕ) → times s (slots_of w) ≡ times s (slots_of v)) → (HasFewSlots room v → HasFewSlots room w)
       → (AreHandsKnown m v → AreHandsKnown m w) → (Each (retired_of v) (IsRetired m h) → Each (retired_of w) (IsRetired m h))
@@ -132,10 +139,9 @@ few_same {most} v w e i = record {
   one = e.one i.one;
   few = subst (λ (x : OwnSlots). length x.retired ≤ most) (sym e.own) i.few;
   room = λ move is. subst (λ (x : OwnSlots). length x.retired < most) (sym e.own) (i.room move (sym e.moving ∙ is));
-  joined = subst (λ (x : OwnSlots). Each x.joined (λ (s : Spent). length s.retired ≤ most)) (sym e.own) i.joined;
-  joined_spare = subst (λ (x : OwnSlots). Each x.joined HasSpareToCome) (sym e.own) i.joined_spare;
-  next_spare = λ works none. (let r = i.next_spare (subst (λ (x : OwnSlots). 1 ≤ x.places) e.own works)
-      ((λ n. (sym e.own n).spare) ∙ none) in (r.0, subst (λ (x : OwnSlots). IsIn x.retired r.0) (sym e.own) r.1, r.2));
+  joined = subst (λ (x : OwnSlots). Each x.joined (HasFewSpent most)) (sym e.own) i.joined;
+  next_spare = λ works none. subst (λ (x : OwnSlots). HasUnraised x.retired) (sym e.own)
+      (i.next_spare (subst (λ (x : OwnSlots). 1 ≤ x.places) e.own works) ((λ n. (sym e.own n).spare) ∙ none));
 }
 
 hands_view : (m : Memory) (v w : View) → SameForSlots v w → AreHandsKnown m v → AreHandsKnown m w
@@ -476,20 +482,20 @@ odd_by m vs h id v there t commit mine = ⊎_elim
 -- a section of a place is open by the marks only where a view has it open
 module _ (places : ℕ) (vs : List View) (id : ℕ) (v : View) (h : List Mark) (there : get_elem? vs id ≡ some v) (works : Works v)
     (t : SeatParts places vs h) where
-  open_is : (o : Open) → open_at v.allowance.place h ≡ Some o → (section : Section) × (v.section ≡ Some section) × (o ≡ open_of section)
+  open_is : (o : Open) → open_at v.allowance.place h ≡ Some o → HasOpen v v.allowance.place o
   open_is o e =
       let i = t.opened v.allowance.place o e in
-      let s = t.sections i.id i.view i.there i.has.1 i.has.2 in
+      let s = t.sections i.id i.view i.there i.has.section i.has.is_open in
       let same = places_apart places vs t.placed i.id id v.allowance.place i.view v i.there there
-      (subst (λ p. 1 ≤ times p (places_of i.view)) i.has.0 (works_there i.view s.works)) (works_there v works) in
-      let has : HasOpen v v.allowance.place o = somewhere_at vs id v there i same in (has.1, has.2, has.3)
+      (subst (λ p. 1 ≤ times p (places_of i.view)) i.has.place (works_there i.view s.works)) (works_there v works) in
+      somewhere_at vs id v there i same
 
   pub open_none : v.section ≡ None → open_at v.allowance.place h ≡ None
   open_none outside = cases (open_at v.allowance.place h) refl
     where
       cases : (o : Option Open) → open_at v.allowance.place h ≡ o → o ≡ None
       cases None e = refl
-      cases (Some o) e = let i = open_is o e in absurd (let q : None ≡ Some i.0 = sym outside ∙ i.1 in cc)
+      cases (Some o) e = let i = open_is o e in absurd (let q : None ≡ Some i.section = sym outside ∙ i.is_open in cc)
 
 -- a section stands after more marks, in a view that is at the same place
 section_stands : (h h' : List Mark) (u z : View) (section : Section) → IsPrefix h h' → z.allowance.place ≡ u.allowance.place → Works z
@@ -542,8 +548,7 @@ module _ (places : ℕ) (vs : List View) (id : ℕ) (v w : View) (h h' : List Ma
 
   -- the step says how its own section stands, and that it is the one that is open
   pub seat_frame_by : ((section : Section) → w.section ≡ Some section → SectionStands h' w section)
-      → ((o : Open) → open_at v.allowance.place h' ≡ Some o → (section : Section) × (w.section ≡ Some section) × (o ≡ open_of section))
-      → SeatParts places (set vs id w) h'
+      → ((o : Open) → open_at v.allowance.place h' ≡ Some o → HasOpen w v.allowance.place o) → SeatParts places (set vs id w) h'
   seat_frame_by own opened = record {
     placed = λ p. total_same (λ (u : View). times p (places_of u)) vs id v w there (ap (times p) (places_same v w same)) ∙ t.placed p;
     spent = each_change (λ (u : View). u.allowance.places ≡ 0 → u ≡ spent_view)
@@ -562,9 +567,9 @@ module _ (places : ℕ) (vs : List View) (id : ℕ) (v w : View) (h h' : List Ma
         section_stands h h' u u section others.begins refl s.works
         (others.opens u.allowance.place (far j u.allowance.place u ne e (works_there u s.works))) s));
     opened = λ p o e. dite (ℕ_discrete p v.allowance.place)
-        (λ here. (let i = opened o (ap (λ q. open_at q h') (sym here) ∙ e) in
-        somewhere_here vs id v w there (same.place ∙ sym here, i.0, i.1, i.2)))
-        (λ ne. somewhere_still vs id v w there (λ (own : HasOpen v p o). absurd (ne (sym own.0)))
+        (λ here. somewhere_here vs id v w there
+        (subst (λ q. HasOpen w q o) (sym here) (opened o (ap (λ q. open_at q h') (sym here) ∙ e))))
+        (λ ne. somewhere_still vs id v w there (λ (own : HasOpen v p o). absurd (ne (sym own.place)))
         (t.opened p o (sym (others.opens p ne) ∙ e)));
     counted = each_set (λ j u. Works u → IsCounted h' u) vs id w (λ _. counted)
         (λ j u ne e here. (let c = t.counted j u e here in let f = far j u.allowance.place u ne e (works_there u here) in
@@ -580,7 +585,8 @@ module _ (places : ℕ) (vs : List View) (id : ℕ) (v w : View) (h h' : List Ma
   seat_frame_still section opens =
       seat_frame_by
       (λ s is. section_stands h h' v w s others.begins same.place works_still opens (t.sections id v there s (sym section ∙ is)))
-      (λ o e. (let i = open_is places vs id v h there works t o (sym opens ∙ e) in (i.0, section ∙ i.1, i.2)))
+      (λ o e. (let i = open_is places vs id v h there works t o (sym opens ∙ e) in
+      record { place = same.place; section = i.section; is_open = section ∙ i.is_open; by_marks = i.by_marks }))
 
 -- What a step leaves of a view for the parts on seats, where it leaves no mark.
 pub record SameForSeats (v w : View) : Type 0 where
@@ -633,7 +639,7 @@ module _ (places : ℕ) (vs : List View) (id : ℕ) (v : View) (h : List Mark) (
       (record { sections = omega arith; waits = c.waits ∙ sym (begun_at-same v.allowance.place h mark tt) }) t
       (λ s is. (let e : section ≡ s = cc in subst (SectionStands (h ++ mark ∷ []) w) e stands))
       (λ o e. (let now : Some (open_of section) ≡ Some o = sym (open_entered v.allowance.place h v.counts.sections key) ∙ e in
-      let same : open_of section ≡ o = cc in (section, refl, sym same)))
+      let same : open_of section ≡ o = cc in record { place = refl; section = section; is_open = refl; by_marks = sym same }))
 
   -- a section is left
   pub seats_left : (section : Section)

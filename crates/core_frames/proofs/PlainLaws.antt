@@ -1,5 +1,5 @@
 -- The laws in plain words: a tree, right answers, what records say, how old stamps are, where a listing goes on.
-use Rattle.std.proofs.Common.{zero, suc, ◌≡◌, ◌≢◌, ℕ, ◌+◌, ◌<◌, ◌≤◌, true, refl, sym, ap, ◌∙◌, subst, arith, ◌⊎◌, inl, inr, ⊎_elim, nat_lt, cond, Bool, false, eq-eqb, Some, None, ◌*◌, ◌^◌, List, [], ◌∷◌, ◌++◌, length, take, drop, Option, length-append}
+use Rattle.std.proofs.Common.{zero, suc, ◌≡◌, ◌≢◌, ℕ, ◌+◌, ◌<◌, ◌≤◌, true, refl, sym, ap, ◌∙◌, subst, arith, ◌⊎◌, inl, inr, ⊎_elim, nat_lt, cond, Bool, false, eq-eqb, Some, None, ◌^◌, List, [], ◌∷◌, ◌++◌, length, take, drop, Option, length-append}
 use Rattle.std.proofs.lemmas.Bool.{cases_eq, ltb-true, cases_order}
 use mathlib.Core.Logic.{dite}
 use native.Mathlib.Decide.{ℕ_discrete, dec_le}
@@ -36,6 +36,7 @@ use Rattle.core_state.specs.declared.view.SearchState.TheVariants.{At, Unread, F
 use Rattle.list_laws.proofs.Lists.{in_append, total_part, somewhere_at}
 use Rattle.core_state.specs.declared.view.Gap.{Gap}
 use Rattle.core_state.specs.Steps.{narrowed}
+use Rattle.core_frames.proofs.TreeFrames.{recorded_linked}
 
 -- The chart gives a tree.
 
@@ -294,7 +295,7 @@ pub gone_within : (k : Shape) (m : Memory) (vs : List View) (h : List Mark) → 
     → s < slot_count k
 gone_within k m vs h i s p gone =
     let r = i.slots.unlinked s p gone in
-    let one = subst (λ z. 1 ≤ times z (slots_of r.view)) r.has.2 (retired_own r.view r.has.0 r.has.1) in
+    let one = subst (λ z. 1 ≤ times z (slots_of r.view)) r.has.slot (retired_own r.view r.has.retired r.has.has) in
     let part = total_part (λ (v : View). times s (slots_of v)) vs r.id r.view r.there in
     dite (dec_le (slot_count k) s) (λ far. absurd (let none = i.slots.roles.beyond s far in omega arith)) (λ near. omega arith)
 
@@ -394,7 +395,7 @@ pub records_say : RecordsSay
 records_say k m vs h i id v r s tag b there has missed life known empty same settled =
     let reading = i.readers.readings id v there has.0 r has.1 in
     let goes : GoesTo r s b = (subst (StandsWell r) missed reading.well).0 in
-    let linked = (let l = life.1 in (i.locks.readings id v there has.0 r has.1).linked s l.0 l.1 (life.2 ∙ ap (λ z. 2 * z) l.2)) in
+    let linked = recorded_linked m i.chart r s (i.locks.readings id v there has.0 r has.1) life in
     ⊎_elim (λ o. inl o) (λ belongs. inr (ends_there m (slot_count k) i.chart r.key s b i.tree.shape
     (reading_says k m vs h i id v r there has).key_fits linked (root_side goes) empty belongs))
     ((reading_says k m vs h i id v r there has).side s tag b missed life known empty same settled)

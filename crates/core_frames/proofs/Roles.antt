@@ -201,7 +201,8 @@ module _ {room : ℕ} (m : Memory) (n : ℕ) (g : Chart) (vs : List View) (h : L
   -- an unlinked slot is retired
   pub gone_off : (s p : ℕ) → gone_at s h ≡ Some p → g.linked s ≡ false
   gone_off s p gone = let r = t.unlinked s p gone in
-      subst (λ z. g.linked z ≡ false) r.has.2 (own_off r.id r.view r.there r.has.0.slot (retired_own r.view r.has.0 r.has.1))
+      subst (λ z. g.linked z ≡ false) r.has.slot
+      (own_off r.id r.view r.there r.has.retired.slot (retired_own r.view r.has.retired r.has.has))
 
   module _ (id : ℕ) (v : View) (there : get_elem? vs id ≡ some v) where
     -- so a slot in hand or a spare isn't unlinked, by the marks
@@ -215,10 +216,10 @@ module _ {room : ℕ} (m : Memory) (n : ℕ) (g : Chart) (vs : List View) (h : L
             let c = slots_count v s in
             let mine : 1 ≤ times s (slots_of v) = omega arith in
             let theirs : 1 ≤ times s (slots_of r.view) =
-            subst (λ z. 1 ≤ times z (slots_of r.view)) r.has.2 (retired_own r.view r.has.0 r.has.1) in
+            subst (λ z. 1 ≤ times z (slots_of r.view)) r.has.slot (retired_own r.view r.has.retired r.has.has) in
             let own : HasRetired v s = somewhere_at vs id v there r (own_apart id v there s r.id r.view r.there mine theirs) in
             let again : 1 ≤ times s (map (λ (x : Retired). x.slot) (retired_of v)) =
-            subst (λ z. 1 ≤ times z (map (λ (x : Retired). x.slot) (retired_of v))) own.2 (retired_there v own.0 own.1) in
+            subst (λ z. 1 ≤ times z (map (λ (x : Retired). x.slot) (retired_of v))) own.slot (retired_there v own.retired own.has) in
             let once = own_once id v there s in
             absurd (omega arith)
 
@@ -586,7 +587,7 @@ linked_now : (m : Memory) (g : Chart) (h : List Mark) (section : Section) (s : �
     → IsAsRecorded m section.reading s → g.linked s ≡ true
 linked_now m g h section s stood as_recorded =
     ⊎_elim (λ l. l) (λ (x : IsHeldBack g h section.entered s × IsOdd (m (Life s))). absurd
-    (let odd = x.1 in let even = as_recorded.2 in omega arith)) stood.here
+    (let odd = x.1 in let even = as_recorded.same in omega arith)) stood.here
 
 -- What a section found out is a record that says the truth.
 pub record_of : (m : Memory) (n : ℕ) (g : Chart) (vs : List View) (h : List Mark) (section : Section) → IsShaped m n g
@@ -606,7 +607,7 @@ record_of m n g vs h section shape reading sought fits served = record {
 }
   where
     nothing : section.reading.loads ≡ [] → (s : ℕ) → IsAsRecorded m section.reading s → ⊥
-    nothing none s life = let l = life.1 in absurd (let e : None ≡ Some l.0 = ap (λ ls. known_in ls (Life s)) (sym none) ∙ l.1 in cc)
+    nothing none s life = let l = life.recorded in absurd (let e : None ≡ Some l.0 = ap (λ ls. known_in ls (Life s)) (sym none) ∙ l.1 in cc)
 
     side_case : (listing : Option Listing) → section.listing ≡ listing → (s : ℕ) (b : Side) → section.reading.state ≡ Missed s b
         → IsAsRecorded m section.reading s → m (Link s b) ≡ 0

@@ -39,7 +39,7 @@ module _ (k : Shape) (m : Memory) (vs : List View) (h : List Mark) (inv : HoldsN
     (there : get_elem? vs id ≡ some v) where
   -- a load of a field of the slot in hand finds what is known of it
   tells_loads : (s : ℕ) (field : Field) → Tells v s field (m field)
-  tells_loads s field held is same number known = ((((inv.slots.hands id v there).hand held is).0) field number known).1
+  tells_loads s field held is same number known = (((inv.slots.hands id v there).hand held is).known field number known).1
 
   -- each unlinking of its retired slots is an old mark
   tells_older : Each v.hands.retired (λ (r : Retired). r.unlinked < length h)
@@ -69,15 +69,15 @@ module _ (k : Shape) (m : Memory) (vs : List View) (h : List Mark) (inv : HoldsN
       (λ (back : IsHeldBack inv.chart h section.entered s × IsOdd (m (Life s))).
       (let held = back.0 in
       let of = inv.slots.unlinked s held.at held.gone in
-      let r = of.has.0 in
-      subst (λ x. x < slot_count k) of.has.2
-      (own_below m (slot_count k) inv.chart vs h inv.slots of.id of.view of.there r.slot (retired_own of.view r of.has.1))))
+      let r = of.has.retired in
+      subst (λ x. x < slot_count k) of.has.slot
+      (own_below m (slot_count k) inv.chart vs h inv.slots of.id of.view of.there r.slot (retired_own of.view r of.has.has))))
       ((inv.readers.served id v there section e).stood s has).here
 
   -- a place without a spare has a retired slot
   tells_spare : Works v → v.hands.spare ≡ None → v.hands.retired ≢ []
   tells_spare works none e = let x = (inv.slots.few id v there).next_spare works none in
-      absurd (let i = x.1 in let q : IsIn [] x.0 = subst (λ (rs : List Retired). IsIn rs x.0) e i in some-ne-none x.0 (sym q.1))
+      absurd (let q : IsIn [] x.retired = subst (λ rs. IsIn rs x.retired) e x.has in some-ne-none x.retired (sym q.1))
 
   -- each lock once, and none of them is free
   tells_once : TellsOnce v

@@ -3,7 +3,7 @@ use Rattle.std.proofs.Common.{◌≡◌, ◌≢◌, ℕ, zero, suc, ◌+◌, ◌
 use Rattle.prcu_marks.specs.declared.mark.Side.{Side}
 use Rattle.prcu_marks.specs.declared.mark.Side.TheVariants.{Left, Right}
 use Rattle.core_state.specs.declared.words.Field.TheVariants.{Key, Value, Link, Life}
-use Rattle.core_state.specs.Memory.{Memory, IsOdd}
+use Rattle.core_state.specs.Memory.{Memory, IsOdd, IsEven}
 use Rattle.core_state.specs.Tree.{after, next, answer_at, OnRightLeft, first, further, Chart, low_of, high_of, Belongs, IsShaped, HoldsMap, HoldsPair, Spine, bottom, more, Place, in_range, at_old, Walks, at_linked, at_stop, at_live, IsPending, IsHeldBack, MayPass, IsOldFor, IsEmptied, HasEmptied}
 use Rattle.core_frames.proofs.Charts.{carry, carry_going}
 use Rattle.core_frames.proofs.Views.{SameNodes, was}
@@ -20,8 +20,8 @@ use Rattle.core_state.specs.declared.view.Move.{Move}
 use Rattle.core_state.specs.declared.view.Reading.{Reading}
 use Rattle.core_state.specs.declared.view.View.{View}
 use Rattle.list_laws.specs.Counts.{IsIn, Each}
-use Rattle.core_state.specs.Views.{lock_of, is_emptied, readings_of, open_reading}
-use Rattle.core_state.specs.Parts.{HasGeneration, map_now, IsMoving, TreeParts, Answered, IsServed, IsAsRecorded, IsStillLinked, IsRecord, IsReading, IsMetBefore, ReaderParts, IsBetween, GoesOn, here, StandsNow, IsVisit, IsListing, ListingParts, HasMetBefore}
+use Rattle.core_state.specs.Views.{lock_of, readings_of, open_reading}
+use Rattle.core_state.specs.Parts.{HasGeneration, map_now, IsMoving, TreeParts, Answered, IsServed, IsAsRecorded, IsStillLinked, IsRecord, IsReading, IsMetBefore, ReaderParts, IsBetween, GoesOn, here, StandsNow, IsVisit, IsListing, ListingParts, HasMetBefore, AreAged, IsGoneSince, IsReadingKept}
 use Rattle.list_laws.proofs.Lists.{each_set, each_change, somewhere_still, somewhere_was}
 use Rattle.core_frames.proofs.Marks.{QuietMarks}
 use Rattle.prcu_marks.specs.Marks.{updates_of, gone_at}
@@ -301,16 +301,23 @@ tree_frame m m' n g vs id v w h h' there nodes same quiet t =
 -- The parts on readers read the words of nodes, the sections, records, moves and locks of views, the updates and where slots were
 -- unlinked. A step that leaves nodes, moves and locks keeps what holds of the other views' sections and records.
 
-module _ (m m' : Memory) (nodes : SameNodes m m') where
+-- a slot that is as recorded is unmarked, and linked
+pub recorded_even : (m : Memory) (r : Reading) (s : ℕ) → IsAsRecorded m r s → IsEven (m (Life s))
+recorded_even m r s i = omega (arith, i.same)
+
+pub recorded_linked : (m : Memory) (g : Chart) (r : Reading) (s : ℕ) → IsReadingKept m g r → IsAsRecorded m r s → g.linked s ≡ true
+recorded_linked m g r s kept i = let l = i.recorded in kept.linked s l.0 l.1 (i.same ∙ ap (λ x. 2 * x) l.2)
+
+module _ (m m' : Memory) (lives : (s : ℕ) → m' (Life s) ≡ m (Life s)) where
   pub recorded_back : (r : Reading) (s : ℕ) → IsAsRecorded m' r s → IsAsRecorded m r s
-  recorded_back r s i = (i.0, i.1, sym (nodes.life s) ∙ i.2)
+  recorded_back r s i = record { generation = i.generation; recorded = i.recorded; same = sym (lives s) ∙ i.same }
 
   pub linked_back : (g : Chart) (r : Reading) (s : ℕ) → IsStillLinked m' g r s → IsStillLinked m g r s
   linked_back g r s i = record {
     linked = i.linked;
     generation = i.generation;
     recorded = i.recorded;
-    same = ap (λ x. x / 2) (sym (nodes.life s)) ∙ i.same;
+    same = ap (λ x. x / 2) (sym (lives s)) ∙ i.same;
   }
 
 pub held_back_same : (g : Chart) (h h' : List Mark) (entered s : ℕ) → QuietMarks h h' → IsHeldBack g h entered s → IsHeldBack g h' entered s
@@ -330,38 +337,56 @@ answered_by us later section said (Found s parent b None) i = tt
 answered_by us later section said (Found s parent b (Some value)) i = said (Some value) i
 answered_by us later section said (Missed s b) i = said None i
 
+-- A reader may pass an old successor still where its move is pending still; and a slot is old for a key.
+pub may_by : {vs us : List View} {key entered s : ℕ} (i : MayPass vs key entered s) → IsPending us i.move → MayPass us key entered s
+may_by i pending = record { move = i.move; pending = pending; old = i.old; low = i.low; high = i.high; before = i.before }
+
+pub old_by : {vs us : List View} {key s : ℕ} (i : IsOldFor vs key s) → IsPending us i.move → IsOldFor us key s
+old_by i pending = record { move = i.move; pending = pending; old = i.old; low = i.low; high = i.high }
+
 -- The stepping view's moves and locks stay.
 module _ (vs : List View) (id : ℕ) (v w : View) (there : get_elem? vs id ≡ some v) (moving : w.moving ≡ v.moving) where
   pub may_still : (key entered s : ℕ) → MayPass vs key entered s → MayPass (set vs id w) key entered s
-  may_still key entered s i = record {
-    move = i.move;
-    pending = pending_still vs id v w there moving i.move i.pending;
-    old = i.old;
-    low = i.low;
-    high = i.high;
-    before = i.before;
-  }
+  may_still key entered s i = may_by i (pending_still vs id v w there moving i.move i.pending)
 
   pub old_still : (key s : ℕ) → IsOldFor vs key s → IsOldFor (set vs id w) key s
-  old_still key s i = record {
-    move = i.move;
-    pending = pending_still vs id v w there moving i.move i.pending;
-    old = i.old;
-    low = i.low;
-    high = i.high;
-  }
+  old_still key s i = old_by i (pending_still vs id v w there moving i.move i.pending)
 
 -- the view's locks still say which sides it emptied
-pub emptied_by : (vs : List View) (id : ℕ) (v w : View) → get_elem? vs id ≡ some v
-    → ((s : ℕ) (lock : HeldLock) → lock_of v.locks s ≡ Some lock → (b : Side) → is_emptied lock b ≡ true
-    → (l : HeldLock) × (lock_of w.locks s ≡ Some l) × (is_emptied l b ≡ true)) → (s : ℕ) (b : Side) → IsEmptied vs s b
-    → IsEmptied (set vs id w) s b
-emptied_by vs id v w there forth s b i = somewhere_still vs id v w there (λ (x : HasEmptied v s b). forth s x.0 x.1 b x.2) i
-
 pub emptied_still : (vs : List View) (id : ℕ) (v w : View) → get_elem? vs id ≡ some v → w.locks ≡ v.locks → (s : ℕ) (b : Side)
     → IsEmptied vs s b → IsEmptied (set vs id w) s b
-emptied_still vs id v w there locks = emptied_by vs id v w there (λ s lock holds b emptied.
-    (lock, ap (λ ls. lock_of ls s) locks ∙ holds, emptied))
+emptied_still vs id v w there locks s b = somewhere_still vs id v w there (λ (x : HasEmptied v s b).
+    record { lock = x.lock; held = ap (λ ls. lock_of ls s) locks ∙ x.held; emptied = x.emptied })
+
+-- who has a section open that was entered before a mark had so, where the step enters none before it
+pub met_by : (vs : List View) (id : ℕ) (v w : View) → get_elem? vs id ≡ some v → (at : ℕ)
+    → ((section : Section) → w.section ≡ Some section → section.entered < at → HasMetBefore v at) → IsMetBefore (set vs id w) at
+    → IsMetBefore vs at
+met_by vs id v w there at back = somewhere_was vs id v w there (λ (x : HasMetBefore w at). back x.section x.is_open x.before)
+
+-- the section is as it was, or none is open
+pub met_still : (vs : List View) (id : ℕ) (v w : View) → get_elem? vs id ≡ some v → w.section ≡ v.section → (at : ℕ)
+    → IsMetBefore (set vs id w) at → IsMetBefore vs at
+met_still vs id v w there same at = met_by vs id v w there at (λ section is before.
+    record { section = section; is_open = sym same ∙ is; before = before })
+
+pub met_outside : (vs : List View) (id : ℕ) (v w : View) → get_elem? vs id ≡ some v → w.section ≡ None → (at : ℕ)
+    → IsMetBefore (set vs id w) at → IsMetBefore vs at
+met_outside vs id v w there outside at = met_by vs id v w there at (λ section is before.
+    absurd (let q : None ≡ Some section = sym outside ∙ is in cc))
+
+-- Links of unlinked slots are as old after a step that leaves these links, and who is linked and who unlinked.
+pub aged_by : (m m' : Memory) (g : Chart) (vs us : List View) (h h' : List Mark) → ((s : ℕ) → gone_at s h' ≡ gone_at s h)
+    → ((s : ℕ) (b : Side) → m' (Link s b) ≡ m (Link s b)) → ((at : ℕ) → at < length h → IsMetBefore us at → IsMetBefore vs at)
+    → AreAged m g vs h → AreAged m' g us h'
+aged_by m m' g vs us h h' gone links met t s at c b is now link ne =
+    let was = sym (gone s) ∙ is in
+    let aged = t s at c b was (met at (gone_at-below s h at was) now) (sym (links s b) ∙ link) ne in
+    record {
+      rank = aged.rank;
+      leads = ⊎_elim (λ l. inl l)
+          (λ (x : IsGoneSince h at c). inr (record { at = x.at; gone = gone c ∙ x.gone; later = x.later })) aged.leads;
+    }
 
 -- What readers see of the views: who may pass an old successor, which slots are old for a key, and which sides were emptied.
 pub record ReadersSee (vs us : List View) : Type 0 where
@@ -434,12 +459,12 @@ module _ (m m' : Memory) (nodes : SameNodes m m') (g : Chart) (vs us : List View
     key_fits = i.key_fits;
     side = λ s tag b missed life known empty same settled.
         ⊎_elim (λ o. inl (see.old_for r.key s o)) (λ x. inr (belongs_same m m' any any contents g linked_any r.key s b tt x))
-        (i.side s tag b missed (recorded_back m m' nodes r s life) known (sym (nodes.link s b) ∙ empty) (sym (nodes.tag s b) ∙ same)
+        (i.side s tag b missed (recorded_back m m' nodes.life r s life) known (sym (nodes.link s b) ∙ empty) (sym (nodes.tag s b) ∙ same)
         (λ x. settled (see.emptied s b x)));
     walk = λ node parent b value walk found on. (let p = i.walk node parent b value walk found on in record {
       parent = λ x y. ⊎_elim (λ e. inl e) (λ e. inr (path_same node walk.parent e))
-          (p.parent (linked_back m m' nodes g r node x) (recorded_back m m' nodes r walk.parent y));
-      slot = λ x y. path_same node walk.slot (p.slot (linked_back m m' nodes g r node x) (recorded_back m m' nodes r walk.slot y));
+          (p.parent (linked_back m m' nodes.life g r node x) (recorded_back m m' nodes.life r walk.parent y));
+      slot = λ x y. path_same node walk.slot (p.slot (linked_back m m' nodes.life g r node x) (recorded_back m m' nodes.life r walk.slot y));
     });
   }
 
@@ -464,12 +489,7 @@ module _ (m m' : Memory) (nodes : SameNodes m m') (g : Chart) (vs : List View) (
         (λ (u : View). Each u.records (IsRecord m' g (set vs id w))) vs id v w there
         (λ i. subst (λ rs. Each rs (IsRecord m' g (set vs id w))) (sym records) (λ j r e. record_stays r (i j r e)))
         (λ u i j r e. record_stays r (i j r e)) t.records;
-    ages = λ s at c b gone met link ne.
-        (let before : IsMetBefore vs at = somewhere_was vs id v w there (λ (x : HasMetBefore w at). (x.0, sym section ∙ x.1, x.2)) met in
-        let aged = t.ages s at c b (sym (quiet.gone s) ∙ gone) before (sym (nodes.link s b) ∙ link) ne in (
-          aged.0,
-          ⊎_elim (λ l. inl l) (λ (x : (later : ℕ) × (gone_at c h ≡ Some later) × (at < later)). inr (x.0, quiet.gone c ∙ x.1, x.2)) aged.1,
-        ));
+    ages = aged_by m m' g vs (set vs id w) h h' quiet.gone nodes.link (λ at small. met_still vs id v w there section at) t.ages;
   }
 
 module _ (m m' : Memory) (nodes : SameNodes m m') (g : Chart) (vs : List View) (id : ℕ) (v w : View) (h h' : List Mark)
@@ -489,11 +509,14 @@ module _ (m m' : Memory) (nodes : SameNodes m m') (g : Chart) (vs : List View) (
         → (length h ≤ section.entered) ⊎ ((z : Section) × (v.section ≡ Some z) × (z.entered ≡ section.entered))
 
   met_back : OwnReaders → (at : ℕ) → at < length h → IsMetBefore (set vs id w) at → IsMetBefore vs at
-  met_back own at small i =
-      somewhere_was vs id v w there (λ (x : HasMetBefore w at). let lt = x.2 in
-      ⊎_elim (λ (late : length h ≤ x.0.entered). absurd (omega arith))
-      (λ (z : (z : Section) × (v.section ≡ Some z) × (z.entered ≡ x.0.entered)). (z.0, z.1, (let e = z.2 in omega arith)))
-      (own.older x.0 x.1)) i
+  met_back own at small = met_by vs id v w there at (λ section is before. ⊎_elim
+      (λ (late : length h ≤ section.entered). absurd (omega arith))
+      (λ (z : (z : Section) × (v.section ≡ Some z) × (z.entered ≡ section.entered)). record {
+        section = z.0;
+        is_open = z.1;
+        before = (let e = z.2 in omega arith);
+      })
+      (own.older section is))
 
   pub reader_frame : OwnReaders → ReaderParts m g vs h → ReaderParts m' g (set vs id w) h'
   reader_frame own t = record {
@@ -502,12 +525,7 @@ module _ (m m' : Memory) (nodes : SameNodes m m') (g : Chart) (vs : List View) (
         (λ j u other e section is. served_same section (t.served j u e section is));
     records = each_set (λ j u. Each u.records (IsRecord m' g (set vs id w))) vs id w own.records
         (λ j u other e i r is. record_same r (t.records j u e i r is));
-    ages = λ s at c b gone met link ne.
-        (let was_gone = sym (quiet.gone s) ∙ gone in
-        let aged = t.ages s at c b was_gone (met_back own at (gone_at-below s h at was_gone) met) (sym (nodes.link s b) ∙ link) ne in (
-          aged.0,
-          ⊎_elim (λ l. inl l) (λ (x : (later : ℕ) × (gone_at c h ≡ Some later) × (at < later)). inr (x.0, quiet.gone c ∙ x.1, x.2)) aged.1,
-        ));
+    ages = aged_by m m' g vs (set vs id w) h h' quiet.gone nodes.link (met_back own) t.ages;
   }
 
 -- The parts on listings read nodes, where slots were unlinked, the updates, and the listings of views. A step that leaves nodes keeps the

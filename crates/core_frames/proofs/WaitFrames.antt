@@ -151,39 +151,33 @@ abbrev pub OnlyOlder : List Mark → View → View → Type 0
 OnlyOlder h v w = (section : Section) → w.section ≡ Some section
     → (length h ≤ section.entered) ⊎ ((z : Section) × (v.section ≡ Some z) × (z.entered ≡ section.entered) × (z.key ≡ section.key))
 
--- what waits were for, with more marks
+-- what a wait was for, by where it began and ended
+pub waited_by : {h h' : List Mark} {p after low high : ℕ} (i : HasWaited h p after low high)
+    → get_elem? h' i.began ≡ some (Began p i.count i.from i.to) → get_elem? h' i.ended ≡ some (Ended p i.count)
+    → HasWaited h' p after low high
+waited_by i begins ends = record {
+  began = i.began;
+  ended = i.ended;
+  count = i.count;
+  from = i.from;
+  to = i.to;
+  late = i.late;
+  begins = begins;
+  ends = ends;
+  least = i.least;
+  most = i.most;
+}
+
+-- the same, with more marks
 pub waited_longer : (h h' : List Mark) → ((j : ℕ) (a : Mark) → get_elem? h j ≡ some a → get_elem? h' j ≡ some a) → (p after low high : ℕ)
     → HasWaited h p after low high → HasWaited h' p after low high
-waited_longer h h' longer p after low high i =
-    record {
-      began = i.began;
-      ended = i.ended;
-      count = i.count;
-      from = i.from;
-      to = i.to;
-      late = i.late;
-      begins = longer i.began _ i.begins;
-      ends = longer i.ended _ i.ends;
-      least = i.least;
-      most = i.most;
-    }
+waited_longer h h' longer p after low high i = waited_by i (longer i.began _ i.begins) (longer i.ended _ i.ends)
 
 pub waited_before : (h h' : List Mark) → QuietWaits h h' → (p after low high : ℕ) → HasWaited h' p after low high
     → HasWaited h p after low high
 waited_before h h' quiet p after low high i =
     let ends = quiet.ended i.ended p i.count i.ends in
-    record {
-      began = i.began;
-      ended = i.ended;
-      count = i.count;
-      from = i.from;
-      to = i.to;
-      late = i.late;
-      begins = quiet.began i.began p i.count i.from i.to (i.ended, ends) i.begins;
-      ends = ends;
-      least = i.least;
-      most = i.most;
-    }
+    waited_by i (quiet.began i.began p i.count i.from i.to (i.ended, ends) i.begins) ends
 
 waited_below : (h : List Mark) (p after low high : ℕ) → HasWaited h p after low high → after < length h
 waited_below h p after low high i = let l = at_below h i.began _ i.begins in let late = i.late in omega arith

@@ -1,6 +1,6 @@
 -- A step that leaves the chart: it leaves keys, values and links of all slots of one kind, which linked slots and those that a section can
 -- meet are of. It frames all parts but those on slots, locks, counts and grace; a step that changes the view's hands alone is such a one.
-use Rattle.std.proofs.Common.{◌≡◌, ◌≢◌, ℕ, ◌/◌, true, List, set, Some, refl, sym, ap, subst, ◌∙◌, ◌+◌, ◌*◌, ◌<◌, ◌≤◌, length, None, ⊎_elim, inl, inr, arith, ◌++◌, false, [], ◌∷◌, ◌-◌, map, Option}
+use Rattle.std.proofs.Common.{◌≡◌, ◌≢◌, ℕ, ◌/◌, true, List, set, Some, refl, sym, ap, subst, ◌∙◌, ◌+◌, ◌*◌, ◌≤◌, length, None, ⊎_elim, inl, inr, arith, ◌++◌, false, [], ◌∷◌, ◌-◌, map, Option}
 use mathlib.Core.Option.{some}
 use lib.ListN.{get_elem?}
 use Rattle.prcu_model.specs.declared.operation.Update.{Update}
@@ -20,10 +20,10 @@ use Rattle.list_laws.specs.Counts.{IsIn, Each, times, numbers_from}
 use Rattle.core_state.specs.Memory.{Memory, slot_count, IsOdd}
 use Rattle.core_state.specs.Views.{known_in, lock_of, HasLock, open_reading, readings_of, Works, held_list, joined_spares, retired_of, slots_of, unraised_hand}
 use Rattle.core_state.specs.Tree.{HoldsMap, Belongs, IsHeldBack, IsEmptied, MayPass, IsOldFor, OnRightLeft, Chart}
-use Rattle.core_state.specs.Parts.{HasGeneration, IsAsRecorded, state_slot, IsReading, StandsWell, Answered, IsServed, IsStillLinked, IsRecord, IsMetBefore, AreAged, ReaderParts, map_now, IsMoving, TreeParts, IsBetween, GoesOn, here, StandsNow, IsVisit, IsListing, ListingParts, MarkParts, SeatParts, WaiterParts, SlotParts, LockParts, IsUnraised, CountParts, GraceParts, IsClear, IsWaitedRetired, IsWaitedMove, AreHandsKnown, HasMetBefore}
-use Rattle.list_laws.proofs.Lists.{each_set, in_second, somewhere_was}
+use Rattle.core_state.specs.Parts.{HasGeneration, IsAsRecorded, state_slot, IsReading, StandsWell, Answered, IsServed, IsStillLinked, IsRecord, AreAged, ReaderParts, map_now, IsMoving, TreeParts, IsBetween, GoesOn, here, StandsNow, IsVisit, IsListing, ListingParts, MarkParts, SeatParts, WaiterParts, SlotParts, LockParts, IsUnraised, CountParts, GraceParts, IsClear, IsWaitedRetired, IsWaitedMove, AreHandsKnown, IsGoneSince}
+use Rattle.list_laws.proofs.Lists.{each_set, in_second}
 use Rattle.core_frames.proofs.Views.{SamePlaces, was, reader_words, same_slots}
-use Rattle.core_frames.proofs.TreeFrames.{pending_still, SameContents, shape_same, map_same, right_left_same, walks_same, place_same, belongs_same, may_still, old_still, emptied_still}
+use Rattle.core_frames.proofs.TreeFrames.{pending_still, SameContents, shape_same, map_same, right_left_same, walks_same, place_same, belongs_same, may_still, old_still, emptied_still, met_still}
 use Rattle.core_laws.proofs.Stores.{IsBesideSlots, moving_left}
 use Rattle.core_frames.proofs.WholeFrames.{Stepper, SameForMore, mark_frame_plain, seat_frame_plain, waiter_frame_plain}
 use Rattle.core_state.specs.declared.view.Hands.{Hands}
@@ -241,25 +241,27 @@ module _ (P : ℕ → Type 0) (z : ChartStep P) where
             });
       }
 
-  met_before : (at : ℕ) → IsMetBefore us at → IsMetBefore vs at
-  met_before at i = somewhere_was vs id v w there (λ (x : HasMetBefore w at). (x.0, sym z.view.section ∙ x.1, x.2)) i
-
   aged_stays : AreAged m' g us hs
   aged_stays s at c b gone met link ne =
       let was_gone = z.gone s at gone in
-      let past = met_before at met in
-      let aged = z.who.inv.readers.ages s at c b was_gone.0 past (sym (was_gone.1 b) ∙ link) ne in (
-        aged.0,
-        ⊎_elim (λ l. inl l) (λ (x : (later : ℕ) × (gone_at c h ≡ Some later) × (at < later)). ⊎_elim (λ (l : g.linked c ≡ true). inl l)
-            (λ (off : g.linked c ≡ false). inr (
-              x.0,
-              (z.met past.id past.view past.has.0 past.there past.has.1 c
-                  (record { out = off; at = x.0; gone = x.1; later = (let a = x.2 in let d = past.has.2 in omega arith) })).1 ∙ x.1,
-              x.2,
-            ))
+      let past = met_still vs id v w there z.view.section at met in
+      let aged = z.who.inv.readers.ages s at c b was_gone.0 past (sym (was_gone.1 b) ∙ link) ne in
+      record {
+        rank = aged.rank;
+        leads = ⊎_elim (λ l. inl l) (λ (x : IsGoneSince h at c). ⊎_elim (λ (l : g.linked c ≡ true). inl l)
+            (λ (off : g.linked c ≡ false). inr (record {
+              at = x.at;
+              gone = (z.met past.id past.view past.has.section past.there past.has.is_open c (record {
+                out = off;
+                at = x.at;
+                gone = x.gone;
+                later = (let a = x.later in let d = past.has.before in omega arith);
+              })).1 ∙ x.gone;
+              later = x.later;
+            }))
             (bool_cases (g.linked c)))
-            aged.1,
-      )
+            aged.leads;
+      }
 
   readings_same : readings_of w ≡ readings_of v
   readings_same = λ j. open_reading (z.view.section j) ++ z.view.records j
@@ -517,7 +519,6 @@ module _ (k : Shape) (m : Memory) (vs : List View) (h : List Mark) (id : ℕ) (v
           few = x.few;
           room = x.room;
           joined = x.joined;
-          joined_spare = x.joined_spare;
           next_spare = λ working none. x.next_spare working (same.no_spare none);
         })
         (λ x. same.known) (λ x. x) (retired_of_still m (slot_count k) g vs id v w h there refl) i.slots

@@ -32,6 +32,7 @@ use Rattle.core_frames.proofs.WholeFrames.{Stepper, StepKeeps, waited_early, wai
 use Rattle.core_frames.proofs.WaitFrames.{retired_still, grace_frame_by}
 use Rattle.prcu_marks.specs.declared.commit.Commit.{Commit}
 use Rattle.core_state.specs.declared.view.Held.{Held}
+use Rattle.core_frames.proofs.TreeFrames.{may_by, old_by}
 
 -- The link of a copy: the parts on the tree: shape, map and pending moves.
 
@@ -238,17 +239,10 @@ module _ (z : CopyStep) where
   young_apart s o = ((λ e. (let f = (copy_link z).young in cc (ap g.old e))), (λ e. (let f = old_young z in cc (ap g.old e))))
 
   may_still : (key entered s : ℕ) → MayPass vs key entered s → MayPass us key entered s
-  may_still key entered s y = record {
-    move = y.move;
-    pending = pending_still z y.move y.pending;
-    old = y.old;
-    low = y.low;
-    high = y.high;
-    before = y.before;
-  }
+  may_still key entered s y = may_by y (pending_still z y.move y.pending)
 
   old_still : (key s : ℕ) → IsOldFor vs key s → IsOldFor us key s
-  old_still key s y = record { move = y.move; pending = pending_still z y.move y.pending; old = y.old; low = y.low; high = y.high }
+  old_still key s y = old_by y (pending_still z y.move y.pending)
 
   -- a record of an empty side: the keys left of the successor are those of the move
   recorded_side : (x s : ℕ) (a : Side) → (s ≡ z.u) ⊎ (s ≢ z.u) → (s ≢ z.u → Belongs new to x s a) → Belongs m g x s a

@@ -21,7 +21,7 @@ use Rattle.list_laws.specs.Counts.{times, IsIn}
 use Rattle.core_state.specs.Memory.{IsEven, Memory, stored, slot_count, flag, sum_below, has}
 use Rattle.core_state.specs.Views.{known_in, known_under, HasLock, LoadedGeneration, readings_of, spares_of, slots_of, note_option, held_list, note_lock, change_lock, unraised_of, emptied_among, joined_retired}
 use Rattle.core_state.specs.Tree.{OnRightLeft, Chart}
-use Rattle.core_state.specs.Parts.{IsRecord, IsStillLinked, IsHeldKnown, HasFewSlots, linked_count, young_count, old_count, CountParts, FrontParts, map_now}
+use Rattle.core_state.specs.Parts.{IsRecord, IsStillLinked, IsHeldKnown, HasFewSlots, linked_count, young_count, old_count, CountParts, FrontParts, map_now, IsHandKnown}
 use Rattle.core_frames.proofs.WholeFrames.{same_for_more, Stepper}
 use Rattle.core_frames.proofs.Roles.{right_left_low, spare_own, spare_among, own_below, own_off, not_gone, spares_count, unraised_append}
 use Rattle.core_laws.proofs.Updates.{delete_update, both_marks, delete_said, Deletion, settled, kept, reading, parent_alive, link_is, node_marked, node_life, left_is, right_is, some_node, node_young, single, node_lock, node_field, delete_longer, delete_count, delete_legal, has_key, node_key, there_of}
@@ -119,7 +119,7 @@ module _ (z : CopyStep) where
   on_path : OnRightLeft m z.d z.u
   on_path = (is_record.walk z.d z.p z.b z.needs.records.records.found.0
       (record { parent = z.q; slot = z.u }) z.needs.records.records.found.1 z.needs.records.walk).slot node_still
-      (old_alive.generation, old_alive.recorded, old_alive.life)
+      (record { generation = old_alive.generation; recorded = old_alive.recorded; same = old_alive.life })
 
   pub old_some : z.u ≢ 0
   old_some = ((reading deletion).walk (record { parent = z.q; slot = z.u }) z.needs.records.walk).some_slot
@@ -324,8 +324,7 @@ module _ (z : CopyStep) where
         few = omega arith;
         room = λ move is. omega arith;
         joined = i.joined;
-        joined_spare = i.joined_spare;
-        next_spare = λ works none. (gone, gone_among (copy_step z) (copy_retires z), refl);
+        next_spare = λ works none. record { retired = gone; has = gone_among (copy_step z) (copy_retires z); unraised = refl };
       }
 
   pub copy_slots : SlotsGo (copy_step z)
@@ -337,12 +336,12 @@ module _ (z : CopyStep) where
     spare = λ x is. absurd (let q : None ≡ Some x = is in cc);
     copy = λ move is.
         (let e : new_move z.held z.needs.reading.key z.next_key z.d z.u z.q (length h) ≡ move = cc in
-        subst (λ (x : Move). IsHeldKnown new x.copy × IsEven (m (Life x.copy.slot))) e
-        (spare_stays (copy_step z) id v z.held there z.needs.spare_is.0, copy_even z));
+        subst (λ (x : Move). IsHandKnown new x.copy) e
+        (record { known = spare_stays (copy_step z) z.held z.needs.spare_is.0; even = copy_even z }));
     spares = λ s has. (let a = spares_count w s in let b = spares_count v s in omega arith);
     retired = retired_or_gone (copy_step z) (copy_retires z);
     still_retired = retired_grows (copy_step z) (copy_retires z);
-    gone_retired = λ _. (gone, gone_in_retired (copy_step z) (copy_retires z), refl);
+    gone_retired = λ _. record { retired = gone; has = gone_in_retired (copy_step z) (copy_retires z); slot = refl };
   }
 
 -- The link of a copy: the parts on counts and on the front.

@@ -9,7 +9,7 @@ use Rattle.core_state.specs.Memory.{Memory, IsEven, IsOdd, flag, has, stored, sl
 use Rattle.core_state.specs.Tree.{after, Chart, low_of, high_of, IsBelow, Hangs, IsShaped, IsKeyed, HoldsMap, HoldsPair, in_range, MayPass, IsPending}
 use Rattle.core_laws.proofs.Stores.{StoresLink, hangs_at, same_after, link_stores, moves_stored, StoresCounted, linked_less, young_less, young_same, old_less, old_same, counts_node_gone, counts_old_gone}
 use Rattle.core_laws.proofs.ChartChanges.{put, put-same, put-other, ChangesChart, hangs_right, not_root_left, moved, moved_tells, moved-other, map_after}
-use Rattle.core_frames.proofs.TreeFrames.{pair_by}
+use Rattle.core_frames.proofs.TreeFrames.{pair_by, may_by, old_by}
 use Rattle.core_frames.proofs.Charts.{bool_cases, after-node, key_bound, one_key}
 use mathlib.Core.Option.{some}
 use lib.ListN.{get_elem?}
@@ -24,7 +24,7 @@ use Rattle.core_state.specs.declared.view.Section.{Section}
 use Rattle.core_state.specs.declared.view.View.{View}
 use Rattle.core_state.specs.Views.{known_in, known_under, HasLock, note_option, slots_of, spares_of, held_list, joined_spares, unraised_hand, unraised_among, unraised_of, emptied_among, joined_retired}
 use Rattle.core_state.specs.Links.{newly_retired}
-use Rattle.core_state.specs.Parts.{CountParts, FrontParts, ListingParts, HasFewSlots, HasSpareToCome, map_now, AreMoving, GraceParts}
+use Rattle.core_state.specs.Parts.{CountParts, FrontParts, ListingParts, HasFewSlots, HasFewSpent, map_now, AreMoving, GraceParts}
 use Rattle.core_frames.specs.Laws.{IsKept}
 use Rattle.core_laws.proofs.Locks.{one_holder, lock_outside, relocked, relocked_emptied}
 use Rattle.core_laws.proofs.LinkSteps.{LinkReads, link_kept, LinkStep, Retires, range_stays, side_stays, words_after, views_after}
@@ -33,7 +33,6 @@ use Rattle.core_frames.proofs.WholeFrames.{Stepper, SameForMore, grace_unlinked}
 use Rattle.core_frames.proofs.Marks.{PlainMarks, IsUnlinkedNow}
 use Rattle.core_state.specs.Marks.{AreMarks, Reuse}
 use Rattle.list_laws.specs.Counts.{times, numbers_from, Each}
-use Rattle.core_state.specs.declared.view.Spent.{Spent}
 use Rattle.list_laws.proofs.Lists.{times_here, times_other, somewhere_still}
 use Rattle.core_frames.proofs.Roles.{unraised_append}
 use Rattle.core_laws.proofs.LockSteps.{note_option-unraised}
@@ -402,9 +401,8 @@ module _ (z : Cut) where
     one = λ y. z.hand ∙ hand_noted cut_step known ∙ t.one (sym z.reserved ∙ y);
     few = (let l = ap length z.retired ∙ length-append v.hands.retired (gone ∷ []) in let room = z.room in omega arith);
     room = λ move is. absurd (let q : None ≡ Some move = sym z.moving ∙ is in cc);
-    joined = subst (λ js. Each js (λ (s : Spent). length s.retired ≤ k.room)) (sym z.same.places.joined) t.joined;
-    joined_spare = subst (λ js. Each js HasSpareToCome) (sym z.same.places.joined) t.joined_spare;
-    next_spare = λ works none. (gone, gone_among cut_step retires, refl);
+    joined = subst (λ js. Each js (HasFewSpent k.room)) (sym z.same.places.joined) t.joined;
+    next_spare = λ works none. record { retired = gone; has = gone_among cut_step retires; unraised = refl };
   }
 
   slots : SlotsGo cut_step
@@ -418,7 +416,7 @@ module _ (z : Cut) where
     spares = λ s has. subst (λ ns. 1 ≤ times s ns) same_spares has;
     retired = retired_or_gone cut_step retires;
     still_retired = retired_grows cut_step retires;
-    gone_retired = λ _. (gone, gone_in_retired cut_step retires, refl);
+    gone_retired = λ _. record { retired = gone; has = gone_in_retired cut_step retires; slot = refl };
   }
     where
       same_spares : spares_of w ≡ spares_of v
@@ -458,26 +456,13 @@ module _ (z : Cut) where
         (let ne : s ≢ d = λ same. z.unpassed j u section e inside (subst (MayPass vs section.key section.entered) same y)
         (ap g.old (sym same) ∙ o) in (
           ne,
-          record {
-            move = y.move;
-            pending = still_pending y.move y.pending (λ f. ne (sym y.old ∙ f));
-            old = y.old;
-            low = y.low;
-            high = y.high;
-            before = y.before;
-          },
+          may_by y (still_pending y.move y.pending (λ f. ne (sym y.old ∙ f))),
           o,
         ));
     other = λ j u section e inside s range some_slot.
         (let le : lower (g.low s) ≤ section.key = (let a = splice.falls (g.low s) in let q = range.low in omega arith) in
         in_range (range_stays cut_step section.key s (still s range.linked (λ f. splice.replaces.node (sym f ∙ some_slot f))) le range));
-    old_for = λ x s even o. record {
-      move = o.move;
-      pending = still_pending o.move o.pending (λ f. not_even s even (sym o.old ∙ f));
-      old = o.old;
-      low = o.low;
-      high = o.high;
-    };
+    old_for = λ x s even o. old_by o (still_pending o.move o.pending (λ f. not_even s even (sym o.old ∙ f)));
     side = λ x s a fits l even root empty below.
         (let ne = not_even s even in
         let le : lower (low_of m g s a) ≤ x = (let e = splice.falls (low_of m g s a) in let q = below.0 in omega arith) in

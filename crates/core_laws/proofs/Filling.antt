@@ -27,7 +27,7 @@ use Rattle.core_laws.proofs.OffStep.{OffStep, no_marks, OffLock, no_others, off_
 use Rattle.core_state.specs.Links.{IsContent, raise_held, after_raise_in_hand, NeedsRaiseInHand}
 use Rattle.core_frames.proofs.Roles.{slots_count, held_there, own_off, own_once, not_gone, spare_among, retired_there, spares_count, own_below, held_unmet, hand_own}
 use Rattle.prcu_marks.specs.Marks.{gone_at}
-use Rattle.core_state.specs.Parts.{AreHandsKnown, IsHeldKnown}
+use Rattle.core_state.specs.Parts.{AreHandsKnown, IsHandKnown}
 use Rattle.core_laws.proofs.LockSteps.{note_moving-else, hands_noted, note_option-slots, note_option-unraised, note_option-none, known_more}
 use Rattle.core_laws.proofs.Locks.{IsNoted, slots_change, length_change, noted_back, noted_forth, emptied_change_same}
 use Rattle.list_laws.proofs.Lists.{in_first}
@@ -181,7 +181,7 @@ module _ (k : Shape) (m : Memory) (vs : List View) (h : List Mark) (id : ℕ) (v
 
       -- with generations so many more, and so many slots fewer that aren't raised
       pub filled : (more : ℕ) → held_list hand ≡ held_list v.hands.hand → (v.hands.hand ≡ None → hand ≡ None)
-          → ((held : Held) → hand ≡ Some held → IsHeldKnown m' held × IsEven (m' (Life held.slot)))
+          → ((held : Held) → hand ≡ Some held → IsHandKnown m' held)
           → generations_in m' n ≡ generations_in m n + more → unraised_hand hand + more ≡ unraised_hand v.hands.hand
           → IsKept k m h m' (set vs id w) (h ++ [])
       filled more same_hand no_hand hand_known lives unraised = no_mark k m m' h (set vs id w) (record {
@@ -196,12 +196,11 @@ module _ (k : Shape) (m : Memory) (vs : List View) (h : List Mark) (id : ℕ) (v
             few = i.few;
             room = λ move is. i.room move (sym view.moving ∙ is);
             joined = i.joined;
-            joined_spare = i.joined_spare;
             next_spare = λ here none. i.next_spare here (note_option-none s known v.hands.spare none);
           });
           hands = record { hand = hand_known; spare = hands.spare; copy = hands.copy; spares = hands.spares };
           retired = λ j r e. retired_away step r (not_retired r (j, e)) (inv.slots.retired id v there j r e);
-          unlinked = λ t p gone r has is. (r, has, is);
+          unlinked = λ t p gone x. record { retired = x.retired; has = x.has; slot = x.slot };
         }) (outer_same k m m' vs h id v w inv there works stores.beside view refl)
             (counts_by k.tickets m m' n inv.chart inv.chart vs id v w h h there (record {
               free = (let a = stores.beside Free tt in let b : free_slots m' n ≡ free_slots m n =
@@ -242,7 +241,7 @@ module _ (k : Shape) (m : Memory) (vs : List View) (h : List Mark) (id : ℕ) (v
   held_role held is = ⊎_elim
       (λ (a : v.hands.hand ≡ Some held). (
         (let b = held_there v.hands.hand held a in omega arith),
-        ((inv.slots.hands id v there).hand held a).1,
+        ((inv.slots.hands id v there).hand held a).even,
       ))
       (λ (a : v.hands.spare ≡ Some held). (let b = spare_among v held a in (omega arith, (inv.slots.hands id v there).spares held.slot b)))
       is
@@ -281,7 +280,7 @@ module _ (k : Shape) (m : Memory) (vs : List View) (h : List Mark) (id : ℕ) (v
       let in_hand = needs.in_hand.0 in
       let role = held_role held (inl in_hand) in
       let now = stored_here m (Life s) number in
-      let life_is : m (Life s) ≡ needs.life = (((inv.slots.hands id v there).hand held in_hand).0 (Life s) needs.life needs.loaded).1 in
+      let life_is : m (Life s) ≡ needs.life = (((inv.slots.hands id v there).hand held in_hand).known (Life s) needs.life needs.loaded).1 in
       let even = role.1 in
       let next = needs.next in
       let fill : Fill = record {
@@ -300,9 +299,8 @@ module _ (k : Shape) (m : Memory) (vs : List View) (h : List Mark) (id : ℕ) (v
       filled fill (raise_held (note_option s known v.hands.hand)) 1
       (raised_list (note_option s known v.hands.hand) ∙ note_option-slots s known v.hands.hand)
       (λ e. ap (λ o. raise_held (note_option s known o)) e)
-      (λ x e. (let a = raised_back (note_option s known v.hands.hand) x e in
-      subst (λ (y : Held). IsHeldKnown (stored m (Life s) number) y × IsEven (stored m (Life s) number (Life y.slot))) a.2
-      ((hands fill).hand a.0 a.1)))
+      (λ x e. (let a = raised_back (note_option s known v.hands.hand) x e in let was = (hands fill).hand a.0 a.1 in
+      subst (IsHandKnown (stored m (Life s) number)) a.2 (record { known = was.known; even = was.even })))
       (sum_one_more (λ t. m (Life t) / 2) (λ t. stored m (Life s) number (Life t) / 2) s n
       (own_below m n inv.chart vs h inv.slots id v there s (hand_own v held in_hand)) (λ t. ⊎_elim
       (λ (e : t ≡ s). (let a = ap (λ x. stored m (Life s) number (Life x)) e in let b = ap (λ x. m (Life x)) e in let c = in_one t s e in

@@ -1,5 +1,5 @@
 -- Two seats are joined; and a split and a join that are noted in a trail.
-use Rattle.std.proofs.Common.{◌≡◌, ◌≢◌, ℕ, zero, suc, ◌+◌, ◌-◌, ◌≤◌, ◌⊎◌, List, [], ◌∷◌, ◌++◌, length, map, set, Option, Some, None, refl, sym, ap, subst, ◌∙◌, ⊎_elim, inl, inr, arith, append_assoc, length-append, take}
+use Rattle.std.proofs.Common.{◌≡◌, ◌≢◌, ℕ, zero, suc, ◌+◌, ◌-◌, ◌⊎◌, List, [], ◌∷◌, ◌++◌, length, map, set, Option, Some, None, refl, sym, ap, subst, ◌∙◌, ⊎_elim, inl, inr, arith, append_assoc, length-append, take}
 use mathlib.Core.Logic.{dite}
 use mathlib.Core.Option.{some, some-injective, some-ne-none}
 use mathlib.Core.List.{IsPrefix}
@@ -8,7 +8,7 @@ use lib.ListN.{get_elem?}
 use Rattle.atomic_table.proofs.Lists.{at_set, set_here, set_else}
 use Rattle.std.proofs.Math.Seq.{take-append_seam}
 use Rattle.prcu_marks.specs.Marks.{own_of}
-use Rattle.core_state.specs.Parts.{HasSeenAll, HasMet, IsOwned, IsCounted, inside_count, HasSpareToCome, HasFewSlots, IsRetired, IsRetiredOf, AreHandsKnown, turns_to_come, IsWaitedRetired, HasRetired}
+use Rattle.core_state.specs.Parts.{HasSeenAll, HasMet, IsOwned, IsCounted, inside_count, HasFewSpent, HasFewSlots, IsRetired, IsRetiredOf, AreHandsKnown, turns_to_come, IsWaitedRetired, HasRetired}
 use Rattle.prcu_marks.specs.declared.mark.Mark.{Mark}
 use Rattle.prcu_marks.proofs.Marks.{own_of-between, longer_begins, longer_first, longer_second, longer_whole_first, longer_whole_second}
 use Rattle.core_state.specs.declared.shape.Shape.{Shape}
@@ -225,11 +225,10 @@ module _ (k : Shape) (m : Memory) (vs : List View) (h : List Mark) (i : HoldsNow
         one = f.one;
         few = f.few;
         room = f.room;
-        joined = each_append (λ (s : Spent). length s.retired ≤ k.room) v.allowance.joined (spent_places other) f.joined
-            (each_spent (λ (s : Spent). length s.retired ≤ k.room) other g.few (λ p. omega arith) g.joined);
-        joined_spare = each_append HasSpareToCome v.allowance.joined (spent_places other) f.joined_spare
-            (each_spent HasSpareToCome other (λ none. g.next_spare works_other (no_spare other.hands.spare none))
-            (λ p none. absurd (let q : Some (p + 1) ≡ None = none in cc)) g.joined_spare);
+        joined = each_append (HasFewSpent k.room) v.allowance.joined (spent_places other) f.joined
+            (each_spent (HasFewSpent k.room) other
+            (record { few = g.few; next_spare = λ none. g.next_spare works_other (no_spare other.hands.spare none) })
+            (λ p. record { few = omega arith; next_spare = λ none. absurd (let q : Some (p + 1) ≡ None = none in cc) }) g.joined);
         next_spare = f.next_spare;
       }
 
@@ -259,7 +258,6 @@ module _ (k : Shape) (m : Memory) (vs : List View) (h : List Mark) (i : HoldsNow
     few = omega arith;
     room = λ move none. absurd (let q : None ≡ Some move = none in cc);
     joined = λ n a e. absurd (some-ne-none a (sym e));
-    joined_spare = λ n a e. absurd (some-ne-none a (sym e));
     next_spare = λ has_place none. absurd (omega arith);
   }
 
@@ -270,10 +268,19 @@ module _ (k : Shape) (m : Memory) (vs : List View) (h : List Mark) (i : HoldsNow
   unlinked : (s : ℕ) → IsRetiredOf vs s → IsRetiredOf us s
   unlinked s r =
       let ours : (x : Retired) → IsIn (retired_of v ++ retired_of other) x → x.slot ≡ s → IsRetiredOf us s = (λ x has is.
-      record { id = id; view = both; there = both_there; has = (x, subst (λ rs. IsIn rs x) (sym retired_two) has, is) }) in
-      ⊎_elim (λ (x : HasRetired v s). ours x.0 (in_first (retired_of v) (retired_of other) x.0 x.1) x.2)
+      record {
+        id = id;
+        view = both;
+        there = both_there;
+        has = record {
+          retired = x;
+          has = subst (λ rs. IsIn rs x) (sym retired_two) has;
+          slot = is;
+        };
+      }) in
+      ⊎_elim (λ (x : HasRetired v s). ours x.retired (in_first (retired_of v) (retired_of other) x.retired x.has) x.slot)
       (λ (rest : IsRetiredOf (set vs id both) s). ⊎_elim
-      (λ (x : HasRetired other s). ours x.0 (in_second (retired_of v) (retired_of other) x.0 x.1) x.2) (λ left. left)
+      (λ (x : HasRetired other s). ours x.retired (in_second (retired_of v) (retired_of other) x.retired x.has) x.slot) (λ left. left)
       (somewhere_set (set vs id both) j other spent_view other_there rest)) (somewhere_set vs id v both there r)
 
   -- the one has seen what each of the two has

@@ -341,10 +341,11 @@ module _ (z : LeafLink) where
   -- the key belongs there
   not_emptied : IsEmptied vs slot b → ⊥
   not_emptied x =
-      let is = view_is x.id x.view slot x.has.0 refl x.there x.has.1 in
-      let q : Some x.has.0 ≡ Some lock = sym x.has.1 ∙ ap (λ (u : View). lock_of u.locks slot) is ∙ needs.locked in
-      let same : x.has.0 ≡ lock = cc in
-      absurd (let f : true ≡ false = sym x.has.2 ∙ ap (λ l. is_emptied l b) same ∙ needs.settled in cc)
+      let has = x.has in
+      let is = view_is x.id x.view slot has.lock refl x.there has.held in
+      let q : Some has.lock ≡ Some lock = sym has.held ∙ ap (λ (u : View). lock_of u.locks slot) is ∙ needs.locked in
+      let same : has.lock ≡ lock = cc in
+      absurd (let f : true ≡ false = sym has.emptied ∙ ap (λ l. is_emptied l b) same ∙ needs.settled in cc)
 
   not_old : IsOldFor vs r.key slot → ⊥
   not_old o =
@@ -361,8 +362,8 @@ module _ (z : LeafLink) where
 
   belongs : Belongs m g r.key slot b
   belongs = ⊎_elim (λ o. absurd (not_old o)) (λ x. x)
-      (told.side slot tag b needs.missed (generation, needs.generation_is, life_now) needs.tag_is empty_now
-      (known_here.tags b tag needs.tag_now) not_emptied)
+      (told.side slot tag b needs.missed (record { generation = generation; recorded = needs.generation_is; same = life_now }) needs.tag_is
+      empty_now (known_here.tags b tag needs.tag_now) not_emptied)
 
   root_side : slot ≡ 0 → b ≡ Right
   root_side z = ⊎_elim (λ (e : (slot ≡ 0) × (b ≡ Right)). e.1)
@@ -389,10 +390,10 @@ module _ (z : LeafLink) where
   some_leaf e = absurd (let q : false ≡ true = sym leaf_off ∙ ap g.linked e ∙ i.tree.shape.root in cc)
 
   hand_known : (field : Field) (number : ℕ) → known_in held.known field ≡ Some number → m field ≡ number
-  hand_known field number known = (((i.slots.hands id v there).hand held hand_is).0 field number known).1
+  hand_known field number known = (((i.slots.hands id v there).hand held hand_is).known field number known).1
 
   pub leaf_even : IsEven (m (Life leaf))
-  leaf_even = subst (λ z. IsEven (m (Life z))) leaf_is ((i.slots.hands id v there).hand held hand_is).1
+  leaf_even = subst (λ z. IsEven (m (Life z))) leaf_is ((i.slots.hands id v there).hand held hand_is).even
 
   pub leaf_key : m (Key leaf) ≡ r.key
   leaf_key = hand_known (Key leaf) r.key needs.key_is
@@ -548,7 +549,6 @@ module _ (z : LeafLink) where
       few = x.few;
       room = x.room;
       joined = x.joined;
-      joined_spare = x.joined_spare;
       next_spare = x.next_spare;
     };
     swaps = swaps;

@@ -13,21 +13,20 @@ use Rattle.list_laws.specs.Counts.{IsIn, times, Each, numbers_from}
 use Rattle.core_state.specs.Memory.{IsEven, IsOdd, flag, Memory, slot_count}
 use Rattle.core_state.specs.Views.{lock_of, HasLock, is_emptied, note_option, open_reading, spares_of, joined_retired, retired_of, slots_of, held_list, joined_spares}
 use Rattle.core_state.specs.Links.{newly_retired}
-use Rattle.core_state.specs.Tree.{Chart, IsEmptied}
-use Rattle.core_state.specs.Parts.{IsUnraised, LockParts, HasFewSlots, IsRetired, IsRetiredOf, IsHeldKnown, AreHandsKnown, SlotParts}
-use Rattle.list_laws.proofs.Lists.{in_first, in_second, at_end, each_set, total_set, times_append, in_append, somewhere_here}
+use Rattle.core_state.specs.Tree.{Chart, IsEmptied, HasEmptied}
+use Rattle.core_state.specs.Parts.{IsUnraised, LockParts, HasFewSlots, IsRetired, IsRetiredOf, IsHeldKnown, AreHandsKnown, SlotParts, HasRetired, IsHandKnown}
+use Rattle.list_laws.proofs.Lists.{in_first, in_second, at_end, each_set, total_set, times_append, in_append, somewhere_here, somewhere_still}
 use Rattle.core_frames.proofs.Charts.{bool_cases}
-use Rattle.core_frames.proofs.TreeFrames.{emptied_by}
 use Rattle.core_laws.proofs.ChartChanges.{put, put-same, put-other, shape_after}
 use Rattle.core_laws.proofs.Locks.{one_holder, IsRelocked, relocked, relocked_forth, relocked_back, relocked_slots, relocked_length}
 use Rattle.core_laws.proofs.LinkSteps.{LinkStep, words_after, views_after, below, still_linked, not_gone, Retires, unlinked_off, off_not_gone}
 use Rattle.core_laws.proofs.LockSteps.{LockChange, locks_stored, note_option-else}
-use Rattle.core_laws.proofs.Stores.{link_at, link_stores}
+use Rattle.core_laws.proofs.Stores.{link_at, link_stores, StoresIn, held_beside, hand_beside, hands_beside}
 use Rattle.prcu_marks.specs.Marks.{gone_at}
 use Rattle.core_state.specs.declared.view.Held.{Held}
 use Rattle.core_state.specs.declared.view.Move.{Move}
 use Rattle.core_frames.proofs.Roles.{hand_own, spare_own, retired_own, linked_none, map_append, slots_count, spares_count, retired_count}
-use Rattle.core_frames.proofs.PlaceFrames.{retired_of_by}
+use Rattle.core_frames.proofs.PlaceFrames.{retired_of_by, retired_by}
 
 -- The parts on locks after a step that stores a link under the lock of its slot and unlinks a slot that the view has locked.
 
@@ -180,11 +179,13 @@ module _ (z : LinkStep) where
             (bool_cases (g.linked s))
 
     pub emptied_still : (s : ℕ) (a : Side) → IsEmptied vs s a → IsEmptied us s a
-    emptied_still = emptied_by vs id v w there (λ s lock holds a emptied. (let f = forth s lock holds in (f.0, f.1, f.2.still a emptied)))
+    emptied_still s a = somewhere_still vs id v w there (λ (x : HasEmptied v s a).
+        (let f = forth s x.lock x.held in record { lock = f.0; held = f.1; emptied = f.2.still a x.emptied }))
 
     emptied_now : c ≡ 0 → IsEmptied us p b
     emptied_now e =
-        let f = forth p r.has_parent.0 r.has_parent.1 in somewhere_here vs id v w there (f.0, f.1, f.2.now refl (r.emptied e))
+        let f = forth p r.has_parent.0 r.has_parent.1 in
+        somewhere_here vs id v w there (record { lock = f.0; held = f.1; emptied = f.2.now refl (r.emptied e) })
 
     -- a side that is empty now, and wasn't emptied just now, was empty
     pub link_back : (s : ℕ) (a : Side) → (IsEmptied us s a → ⊥) → new (Link s a) ≡ 0 → m (Link s a) ≡ 0
@@ -199,15 +200,11 @@ module _ (z : LinkStep) where
   own_apart j u s e has same = let none = linked_none m n g vs h i.slots j u e p changes.parent in
       let f = ap (λ x. times x (slots_of u)) same in absurd (omega arith)
 
-  held_stays : (x : Held) → x.slot ≢ p → IsHeldKnown m x → IsHeldKnown new x
-  held_stays x ne t field number known = let y = t field number known in (y.0, (link_stores m p b c).away x.slot field ne y.0 ∙ y.1)
+  stores_p : StoresIn m new p
+  stores_p = (link_stores m p b c).within
 
-  pub hand_stays : (j : ℕ) (u : View) (x : Held) → get_elem? vs j ≡ some u → u.hands.hand ≡ Some x
-      → IsHeldKnown new x × IsEven (m (Life x.slot))
-  hand_stays j u x e is = let t = (i.slots.hands j u e).hand x is in (held_stays x (own_apart j u x.slot e (hand_own u x is)) t.0, t.1)
-
-  pub spare_stays : (j : ℕ) (u : View) (x : Held) → get_elem? vs j ≡ some u → u.hands.spare ≡ Some x → IsHeldKnown new x
-  spare_stays j u x e is = held_stays x (own_apart j u x.slot e (spare_own u x is)) ((i.slots.hands j u e).spare x is)
+  pub spare_stays : (x : Held) → v.hands.spare ≡ Some x → IsHeldKnown new x
+  spare_stays x is = held_beside m new p stores_p x (own_apart id v x.slot there (spare_own v x is)) ((i.slots.hands id v there).spare x is)
 
   -- so what is noted of p is noted of neither
   pub hand_noted : (known : Known) → note_option p known v.hands.hand ≡ v.hands.hand
@@ -219,16 +216,8 @@ module _ (z : LinkStep) where
   retired_stays : (j : ℕ) (u : View) (x : Retired) → get_elem? vs j ≡ some u → IsIn (retired_of u) x → IsRetired new hs x
   retired_stays j u x e has =
       let t = i.slots.retired j u e has.0 x has.1 in
-      record {
-        unlinked = z.gone_same x.slot (off_not_gone z x.slot (unlinked_off z x.slot x.unlinked t.unlinked)) ∙ t.unlinked;
-        some_slot = t.some_slot;
-        marked = t.marked;
-        life = t.life;
-        stays = λ field number raised content known. (link_stores m p b c).content x.slot field
-            (own_apart j u x.slot e (retired_own u x has)) content ∙ t.stays field number raised content known;
-        unmarked = t.unmarked;
-        after_wait = t.after_wait;
-      }
+      retired_by m new h hs x (z.gone_same x.slot (off_not_gone z x.slot (unlinked_off z x.slot x.unlinked t.unlinked))) refl
+      (λ field content. (link_stores m p b c).content x.slot field (own_apart j u x.slot e (retired_own u x has)) content) t
 
   -- how often a slot is the view's, by what is in hand, the spare and the retired ones: all else stays
   pub slots_become : (s : ℕ) → times s (slots_of w) + times s (held_list v.hands.hand) + times s (held_list v.hands.spare)
@@ -258,31 +247,28 @@ module _ (z : LinkStep) where
     pub swaps : (s : ℕ) → times s (slots_of w) + flag (to.linked s) ≡ times s (slots_of v) + flag (g.linked s)
     pub hand : (x : Held) → w.hands.hand ≡ Some x → v.hands.hand ≡ Some x
     pub spare : (x : Held) → w.hands.spare ≡ Some x → v.hands.spare ≡ Some x
-    pub copy : (move : Move) → w.moving ≡ Some move → IsHeldKnown new move.copy × IsEven (m (Life move.copy.slot))
+    pub copy : (move : Move) → w.moving ≡ Some move → IsHandKnown new move.copy
     pub spares : (s : ℕ) → 1 ≤ times s (spares_of w) → 1 ≤ times s (spares_of v)
     pub retired : (x : Retired) → IsIn (retired_of w) x → IsIn (retired_of v) x ⊎ IsRetired new hs x
     pub still_retired : (x : Retired) → IsIn (retired_of v) x → IsIn (retired_of w) x
-    pub gone_retired : d ≢ 0 → (x : Retired) × IsIn (retired_of w) x × (x.slot ≡ d)
+    pub gone_retired : d ≢ 0 → HasRetired w d
 
   module _ (r : SlotsGo) where
     hands_mine : AreHandsKnown new w
     hands_mine = record {
-      hand = λ x is. hand_stays id v x there (r.hand x is);
-      spare = λ x is. spare_stays id v x there (r.spare x is);
+      hand = λ x is. (let was = r.hand x is in
+          hand_beside m new p stores_p x (own_apart id v x.slot there (hand_own v x was)) ((i.slots.hands id v there).hand x was));
+      spare = λ x is. spare_stays x (r.spare x is);
       copy = r.copy;
       spares = λ s has. (i.slots.hands id v there).spares s (r.spares s has);
     }
 
     hands_other : (j : ℕ) (u : View) → j ≢ id → get_elem? vs j ≡ some u → AreHandsKnown new u
-    hands_other j u ne e = let t = i.slots.hands j u e in record {
-      hand = λ x is. hand_stays j u x e is;
-      spare = λ x is. spare_stays j u x e is;
-      copy = λ move is.
-          (let q = t.copy move is in
-          let lock = (i.tree.moves.each j u e move is).copy_lock in
-          (held_stays move.copy (λ same. ne (one_holder k m vs h i j id u v p e there (subst (HasLock u) same lock) r.mine)) q.0, q.1));
-      spares = t.spares;
-    }
+    hands_other j u ne e = hands_beside m new p stores_p u
+        (let none = linked_none m n g vs h i.slots j u e p changes.parent in let a = slots_count u p in omega arith)
+        (λ move is same. ne
+        (one_holder k m vs h i j id u v p e there (subst (HasLock u) same (i.tree.moves.each j u e move is).copy_lock) r.mine))
+        (i.slots.hands j u e)
 
     in_range : (s : ℕ) → n ≤ s → flag (to.linked s) ≡ 0
     in_range s far = ⊎_elim
@@ -316,10 +302,10 @@ module _ (z : LinkStep) where
     }
       where
         now : (s : ℕ) → s ≡ d → d ≢ 0 → IsRetiredOf us s
-        now s e nz = let x = r.gone_retired nz in somewhere_here vs id v w there (x.0, x.1, x.2 ∙ sym e)
+        now s e nz = somewhere_here vs id v w there (subst (HasRetired w) (sym e) (r.gone_retired nz))
 
         before : (s at : ℕ) → gone_at s h ≡ Some at → IsRetiredOf us s
-        before s at is = retired_of_by vs id v w there s (λ x has same. (x, r.still_retired x has, same)) (i.slots.unlinked s at is)
+        before s at is = retired_of_by vs id v w there r.still_retired s (i.slots.unlinked s at is)
 
   -- d is retired
   module _ (r : Retires z) where

@@ -13,7 +13,7 @@ use Rattle.core_state.specs.Marks.{AreMarks}
 use Rattle.core_state.specs.Memory.{IsEven, IsOdd, Memory, stored, slot_count}
 use Rattle.core_state.specs.Links.{newly_retired}
 use Rattle.core_state.specs.Tree.{Chart, IsBelow, low_of, Belongs, IsInRange, IsHeldBack, OnRightLeft, MayPass, IsOldFor, IsEmptied, Place, HoldsMap}
-use Rattle.core_state.specs.Parts.{MarkParts, SeatParts, WaiterParts, ListsNow, ListingParts, IsReadingKept, state_slot, StandsWell, GoesTo, IsReading, IsServed, IsAsRecorded, IsStillLinked, IsRecord, IsMetBefore, AreAged, ReaderParts, map_now, CountParts, FrontParts, GraceParts, LockParts, SlotParts, AreMoving, HasMetBefore}
+use Rattle.core_state.specs.Parts.{MarkParts, SeatParts, WaiterParts, ListsNow, ListingParts, IsReadingKept, state_slot, StandsWell, GoesTo, IsReading, IsServed, IsAsRecorded, IsStillLinked, IsRecord, AreAged, ReaderParts, map_now, CountParts, FrontParts, GraceParts, LockParts, SlotParts, AreMoving, IsGoneSince, LeadsOn}
 use Rattle.core_frames.specs.Laws.{KeepsPast, IsKept}
 use Rattle.core_frames.proofs.PlainLaws.{entered_before, clocked_before, told_now}
 use Rattle.core_frames.proofs.Charts.{bool_cases}
@@ -30,10 +30,10 @@ use lib.ListN.{get_elem?}
 use Rattle.prcu_marks.proofs.Marks.{gone_at-below}
 use Rattle.core_state.specs.declared.view.Reading.{Reading}
 use Rattle.core_state.specs.declared.view.Section.{Section}
-use Rattle.core_frames.proofs.TreeFrames.{answered_by}
+use Rattle.core_frames.proofs.TreeFrames.{answered_by, met_still, recorded_even, recorded_linked, recorded_back}
 use Rattle.list_laws.specs.Counts.{IsIn, Each}
 use Rattle.core_frames.proofs.Views.{way_same}
-use Rattle.list_laws.proofs.Lists.{each_set, in_second, somewhere_was}
+use Rattle.list_laws.proofs.Lists.{each_set, in_second}
 
 -- Side b of slot p led to d and leads to c from now on; the chart, the view and the marks after it.
 pub record LinkStep : Type 0 where
@@ -290,12 +290,6 @@ module _ (z : LinkStep) where
 
     -- a kept record of a view
     module _ (x : Reading) (reading : IsReading x) (kept : IsReadingKept m g x) (t : IsRecord m g vs x) where
-      recorded_even : (s : ℕ) → IsAsRecorded m x s → IsEven (m (Life s))
-      recorded_even s q = let e = q.2 in omega arith
-
-      recorded_linked : (s : ℕ) → IsAsRecorded m x s → g.linked s ≡ true
-      recorded_linked s q = let l = q.1 in let e = q.2 in let f = l.2 in kept.linked s l.0 l.1 (omega arith)
-
       still_back : (s : ℕ) → IsStillLinked (words_after z) to x s → IsStillLinked m g x s
       still_back s q = record {
         linked = ⊎_elim (λ l. l) (λ off. absurd (unread off (changes.comes s q.linked off))) (bool_cases (g.linked s));
@@ -312,30 +306,33 @@ module _ (z : LinkStep) where
               let on = kept.linked s l.0 l.1 (let y = l.2 in omega arith) in
               cc
 
+      was_recorded : (s : ℕ) → IsAsRecorded (words_after z) x s → IsAsRecorded m x s
+      was_recorded = recorded_back m (words_after z) (λ s. refl) x
+
       record_after : IsRecord (words_after z) to (views_after z) x
       record_after = record {
         key_fits = t.key_fits;
-        side = λ s tag a missed life known empty same settled.
-            (let none = r.link_back s a settled empty in
+        side = λ s tag a missed as_now known empty same settled.
+            (let life = was_recorded s as_now in
+            let none = r.link_back s a settled empty in
             let goes : GoesTo x s a = (subst (StandsWell x) missed reading.well).0 in
             let root : s ≡ 0 → a ≡ Right = λ y. ⊎_elim (λ (q : (s ≡ 0) × (a ≡ Right)). q.1) (λ q. absurd (q.0 y)) goes in
-            ⊎_elim (λ o. inl (r.old_for x.key s (recorded_even s life) o))
-            (λ q. r.side x.key s a t.key_fits (recorded_linked s life) (recorded_even s life) root none q)
+            ⊎_elim (λ o. inl (r.old_for x.key s (recorded_even m x s life) o))
+            (λ q. r.side x.key s a t.key_fits (recorded_linked m g x s kept life) (recorded_even m x s life) root none q)
             (t.side s tag a missed life known none same (λ q. settled (r.emptied s a q))));
         walk = λ node parent a value walk found on. (let q = t.walk node parent a value walk found on in record {
-          parent = λ y even. ⊎_elim (λ o. inl o) (λ way. inr (path node (still_back node y).linked walk.parent even way))
-              (q.parent (still_back node y) even);
-          slot = λ y even. path node (still_back node y).linked walk.slot even (q.slot (still_back node y) even);
+          parent = λ y even. (let was = was_recorded walk.parent even in
+              ⊎_elim (λ o. inl o) (λ way. inr (path node (still_back node y).linked walk.parent was way))
+              (q.parent (still_back node y) was));
+          slot = λ y even. (let was = was_recorded walk.slot even in
+              path node (still_back node y).linked walk.slot was (q.slot (still_back node y) was));
         });
       }
         where
           path : (node : ℕ) → g.linked node ≡ true → (s : ℕ) → IsAsRecorded m x s → OnRightLeft m node s
               → OnRightLeft (words_after z) node s
           path node l s even way = path_after m (words_after z) n g to p b d c lower upper i.tree.shape changes node s l way
-              (not_gone z s (inr (recorded_even s even)))
-
-    met_back : (at : ℕ) → IsMetBefore (views_after z) at → IsMetBefore vs at
-    met_back at y = somewhere_was vs id v w there (λ (x : HasMetBefore w at). (x.0, sym z.same.section ∙ x.1, x.2)) y
+              (not_gone z s (inr (recorded_even m x s even)))
 
     aged_after : AreAged (words_after z) to (views_after z) hs
     aged_after s at y a gone met link nz = ⊎_elim (λ (e : s ≡ d). at_gone e (cases_eq d 0)) (λ ne. other (λ e. absurd (ne e)))
@@ -349,36 +346,37 @@ module _ (z : LinkStep) where
         rank_on : (t : ℕ) → g.linked t ≡ true → to.rank t ≡ g.rank t
         rank_on t l = changes.rank t (λ e. ap g.linked (sym e) ∙ l)
 
-        led : at < length h → (g.linked y ≡ true) ⊎ ((after : ℕ) × (gone_at y h ≡ Some after) × (at < after))
-            → (to.linked y ≡ true) ⊎ ((after : ℕ) × (gone_at y hs ≡ Some after) × (at < after))
+        led : at < length h → (g.linked y ≡ true) ⊎ IsGoneSince h at y → (to.linked y ≡ true) ⊎ IsGoneSince hs at y
         led small (inl l) = ⊎_elim
             (λ (e : y ≡ d). (let now = z.gone_now (λ q. nz (e ∙ q)) in
-            inr (now.0, ap (λ q. gone_at q hs) e ∙ now.1, (let q = now.2 in omega arith))))
+            inr (record { at = now.0; gone = ap (λ q. gone_at q hs) e ∙ now.1; later = (let q = now.2 in omega arith) })))
             (λ ne. inl (still_linked z y l ne)) (cases_eq y d)
-        led small (inr q) = inr (q.0, z.gone_same y (off_not_gone z y (unlinked_off z y q.0 q.1)) ∙ q.1, q.2)
+        led small (inr q) = inr (record {
+          at = q.at;
+          gone = z.gone_same y (off_not_gone z y (unlinked_off z y q.at q.gone)) ∙ q.gone;
+          later = q.later;
+        })
 
-        other : (s ≡ d → s ≡ 0)
-            → (to.rank s < to.rank y) × ((to.linked y ≡ true) ⊎ ((after : ℕ) × (gone_at y hs ≡ Some after) × (at < after)))
+        other : (s ≡ d → s ≡ 0) → LeadsOn to hs at s y
         other not =
             let was : gone_at s h ≡ Some at = sym (z.gone_same s not) ∙ gone in
             let off = unlinked_off z s at was in
-            let aged = i.readers.ages s at y a was (met_back at met)
+            let aged = i.readers.ages s at y a was (met_still vs id v w there z.same.section at met)
             (sym (changes.stores.link s a (λ e. absurd (let on = changes.parent in cc (ap g.linked e)))) ∙ link) nz in
-            let lt = aged.0 in
             let rank_y : to.rank y ≡ g.rank y =
-            ⊎_elim (λ l. rank_on y l) (λ (x : (after : ℕ) × (gone_at y h ≡ Some after) × (at < after)). rank_gone y x.0 x.1) aged.1 in
-            (omega (arith, lt, rank_gone s at was, rank_y), led (gone_at-below s h at was) aged.1)
+            ⊎_elim (λ l. rank_on y l) (λ (x : IsGoneSince h at y). rank_gone y x.at x.gone) aged.leads in
+            record { rank = omega (arith, aged.rank, rank_gone s at was, rank_y); leads = led (gone_at-below s h at was) aged.leads }
 
-        at_gone : s ≡ d → (d ≡ 0) ⊎ (d ≢ 0)
-            → (to.rank s < to.rank y) × ((to.linked y ≡ true) ⊎ ((after : ℕ) × (gone_at y hs ≡ Some after) × (at < after)))
+        at_gone : s ≡ d → (d ≡ 0) ⊎ (d ≢ 0) → LeadsOn to hs at s y
         at_gone e (inl q) = other (λ _. e ∙ q)
         at_gone e (inr some_d) =
             let apart : s ≢ p = λ f. omega (arith, (below z some_d).rank, ap g.rank (sym f ∙ e)) in
             let child = i.tree.shape.below d y a (below z some_d).linked
-            (ap (λ q. m (Link q a)) (sym e) ∙ sym (changes.stores.link s a (λ f. absurd (apart f))) ∙ link) nz in (
-              omega (arith, child.rank, rank_on y child.linked, rank_on d (below z some_d).linked, ap to.rank e),
-              inl (still_linked z y child.linked (λ f. omega (arith, child.rank, ap g.rank f))),
-            )
+            (ap (λ q. m (Link q a)) (sym e) ∙ sym (changes.stores.link s a (λ f. absurd (apart f))) ∙ link) nz in
+            record {
+              rank = omega (arith, child.rank, rank_on y child.linked, rank_on d (below z some_d).linked, ap to.rank e);
+              leads = inl (still_linked z y child.linked (λ f. omega (arith, child.rank, ap g.rank f)));
+            }
 
     readings : readings_of w ≡ readings_of v
     readings = λ y. open_reading (z.same.section y) ++ z.records y

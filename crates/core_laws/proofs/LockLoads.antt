@@ -13,11 +13,11 @@ use Rattle.core_state.specs.declared.view.Reading.{Reading}
 use Rattle.core_state.specs.declared.view.Retired.{Retired}
 use Rattle.core_state.specs.declared.view.View.{View}
 use Rattle.list_laws.specs.Counts.{times, total, IsIn, Each}
-use Rattle.core_state.specs.Memory.{flag, IsEven, IsOdd, Memory, slot_count, stored, sum_below, count_below, has}
+use Rattle.core_state.specs.Memory.{flag, IsEven, Memory, slot_count, stored, sum_below, count_below, has}
 use Rattle.core_state.specs.Views.{known_in, lock_of, HasLock, IsOwnField, Works, retired_of, slots_of, emptied_among, change_lock, note_lock, note_held, note_option, note_moving, noting}
 use Rattle.core_state.specs.Links.{IsContent}
 use Rattle.core_state.specs.Tree.{Chart, IsEmptied, IsPending}
-use Rattle.core_state.specs.Parts.{HasGeneration, LockParts, HasFewSlots, IsRetired, AreHandsKnown, SlotParts, CountParts, IsAsRecorded, IsHeldKnown, IsMoving, TreeParts, ReaderParts, IsWaitedMove, GraceParts, IsLockKept, IsLockKnown}
+use Rattle.core_state.specs.Parts.{HasGeneration, LockParts, HasFewSlots, IsRetired, AreHandsKnown, SlotParts, CountParts, IsAsRecorded, IsHeldKnown, IsMoving, TreeParts, ReaderParts, IsWaitedMove, GraceParts, IsLockKept, IsLockKnown, IsHandKnown}
 use Rattle.core_state.specs.Invariant.{HoldsNow}
 use Rattle.list_laws.proofs.Lists.{each_set, each_change, total_same, at_below, set_twice, somewhere_here, somewhere_set}
 use Rattle.core_frames.proofs.Charts.{bool_cases}
@@ -27,7 +27,7 @@ use Rattle.core_laws.proofs.ChartStays.{ChartStep, same_but, outer_same, chart_s
 use Rattle.core_frames.proofs.Views.{stored_else, same_slots, loadable_own}
 use Rattle.core_laws.proofs.LockSteps.{OneLock, known_still, note_side, emptied_after, one_changed, lock_stays, note_held-form, lock_noted, note_held-slot, note_option-slots, held_noted, hands_noted, note_option-unraised, note_option-none, note_option-still_none}
 use native.Mathlib.Decide.{ℕ_discrete}
-use Rattle.core_frames.proofs.PlaceFrames.{free_slots, generations_in, tags_raised, counts_by, retired_of_by, seat_frame, lock_frame, counts_kept, retired_of_still, slots_by, front_frame}
+use Rattle.core_frames.proofs.PlaceFrames.{free_slots, generations_in, tags_raised, counts_by, retired_of_by, seat_frame, lock_frame, counts_kept, retired_of_still, slots_by, front_frame, retired_by}
 use Rattle.atomic_table.proofs.Lists.{set_here, set_again}
 use Rattle.core_state.specs.declared.view.Known.{Known}
 use Rattle.core_state.specs.declared.view.Section.{Section}
@@ -107,7 +107,6 @@ module _ (k : Shape) (m m' : Memory) (vs : List View) (h : List Mark) (id : ℕ)
             few = x.few;
             room = x.room;
             joined = x.joined;
-            joined_spare = x.joined_spare;
             next_spare = x.next_spare;
           }) (λ u x. x) t.few;
       free = λ s lt e. (let zero_state = sym (stores.state s) ∙ e in
@@ -119,7 +118,7 @@ module _ (k : Shape) (m m' : Memory) (vs : List View) (h : List Mark) (id : ℕ)
       retired = each_set (λ j u. Each (retired_of u) (IsRetired m' h)) vs id w
           (λ j x e. retired_is id v x there (j, e) (t.retired id v there j x e))
           (λ j u ne e l x is. retired_is j u x e (l, is) (t.retired j u e l x is));
-      unlinked = λ s p gone. retired_of_by vs id v w there s (λ r has is. (r, has, is)) (t.unlinked s p gone);
+      unlinked = λ s p gone. retired_of_by vs id v w there (λ r has. has) s (t.unlinked s p gone);
     }
       where
         free_off : (s : ℕ) → s < slot_count k → m (State s) ≡ 0 → g.linked s ≡ false
@@ -128,16 +127,8 @@ module _ (k : Shape) (m m' : Memory) (vs : List View) (h : List Mark) (id : ℕ)
 
         retired_is : (j : ℕ) (u : View) (x : Retired) → get_elem? vs j ≡ some u → IsIn (retired_of u) x → IsRetired m h x → IsRetired m' h x
         retired_is j u x e is t =
-            let same = c.off x.slot (own_off m (slot_count k) g vs h i.slots j u e x.slot (retired_own u x is)) in
-            record {
-              unlinked = t.unlinked;
-              some_slot = t.some_slot;
-              marked = λ q. subst IsOdd (sym same) (t.marked q);
-              life = λ number q f. same ∙ t.life number q f;
-              stays = λ field number q content f. stores.content x.slot field content ∙ t.stays field number q content f;
-              unmarked = λ q. subst IsEven (sym same) (t.unmarked q);
-              after_wait = t.after_wait;
-            }
+            retired_by m m' h h x refl (c.off x.slot (own_off m (slot_count k) g vs h i.slots j u e x.slot (retired_own u x is)))
+            (λ field content. stores.content x.slot field content) t
 
     -- nothing is said of the kind of slots: all keep their contents
     abbrev any : ℕ → Type 0
@@ -262,14 +253,13 @@ module _ (k : Shape) (m : Memory) (vs : List View) (h : List Mark) (id : ℕ) (v
         few = x.few;
         room = λ a is. x.room move moving;
         joined = x.joined;
-        joined_spare = x.joined_spare;
         next_spare = x.next_spare;
       })
       (λ x. record {
         hand = x.hand;
         spare = x.spare;
         copy = λ a is. (let q : with_copy ≡ a = cc in
-            subst (λ (z : Move). IsHeldKnown m z.copy × IsEven (m (Life z.copy.slot))) q (known, (x.copy move moving).1));
+            subst (λ (z : Move). IsHandKnown m z.copy) q (record { known = known; even = (x.copy move moving).even }));
         spares = x.spares;
       }) (λ x. x) (retired_of_still m (slot_count k) i.chart vs id v copy_view h there refl) i.slots
 
@@ -460,7 +450,7 @@ module _ (k : Shape) (m : Memory) (vs : List View) (h : List Mark) (id : ℕ) (v
       let ks = (note_held slot note move.copy).known in
       let told : IsHeldKnown m (record move.copy { known = ks }) = λ f n known.
       (let r = held_noted m m slot field number by_store own now (λ t x ne y. refl) (λ x y ne. refl) move.copy
-      ((i.slots.hands id v there).copy move e).0 f n known in
+      ((i.slots.hands id v there).copy move e).known f n known in
       (subst (λ z. IsOwnField z f) (note_held-slot slot note move.copy) r.0, r.1)) in
       let third : HoldsNow k m (set (set vs id handed_view) id
       (record handed_view { moving = Some (record move { copy = record move.copy { known = ks } }) })) h =

@@ -16,11 +16,11 @@ use Rattle.list_laws.specs.Counts.{times, IsIn, Each, numbers_from, total}
 use Rattle.core_state.specs.Memory.{IsOdd, Memory, same_field, IsEven, stored, slot_count, flag}
 use Rattle.core_state.specs.Views.{lock_of, HasLock, is_emptied, IsOwnField, known_in, readings_of, change_lock, note_lock, note_held, note_option, note_moving, noting, joined_spares, held_list, unraised_hand, joined_retired, spares_of, retired_of, slots_of}
 use Rattle.core_state.specs.Tree.{Chart, IsEmptied, HasEmptied}
-use Rattle.core_state.specs.Parts.{IsHolderOf, HasFewLocks, IsUnraised, IsLockKept, HasGeneration, IsLockKnown, IsReadingKept, LockParts, IsUnraisedOf, IsHeldKnown, AreHandsKnown, HasSpareToCome, HasFewSlots, IsRetired, IsRetiredOf, SlotParts}
+use Rattle.core_state.specs.Parts.{IsHolderOf, HasFewLocks, IsUnraised, IsLockKept, HasGeneration, IsLockKnown, IsReadingKept, LockParts, IsUnraisedOf, IsHeldKnown, AreHandsKnown, HasFewSpent, HasFewSlots, IsRetired, SlotParts, IsHandKnown}
 use Rattle.list_laws.proofs.Lists.{each_set, total_same, somewhere_here, somewhere_set, somewhere_still}
 use Rattle.core_laws.proofs.Locks.{change_here, change_other, slots_change, length_change, one_holder, linked_apart}
 use Rattle.core_state.specs.declared.view.Known.{Known}
-use Rattle.core_laws.proofs.Stores.{StoresIn, StoresAt, held_beside}
+use Rattle.core_laws.proofs.Stores.{StoresIn, StoresAt, hands_beside}
 use Rattle.core_frames.proofs.Views.{same_is, same_self, stored_here, stored_else, SamePlaces}
 use Rattle.std.proofs.lemmas.Bool.{eqb-true, cases_eq}
 use Rattle.core_state.specs.declared.view.Held.{Held}
@@ -30,9 +30,8 @@ use Rattle.core_state.specs.declared.shape.Shape.{Shape}
 use Rattle.core_state.specs.Invariant.{HoldsNow}
 use Rattle.prcu_marks.specs.Marks.{gone_at}
 use Rattle.core_state.specs.declared.view.Retired.{Retired}
-use Rattle.core_state.specs.declared.view.Spent.{Spent}
-use Rattle.core_frames.proofs.Roles.{hand_own, spare_own, retired_own}
-use Rattle.core_frames.proofs.PlaceFrames.{retired_of_by}
+use Rattle.core_frames.proofs.Roles.{retired_own, slots_count}
+use Rattle.core_frames.proofs.PlaceFrames.{retired_of_by, retired_by}
 
 -- The parts on locks, after a step that changes locks of one view; and after one that changes one lock and stores in that lock's slot
 -- alone.
@@ -175,9 +174,13 @@ pub emptied_after : (vs : List View) (id : ℕ) (v w : View) (slot : ℕ) (lock 
     → IsEmptied vs s a → IsEmptied (set vs id w) s a
 emptied_after vs id v w slot lock new there one s a says x =
     somewhere_still vs id v w there (λ (had : HasEmptied v s a). dite (ℕ_discrete s slot)
-    (λ same. (let q : Some had.0 ≡ Some lock = sym had.1 ∙ ap (lock_of v.locks) same ∙ one.held in let l : had.0 ≡ lock = cc in
-    (new, ap (lock_of w.locks) same ∙ one.now, says same (ap (λ z. is_emptied z a) (sym l) ∙ had.2))))
-    (λ ne. (had.0, one.other s ne ∙ had.1, had.2))) x
+    (λ same. (let q : Some had.lock ≡ Some lock = sym had.held ∙ ap (lock_of v.locks) same ∙ one.held in let l : had.lock ≡ lock = cc in
+    record {
+      lock = new;
+      held = ap (lock_of w.locks) same ∙ one.now;
+      emptied = says same (ap (λ z. is_emptied z a) (sym l) ∙ had.emptied);
+    }))
+    (λ ne. record { lock = had.lock; held = one.other s ne ∙ had.held; emptied = had.emptied })) x
 
 module _ (m m' : Memory) (n : ℕ) (g to : Chart) (vs : List View) (id : ℕ) (v w : View) (there : get_elem? vs id ≡ some v) (slot : ℕ)
     (lock new : HeldLock) (one : OneLock v w slot lock new) where
@@ -408,7 +411,7 @@ module _ (m m' : Memory) (s : ℕ) (field : Field) (number : ℕ) (by_store : Bo
   pub hands_noted : (v : View) → ((t : ℕ) → IsEven (m (Life t)) → IsEven (m' (Life t))) → AreHandsKnown m v
       → AreHandsKnown m' (noting v s field number by_store)
   hands_noted v even t = record {
-    hand = λ held is. (option_noted v.hands.hand (λ h e. (t.hand h e).0) held is, hand_even v.hands.hand refl held is);
+    hand = λ held is. hand_noted v.hands.hand t.hand held is;
     spare = λ held is. option_noted v.hands.spare t.spare held is;
     copy = λ move is. copy_noted v.moving (λ x e. t.copy x e) move is;
     spares = λ x has. even x (t.spares x (subst (λ l. 1 ≤ times x l)
@@ -416,20 +419,23 @@ module _ (m m' : Memory) (s : ℕ) (field : Field) (number : ℕ) (by_store : Bo
         ++ (numbers_from (v.allowance.place + 2) (v.allowance.places - 1) ++ joined_spares v.allowance.joined)) has));
   }
     where
-      hand_even : (o : Option Held) → v.hands.hand ≡ o → (held : Held) → note_option s entry o ≡ Some held → IsEven (m' (Life held.slot))
-      hand_even None e held is = absurd (cc)
-      hand_even (Some was) e held is = let q : note_held s entry was ≡ held = cc in
-          subst (λ (z : Held). IsEven (m' (Life z.slot))) q
-          (subst (λ z. IsEven (m' (Life z))) (sym (note_held-slot s entry was)) (even was.slot (t.hand was e).1))
+      one_noted : (held : Held) → IsHandKnown m held → IsHandKnown m' (note_held s entry held)
+      one_noted held r = record {
+        known = held_noted held r.known;
+        even = subst (λ z. IsEven (m' (Life z))) (sym (note_held-slot s entry held)) (even held.slot r.even);
+      }
 
-      copy_noted : (o : Option Move) → ((move : Move) → o ≡ Some move → IsHeldKnown m move.copy × IsEven (m (Life move.copy.slot)))
-          → (move : Move) → note_moving s entry o ≡ Some move → IsHeldKnown m' move.copy × IsEven (m' (Life move.copy.slot))
+      hand_noted : (o : Option Held) → ((held : Held) → o ≡ Some held → IsHandKnown m held) → (held : Held)
+          → note_option s entry o ≡ Some held → IsHandKnown m' held
+      hand_noted None all held is = absurd (cc)
+      hand_noted (Some was) all held is = let q : note_held s entry was ≡ held = cc in subst (IsHandKnown m') q (one_noted was (all was refl))
+
+      copy_noted : (o : Option Move) → ((move : Move) → o ≡ Some move → IsHandKnown m move.copy) → (move : Move)
+          → note_moving s entry o ≡ Some move → IsHandKnown m' move.copy
       copy_noted None all move is = absurd (cc)
       copy_noted (Some was) all move is =
           let q : record was { copy = note_held s entry was.copy } ≡ move = cc in
-          let r = all was refl in
-          subst (λ (z : Move). IsHeldKnown m' z.copy × IsEven (m' (Life z.copy.slot))) q
-          (held_noted was.copy r.0, subst (λ z. IsEven (m' (Life z))) (sym (note_held-slot s entry was.copy)) (even was.copy.slot r.1))
+          subst (λ (z : Move). IsHandKnown m' z.copy) q (one_noted was.copy (all was refl))
 
 -- the slot in hand and the spare stay what they are
 pub note_option-unraised : (s : ℕ) (known : Known) (o : Option Held) → unraised_hand (note_option s known o) ≡ unraised_hand o
@@ -570,16 +576,9 @@ module _ (k : Shape) (m : Memory) (vs : List View) (h : List Mark) (i : HoldsNow
   even_same : (s : ℕ) → IsEven (m (Life s)) → IsEven (slots_memory (Life s))
   even_same s e = subst IsEven (sym (stores.life s)) e
 
-  odd_same : (s : ℕ) → IsOdd (m (Life s)) → IsOdd (slots_memory (Life s))
-  odd_same s e = subst IsOdd (sym (stores.life s)) e
-
   not_mine : (s : ℕ) (j : ℕ) (u : View) → get_elem? vs j ≡ some u → 1 ≤ times s (slots_of u) → s ≢ p
   not_mine s j u e has same = let none = linked_apart k m vs h i p linked j u e in
       let one = subst (λ z. 1 ≤ times z (slots_of u)) same has in absurd (omega arith)
-
-  -- a slot held that isn't the one stored in
-  held_same : (held : Held) → held.slot ≢ p → IsHeldKnown m held → IsHeldKnown slots_memory held
-  held_same = held_beside m slots_memory p stores.within
 
   -- what a step has to say of the view's hands
   pub record StoresHands : Type 0 where
@@ -611,18 +610,10 @@ module _ (k : Shape) (m : Memory) (vs : List View) (h : List Mark) (i : HoldsNow
         }
 
     hands_others : (j : ℕ) (u : View) → j ≢ id → get_elem? vs j ≡ some u → AreHandsKnown m u → AreHandsKnown slots_memory u
-    hands_others j u ne e t = record {
-      hand = λ held is. (let r = t.hand held is in
-          (held_same held (not_mine held.slot j u e (hand_own u held is)) r.0, even_same held.slot r.1));
-      spare = λ held is. held_same held (not_mine held.slot j u e (spare_own u held is)) (t.spare held is);
-      copy = λ move is.
-          (let r = t.copy move is in
-          let lock = (i.tree.moves.each j u e move is).copy_lock in (
-            held_same move.copy (λ same. ne (one_holder k m vs h i j id u v p e there (subst (HasLock u) same lock) c.mine)) r.0,
-            even_same move.copy.slot r.1,
-          ));
-      spares = λ s has. even_same s (t.spares s has);
-    }
+    hands_others j u ne e = hands_beside m slots_memory p stores.within u
+        (let none = linked_apart k m vs h i p linked j u e in let a = slots_count u p in omega arith)
+        (λ move is same. ne
+        (one_holder k m vs h i j id u v p e there (subst (HasLock u) same (i.tree.moves.each j u e move is).copy_lock) c.mine))
 
     pub hands_stored : Each (set vs id w) (AreHandsKnown slots_memory)
     hands_stored = each_set (λ j u. AreHandsKnown slots_memory u) vs id w (hands_mine (i.slots.hands id v there))
@@ -630,18 +621,9 @@ module _ (k : Shape) (m : Memory) (vs : List View) (h : List Mark) (i : HoldsNow
 
     -- a slot that was retired is what it was
     pub retired_kept : (j : ℕ) (u : View) (r : Retired) → get_elem? vs j ≡ some u → IsIn (retired_of u) r → IsRetired slots_memory h' r
-    retired_kept j u r e has =
-        let t = i.slots.retired j u e has.0 r has.1 in
-        let ne = not_mine r.slot j u e (retired_own u r has) in
-        record {
-          unlinked = c.same_gone r.slot (off j u r e has) ∙ t.unlinked;
-          some_slot = t.some_slot;
-          marked = λ q. odd_same r.slot (t.marked q);
-          life = λ number q is. stores.life r.slot ∙ t.life number q is;
-          stays = λ field number q content known. stores.content r.slot field ne content ∙ t.stays field number q content known;
-          unmarked = λ q. even_same r.slot (t.unmarked q);
-          after_wait = t.after_wait;
-        }
+    retired_kept j u r e has = retired_by m slots_memory h h' r (c.same_gone r.slot (off j u r e has)) (stores.life r.slot)
+        (λ field content. stores.content r.slot field (not_mine r.slot j u e (retired_own u r has)) content)
+        (i.slots.retired j u e has.0 r has.1)
       where
         off : (j : ℕ) (u : View) (r : Retired) → get_elem? vs j ≡ some u → IsIn (retired_of u) r → i.chart.linked r.slot ≡ false
         off j u r e has = cases (i.chart.linked r.slot) refl
@@ -656,15 +638,11 @@ module _ (k : Shape) (m : Memory) (vs : List View) (h : List Mark) (i : HoldsNow
       one = λ q. c.hand ∙ note_option-still_none p slots_entry v.hands.hand (t.one (sym c.reserved ∙ q));
       few = few;
       room = λ move is. absurd (let q : None ≡ Some move = sym c.moving ∙ is in cc);
-      joined = subst (λ x. Each x (λ (s : Spent). length s.retired ≤ k.room)) (sym c.places.joined) t.joined;
-      joined_spare = subst (λ ss. Each ss HasSpareToCome) (sym c.places.joined) t.joined_spare;
+      joined = subst (λ ss. Each ss (HasFewSpent k.room)) (sym c.places.joined) t.joined;
       next_spare = λ works none. (let r = t.next_spare (subst (λ x. 1 ≤ x) c.places.places works)
-          (note_option-none p slots_entry v.hands.spare (sym c.spare ∙ none)) in (r.0, more r.0 r.1, r.2));
+          (note_option-none p slots_entry v.hands.spare (sym c.spare ∙ none)) in
+          record { retired = r.retired; has = more r.retired r.has; unraised = r.unraised });
     }
-
-    still_retired : ((r : Retired) → IsIn (retired_of v) r → IsIn (retired_of w) r) → (s : ℕ) → IsRetiredOf vs s
-        → IsRetiredOf (set vs id w) s
-    still_retired keeps s = retired_of_by vs id v w there s (λ r has is. (r, keeps r has, is))
 
     -- the same where the step unlinks no slot
     module _ (same_retired : w.hands.retired ≡ v.hands.retired) (gone : (s : ℕ) → gone_at s h' ≡ gone_at s h) where
@@ -691,8 +669,8 @@ module _ (k : Shape) (m : Memory) (vs : List View) (h : List Mark) (i : HoldsNow
         retired = each_set (λ j u. Each (retired_of u) (IsRetired slots_memory h')) vs id w
             (subst (λ rs. Each rs (IsRetired slots_memory h')) (sym retired_same) (λ j r e. retired_kept id v r there (j, e)))
             (λ j u ne e l r is. retired_kept j u r e (l, is));
-        unlinked = λ s q is. (let r = i.slots.unlinked s q (sym (gone s) ∙ is) in
-            still_retired (λ x has. subst (λ rs. IsIn rs x) (sym retired_same) has) s r);
+        unlinked = λ s q is. retired_of_by vs id v w there (λ x has. subst (λ rs. IsIn rs x) (sym retired_same) has) s
+            (i.slots.unlinked s q (sym (gone s) ∙ is));
       }
         where
           whole : (s : ℕ) → total (λ (u : View). times s (slots_of u)) (set vs id w) ≡ total (λ (u : View). times s (slots_of u)) vs

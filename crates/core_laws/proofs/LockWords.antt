@@ -17,9 +17,9 @@ use Rattle.atomic_table.proofs.Lists.{set_again}
 use Rattle.prcu_marks.specs.declared.mark.Side.{Side}
 use Rattle.core_state.specs.declared.view.Move.{Move}
 use Rattle.core_state.specs.declared.view.View.{View}
-use Rattle.core_state.specs.Tree.{Chart, IsEmptied}
+use Rattle.core_state.specs.Tree.{Chart, IsEmptied, HasEmptied}
 use Rattle.core_state.specs.Parts.{IsHolderOf, HasFewLocks, IsUnraised, IsLockKept, IsLockKnown, IsReadingKept, LockParts, ReaderParts, IsMoving, TreeParts}
-use Rattle.core_frames.proofs.TreeFrames.{moves_same, tree_by, moving_by, moving_same, may_still, old_still, readers_stay, emptied_by, listing_frame_still}
+use Rattle.core_frames.proofs.TreeFrames.{moves_same, tree_by, moving_by, moving_same, may_still, old_still, readers_stay, listing_frame_still}
 use Rattle.core_frames.proofs.Marks.{quiet_same}
 use Rattle.core_state.specs.declared.view.Reading.{Reading}
 use Rattle.core_frames.proofs.PlaceFrames.{kept_same, known_same, reading_same, counts_still, sums_same, slot_frame, slots_elsewhere, front_frame}
@@ -110,11 +110,11 @@ module _ (vs : List View) (id : ℕ) (v : View) (there : get_elem? vs id ≡ som
   holder_on s lock ne i = somewhere_still vs id v w there (λ held. other s ne ∙ held) i
 
   emptied_on : (s : ℕ) (b : Side) → IsEmptied vs s b → IsEmptied (set vs id w) s b
-  emptied_on = emptied_by vs id v w there (λ s lock holds b emptied. (
-    lock,
-    other s (λ on. settled lock b (ap (lock_of v.locks) (sym on) ∙ holds) emptied) ∙ holds,
-    emptied,
-  ))
+  emptied_on s b = somewhere_still vs id v w there (λ (x : HasEmptied v s b). record {
+    lock = x.lock;
+    held = other s (λ on. settled x.lock b (ap (lock_of v.locks) (sym on) ∙ x.held) x.emptied) ∙ x.held;
+    emptied = x.emptied;
+  })
 
   module _ (m m' : Memory) (nodes : SameNodes m m') (g : Chart) (h : List Mark) where
     moving_on : (move : Move) → v.moving ≡ Some move → IsMoving m g h v move → IsMoving m' g h w move

@@ -323,6 +323,21 @@ emptied_flags : (b : Side) (l : HeldLock) → flag (with_emptied b true l).left_
 emptied_flags Left l = omega arith
 emptied_flags Right l = omega arith
 
+-- what a lock was, where it is known what each becomes, and a slot without a lock gets none
+pub locks_back : (ls ls' : List HeldLock) (t : ℕ) (becomes : HeldLock → HeldLock → Type 0)
+    → (lock_of ls t ≡ None → lock_of ls' t ≡ None)
+    → ((l : HeldLock) → lock_of ls t ≡ Some l → (l' : HeldLock) × (lock_of ls' t ≡ Some l') × becomes l l')
+    → (l' : HeldLock) → lock_of ls' t ≡ Some l' → (l : HeldLock) × (lock_of ls t ≡ Some l) × becomes l l'
+locks_back ls ls' t becomes none forth l' e = cases (lock_of ls t) refl
+  where
+    cases : (o : Option HeldLock) → lock_of ls t ≡ o → (l : HeldLock) × (lock_of ls t ≡ Some l) × becomes l l'
+    cases None q = absurd (let r : None ≡ Some l' = sym (none q) ∙ e in cc)
+    cases (Some l) q =
+        let f = forth l q in
+        let r : Some f.0 ≡ Some l' = sym f.1 ∙ e in
+        let same : f.0 ≡ l' = cc in
+        (l, q, subst (becomes l) same f.2)
+
 -- what a lock of a slot becomes where something was noted of slot p, where side b of p became empty if `empties`, and where slot d is
 -- unmarked
 pub record IsRelocked (p : ℕ) (b : Side) (empties : Bool) (d : ℕ) (known : Known) (t : ℕ) (l l' : HeldLock) : Type 0 where
@@ -433,17 +448,9 @@ module _ (p : ℕ) (b : Side) (d : ℕ) (known : Known) where
   -- and what it was before
   pub relocked_back : (empties : Bool) (ls : List HeldLock) (t : ℕ) (l' : HeldLock) → lock_of (relocked empties ls) t ≡ Some l'
       → (l : HeldLock) × (lock_of ls t ≡ Some l) × IsRelocked p b empties d known t l l'
-  relocked_back empties ls t l' e = cases (lock_of ls t) refl
-    where
-      cases : (o : Option HeldLock) → lock_of ls t ≡ o → (l : HeldLock) × (lock_of ls t ≡ Some l) × IsRelocked p b empties d known t l l'
-      cases None q = absurd (let r : None ≡ Some l' =
-          sym (lock_of-change d (with_mark false) (λ x. refl) (emptied_locks empties ls) t
-          ∙ ap (changed (with_mark false) (t == d)) (emptied_none empties ls t q)) ∙ e in cc)
-      cases (Some l) q =
-          let f = relocked_forth empties ls t l q in
-          let r : Some f.0 ≡ Some l' = sym f.1 ∙ e in
-          let same : f.0 ≡ l' = cc in
-          (l, q, subst (IsRelocked p b empties d known t l) same f.2)
+  relocked_back empties ls t = locks_back ls (relocked empties ls) t (IsRelocked p b empties d known t)
+      (λ none. lock_of-change d (with_mark false) (λ x. refl) (emptied_locks empties ls) t
+      ∙ ap (changed (with_mark false) (t == d)) (emptied_none empties ls t none)) (relocked_forth empties ls t)
 
   pub relocked_slots : (empties : Bool) (ls : List HeldLock)
       → map (λ (l : HeldLock). l.slot) (relocked empties ls) ≡ map (λ (l : HeldLock). l.slot) ls
@@ -506,13 +513,5 @@ module _ (p : ℕ) (known : Known) where
 
   pub noted_back : (ls : List HeldLock) (t : ℕ) (l' : HeldLock) → lock_of (change_lock p (note_lock known) ls) t ≡ Some l'
       → (l : HeldLock) × (lock_of ls t ≡ Some l) × IsNoted p known t l l'
-  noted_back ls t l' e = cases (lock_of ls t) refl
-    where
-      cases : (o : Option HeldLock) → lock_of ls t ≡ o → (l : HeldLock) × (lock_of ls t ≡ Some l) × IsNoted p known t l l'
-      cases None q = absurd (let r : None ≡ Some l' =
-          sym (lock_of-change p (note_lock known) (λ x. refl) ls t ∙ ap (changed (note_lock known) (t == p)) q) ∙ e in cc)
-      cases (Some l) q =
-          let f = noted_forth ls t l q in
-          let r : Some f.0 ≡ Some l' = sym f.1 ∙ e in
-          let same : f.0 ≡ l' = cc in
-          (l, q, subst (IsNoted p known t l) same f.2)
+  noted_back ls t = locks_back ls (change_lock p (note_lock known) ls) t (IsNoted p known t)
+      (λ none. lock_of-change p (note_lock known) (λ x. refl) ls t ∙ ap (changed (note_lock known) (t == p)) none) (noted_forth ls t)

@@ -33,7 +33,7 @@ use Rattle.core_state.specs.Marks.{begun, begun_at, Grace, HasWaited, WasLeft}
 use Rattle.core_state.specs.Views.{Works}
 use Rattle.core_frames.proofs.Marks.{QuietMarks, quiet_snoc, begun-append, begun_at-append, others_snoc, prefix_snoc}
 use Rattle.core_frames.proofs.Views.{same_slots}
-use Rattle.core_frames.proofs.WaitFrames.{marks_snoc, mark_frame_by, reuse_snoc, StaysNoted, clear_same, move_stays, retired_stays, waited_longer}
+use Rattle.core_frames.proofs.WaitFrames.{marks_snoc, mark_frame_by, reuse_snoc, StaysNoted, clear_same, move_stays, retired_stays, waited_longer, waited_by}
 use Rattle.core_frames.proofs.PlaceFrames.{counts_still, sums_same, front_frame, counted_still, seat_frame_still}
 use Rattle.core_laws.proofs.Waits.{entered_open, left_or_open, began_same, moves_noted, noted_half, unraised_noted, of_wait, waiters_own, wait_law, same_stands}
 use Rattle.core_frames.proofs.TreeFrames.{listing_frame_still}
@@ -305,9 +305,9 @@ module _ (k : Shape) (m : Memory) (vs : List View) (h : List Mark) (id : ℕ) (v
       ⊎_elim (λ (l : WasLeft h q c e (length h)). l)
       (λ (now : open_at q h ≡ Some (entered_open c x e)).
       let o = i.seats.opened q (entered_open c x e) now in
-      let at = ap (λ (z : Open). z.at) o.has.3 in
-      let key = ap (λ (z : Open). z.key) o.has.3 in
-      absurd (clear o.id o.view o.has.1 o.there o.has.2 (omega arith) (omega arith) (omega arith)))
+      let at = ap (λ (z : Open). z.at) o.has.by_marks in
+      let key = ap (λ (z : Open). z.key) o.has.by_marks in
+      absurd (clear o.id o.view o.has.section o.there o.has.is_open (omega arith) (omega arith) (omega arith)))
       (left_or_open k.places h i.marks.marks e q c x entered)
 
   grace_end : Grace h'
@@ -353,19 +353,7 @@ module _ (k : Shape) (m : Memory) (vs : List View) (h : List Mark) (id : ℕ) (v
   waited_back p after low high x =
       let b = old_began x.began p x.count x.from x.to x.begins in
       ⊎_elim
-      (λ (o : get_elem? h x.ended ≡ some (Ended p x.count)). inl
-      (record {
-        began = x.began;
-        ended = x.ended;
-        count = x.count;
-        from = x.from;
-        to = x.to;
-        late = x.late;
-        begins = b;
-        ends = o;
-        least = x.least;
-        most = x.most;
-      }))
+      (λ (o : get_elem? h x.ended ≡ some (Ended p x.count)). inl (waited_by x b o))
       (λ (t : (x.ended ≡ length h) × (v.allowance.place ≡ p) × (wait.count ≡ x.count)).
       let place = t.1 in
       let it = this_wait x.began x.count x.from x.to t.2

@@ -16,21 +16,21 @@ use Rattle.core_state.specs.declared.view.Known.{Known}
 use Rattle.core_state.specs.declared.view.Move.{Move}
 use Rattle.core_state.specs.declared.view.Reading.{Reading}
 use Rattle.core_state.specs.declared.view.View.{View}
-use Rattle.list_laws.specs.Counts.{times, IsIn}
-use Rattle.core_state.specs.Memory.{has, IsEven, Memory, stored, slot_count}
-use Rattle.core_state.specs.Views.{known_in, lock_of, known_under, HasLock, is_emptied, change_lock, note_lock, IsOwnField, LoadedGeneration, Works, readings_of, open_reading, spares_of}
+use Rattle.list_laws.specs.Counts.{IsIn}
+use Rattle.core_state.specs.Memory.{has, Memory, stored, slot_count}
+use Rattle.core_state.specs.Views.{known_in, lock_of, known_under, HasLock, is_emptied, change_lock, note_lock, IsOwnField, LoadedGeneration, Works, readings_of, open_reading}
 use Rattle.core_state.specs.Links.{NodeRecords, IsUnmarkedNode, FewChildren, BothChildren, IsNodeOfDelete, IsOldOfMove, IsRecordedNode, NeedsMark, with_mark, after_mark}
 use Rattle.core_state.specs.Tree.{Chart, IsEmptied}
 use Rattle.core_state.specs.Parts.{AreHandsKnown, HasGeneration, IsLockKept, IsLockKnown, IsReadingKept, LockParts, StandsWell}
 use Rattle.core_state.specs.Invariant.{HoldsNow}
 use Rattle.core_frames.specs.Laws.{KeepsPast}
 use Rattle.list_laws.proofs.Lists.{in_second}
-use Rattle.core_laws.proofs.Locks.{lock_outside, lock_alone, linked_hand, linked_spare, emptied_change_same, lock_under, loaded_known, under_lock as known_under_lock}
+use Rattle.core_laws.proofs.Locks.{lock_outside, lock_alone, linked_hand, linked_spare, emptied_change_same, lock_under, loaded_known, under_lock as known_under_lock, linked_apart}
 use Rattle.core_laws.proofs.LockSteps.{known_here as noted_here, emptied_after, OneLock, noted_then, lock_stays, lock_noted, noting-lock}
-use Rattle.core_frames.proofs.Roles.{own_off, slots_count}
+use Rattle.core_frames.proofs.Roles.{slots_count}
 use Rattle.core_laws.proofs.LockLoads.{life_or_tag_stores, under_lock}
 use Rattle.core_frames.proofs.Views.{stored_here, stored_else}
-use Rattle.core_laws.proofs.Stores.{StoresIn, stores_in, held_beside}
+use Rattle.core_laws.proofs.Stores.{StoresIn, stores_in, hands_beside}
 use Rattle.core_frames.proofs.WholeFrames.{Stepper, StepKeeps, no_mark}
 
 module _ (k : Shape) (m : Memory) (vs : List View) (h : List Mark) (id : ℕ) (v : View) (i : HoldsNow k m vs h)
@@ -221,22 +221,10 @@ module _ (k : Shape) (m : Memory) (vs : List View) (h : List Mark) (id : ℕ) (v
   off_slot : (s : ℕ) → g.linked s ≡ false → s ≢ slot
   off_slot s off e = absurd (let q : true ≡ false = sym ready.linked ∙ ap g.linked (sym e) ∙ off in cc)
 
-  spare_off : (j : ℕ) (u : View) (s : ℕ) → get_elem? vs j ≡ some u → 1 ≤ times s (spares_of u) → s ≢ slot
-  spare_off j u s e has = off_slot s (own_off m (slot_count k) g vs h i.slots j u e s (let a = slots_count u s in omega arith))
-
   hands_else : (j : ℕ) (u : View) → get_elem? vs j ≡ some u → AreHandsKnown m u → AreHandsKnown marked_memory u
-  hands_else j u e t = record {
-    hand = λ x is. (let y = t.hand x is in (
-      held_beside m marked_memory slot stores x (hand_apart j u x e is) y.0,
-      subst IsEven (sym (life_else x.slot (hand_apart j u x e is))) y.1,
-    ));
-    spare = λ x is. held_beside m marked_memory slot stores x (spare_apart j u x e is) (t.spare x is);
-    copy = λ move is. (let y = t.copy move is in (
-      held_beside m marked_memory slot stores move.copy (copy_apart j u move e is) y.0,
-      subst IsEven (sym (life_else move.copy.slot (copy_apart j u move e is))) y.1,
-    ));
-    spares = λ s has. subst IsEven (sym (life_else s (spare_off j u s e has))) (t.spares s has);
-  }
+  hands_else j u e = hands_beside m marked_memory slot stores u
+      (let none = linked_apart k m vs h i slot ready.linked j u e in let a = slots_count u slot in omega arith)
+      (λ move is. copy_apart j u move e is)
 
   generation_here : (x : ℕ) → HasGeneration m slot x lock → HasGeneration marked_memory slot x new_lock
   generation_here x has = ⊎_elim
@@ -250,13 +238,13 @@ module _ (k : Shape) (m : Memory) (vs : List View) (h : List Mark) (id : ℕ) (v
         half = half;
         off = λ s off. life_else s (off_slot s off);
         root = life_else 0 (λ e. ready.some_slot (sym e)) ∙ i.slots.root;
-        recorded = λ r s x. (
-          x.0,
-          x.1,
-          dite (ℕ_discrete s slot)
-              (λ same. absurd (odd_here x.0 (sym life_here ∙ ap (λ z. marked_memory (Life z)) (sym same) ∙ x.2)))
-              (λ ne. sym (life_else s ne) ∙ x.2),
-        );
+        recorded = λ r s x. record {
+          generation = x.generation;
+          recorded = x.recorded;
+          same = dite (ℕ_discrete s slot)
+              (λ same. absurd (odd_here x.generation (sym life_here ∙ ap (λ z. marked_memory (Life z)) (sym same) ∙ x.same)))
+              (λ ne. sym (life_else s ne) ∙ x.same);
+        };
         tags = λ j u r s tag b e has known same settled. (same, λ x. settled (emptied_now s b x));
         hands = hands_else;
         away = life_else;

@@ -17,14 +17,13 @@ use Rattle.core_state.specs.declared.view.View.{View}
 use Rattle.list_laws.specs.Counts.{times, IsIn, Each}
 use Rattle.core_state.specs.Memory.{IsEven, Memory, slot_count, IsOdd, flag}
 use Rattle.core_state.specs.Views.{known_in, lock_of, HasLock, is_emptied, IsOwnField, LoadedGeneration, readings_of, slots_of, open_reading, joined_retired, held_list, retired_of, spares_of}
-use Rattle.core_state.specs.Tree.{IsHeldBack, Chart}
-use Rattle.core_state.specs.Parts.{HasFewLocks, IsUnraised, HasGeneration, IsAsRecorded, SlotParts, IsLockKept, IsLockKnown, IsReadingKept, LockParts, roles_of, HasFewSlots, IsRetired, IsHeldKnown, AreHandsKnown, CountParts, GraceParts, IsClear}
-use Rattle.list_laws.proofs.Lists.{in_second, in_first, each_set, total_set, at_end, past_snoc}
-use Rattle.core_frames.proofs.TreeFrames.{emptied_by}
-use Rattle.core_laws.proofs.Stores.{StoresIn, held_beside, content_away}
+use Rattle.core_state.specs.Tree.{IsHeldBack, Chart, HasEmptied}
+use Rattle.core_state.specs.Parts.{HasFewLocks, IsUnraised, HasGeneration, IsAsRecorded, SlotParts, IsLockKept, IsLockKnown, IsReadingKept, LockParts, roles_of, HasFewSlots, IsRetired, IsHeldKnown, AreHandsKnown, CountParts, GraceParts, IsClear, HasRetired, IsHandKnown}
+use Rattle.list_laws.proofs.Lists.{in_second, in_first, each_set, total_set, at_end, past_snoc, somewhere_still}
+use Rattle.core_laws.proofs.Stores.{StoresIn, held_beside, content_away, hand_beside, hands_beside}
 use Rattle.core_laws.proofs.ChartStays.{SameOutside, ChartStep, OuterParts, chart_stays, grace_by}
 use Rattle.core_frames.proofs.WholeFrames.{Stepper, waited_more, waited_back, grace_plain}
-use Rattle.core_frames.proofs.Roles.{own_apart, retired_own, slots_count, held_there, spare_among}
+use Rattle.core_frames.proofs.Roles.{own_apart, retired_own, slots_count}
 use mathlib.Core.Logic.{dite}
 use native.Mathlib.Decide.{dec_le, ℕ_discrete}
 use Rattle.std.proofs.lemmas.Bool.{cases_eq, eqb-true}
@@ -33,13 +32,13 @@ use Rattle.core_state.specs.declared.view.Held.{Held}
 use Rattle.core_state.specs.declared.view.Move.{Move}
 use Rattle.core_state.specs.declared.view.Retired.{Retired}
 use Rattle.core_state.specs.Invariant.{HoldsNow}
-use Rattle.core_frames.proofs.PlaceFrames.{retired_of_by}
 use Rattle.atomic_table.proofs.Lists.{at_longer}
 use Rattle.prcu_marks.proofs.Marks.{updates_of-append, gone_at-snoc}
 use Rattle.core_state.specs.Marks.{IsReused, Reuse}
 use Rattle.core_frames.proofs.Marks.{open_mark, IsPlain, plain_one}
 use Rattle.core_frames.proofs.WaitFrames.{NewMark}
 use Rattle.core_state.specs.declared.shape.Shape.{Shape}
+use Rattle.core_frames.proofs.PlaceFrames.{retired_by}
 
 -- What becomes of a lock of the view: at most one thing more is known of the slot, which is so.
 pub record OffLock (m' : Memory) (s t : ℕ) (l l' : HeldLock) : Type 0 where
@@ -129,8 +128,9 @@ module _ (z : OffStep) where
   pub recorded_back : (j : ℕ) (u : View) (r : Reading) → get_elem? vs j ≡ some u → IsIn u.records r → (t : ℕ) → IsAsRecorded m' r t
       → (t ≢ s) × IsAsRecorded m r t
   recorded_back j u r e has t i =
-      let far = unloaded j u r t i.0 e (in_second (open_reading u.section) u.records r has) i.1 (let a = i.2 in omega arith) in
-      (far, (i.0, i.1, sym (life_away t far) ∙ i.2))
+      let far = unloaded j u r t i.generation e (in_second (open_reading u.section) u.records r has) i.recorded
+      (let a = i.same in omega arith) in
+      (far, record { generation = i.generation; recorded = i.recorded; same = sym (life_away t far) ∙ i.same })
 
   pub generation_away : (t generation : ℕ) (l l' : HeldLock) → t ≢ s → l'.marked ≡ l.marked → HasGeneration m t generation l
       → HasGeneration m' t generation l'
@@ -159,8 +159,8 @@ module _ (z : OffStep) where
     recorded = recorded_back;
     side = λ j u r t tag b e has known same settled. (
       sym (z.tag t b) ∙ same,
-      λ x. settled (emptied_by z.who.vs z.who.id z.who.v z.w z.who.there
-          (λ o lock holds a emptied. (let f = z.lock_forth o lock holds in (f.0, f.1, f.2.emptied a ∙ emptied))) t b x),
+      λ x. settled (somewhere_still z.who.vs z.who.id z.who.v z.w z.who.there (λ (y : HasEmptied z.who.v t b).
+          (let f = z.lock_forth t y.lock y.held in record { lock = f.0; held = f.1; emptied = f.2.emptied b ∙ y.emptied })) x),
     );
     held = λ t l. (let f = z.lock_forth t l.0 l.1 in (f.0, f.1));
     generation = λ j u t l generation ne e is on x. generation_away t generation l l (on_apart t on) refl x;
@@ -288,35 +288,21 @@ module _ (z : OffStep) where
   even_away t ne even = subst IsEven (sym (life_away z t ne)) even
 
   pub retired_away : (r : Retired) → r.slot ≢ s → IsRetired m h r → IsRetired m' hs r
-  retired_away r ne i = let e = life_away z r.slot ne in record {
-    unlinked = z.marks.else r.slot ne ∙ i.unlinked;
-    some_slot = i.some_slot;
-    marked = λ f. subst IsOdd (sym e) (i.marked f);
-    life = λ number f q. e ∙ i.life number f q;
-    stays = λ field number f c q. content_away m m' s z.stores r.slot field ne c ∙ i.stays field number f c q;
-    unmarked = λ f. subst IsEven (sym e) (i.unmarked f);
-    after_wait = i.after_wait;
-  }
+  retired_away r ne = retired_by m m' h hs r (z.marks.else r.slot ne) (life_away z r.slot ne)
+      (λ field c. content_away m m' s z.stores r.slot field ne c)
 
-  pub copy_away : (j : ℕ) (u : View) → get_elem? vs j ≡ some u → (move : Move) → u.moving ≡ Some move
-      → IsHeldKnown m' move.copy × IsEven (m' (Life move.copy.slot))
-  copy_away j u e move q =
-      let a = (z.who.inv.slots.hands j u e).copy move q in
-      let ne = on_apart z move.copy.slot (z.who.inv.tree.moves.each j u e move q).copy_linked in
-      (held_away move.copy ne a.0, even_away move.copy.slot ne a.1)
+  pub hand_away : (held : Held) → held.slot ≢ s → IsHandKnown m held → IsHandKnown m' held
+  hand_away = hand_beside m m' s z.stores
+
+  pub copy_away : (j : ℕ) (u : View) → get_elem? vs j ≡ some u → (move : Move) → u.moving ≡ Some move → IsHandKnown m' move.copy
+  copy_away j u e move q = hand_away move.copy (on_apart z move.copy.slot (z.who.inv.tree.moves.each j u e move q).copy_linked)
+      ((z.who.inv.slots.hands j u e).copy move q)
 
   -- of a view that has the slot neither in hand nor as a spare
   pub hands_away : (j : ℕ) (u : View) → get_elem? vs j ≡ some u → times s (held_list u.hands.hand) + times s (spares_of u) ≡ 0
       → AreHandsKnown m' u
-  hands_away j u e none = let i = z.who.inv.slots.hands j u e in record {
-    hand = λ held q. (let far : held.slot ≢ s = (λ same. (let a = held_there u.hands.hand held q in
-        let b = ap (λ x. times x (held_list u.hands.hand)) same in absurd (omega arith))) in let a = i.hand held q in
-        (held_away held far a.0, even_away held.slot far a.1));
-    spare = λ held q. held_away held (λ same. (let a = spare_among u held q in let b = ap (λ x. times x (spares_of u)) same in
-        absurd (omega arith))) (i.spare held q);
-    copy = λ move q. copy_away j u e move q;
-    spares = λ t has. even_away t (λ same. (let b = ap (λ x. times x (spares_of u)) same in absurd (omega arith))) (i.spares t has);
-  }
+  hands_away j u e none = hands_beside m m' s z.stores u none
+      (λ move q. on_apart z move.copy.slot (z.who.inv.tree.moves.each j u e move q).copy_linked) (z.who.inv.slots.hands j u e)
 
   -- what the step has to say of the slots of its own view
   pub record OwnSlots : Type 0 where
@@ -327,8 +313,7 @@ module _ (z : OffStep) where
     pub few : HasFewSlots k.room w
     pub hands : AreHandsKnown m' w
     pub retired : Each (retired_of w) (IsRetired m' hs)
-    pub unlinked : (t p : ℕ) → gone_at t hs ≡ Some p → (r : Retired) → IsIn (retired_of v) r → r.slot ≡ t
-        → (x : Retired) × IsIn (retired_of w) x × (x.slot ≡ t)
+    pub unlinked : (t p : ℕ) → gone_at t hs ≡ Some p → HasRetired v t → HasRetired w t
 
   module _ (c : OwnSlots) where
     pub once_now : (t : ℕ) → t < n → roles_of m' g us t ≡ 1
@@ -364,7 +349,7 @@ module _ (z : OffStep) where
       retired = each_set (λ j u. Each (retired_of u) (IsRetired m' hs)) vs id w c.retired
           (λ j u ne e i r f. retired_away r (λ same. (let none = z.others j u ne e in let one = retired_own u r (i, f) in
           let a = ap (λ x. times x (slots_of u)) same in absurd (omega arith))) (t.retired j u e i r f));
-      unlinked = λ x p gone. retired_of_by vs id v w z.who.there x (c.unlinked x p gone) (t.unlinked x p (z.marks.back x p gone));
+      unlinked = λ x p gone. somewhere_still vs id v w z.who.there (c.unlinked x p gone) (t.unlinked x p (z.marks.back x p gone));
     }
 
     -- the invariant, with the parts on counts and grace, and those that speak of no slot
@@ -501,12 +486,13 @@ pub entered_later : (k : Shape) (m : Memory) (vs : List View) (h : List Mark) �
     → IsClear vs a 0 greatest_key → last_unlinked s h ≡ Some a → open_at p h ≡ Some o → a < o.at
 entered_later k m vs h i s a p o clear last now =
     let x = i.seats.opened p o now in
-    let at = ap (λ (z : Open). z.at) x.has.3 in
-    let fits = (i.seats.sections x.id x.view x.there x.has.1 x.has.2).key_fits in
+    let section = x.has.section in
+    let at = ap (λ (z : Open). z.at) x.has.by_marks in
+    let fits = (i.seats.sections x.id x.view x.there section x.has.is_open).key_fits in
     let ne = entered_apart p s a h o now last in
     dite (dec_le (suc a) o.at) (λ late. late)
     (λ early. dite (ℕ_discrete o.at a) (λ e. absurd (ne e))
-    (λ n. absurd (clear x.id x.view x.has.1 x.there x.has.2 (omega arith) (omega arith) (omega arith))))
+    (λ n. absurd (clear x.id x.view section x.there x.has.is_open (omega arith) (omega arith) (omega arith))))
 
 -- What a step leaves of marks, of waits and of reuse, where a slot is given or freed.
 

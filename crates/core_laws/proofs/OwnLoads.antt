@@ -15,12 +15,12 @@ use Rattle.core_state.specs.Memory.{has, IsEven, IsOdd, Memory, slot_count}
 use Rattle.core_state.specs.Views.{known_in, Works, held_list, spares_of, joined_retired, retired_of, slots_of, unraised_among, unraised_of, note_option, noting, joined_spares}
 use Rattle.core_state.specs.Links.{IsContent, change_retired, after_own_life, hand_to_spare, after_kept_as_spare, after_retired_life, NeedsKeptAsSpare}
 use Rattle.core_state.specs.Tree.{Chart}
-use Rattle.core_state.specs.Parts.{IsRetired, IsRetiredOf, SlotParts, CountParts}
+use Rattle.core_state.specs.Parts.{IsRetired, IsRetiredOf, SlotParts, CountParts, HasRetired}
 use Rattle.core_state.specs.Invariant.{HoldsNow}
-use Rattle.list_laws.proofs.Lists.{in_append, in_first, in_second, at_below, set_twice, times_append, times_other}
+use Rattle.list_laws.proofs.Lists.{in_append, in_first, in_second, at_below, set_twice, times_append, times_other, somewhere_still}
 use Rattle.core_frames.proofs.Marks.{quiet_same}
 use Rattle.core_frames.proofs.Views.{same_slots}
-use Rattle.core_frames.proofs.PlaceFrames.{counts_kept, slots_by, retired_of_by, retired_of_still}
+use Rattle.core_frames.proofs.PlaceFrames.{counts_kept, slots_by, retired_of_still}
 use Rattle.core_frames.proofs.Roles.{unraised_append, map_append}
 use Rattle.core_laws.proofs.ChartStays.{SameOutside, same_but, hands_stay, grace_same, hands_rest}
 use mathlib.Core.Logic.{dite}
@@ -135,12 +135,18 @@ module _ (k : Shape) (m : Memory) (vs : List View) (h : List Mark) (id : ℕ) (v
 
   -- a retired slot of any view is one of the same view afterwards
   retired_forth : (s : ℕ) → IsRetiredOf vs s → IsRetiredOf (set vs id w) s
-  retired_forth s = retired_of_by vs id v w there s (λ x has is. ⊎_elim
-      (λ (own : IsIn v.hands.retired x). (let y = own_forth x own in let z = y.1 in
-      (one x, in_first w.hands.retired (joined_retired v.allowance.joined) (one x) y.0, z.slot_is ∙ is)))
-      (λ (joined : IsIn (joined_retired v.allowance.joined) x).
-      (x, in_second w.hands.retired (joined_retired v.allowance.joined) x joined, is))
-      (in_append v.hands.retired (joined_retired v.allowance.joined) x has))
+  retired_forth s = somewhere_still vs id v w there (λ (x : HasRetired v s). (let r = x.retired in ⊎_elim
+      (λ (own : IsIn v.hands.retired r). (let y = own_forth r own in record {
+        retired = one r;
+        has = in_first w.hands.retired (joined_retired v.allowance.joined) (one r) y.0;
+        slot = y.1.slot_is ∙ x.slot;
+      }))
+      (λ (joined : IsIn (joined_retired v.allowance.joined) r). record {
+        retired = r;
+        has = in_second w.hands.retired (joined_retired v.allowance.joined) r joined;
+        slot = x.slot;
+      })
+      (in_append v.hands.retired (joined_retired v.allowance.joined) r x.has)))
 
   slots : SlotParts k.room m (slot_count k) g (set vs id w) h
   slots = slots_by m (slot_count k) g vs id v w h there (λ s. ap (times s) slots_are)
@@ -149,9 +155,8 @@ module _ (k : Shape) (m : Memory) (vs : List View) (h : List Mark) (id : ℕ) (v
         few = subst (λ n. n ≤ k.room) (sym (length_map v.hands.retired)) x.few;
         room = λ move is. subst (λ n. n < k.room) (sym (length_map v.hands.retired)) (x.room move is);
         joined = x.joined;
-        joined_spare = x.joined_spare;
-        next_spare = λ here none. (let y = x.next_spare here none in let z = own_forth y.0 y.1 in let q = z.1 in
-            (one y.0, z.0, q.raised ∙ y.2));
+        next_spare = λ here none. (let y = x.next_spare here none in let z = own_forth y.retired y.has in
+            record { retired = one y.retired; has = z.0; unraised = z.1.raised ∙ y.unraised });
       })
       (λ x. record { hand = x.hand; spare = x.spare; copy = x.copy; spares = x.spares }) each_retired retired_forth i.slots
 
@@ -210,7 +215,7 @@ module _ (k : Shape) (m : Memory) (vs : List View) (h : List Mark) (id : ℕ) (v
       by_hand : (o : Option Held) → v.hands.hand ≡ o → 1 ≤ times s (held_list o) → IsEven (m (Life s))
       by_hand None e has = absurd (omega arith)
       by_hand (Some held) e has = dite (ℕ_discrete held.slot s)
-          (λ same. subst (λ z. IsEven (m (Life z))) same ((i.slots.hands id v there).hand held e).1)
+          (λ same. subst (λ z. IsEven (m (Life z))) same ((i.slots.hands id v there).hand held e).even)
           (λ ne. absurd (let c = times_other s held.slot [] ne in omega arith))
 
   kept_slots : SlotParts k.room m (slot_count k) i.chart (set vs id kept_view) h
@@ -220,12 +225,11 @@ module _ (k : Shape) (m : Memory) (vs : List View) (h : List Mark) (id : ℕ) (v
         few = x.few;
         room = x.room;
         joined = x.joined;
-        joined_spare = x.joined_spare;
         next_spare = λ here q. x.next_spare here none;
       })
       (λ x. record {
         hand = λ held is. absurd (let q : None ≡ Some held = is in cc);
-        spare = λ held is. (x.hand held is).0;
+        spare = λ held is. (x.hand held is).known;
         copy = x.copy;
         spares = spare_even;
       }) (λ x. x) (retired_of_still m (slot_count k) i.chart vs id v kept_view h there refl) i.slots

@@ -17,7 +17,7 @@ use Rattle.core_frames.proofs.Views.{stored_here, sum_one_more, in_one, not_one}
 use Rattle.core_laws.proofs.Stores.{StoresIn, stores_in}
 use Rattle.core_frames.proofs.PlaceFrames.{counts_by, generations_in}
 use Rattle.core_laws.proofs.ChartStays.{SameOutside, same_but, outer_same, outer_marked, OuterParts, grace_same}
-use Rattle.core_laws.proofs.OffStep.{OffStep, no_marks, same_lock, SameElse, no_others, off_law, retired_away, held_away, even_away, copy_away, used_marks, grace_used, used_back}
+use Rattle.core_laws.proofs.OffStep.{OffStep, no_marks, same_lock, SameElse, no_others, off_law, retired_away, held_away, even_away, copy_away, used_marks, grace_used, used_back, hand_away}
 use Rattle.core_frames.proofs.Roles.{slots_count, held_there, own_off, own_once, spare_among, spares_count, own_below, retired_own, waited_unmet, retired_count, slots_in, without_in, raise, without_none, change_in, in_change, without_else, one_in, unraised_append, change_slots, change_length, without_length, change_unraised, in_without, without_unraised}
 use Rattle.prcu_marks.specs.Marks.{gone_at, last_unlinked, greatest_key}
 use Rattle.core_state.specs.Parts.{IsHeldKnown, IsRetired, HasFewSlots, IsUnraised, GraceParts, IsClear}
@@ -178,10 +178,8 @@ module _ (z : RaiseStep) where
       even = λ _. even_now;
       few = d.few;
       hands = record {
-        hand = λ held q. (let a = (inv.slots.hands id v there).hand held q in
-            let ne : held.slot ≢ s = (λ e. (let b = one_role.not_held in let x = held_there v.hands.hand held q in
-            let y = ap (λ o. times o (held_list v.hands.hand)) e in omega arith)) in
-            (held_away step held ne a.0, even_away step held.slot ne a.1));
+        hand = λ held q. hand_away step held (λ e. (let b = one_role.not_held in let x = held_there v.hands.hand held q in
+            let y = ap (λ o. times o (held_list v.hands.hand)) e in omega arith)) ((inv.slots.hands id v there).hand held q);
         spare = d.spare;
         copy = λ move q. copy_away step id v there move q;
         spares = λ t has. ⊎_elim (λ (e : t ≡ s). subst (λ x. IsEven (m' (Life x))) (sym e) even_now)
@@ -191,11 +189,15 @@ module _ (z : RaiseStep) where
           (λ (a : IsIn (joined_retired v.allowance.joined) y). (let b = in_second v.hands.retired (joined_retired v.allowance.joined) y a in
           retired_away step y (joined_apart y a) (inv.slots.retired id v there b.0 y b.1)))
           (in_append c.retired (joined_retired v.allowance.joined) y (j, e));
-      unlinked = λ t p gone y has at. ⊎_elim
-          (λ (a : IsIn v.hands.retired y). (let x = d.kept t p y gone a at in
-          (x.0, in_first c.retired (joined_retired v.allowance.joined) x.0 x.1, x.2)))
-          (λ a. (y, in_second c.retired (joined_retired v.allowance.joined) y a, at))
-          (in_append v.hands.retired (joined_retired v.allowance.joined) y has);
+      unlinked = λ t p gone y. ⊎_elim
+          (λ (a : IsIn v.hands.retired y.retired). (let x = d.kept t p y.retired gone a y.slot in
+          record { retired = x.0; has = in_first c.retired (joined_retired v.allowance.joined) x.0 x.1; slot = x.2 }))
+          (λ a. record {
+            retired = y.retired;
+            has = in_second c.retired (joined_retired v.allowance.joined) y.retired a;
+            slot = y.slot;
+          })
+          (in_append v.hands.retired (joined_retired v.allowance.joined) y.retired y.has);
     }) outer (counts_by k.tickets m m' n inv.chart inv.chart vs id v w h c.hs there (record {
       free = refl;
       clock = (let a = ap length c.marks.updates in omega arith);
@@ -240,7 +242,6 @@ module _ (z : RaiseStep) where
             few = omega arith;
             room = λ move q. (let b = i.room move q in omega arith);
             joined = i.joined;
-            joined_spare = i.joined_spare;
             next_spare = λ _ none. absurd (let q : Some held ≡ None = none in cc);
           });
       spare = λ x e. subst (IsHeldKnown m') (let q : held ≡ x = cc in q) (λ field f known. ⊎_elim
@@ -316,7 +317,6 @@ module _ (z : RaiseStep) where
             few = omega arith;
             room = λ move q. (let b = i.room move q in omega arith);
             joined = i.joined;
-            joined_spare = i.joined_spare;
             next_spare = λ _ none. absurd (some_spare none);
           });
       spare = λ held q. held_away (step to_raised) held

@@ -156,7 +156,7 @@ module _ (vs us : List View) (id : ℕ) (v a b : View) (r : Regroups vs us id v 
   holder_forth s lock i = busy_still (λ u held. idle_lock u s lock held) i
 
   emptied_forth : (s : ℕ) (b : Side) → IsEmptied vs s b → IsEmptied us s b
-  emptied_forth s b i = busy_still (λ u (x : HasEmptied u s b). idle_lock u s x.0 x.1) i
+  emptied_forth s b i = busy_still (λ u (x : HasEmptied u s b). idle_lock u s x.lock x.held) i
 
   sections : a.section ≡ v.section
   sections = (λ n. (r.idle_a n).section) ∙ (λ n. (sym r.idle_v n).section)
@@ -227,7 +227,7 @@ module _ (vs us : List View) (id : ℕ) (v a b : View) (r : Regroups vs us id v 
       ages = λ s at c side gone met link ne. t.ages s at c side gone (record {
         id = met.id;
         view = met.view;
-        there = inside_back met.id met.view met.has.0 met.there met.has.1;
+        there = inside_back met.id met.view met.has.section met.there met.has.is_open;
         has = met.has;
       }) link ne;
     }
@@ -403,7 +403,7 @@ module _ (vs us : List View) (id : ℕ) (v a b : View) (r : Regroups vs us id v 
     owned = each_regroup (IsOwned h) (IsOwned h) (λ u i. i) (λ i. owned_a) owned_b t.owned;
     within = t.within;
     sections = λ j u at section is. t.sections j u (inside_back j u section at is) section is;
-    opened = λ p o e. busy_still (λ u (x : HasOpen u p o). idle_section u x.1 x.2) (t.opened p o e);
+    opened = λ p o e. busy_still (λ u (x : HasOpen u p o). idle_section u x.section x.is_open) (t.opened p o e);
     counted = each_regroup (λ (u : View). Works u → IsCounted h u) (λ (u : View). Works u → IsCounted h u) (λ u i. i)
         (λ i. counted_a) counted_b t.counted;
   }

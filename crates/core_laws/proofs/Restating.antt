@@ -17,13 +17,13 @@ use Rattle.core_state.specs.Views.{Works, retired_of, spares_of, slots_of, unrai
 use Rattle.core_state.specs.Invariant.{HoldsNow}
 use Rattle.core_frames.specs.Laws.{IsKept}
 use Rattle.core_frames.proofs.Views.{stored_here, stored_else, sum_one_other}
-use Rattle.core_laws.proofs.Stores.{held_beside, stores_in}
+use Rattle.core_laws.proofs.Stores.{held_beside, stores_in, hand_beside}
 use Rattle.core_frames.proofs.PlaceFrames.{counts_by}
 use Rattle.core_laws.proofs.ChartStays.{SameOutside, same_but, outer_marked}
 use Rattle.core_laws.proofs.OffStep.{OffStep, same_lock, off_law, retired_away, used_marks, grace_used, used_mark, used_plain, used_new, used_updates, used_back, no_others}
 use Rattle.core_state.specs.Links.{IsContent, seized, NeedsFreeInHand, after_free_in_hand, without_retired, NeedsFreeRetired, after_free_retired}
 use Rattle.core_frames.proofs.Roles.{spare_among, slots_count, not_gone, retired_there, retired_own, held_there, retired_count, slots_in, one_in, without_in, without_none, without_else, without_length, in_without, unraised_append, without_raised, own_off}
-use Rattle.core_state.specs.Parts.{AreHandsKnown, IsHeldKnown, HasFewSlots, IsUnraised, IsClear, IsRetired}
+use Rattle.core_state.specs.Parts.{AreHandsKnown, IsHeldKnown, HasFewSlots, IsUnraised, IsClear, IsRetired, IsHandKnown}
 use Rattle.core_state.specs.declared.view.Hands.{Hands}
 use Rattle.core_state.specs.Tree.{IsHeldBack}
 use Rattle.prcu_marks.proofs.Marks.{last_gone}
@@ -78,7 +78,7 @@ module _ (k : Shape) (m : Memory) (vs : List View) (h : List Mark) (id : ℕ) (v
 
     -- what is known of the slots in the view's hands, where this one is no spare
     pub state_hands : (to : View) → to.hands.spare ≡ v.hands.spare → to.moving ≡ v.moving → spares_of to ≡ spares_of v
-        → times slot (spares_of v) ≡ 0 → ((held : Held) → to.hands.hand ≡ Some held → IsHeldKnown m' held × IsEven (m (Life held.slot)))
+        → times slot (spares_of v) ≡ 0 → ((held : Held) → to.hands.hand ≡ Some held → IsHandKnown m' held)
         → AreHandsKnown m' to
     state_hands to spare moving spares none hand = let i = inv.slots.hands id v there in record {
       hand = hand;
@@ -87,11 +87,8 @@ module _ (k : Shape) (m : Memory) (vs : List View) (h : List Mark) (id : ℕ) (v
           (i.spare held (sym spare ∙ is));
       copy = λ move is.
           (let on = (inv.tree.moves.each id v there move (sym moving ∙ is)).copy_linked in
-          let r = i.copy move (sym moving ∙ is) in (
-            held_beside m m' slot (stores_in m slot (State slot) x refl) move.copy
-                (λ e. (let q : true ≡ false = sym on ∙ ap inv.chart.linked e ∙ z.off in absurd (cc))) r.0,
-            r.1,
-          ));
+          hand_beside m m' slot (stores_in m slot (State slot) x refl) move.copy
+          (λ e. (let q : true ≡ false = sym on ∙ ap inv.chart.linked e ∙ z.off in absurd (cc))) (i.copy move (sym moving ∙ is)));
       spares = λ t has. i.spares t (subst (λ l. 1 ≤ times t l) spares has);
     }
 
@@ -148,7 +145,11 @@ module _ (k : Shape) (m : Memory) (vs : List View) (h : List Mark) (id : ℕ) (v
           hands = c.known;
           retired = λ j y e. (let q = c.retired y (j, e) in let o = q.1 in
               retired_away step y q.0 (inv.slots.retired id v there o.0 y o.1));
-          unlinked = λ t p gone y has at. (y, c.kept y has (λ e. (used_back given slot h t p gone).0 (sym at ∙ e)), at);
+          unlinked = λ t p gone y. record {
+            retired = y.retired;
+            has = c.kept y.retired y.has (λ e. (used_back given slot h t p gone).0 (sym y.slot ∙ e));
+            slot = y.slot;
+          };
         }) (outer_marked k m m' vs h id v w inv there works (stores_in m slot (State slot) x refl).beside same (used_mark given slot)
             (used_plain given slot h v.allowance.place) (used_new given slot h k.places) refl)
             (counts_by k.tickets m m' n inv.chart inv.chart vs id v w h hs there (record {
@@ -201,7 +202,7 @@ module _ (k : Shape) (m : Memory) (vs : List View) (h : List Mark) (id : ℕ) (v
         cases None e = refl
         cases (Some p) e =
             let r = inv.slots.unlinked slot p e in
-            let has = subst (λ z. 1 ≤ times z (slots_of r.view)) r.has.2 (retired_own r.view r.has.0 r.has.1) in
+            let has = subst (λ z. 1 ≤ times z (slots_of r.view)) r.has.slot (retired_own r.view r.has.retired r.has.has) in
             let none = nobody r.id r.view r.there in
             absurd (omega arith)
 
@@ -252,13 +253,11 @@ module _ (k : Shape) (m : Memory) (vs : List View) (h : List Mark) (id : ℕ) (v
             few = few.few;
             room = few.room;
             joined = few.joined;
-            joined_spare = few.joined_spare;
             next_spare = few.next_spare;
           };
           known = state_hands k m vs h id v inv there works seizing w refl refl refl (let a = slots_count v slot in omega arith)
               (λ held is. (let e : seized slot ≡ held = cc in
-              subst (λ (z : Held). IsHeldKnown (stored m (State slot) 1) z × IsEven (m (Life z.slot))) e
-              (seized_known, inv.slots.free slot small free)));
+              subst (IsHandKnown (stored m (State slot) 1)) e (record { known = seized_known; even = inv.slots.free slot small free })));
           retired = λ y has. (no_retired y has, has);
           kept = λ y has _. has;
           came = λ y has. has;
@@ -298,7 +297,7 @@ module _ (k : Shape) (m : Memory) (vs : List View) (h : List Mark) (id : ℕ) (v
       small = small;
       low = omega arith;
       off = off_by mine_once.1;
-      even = subst (λ z. IsEven (m (Life z))) needs.in_hand.1 ((inv.slots.hands id v there).hand held needs.in_hand.0).1;
+      even = subst (λ z. IsEven (m (Life z))) needs.in_hand.1 ((inv.slots.hands id v there).hand held needs.in_hand.0).even;
       clear = clear_by (not_gone m (slot_count k) inv.chart vs h inv.slots id v there slot (let a = in_hand in omega arith));
       others = no_others m (slot_count k) inv.chart vs h inv.slots id v there slot (let a = mine_once.2 in omega arith);
     }
@@ -318,7 +317,6 @@ module _ (k : Shape) (m : Memory) (vs : List View) (h : List Mark) (id : ℕ) (v
             few = few.few;
             room = few.room;
             joined = few.joined;
-            joined_spare = few.joined_spare;
             next_spare = few.next_spare;
           };
           known = state_hands k m vs h id v inv there works freeing w refl refl refl
@@ -442,17 +440,16 @@ module _ (k : Shape) (m : Memory) (vs : List View) (h : List Mark) (id : ℕ) (v
       few = (let a = f.few in omega arith);
       room = λ move has. (let a = f.room move has in omega arith);
       joined = f.joined;
-      joined_spare = f.joined_spare;
-      next_spare = λ has none. (let x = f.next_spare has none in
-          (x.0, without_in slot v.hands.retired x.0 x.1 (unraised_else x.0 x.1 x.2), x.2));
+      next_spare = λ has none. (let x = f.next_spare has none in record {
+        retired = x.retired;
+        has = without_in slot v.hands.retired x.retired x.has (unraised_else x.retired x.has x.unraised);
+        unraised = x.unraised;
+      });
     });
     known = state_hands k m vs h id v inv there works freeing_retired freed_view refl refl refl stands_once.not_spare
-        (λ held is_held. (let i = (inv.slots.hands id v there).hand held is_held in (
-          held_beside m (stored m (State slot) 0) slot (stores_in m slot (State slot) 0 refl) held
-              (λ same. (let a = held_there v.hands.hand held is_held in let b = ap (λ s. times s (held_list v.hands.hand)) same in
-              let c = stands_once.not_held in omega arith)) i.0,
-          i.1,
-        )));
+        (λ held is_held. hand_beside m (stored m (State slot) 0) slot (stores_in m slot (State slot) 0 refl) held
+        (λ same. (let a = held_there v.hands.hand held is_held in let b = ap (λ s. times s (held_list v.hands.hand)) same in
+        let c = stands_once.not_held in omega arith)) ((inv.slots.hands id v there).hand held is_held));
     retired = λ x has. ⊎_elim (λ (o : IsIn (without_retired slot v.hands.retired) x). (let q = in_without slot v.hands.retired x o in
         (q.1, in_first v.hands.retired joined x q.0)))
         (λ (o : IsIn joined x). (joined_else x o, in_second v.hands.retired joined x o))

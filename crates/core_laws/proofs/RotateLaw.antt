@@ -14,15 +14,15 @@ use Rattle.list_laws.specs.Counts.{times, IsIn, Each}
 use Rattle.core_state.specs.Memory.{IsOdd, flag, sum_below, has, Memory, slot_count}
 use Rattle.core_state.specs.Views.{known_in, known_under, HasLock, note_lock, change_lock, joined_retired, retired_of, slots_of, held_list, unraised_hand, unraised_of, emptied_among}
 use Rattle.core_state.specs.Links.{newly_retired, with_mark, NeedsRotate, after_rotate, rotate_marks}
-use Rattle.core_state.specs.Parts.{HasFewSlots, IsRetired, IsRetiredOf, IsHeldKnown, AreHandsKnown, SlotParts, linked_count, young_count, old_count, CountParts, FrontParts, IsClear, IsWaitedRetired, GraceParts, MarkParts, SeatParts, IsMoving, IsOldOf, AreMoving, WaiterParts, map_now}
+use Rattle.core_state.specs.Parts.{HasFewSlots, IsRetired, IsRetiredOf, AreHandsKnown, SlotParts, linked_count, young_count, old_count, CountParts, FrontParts, IsClear, IsWaitedRetired, GraceParts, MarkParts, SeatParts, IsMoving, IsOldOf, AreMoving, WaiterParts, map_now}
 use Rattle.list_laws.proofs.Lists.{each_set, total_set, times_append, in_append, in_first, in_second, somewhere_here, somewhere_set}
 use Rattle.core_frames.proofs.First.{each_one, each_append}
 use Rattle.core_frames.proofs.Charts.{bool_cases}
-use Rattle.core_frames.proofs.Roles.{hand_own, spare_own, retired_own, linked_none, map_append, slots_count, spares_count, retired_count, unraised_append}
+use Rattle.core_frames.proofs.Roles.{retired_own, linked_none, map_append, slots_count, spares_count, retired_count, unraised_append}
 use Rattle.core_frames.proofs.Views.{in_one, not_one, flag_false, flag_true, young_flags, old_flags, sum_equal, sum_add, one_sum, flag_root, flag_node, young_root, young_node}
-use Rattle.core_frames.proofs.PlaceFrames.{retired_of_by, counts_by, front_by}
+use Rattle.core_frames.proofs.PlaceFrames.{retired_of_by, counts_by, front_by, retired_by}
 use Rattle.core_laws.proofs.Locks.{one_holder, emptied_change_same}
-use Rattle.core_laws.proofs.Stores.{link_stores, moving_left}
+use Rattle.core_laws.proofs.Stores.{link_stores, moving_left, hands_beside}
 use Rattle.core_laws.proofs.Turns.{shape_after, linked_as, top_on, sub_on, x_off, y_off, x_not_p, y_not_p, which, not_top, not_sub, old_else, place_else, top_young, sub_young, map_after}
 use Rattle.core_laws.proofs.RotateSteps.{two_gone_upper, two_gone_lower, two_gone_other, two_plain, two_marks, two_reuse, two_updates, two_last_other, RotateStep, parent_lock, x_on, y_on, x_field, y_field, x_some, y_some, top_off, sub_off, apart, turn, turns, new, to, w, us, hs, gone_upper, gone_lower, not_same, some_of, known, same, others_apart, two_map, rotate_locks}
 use Rattle.core_laws.proofs.RotateReaders.{unlinked_off, gone_same, moving_same, Stay, stays_on, rotate_readers, rotate_listings}
@@ -53,22 +53,12 @@ module _ (z : RotateStep) where
   own_apart j u s e has same = let none = linked_none m n g vs h i.slots j u e p (turns z).parent in
       let f = ap (λ q. times q (slots_of u)) same in absurd (omega arith)
 
-  held_stays : (held : Held) → held.slot ≢ p → IsHeldKnown m held → IsHeldKnown later held
-  held_stays held ne r field number known = let q = r field number known in (q.0, (link_stores m p b top).away held.slot field ne q.0 ∙ q.1)
-
   hands_other : (j : ℕ) (u : View) → j ≢ id → get_elem? vs j ≡ some u → AreHandsKnown later u
-  hands_other j u ne e = let r = i.slots.hands j u e in record {
-    hand = λ held is. (let q = r.hand held is in (held_stays held (own_apart j u held.slot e (hand_own u held is)) q.0, q.1));
-    spare = λ held is. held_stays held (own_apart j u held.slot e (spare_own u held is)) (r.spare held is);
-    copy = λ move is.
-        (let q = r.copy move is in
-        let lock = (i.tree.moves.each j u e move is).copy_lock in (
-          held_stays move.copy (λ same. ne
-              (one_holder k m vs h i j id u v p e there (subst (HasLock u) same lock) (parent_lock z))) q.0,
-          q.1,
-        ));
-    spares = r.spares;
-  }
+  hands_other j u ne e = hands_beside m later p (link_stores m p b top).within u
+      (let none = linked_none m n g vs h i.slots j u e p (turns z).parent in let a = slots_count u p in omega arith)
+      (λ move is same. ne
+      (one_holder k m vs h i j id u v p e there (subst (HasLock u) same (i.tree.moves.each j u e move is).copy_lock) (parent_lock z)))
+      (i.slots.hands j u e)
 
   no_move : (move : Move) → (w z).moving ≡ Some move → ⊥
   no_move move is = let q : None ≡ Some move = sym needs.settled ∙ sym (moving_same z) ∙ is in absurd (cc)
@@ -86,16 +76,8 @@ module _ (z : RotateStep) where
   retired_stays : (j : ℕ) (u : View) (r : Retired) → get_elem? vs j ≡ some u → IsIn (retired_of u) r → IsRetired later (hs z) r
   retired_stays j u r e has =
       let q = i.slots.retired j u e has.0 r has.1 in
-      record {
-        unlinked = gone_same z r.slot (unlinked_off z r.slot r.unlinked q.unlinked) ∙ q.unlinked;
-        some_slot = q.some_slot;
-        marked = q.marked;
-        life = q.life;
-        stays = λ field number raised content known. (link_stores m p b top).content r.slot field
-            (own_apart j u r.slot e (retired_own u r has)) content ∙ q.stays field number raised content known;
-        unmarked = q.unmarked;
-        after_wait = q.after_wait;
-      }
+      retired_by m later h (hs z) r (gone_same z r.slot (unlinked_off z r.slot r.unlinked q.unlinked)) refl
+      (λ field content. (link_stores m p b top).content r.slot field (own_apart j u r.slot e (retired_own u r has)) content) q
 
   -- a slot that goes is retired as it stands
   goes_retired : (s at : ℕ) → gone_at s (hs z) ≡ Some at → s ≢ 0 → IsOdd (m (Life s)) → s ≢ p
@@ -222,8 +204,7 @@ module _ (z : RotateStep) where
         few = omega arith;
         room = λ move is. absurd (no_move move is);
         joined = f.joined;
-        joined_spare = f.joined_spare;
-        next_spare = λ works none. (gone_upper z, upper_among, refl);
+        next_spare = λ works none. record { retired = gone_upper z; has = upper_among; unraised = refl };
       }
 
   swaps : (s : ℕ) → times s (slots_of (w z)) + flag ((to z).linked s) ≡ times s (slots_of v) + flag (g.linked s)
@@ -260,10 +241,11 @@ module _ (z : RotateStep) where
   }
     where
       now : (s : ℕ) (r : Retired) → IsIn (w z).hands.retired r → r.slot ≡ s → IsRetiredOf (us z) s
-      now s r has e = somewhere_here vs id v (w z) there (r, in_first (w z).hands.retired (joined_retired v.allowance.joined) r has, e)
+      now s r has e = somewhere_here vs id v (w z) there
+          (record { retired = r; has = in_first (w z).hands.retired (joined_retired v.allowance.joined) r has; slot = e })
 
       before : (s at : ℕ) → gone_at s h ≡ Some at → IsRetiredOf (us z) s
-      before s at is = retired_of_by vs id v (w z) there s (λ r has same. (r, retired_grows r has, same)) (i.slots.unlinked s at is)
+      before s at is = retired_of_by vs id v (w z) there retired_grows s (i.slots.unlinked s at is)
 
   -- The other parts after a rotation: marks, seats and waiters, counts, pending moves, the front, and grace.
   plain : PlainMarks v.allowance.place h (hs z)

@@ -15,12 +15,12 @@ use Rattle.list_laws.specs.Counts.{IsIn, Each}
 use Rattle.core_state.specs.Memory.{IsOdd, Memory, slot_count}
 use Rattle.core_state.specs.Views.{note_moving, LoadedGeneration, readings_of, open_reading}
 use Rattle.core_state.specs.Tree.{IsHeldBack, MayPass, Place}
-use Rattle.core_state.specs.Parts.{IsReadingKept, state_slot, IsReading, IsServed, IsAsRecorded, IsStillLinked, IsRecord, IsMetBefore, AreAged, ReaderParts, map_now, IsBetween, HasBounds, GoesOn, here, ListsNow, ListingParts, HasMetBefore}
+use Rattle.core_state.specs.Parts.{IsReadingKept, state_slot, IsReading, IsServed, IsAsRecorded, IsStillLinked, IsRecord, AreAged, ReaderParts, map_now, IsBetween, HasBounds, GoesOn, here, ListsNow, ListingParts, IsGoneSince, LeadsOn}
 use Rattle.core_frames.proofs.Views.{way_by}
-use Rattle.list_laws.proofs.Lists.{each_set, in_second, somewhere_was}
+use Rattle.list_laws.proofs.Lists.{each_set, in_second}
 use Rattle.core_frames.proofs.Charts.{ended_is, bool_cases, carry_going, unlinked_going}
 use Rattle.core_frames.proofs.PlainLaws.{entered_before, told_now}
-use Rattle.core_frames.proofs.TreeFrames.{answered_by, may_still, old_still}
+use Rattle.core_frames.proofs.TreeFrames.{answered_by, may_still, old_still, met_outside, recorded_even, recorded_linked, recorded_back}
 use Rattle.core_frames.proofs.Roles.{gone_off}
 use Rattle.core_laws.proofs.Turns.{Stays, which, not_top, not_sub, rank_else, still, x_off, y_off, x_not_p, y_not_p, link_off, child_stays, low_else, high_else, at_y}
 use Rattle.core_laws.proofs.TurnReaders.{stays_by, readers_turn, walks_turn, path_turn, belongs_turn}
@@ -223,9 +223,8 @@ module _ (z : RotateStep) where
     -- a slot that is as recorded stays
     recorded_stays : (s : ℕ) → IsAsRecorded m q s → Stay s
     recorded_stays s r =
-        let l = r.1 in let same = r.2 in let f = l.2 in
-        let ne = not_even z s (omega arith) in
-        record { on = kept.linked s l.0 l.1 (omega arith); not_x = ne.0; not_y = ne.1 }
+        let ne = not_even z s (recorded_even m q s r) in
+        record { on = recorded_linked m g q s kept r; not_x = ne.0; not_y = ne.1 }
 
     still_stays : (s : ℕ) → IsStillLinked later (to z) q s → Stay s
     still_stays s r = ⊎_elim
@@ -237,41 +236,45 @@ module _ (z : RotateStep) where
         (λ r. r) o)
         (which m later n g (turn z) i.tree.shape (turns z) s r.linked)
 
+    was_recorded : (s : ℕ) → IsAsRecorded later q s → IsAsRecorded m q s
+    was_recorded = recorded_back m later (λ s. refl) q
+
     record_after : IsRecord later (to z) (us z) q
     record_after = record {
       key_fits = rec.key_fits;
-      side = λ s tag a missed life known empty same settled.
-          (let r = recorded_stays s life in
+      side = λ s tag a missed as_now known empty same settled.
+          (let life = was_recorded s as_now in
+          let r = recorded_stays s life in
           ⊎_elim (λ o. inl (old_still vs id v (w z) there moving_same q.key s o))
           (λ o. inr (belongs_turn m later n g (turn z) i.tree.shape (turns z) q.key s a r.on o))
           (rec.side s tag a missed life known (link_back z s a empty) same (λ o. settled (emptied_still z s a o))));
       walk = λ node parent a value walk found on. (let o = rec.walk node parent a value walk found on in record {
-        parent = λ l even. (let r = still_stays node l in
+        parent = λ l even. (let r = still_stays node l in let was = was_recorded walk.parent even in
             ⊎_elim (λ c. inl c) (λ way. inr (path_turn m later n g (turn z) i.tree.shape (turns z) node walk.parent r way
-            (recorded_stays walk.parent even))) (o.parent (back node r l) even));
-        slot = λ l even. (let r = still_stays node l in
-            path_turn m later n g (turn z) i.tree.shape (turns z) node walk.slot r (o.slot (back node r l) even)
-            (recorded_stays walk.slot even));
+            (recorded_stays walk.parent was))) (o.parent (back node r l) was));
+        slot = λ l even. (let r = still_stays node l in let was = was_recorded walk.slot even in
+            path_turn m later n g (turn z) i.tree.shape (turns z) node walk.slot r (o.slot (back node r l) was)
+            (recorded_stays walk.slot was));
       });
     }
       where
         back : (s : ℕ) → Stay s → IsStillLinked later (to z) q s → IsStillLinked m g q s
         back s r l = record { linked = r.on; generation = l.generation; recorded = l.recorded; same = l.same }
 
-  met_back : (at : ℕ) → IsMetBefore (us z) at → IsMetBefore vs at
-  met_back at r =
-      somewhere_was vs id v (w z) there (λ (x : HasMetBefore (w z) at). absurd (let q : None ≡ Some x.0 = sym (outside z) ∙ x.1 in cc)) r
-
   -- where a slot that goes leads
   abbrev Leads : ℕ → ℕ → Type 0
-  Leads at c = ((to z).linked c ≡ true) ⊎ ((after : ℕ) × (gone_at c (hs z) ≡ Some after) × (at < after))
+  Leads at c = ((to z).linked c ≡ true) ⊎ IsGoneSince (hs z) at c
 
   at_lower : (c : ℕ) (a : Side) → m (Link y a) ≡ c → c ≢ 0 → Leads (length h + 1) c
   at_lower c a f nz = inl (stays_on c (child_stays m later n g (turn z) i.tree.shape (turns z) y c a (inl refl) f nz))
 
   at_upper : (c : ℕ) (a : Side) → m (Link x a) ≡ c → c ≢ 0 → Leads (length h) c
   at_upper c a f nz = ⊎_elim
-      (λ (v : c ≡ y). inr (length h + 1, ap (λ q. gone_at q (hs z)) v ∙ two_gone_lower who_place h x y (not_same z), omega arith))
+      (λ (v : c ≡ y). inr (record {
+        at = length h + 1;
+        gone = ap (λ q. gone_at q (hs z)) v ∙ two_gone_lower who_place h x y (not_same z);
+        later = omega arith;
+      }))
       (λ ny. inl (stays_on c (let d = i.tree.shape.below x c a (x_on z).0 f nz in
       record { on = d.linked; not_x = λ v. omega (arith, d.rank, ap g.rank v); not_y = ny })))
       (cases_eq c y)
@@ -286,7 +289,7 @@ module _ (z : RotateStep) where
       let f : m (Link x a) ≡ c =
       sym (link_off m later n g (turn z) i.tree.shape (turns z) x a (x_not_p m later n g (turn z) i.tree.shape (turns z)))
       ∙ ap (λ q. later (Link q a)) (sym e) ∙ link in
-      (rank_from x (x_on z).0 e f, subst (λ q. Leads q c) (sym same) (at_upper c a f nz))))
+      record { rank = rank_from x (x_on z).0 e f; leads = subst (λ q. Leads q c) (sym same) (at_upper c a f nz) }))
       (λ nx. ⊎_elim
       (λ (e : s ≡ y).
       (let same : at ≡ length h + 1 =
@@ -294,7 +297,7 @@ module _ (z : RotateStep) where
       let f : m (Link y a) ≡ c =
       sym (link_off m later n g (turn z) i.tree.shape (turns z) y a (y_not_p m later n g (turn z) i.tree.shape (turns z)))
       ∙ ap (λ q. later (Link q a)) (sym e) ∙ link in
-      (rank_from y (y_on z).0 e f, subst (λ q. Leads q c) (sym same) (at_lower c a f nz))))
+      record { rank = rank_from y (y_on z).0 e f; leads = subst (λ q. Leads q c) (sym same) (at_lower c a f nz) }))
       (λ ny. other nx ny) (cases_eq s y))
       (cases_eq s x)
     where
@@ -305,26 +308,32 @@ module _ (z : RotateStep) where
       rank_from t l e f = let d = i.tree.shape.below t c a l f nz in
           omega (arith, d.rank, rank_linked t l, rank_linked c d.linked, ap (to z).rank e)
 
-      led : at < length h → (g.linked c ≡ true) ⊎ ((after : ℕ) × (gone_at c h ≡ Some after) × (at < after)) → Leads at c
+      led : at < length h → (g.linked c ≡ true) ⊎ IsGoneSince h at c → Leads at c
       led small (inl l) = ⊎_elim
-          (λ (e : c ≡ x). inr (length h, ap (λ q. gone_at q (hs z)) e ∙ two_gone_upper v.allowance.place h x y (not_same z), small))
+          (λ (e : c ≡ x). inr (record {
+            at = length h;
+            gone = ap (λ q. gone_at q (hs z)) e ∙ two_gone_upper v.allowance.place h x y (not_same z);
+            later = small;
+          }))
           (λ r. ⊎_elim
-          (λ (e : c ≡ y). inr
-          (length h + 1, ap (λ q. gone_at q (hs z)) e ∙ two_gone_lower v.allowance.place h x y (not_same z), omega arith))
+          (λ (e : c ≡ y). inr (record {
+            at = length h + 1;
+            gone = ap (λ q. gone_at q (hs z)) e ∙ two_gone_lower v.allowance.place h x y (not_same z);
+            later = omega arith;
+          }))
           (λ r. inl (stays_on c r)) r) (stay_of c l)
-      led small (inr q) = inr (q.0, gone_same c (unlinked_off c q.0 q.1) ∙ q.1, q.2)
+      led small (inr q) = inr (record { at = q.at; gone = gone_same c (unlinked_off c q.at q.gone) ∙ q.gone; later = q.later })
 
-      other : s ≢ x → s ≢ y → ((to z).rank s < (to z).rank c) × Leads at c
+      other : s ≢ x → s ≢ y → LeadsOn (to z) (hs z) at s c
       other nx ny =
           let was : gone_at s h ≡ Some at = sym (two_gone_other v.allowance.place h x y (not_same z) s nx ny) ∙ gone in
           let off = unlinked_off s at was in
-          let aged = i.readers.ages s at c a was (met_back at met)
+          let aged = i.readers.ages s at c a was (met_outside vs id v (w z) there (outside z) at met)
           (sym (link_off m later n g (turn z) i.tree.shape (turns z) s a
           (λ e. (let on = (turns z).parent in let q : true ≡ false = sym on ∙ ap g.linked (sym e) ∙ off in absurd (cc)))) ∙ link) nz in
-          let lt = aged.0 in
           let rank_c : (to z).rank c ≡ 2 * g.rank c + 1 =
-          ⊎_elim (λ l. rank_linked c l) (λ (q : (after : ℕ) × (gone_at c h ≡ Some after) × (at < after)). rank_gone c q.0 q.1) aged.1 in
-          (omega (arith, lt, rank_gone s at was, rank_c), led (gone_at-below s h at was) aged.1)
+          ⊎_elim (λ l. rank_linked c l) (λ (q : IsGoneSince h at c). rank_gone c q.at q.gone) aged.leads in
+          record { rank = omega (arith, aged.rank, rank_gone s at was, rank_c); leads = led (gone_at-below s h at was) aged.leads }
 
   pub rotate_readers : ReaderParts later (to z) (us z) (hs z)
   rotate_readers = record {

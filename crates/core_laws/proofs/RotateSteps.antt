@@ -1,5 +1,5 @@
 -- A rotation: its marks, the step and what its needs give, and the parts on locks after it.
-use Rattle.std.proofs.Common.{◌≡◌, ◌≢◌, ℕ, ◌+◌, List, [], ◌∷◌, ◌++◌, length, Some, sym, ap, subst, ◌∙◌, arith, append_assoc, length-append, append-nil, ◌*◌, ◌/◌, ◌≤◌, true, false, set, None, refl, ◌⊎◌, cond, Option, ⊎_elim, inl, inr, Bool, eq-eqb, ne_eqb, ◌==◌}
+use Rattle.std.proofs.Common.{◌≡◌, ◌≢◌, ℕ, ◌+◌, List, [], ◌∷◌, ◌++◌, length, Some, sym, ap, subst, ◌∙◌, arith, append_assoc, length-append, append-nil, ◌*◌, ◌/◌, ◌≤◌, true, false, set, None, refl, ◌⊎◌, cond, ⊎_elim, inl, inr, Bool, eq-eqb, ne_eqb, ◌==◌}
 use Rattle.prcu_marks.specs.declared.mark.Mark.{Mark}
 use Rattle.prcu_marks.specs.declared.mark.Mark.TheVariants.{Unlinked}
 use Rattle.prcu_model.specs.Dictionary.{map_of}
@@ -23,17 +23,16 @@ use Rattle.core_state.specs.declared.view.View.{View}
 use Rattle.list_laws.specs.Counts.{times, IsIn}
 use Rattle.core_state.specs.Memory.{IsEven, IsOdd, Memory, stored, slot_count, across}
 use Rattle.core_state.specs.Views.{known_in, known_under, HasLock, LoadedGeneration, readings_of, open_reading, spares_of, slots_of, lock_of, is_emptied, change_lock}
-use Rattle.core_state.specs.Tree.{Chart, IsEmptied}
-use Rattle.list_laws.proofs.Lists.{in_second, in_first}
+use Rattle.core_state.specs.Tree.{Chart, IsEmptied, HasEmptied}
+use Rattle.list_laws.proofs.Lists.{in_second, in_first, somewhere_still}
 use Rattle.core_frames.proofs.Roles.{hand_own, spare_own, spare_among, held_there, slots_count, own_below, own_off, own_once, not_gone}
 use Rattle.core_frames.proofs.WholeFrames.{Stepper, SameForMore, same_for_more}
-use Rattle.core_laws.proofs.Locks.{marked_lock, marked_linked, marked_field, marked_some, lock_outside, loaded_known, no_end_of, young_locked, IsAlive, alive, alive_field, one_holder, changed, lock_of-change, slots_change, length_change, IsRelocked, relocked, relocked_forth, relocked_back, relocked_slots, relocked_length}
+use Rattle.core_laws.proofs.Locks.{marked_lock, marked_linked, marked_field, marked_some, lock_outside, loaded_known, no_end_of, young_locked, IsAlive, alive, alive_field, one_holder, changed, lock_of-change, slots_change, length_change, IsRelocked, relocked, relocked_forth, relocked_back, relocked_slots, relocked_length, locks_back}
 use Rattle.core_laws.proofs.Stores.{stores_link, link_at, link_stores}
 use Rattle.core_laws.proofs.Turns.{Turn, Turns, turned, x_not_y, Stays, which, still as stays_on}
 use Rattle.std.proofs.lemmas.Bool.{cases_eq}
 use Rattle.prcu_marks.specs.declared.mark.Side.TheVariants.{Left, Right}
 use Rattle.core_state.specs.declared.view.HeldLock.{HeldLock}
-use Rattle.core_frames.proofs.TreeFrames.{emptied_by}
 use Rattle.core_laws.proofs.ChartChanges.{put, put-same, put-other}
 use Rattle.core_laws.proofs.LinkParts.{locks_more}
 use Rattle.core_laws.proofs.LockSteps.{LockChange, locks_stored}
@@ -151,7 +150,7 @@ module _ (z : RotateStep) where
   top_known = (inv.slots.hands id v there).spare upper needs.spare_is.0
 
   sub_known : IsHeldKnown m lower
-  sub_known = ((inv.slots.hands id v there).hand lower needs.hand_is.0).0
+  sub_known = ((inv.slots.hands id v there).hand lower needs.hand_is.0).known
 
   top_own : 1 ≤ times top (slots_of v)
   top_own = spare_own v upper needs.spare_is.0
@@ -169,7 +168,7 @@ module _ (z : RotateStep) where
   top_even = (inv.slots.hands id v there).spares top (spare_among v upper needs.spare_is.0)
 
   pub sub_even : IsEven (m (Life sub))
-  sub_even = ((inv.slots.hands id v there).hand lower needs.hand_is.0).1
+  sub_even = ((inv.slots.hands id v there).hand lower needs.hand_is.0).even
 
   pub top_gone : gone_at top h ≡ None
   top_gone = let a = spare_among v upper needs.spare_is.0 in not_gone m n g vs h inv.slots id v there top (omega arith)
@@ -304,16 +303,8 @@ module _ (d : ℕ) where
 
   unmark_back : (ls : List HeldLock) (s : ℕ) (l' : HeldLock) → lock_of (change_lock d (with_mark false) ls) s ≡ Some l'
       → (l : HeldLock) × (lock_of ls s ≡ Some l) × IsUnmarked d s l l'
-  unmark_back ls s l' e = cases (lock_of ls s) refl
-    where
-      cases : (o : Option HeldLock) → lock_of ls s ≡ o → (l : HeldLock) × (lock_of ls s ≡ Some l) × IsUnmarked d s l l'
-      cases None q = absurd (let r : None ≡ Some l' =
-          sym (lock_of-change d (with_mark false) (λ x. refl) ls s ∙ ap (changed (with_mark false) (s == d)) q) ∙ e in cc)
-      cases (Some l) q =
-          let f = unmark_forth ls s l q in
-          let r : Some f.0 ≡ Some l' = sym f.1 ∙ e in
-          let same : f.0 ≡ l' = cc in
-          (l, q, subst (IsUnmarked d s l) same f.2)
+  unmark_back ls s = locks_back ls (change_lock d (with_mark false) ls) s (IsUnmarked d s)
+      (λ none. lock_of-change d (with_mark false) (λ x. refl) ls s ∙ ap (changed (with_mark false) (s == d)) none) (unmark_forth ls s)
 
 module _ (z : RotateStep) where
   open z use {who.{k, m, vs, h, id, v, there, inv as i, inv.{chart as g}}, upper.{slot as top}, needs.lower.{slot as sub}, p, b, x, y}
@@ -450,8 +441,8 @@ module _ (z : RotateStep) where
           (which m later (slot_count k) g (turn z) i.tree.shape (turns z) s l)
 
   pub emptied_still : (s : ℕ) (a : Side) → IsEmptied vs s a → IsEmptied (us z) s a
-  emptied_still = emptied_by vs id v (w z) there (λ s lock holds a emptied.
-      (let f = forth s lock holds in (f.0, f.1, f.2.second.emptied a ∙ f.2.first.still a emptied)))
+  emptied_still s a = somewhere_still vs id v (w z) there (λ (x : HasEmptied v s a). (let f = forth s x.lock x.held in
+      record { lock = f.0; held = f.1; emptied = f.2.second.emptied a ∙ f.2.first.still a x.emptied }))
 
   -- a side that is empty now was so
   pub link_back : (s : ℕ) (a : Side) → later (Link s a) ≡ 0 → m (Link s a) ≡ 0

@@ -21,7 +21,7 @@ use Rattle.core_state.specs.Memory.{Memory, slot_count, IsOdd, IsEven}
 use Rattle.core_state.specs.Views.{lock_of, Works, places_of, open_of, open_reading, readings_of, joined_retired, retired_of, IsLoadable, known_in}
 use Rattle.core_state.specs.Marks.{begun}
 use Rattle.core_state.specs.Steps.{spent_view, keys_of, spot_of, no_bounds, narrowed, visits_by_link, gaps_by_link, visits_by, facts_by, gaps_by, by_visits, listed_below, listed_root, listed, loaded, NeedsSearchLoad, after_search_load, NeedsListLoad, after_list_load, new_listing, looked, NeedsFrontLook, after_front_look}
-use Rattle.core_state.specs.Parts.{IsHolderOf, HasFewLocks, IsLockKept, IsLockKnown, IsReadingKept, LockParts, IsOwned, SectionStands, IsCounted, IsOpenOf, SeatParts, IsClocked, IsTurnedOnce, inside_count, WaiterParts, IsReading, IsServed, IsListing, IsClear, map_now, IsBetween, GoesOn, here, past, StandsNow, IsVisit, HasOpen}
+use Rattle.core_state.specs.Parts.{IsHolderOf, HasFewLocks, IsLockKept, IsLockKnown, IsReadingKept, LockParts, IsOwned, SectionStands, IsCounted, IsOpenOf, SeatParts, IsClocked, IsTurnedOnce, inside_count, WaiterParts, IsReading, IsServed, IsListing, IsClear, map_now, IsBetween, GoesOn, here, past, StandsNow, IsVisit, HasOpen, IsGoneSince}
 use Rattle.core_state.specs.Invariant.{HoldsNow}
 use Rattle.list_laws.proofs.Lists.{at_below, each_set, each_change, total_same, in_second, in_append, set_twice, somewhere_still}
 use Rattle.core_frames.proofs.Marks.{quiet_same, waits_same}
@@ -108,8 +108,8 @@ module _ (k : Shape) (m : Memory) (vs : List View) (h : List Mark) (id : ℕ) (v
     where
       opened_at : (p : ℕ) (o : Open) → IsOpenOf vs p o → IsOpenOf (set vs id w) p o
       opened_at p o x = somewhere_still vs id v w there (λ (own : HasOpen v p o).
-          (let is : Some own.1 ≡ Some section = sym own.2 ∙ inside in let it : own.1 ≡ section = cc in
-          (own.0, new, refl, own.3 ∙ ap open_of it ∙ sym open_same))) x
+          (let is : Some own.section ≡ Some section = sym own.is_open ∙ inside in let it : own.section ≡ section = cc in
+          record { place = own.place; section = new; is_open = refl; by_marks = own.by_marks ∙ ap open_of it ∙ sym open_same })) x
 
   waiters : WaiterParts k m (set vs id w) h
   waiters = let t = i.waiters in record {
@@ -254,13 +254,13 @@ module _ (k : Shape) (m : Memory) (vs : List View) (h : List Mark) (i : HoldsNow
       → gone_at s h ≡ Some p → section.entered < p → IsOdd (m (Life s))
   unraised_life id s p v section there inside gone since =
       let r = i.slots.unlinked s p gone in
-      let own : Retired = r.has.0 in
-      let has = r.has.1 in
+      let own : Retired = r.has.retired in
+      let has = r.has.has in
       let is = i.slots.retired r.id r.view r.there has.0 own has.1 in
-      let at : Some own.unlinked ≡ Some p = sym is.unlinked ∙ ap (λ z. gone_at z h) r.has.2 ∙ gone in
+      let at : Some own.unlinked ≡ Some p = sym is.unlinked ∙ ap (λ z. gone_at z h) r.has.slot ∙ gone in
       let same : own.unlinked ≡ p = cc in
       let fits = (i.seats.sections id v there section inside).key_fits in
-      subst (λ z. IsOdd (m (Life z))) r.has.2 (is.marked
+      subst (λ z. IsOdd (m (Life z))) r.has.slot (is.marked
       (⊎_elim (λ raised. absurd (retired_clear r.id r.view own r.there has (is.after_wait raised) id v section there inside
       (omega arith) (omega arith) (omega arith))) (λ not. not) (bool_cases own.raised)))
 
@@ -272,16 +272,16 @@ module _ (k : Shape) (m : Memory) (vs : List View) (h : List Mark) (i : HoldsNow
   child_met id s c b v section there inside may link nz =
       ⊎_elim (λ l. (let below = i.tree.shape.below s c b l link nz in (below.rank, inl below.linked)))
       (λ (back : IsHeldBack i.chart h section.entered s). (let aged = i.readers.ages s back.at c b back.gone
-      (record { id = id; view = v; there = there; has = (section, inside, back.later) }) link nz in (
-        aged.0,
+      (record { id = id; view = v; there = there; has = record { section = section; is_open = inside; before = back.later } }) link nz in (
+        aged.rank,
         ⊎_elim (λ l. inl l)
-            (λ (x : (later : ℕ) × (gone_at c h ≡ Some later) × (back.at < later)).
-            (let since = back.later in let more = x.2 in let lt : section.entered < x.0 = omega arith in
+            (λ (x : IsGoneSince h back.at c).
+            (let since = back.later in let more = x.later in let lt : section.entered < x.at = omega arith in
             inr (
-              record { out = gone_off m (slot_count k) i.chart vs h i.slots c x.0 x.1; at = x.0; gone = x.1; later = lt },
-              unraised_life id c x.0 v section there inside x.1 lt,
+              record { out = gone_off m (slot_count k) i.chart vs h i.slots c x.at x.gone; at = x.at; gone = x.gone; later = lt },
+              unraised_life id c x.at v section there inside x.gone lt,
             )))
-            aged.1,
+            aged.leads,
       )))
       may
 

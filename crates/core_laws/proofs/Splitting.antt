@@ -23,6 +23,7 @@ use Rattle.list_laws.proofs.Lists.{at_end, at_one, total_set, total_append, time
 use Rattle.core_laws.proofs.Regroup.{IsIdle, SameSums, Regroups, idle_quiet, regroup_law}
 use Rattle.core_laws.specs.Whole.{SplitKeeps}
 use Rattle.core_frames.proofs.Roles.{slots_count}
+use Rattle.core_frames.proofs.PlaceFrames.{retired_of_by}
 
 -- a row of numbers in two parts
 pub row_split : (x first n m : ℕ) → times x (numbers_from first (n + m))
@@ -167,7 +168,6 @@ module _ (k : Shape) (m : Memory) (vs : List View) (h : List Mark) (i : HoldsNow
     few = f.few;
     room = f.room;
     joined = f.joined;
-    joined_spare = f.joined_spare;
     next_spare = λ works none. f.next_spare (let a = needs.few in omega arith) none;
   }
 
@@ -177,7 +177,6 @@ module _ (k : Shape) (m : Memory) (vs : List View) (h : List Mark) (i : HoldsNow
     few = omega arith;
     room = λ move none. absurd (let q : None ≡ Some move = none in cc);
     joined = λ j a e. absurd (some-ne-none a (sym e));
-    joined_spare = λ j a e. absurd (some-ne-none a (sym e));
     next_spare = λ works none. absurd (let q : Some (unknown_slot (second.allowance.place + 1)) ≡ None = none in cc);
   }
 
@@ -195,7 +194,7 @@ module _ (k : Shape) (m : Memory) (vs : List View) (h : List Mark) (i : HoldsNow
   }
 
   unlinked : (s : ℕ) → IsRetiredOf vs s → IsRetiredOf us s
-  unlinked s r = somewhere_longer (set vs id first) (second ∷ []) (somewhere_still vs id v first there (λ has. has) r)
+  unlinked s r = somewhere_longer (set vs id first) (second ∷ []) (retired_of_by vs id v first there (λ x has. has) s r)
 
   second_unused : (p : ℕ) → second.allowance.place ≤ p → p < second.allowance.place + n → own_of p h ≡ []
   second_unused p low high = (i.seats.owned id v there).unused p (let few = needs.few in (omega arith, omega arith))

@@ -7,26 +7,26 @@ use Rattle.prcu_marks.specs.declared.mark.Side.TheVariants.{Left, Right}
 use Rattle.core_state.specs.declared.words.Field.{Field}
 use Rattle.core_state.specs.declared.words.Field.TheVariants.{Clock, Front, Free, Announced, Stamp, Gate, Count, Row, State, Lock, Life, Key, Value, Link, Tag}
 use Rattle.core_state.specs.Memory.{Memory, stored, same_side, IsEven, IsOdd, sum_below, flag, count_below, has, slot_count}
-use Rattle.core_state.specs.Views.{IsOwnField, readings_of, open_reading, unraised_of, emptied_among, lock_of, HasLock}
+use Rattle.core_state.specs.Views.{IsOwnField, readings_of, open_reading, unraised_of, emptied_among, lock_of, HasLock, held_list, spares_of}
 use Rattle.core_state.specs.Links.{IsContent, HasCommit}
 use Rattle.core_state.specs.Tree.{after, next, answer_at, Chart, Hangs, IsHeldBack, OnRightLeft, Belongs, MayPass, IsOldFor, IsEmptied, Place, Walks, IsPending}
 use Rattle.core_frames.proofs.Views.{stored_here, stored_else, own_one, way_same, sum_one_other, sum_equal}
 use Rattle.core_state.specs.declared.view.Held.{Held}
-use Rattle.core_state.specs.Parts.{IsHeldKnown, FrontParts, ListsNow, IsListing, ListingParts, IsReadingKept, StandsWell, GoesTo, IsServed, IsAsRecorded, IsStillLinked, IsRecord, IsReading, IsMetBefore, AreAged, ReaderParts, turns_to_come, linked_count, young_count, old_count, CountParts, HasGeneration, IsMoving, IsOldOf, AreMoving, HasMetBefore}
+use Rattle.core_state.specs.Parts.{IsHeldKnown, FrontParts, ListsNow, IsListing, ListingParts, IsReadingKept, StandsWell, GoesTo, IsServed, IsStillLinked, IsRecord, IsReading, AreAged, ReaderParts, turns_to_come, linked_count, young_count, old_count, CountParts, HasGeneration, IsMoving, IsOldOf, AreMoving, IsHandKnown, AreHandsKnown}
 use mathlib.Core.Option.{some}
 use lib.ListN.{get_elem?}
 use Rattle.prcu_marks.specs.declared.mark.Mark.{Mark}
-use Rattle.prcu_marks.specs.Marks.{updates_of, gone_at}
+use Rattle.prcu_marks.specs.Marks.{updates_of}
 use Rattle.prcu_model.specs.Dictionary.{IsLegal, WasSaid, map_of}
 use Rattle.prcu_marks.specs.declared.commit.Commit.{Commit}
 use Rattle.core_state.specs.declared.view.View.{View}
 use Rattle.core_frames.proofs.PlaceFrames.{odd_by, free_slots, counts_by}
-use Rattle.list_laws.proofs.Lists.{each_set, in_second, somewhere_set, somewhere_was, only_here}
+use Rattle.list_laws.proofs.Lists.{each_set, in_second, somewhere_set, only_here}
 use Rattle.core_state.specs.declared.view.Listing.{Listing}
 use Rattle.core_state.specs.declared.view.Section.{Section}
 use Rattle.core_state.specs.declared.view.Reading.{Reading}
-use Rattle.core_frames.proofs.TreeFrames.{answered_by}
-use Rattle.list_laws.specs.Counts.{Each, IsIn}
+use Rattle.core_frames.proofs.TreeFrames.{answered_by, recorded_back, recorded_even, recorded_linked}
+use Rattle.list_laws.specs.Counts.{Each, IsIn, times}
 use Rattle.core_state.specs.declared.shape.Shape.{Shape}
 use Rattle.core_state.specs.Invariant.{HoldsNow}
 use Rattle.prcu_marks.specs.declared.mark.Mark.TheVariants.{Done}
@@ -36,6 +36,7 @@ use Rattle.core_state.specs.declared.view.Move.{Move}
 use Rattle.core_laws.proofs.Locks.{one_holder}
 use Rattle.core_frames.proofs.Marks.{PlainMarks}
 use Rattle.std.specs.FinMap as finite
+use Rattle.core_frames.proofs.Roles.{held_there, spare_among}
 
 pub cases_side : (a b : Side) → (a ≡ b) ⊎ (a ≢ b)
 cases_side Left Left = inl refl
@@ -107,6 +108,27 @@ content_away m new p stores s field ne c = stores.away s field ne (own_content s
 -- what is known of a slot that is held, and isn't the one stored in
 pub held_beside : (m new : Memory) (p : ℕ) → StoresIn m new p → (held : Held) → held.slot ≢ p → IsHeldKnown m held → IsHeldKnown new held
 held_beside m new p stores held ne i field number e = let r = i field number e in (r.0, stores.away held.slot field ne r.0 ∙ r.1)
+
+-- what is known of one in hand, or of a copy
+pub hand_beside : (m new : Memory) (p : ℕ) → StoresIn m new p → (held : Held) → held.slot ≢ p → IsHandKnown m held → IsHandKnown new held
+hand_beside m new p stores held ne i = record {
+  known = held_beside m new p stores held ne i.known;
+  even = subst IsEven (sym (stores.away held.slot (Life held.slot) ne refl)) i.even;
+}
+
+-- what a view knows of its hands, where the slot stored in is neither in hand, nor a spare, nor the copy
+pub hands_beside : (m new : Memory) (p : ℕ) → StoresIn m new p → (u : View)
+    → times p (held_list u.hands.hand) + times p (spares_of u) ≡ 0
+    → ((move : Move) → u.moving ≡ Some move → move.copy.slot ≢ p) → AreHandsKnown m u → AreHandsKnown new u
+hands_beside m new p stores u none copy_apart i = record {
+  hand = λ held is. hand_beside m new p stores held (λ same. (let a = held_there u.hands.hand held is in
+      let b = ap (λ x. times x (held_list u.hands.hand)) same in absurd (omega arith))) (i.hand held is);
+  spare = λ held is. held_beside m new p stores held (λ same. (let a = spare_among u held is in
+      let b = ap (λ x. times x (spares_of u)) same in absurd (omega arith))) (i.spare held is);
+  copy = λ move is. hand_beside m new p stores move.copy (copy_apart move is) (i.copy move is);
+  spares = λ s has. subst IsEven (sym (stores.away s (Life s) (λ same. (let b = ap (λ x. times x (spares_of u)) same in
+      absurd (omega arith))) refl)) (i.spares s has);
+}
 
 -- What a store of a link or a value of a slot leaves to all parts.
 pub record StoresAt (m new : Memory) (p : ℕ) (f : Field) : Type 0 where
@@ -321,15 +343,6 @@ module _ (m m' : Memory) (g to : Chart) (vs : List View) (id : ℕ) (v w : View)
       way = way_same g to section.reading (λ s has. c.rank s) i.way;
     }
 
-    recorded_back : (r : Reading) (s : ℕ) → IsAsRecorded m' r s → IsAsRecorded m r s
-    recorded_back r s x = (x.0, x.1, sym (c.life s) ∙ x.2)
-
-    recorded_even : (r : Reading) (s : ℕ) → IsAsRecorded m r s → IsEven (m (Life s))
-    recorded_even r s x = let e = x.2 in omega arith
-
-    recorded_linked : (r : Reading) (s : ℕ) → IsReadingKept m g r → IsAsRecorded m r s → g.linked s ≡ true
-    recorded_linked r s kept x = let l = x.1 in let e = x.2 in let q = l.2 in kept.linked s l.0 l.1 (omega arith)
-
     still_back : (r : Reading) (s : ℕ) → IsStillLinked m' to r s → IsStillLinked m g r s
     still_back r s x = record {
       linked = c.linked_back s x.linked;
@@ -342,19 +355,19 @@ module _ (m m' : Memory) (g to : Chart) (vs : List View) (id : ℕ) (v w : View)
     record_after r reading kept i = record {
       key_fits = i.key_fits;
       side = λ s tag b missed life known empty same settled.
-          (let was = recorded_back r s life in
+          (let was = recorded_back m m' c.life r s life in
           let none = c.link_back s b settled empty in
           let goes : GoesTo r s b = (subst (StandsWell r) missed reading.well).0 in
           let root : s ≡ 0 → b ≡ Right = λ z. ⊎_elim (λ (q : (s ≡ 0) × (b ≡ Right)). q.1) (λ q. absurd (q.0 z)) goes in
-          ⊎_elim (λ o. inl (c.old_for r.key s (recorded_even r s was) o))
-          (λ x. inr (c.side r.key s b (recorded_linked r s kept was) (recorded_even r s was) root none x))
+          ⊎_elim (λ o. inl (c.old_for r.key s (recorded_even m r s was) o))
+          (λ x. inr (c.side r.key s b (recorded_linked m g r s kept was) (recorded_even m r s was) root none x))
           (i.side s tag b missed was known none (sym (c.tag s b) ∙ same) (λ x. settled (c.emptied s b x))));
       walk = λ node parent b value walk found on. (let p = i.walk node parent b value walk found on in record {
-        parent = λ x y. (let was = recorded_back r walk.parent y in
-            ⊎_elim (λ q. inl q) (λ q. inr (c.path node walk.parent x.linked (inr (recorded_even r walk.parent was)) q))
+        parent = λ x y. (let was = recorded_back m m' c.life r walk.parent y in
+            ⊎_elim (λ q. inl q) (λ q. inr (c.path node walk.parent x.linked (inr (recorded_even m r walk.parent was)) q))
             (p.parent (still_back r node x) was));
-        slot = λ x y. (let was = recorded_back r walk.slot y in
-            c.path node walk.slot x.linked (inr (recorded_even r walk.slot was)) (p.slot (still_back r node x) was));
+        slot = λ x y. (let was = recorded_back m m' c.life r walk.slot y in
+            c.path node walk.slot x.linked (inr (recorded_even m r walk.slot was)) (p.slot (still_back r node x) was));
       });
     }
 
@@ -377,21 +390,6 @@ module _ (m m' : Memory) (g to : Chart) (vs : List View) (id : ℕ) (v w : View)
         one j u e l r is =
             let a = in_second (open_reading u.section) u.records r (l, is) in
             record_after r (t.readings j u e a.0 r a.1) (kept j u e a.0 r a.1) (t.records j u e l r is)
-
-  -- how old the links of unlinked slots are
-  met_back : w.section ≡ None → (at : ℕ) → IsMetBefore (set vs id w) at → IsMetBefore vs at
-  met_back outside at i =
-      somewhere_was vs id v w there (λ (x : HasMetBefore w at). absurd (let q : None ≡ Some x.0 = sym outside ∙ x.1 in cc)) i
-
-  pub aged_same : w.section ≡ None → ((s : ℕ) → gone_at s h' ≡ gone_at s h) → ((s : ℕ) (a : Side) → m' (Link s a) ≡ m (Link s a))
-      → ((s : ℕ) → g.linked s ≡ true → to.linked s ≡ true) → ((s : ℕ) → to.rank s ≡ g.rank s) → AreAged m g vs h
-      → AreAged m' to (set vs id w) h'
-  aged_same outside gone away still rank t s at c a is met link ne =
-      let aged = t s at c a (sym (gone s) ∙ is) (met_back outside at met) (sym (away s a) ∙ link) ne in
-      let lt = aged.0 in (
-        omega (arith, lt, rank s, rank c),
-        ⊎_elim (λ l. inl (still c l)) (λ (x : (later : ℕ) × (gone_at c h ≡ Some later) × (at < later)). inr (x.0, gone c ∙ x.1, x.2)) aged.1,
-      )
 
 -- Counts of numbers below another, where the test changes at one number.
 

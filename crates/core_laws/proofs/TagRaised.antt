@@ -29,13 +29,14 @@ use Rattle.core_state.specs.Invariant.{HoldsNow}
 use Rattle.core_frames.specs.Laws.{KeepsPast}
 use Rattle.list_laws.proofs.Lists.{at_below, set_twice, in_first, in_second}
 use Rattle.core_laws.proofs.Locks.{lock_outside, lock_alone, emptied_change_same, emptied_slot, emptied_known, emptied_marked}
-use Rattle.core_laws.proofs.Stores.{cases_side, sum_more, StoresIn, stores_in, held_beside}
+use Rattle.core_laws.proofs.Stores.{cases_side, sum_more, StoresIn, stores_in, held_beside, hand_beside}
 use Rattle.core_laws.proofs.LockSteps.{note_side, emptied_after, OneLock, one_changed, noted_then, lock_stays, note_held-form, lock_noted, note_option-else, note_held-slot, held_noted}
 use Rattle.core_frames.proofs.Roles.{linked_none, not_gone, held_there, spare_among, slots_count}
 use Rattle.core_laws.proofs.LockLoads.{law_copy, life_or_tag_stores, under_lock}
 use Rattle.core_frames.proofs.Views.{same_is, stored_here, stored_else}
 use Rattle.core_frames.proofs.PlaceFrames.{tags_raised}
 use Rattle.core_frames.proofs.WholeFrames.{Stepper, StepKeeps, no_mark}
+use Rattle.core_frames.proofs.TreeFrames.{recorded_back}
 
 -- A side is emptied no more: what becomes of a lock, and of the number of sides that are emptied.
 
@@ -285,16 +286,16 @@ module _ (k : Shape) (m : Memory) (vs : List View) (h : List Mark) (id : ℕ) (v
   module _ (copy_known : (move : Move) → v.moving ≡ Some move → IsHeldKnown raised_memory move.copy) where
     hands_else : (j : ℕ) (u : View) → get_elem? vs j ≡ some u → AreHandsKnown m u → AreHandsKnown raised_memory u
     hands_else j u e t = record {
-      hand = λ x is. (let y = t.hand x is in (held_beside m raised_memory slot stores x (hand_apart j u x e is) y.0, y.1));
+      hand = λ x is. hand_beside m raised_memory slot stores x (hand_apart j u x e is) (t.hand x is);
       spare = λ x is. held_beside m raised_memory slot stores x (spare_apart j u x e is) (t.spare x is);
-      copy = λ move is. (let y = t.copy move is in (
-        dite (ℕ_discrete j id)
+      copy = λ move is. (let y = t.copy move is in record {
+        known = dite (ℕ_discrete j id)
             (λ same. (let it : u ≡ v = some-injective u v (sym e ∙ subst (λ z. get_elem? vs z ≡ some v) (sym same) there) in
             copy_known move (ap (λ (z : View). z.moving) (sym it) ∙ is)))
             (λ ne. held_beside m raised_memory slot stores move.copy
-            (λ here. alone j u ne e (subst (HasLock u) here (i.tree.moves.each j u e move is).copy_lock)) y.0),
-        y.1,
-      ));
+            (λ here. alone j u ne e (subst (HasLock u) here (i.tree.moves.each j u e move is).copy_lock)) y.known);
+        even = y.even;
+      });
       spares = t.spares;
     }
 
@@ -304,7 +305,7 @@ module _ (k : Shape) (m : Memory) (vs : List View) (h : List Mark) (id : ℕ) (v
           half = λ s. refl;
           off = λ s off. refl;
           root = i.slots.root;
-          recorded = λ r s x. x;
+          recorded = recorded_back m raised_memory (λ s. refl);
           tags = tag_back;
           hands = hands_else;
           away = λ s ne. refl;
@@ -365,7 +366,7 @@ module _ (k : Shape) (m : Memory) (vs : List View) (h : List Mark) (id : ℕ) (v
       let now : IsHeldKnown m_new (record move.copy { known = ks }) = λ field number known.
       (let r = held_noted m m_new slot (Tag slot b) (tag + 1) true refl (stored_here m (Tag slot b) (tag + 1))
       (words k m vs h id v i there works slot b tag needs) (λ f own ne. stored_else m (Tag slot b) f (tag + 1) ne) move.copy
-      ((i.slots.hands id v there).copy move e).0 field number known in
+      ((i.slots.hands id v there).copy move e).known field number known in
       (subst (λ z. IsOwnField z field) (note_held-slot slot noted move.copy) r.0, r.1)) in
       let third : HoldsNow k m_new (set (set vs id stored_view) id
       (record stored_view { moving = Some (record move { copy = record move.copy { known = ks } }) })) h =

@@ -5,7 +5,7 @@ use Rattle.prcu_marks.specs.declared.mark.Side.{Side}
 use Rattle.prcu_marks.specs.declared.mark.Side.TheVariants.{Left, Right}
 use Rattle.core_state.specs.declared.words.Field.TheVariants.{Link, Key, Value, Life}
 use Rattle.core_state.specs.Memory.{Memory, IsOdd, stored, slot_count}
-use Rattle.core_state.specs.Tree.{Chart, IsBelow, IsDisplaced, IsShaped, HoldsMap, IsHeldBack, Hangs, MayPass}
+use Rattle.core_state.specs.Tree.{Chart, IsDisplaced, IsShaped, HoldsMap, IsHeldBack, Hangs, MayPass}
 use Rattle.core_frames.proofs.TreeFrames.{pair_by}
 use Rattle.core_frames.proofs.Charts.{after-node, carry_going, unlinked_going}
 use Rattle.core_laws.proofs.ChartChanges.{map_after}
@@ -58,9 +58,6 @@ module _ (m new : Memory) (n : ℕ) (g : Chart) (q : ℕ) (b : Side) (u r : ℕ)
 
   pub displaced : IsDisplaced m g u
   displaced = h.displaced u u_linked k.old
-
-  pub right_below : r ≢ 0 → IsBelow m g u Right r
-  right_below ne = h.below u r Right u_linked k.right ne
 
   pub splice : Splices m new n g q b u r (λ x. x) (λ x. x)
   splice = record {

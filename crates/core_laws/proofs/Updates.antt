@@ -31,9 +31,9 @@ use Rattle.core_frames.proofs.Charts.{one_key}
 use Rattle.core_laws.proofs.Locks.{loaded_known, IsAlive, alive, alive_field, young_locked, no_end_of, marked_lock, marked_linked, marked_life, marked_field, linked_stays, IsNoted, noted_forth, noted_back, slots_change, length_change, emptied_change_same}
 use Rattle.core_frames.proofs.WholeFrames.{Stepper, same_for_more, seat_frame_plain, waiter_frame_plain, mark_frame_plain, SameForMore, grace_same, StepKeeps}
 use Rattle.core_state.specs.declared.view.View.{View}
-use Rattle.core_state.specs.Tree.{HoldsMap, Chart, HoldsPair, IsHeldBack, IsPending, MayPass, IsEmptied}
+use Rattle.core_state.specs.Tree.{HoldsMap, Chart, HoldsPair, IsHeldBack, IsPending, MayPass, IsEmptied, HasEmptied}
 use Rattle.core_frames.specs.Laws.{IsKept}
-use Rattle.core_laws.proofs.Stores.{stores_link, front_made, StoresAt, value_stores, StoresRead, readers_after, aged_same, moves_stored, counts_made, listings_behind}
+use Rattle.core_laws.proofs.Stores.{stores_link, front_made, StoresAt, value_stores, StoresRead, readers_after, moves_stored, counts_made, listings_behind}
 use Rattle.core_laws.proofs.LinkSteps.{listings_past}
 use Rattle.core_laws.proofs.Cutting.{Cut, cut_step, cut_kept, counts_without_node, OnlyChild, Bypasses, lower_past, upper_past, bypassed, bypass_splice, bypass_map}
 use Rattle.core_state.specs.declared.view.Move.{Move}
@@ -48,7 +48,7 @@ use Rattle.core_state.specs.Invariant.{HoldsNow}
 use Rattle.core_laws.proofs.LockSteps.{LockChange, locks_stored, slots_stored, note_option-unraised}
 use Rattle.core_frames.proofs.Views.{stored_here}
 use Rattle.core_frames.proofs.PlainLaws.{clocked_before}
-use Rattle.core_frames.proofs.TreeFrames.{emptied_by, any, SameContents, shape_same, place_same, walks_by, right_left_by, belongs_same, pair_by}
+use Rattle.core_frames.proofs.TreeFrames.{any, SameContents, shape_same, place_same, walks_by, right_left_by, belongs_same, pair_by, aged_by, met_outside, may_by, old_by}
 use Rattle.core_state.specs.Steps.{done_by}
 use Rattle.std.specs.FinMap as finite
 
@@ -474,18 +474,12 @@ module _ (k : Shape) (m : Memory) (vs : List View) (h : List Mark) (i : HoldsNow
   said key from o y = subst (λ us. WasSaid us key from o) (sym more_updates) (said_longer (updates_of h) (update ∷ []) key from o y)
 
   emptied_still : (s : ℕ) (a : Side) → IsEmptied vs s a → IsEmptied (set vs id w) s a
-  emptied_still = emptied_by vs id v w there (λ s lock holds a emptied. (let f = noted_forth d known v.locks s lock holds in
-      (f.0, f.1, f.2.emptied a ∙ emptied)))
+  emptied_still s a = somewhere_still vs id v w there (λ (x : HasEmptied v s a).
+      (let f = noted_forth d known v.locks s x.lock x.held in
+      record { lock = f.0; held = f.1; emptied = f.2.emptied a ∙ x.emptied }))
 
   may_still : (key entered s : ℕ) → MayPass vs key entered s → MayPass (set vs id w) key entered s
-  may_still key entered s y = record {
-    move = y.move;
-    pending = pending_still y.move y.pending;
-    old = y.old;
-    low = y.low;
-    high = y.high;
-    before = y.before;
-  }
+  may_still key entered s y = may_by y (pending_still y.move y.pending)
 
   -- all keys and links are the same, and all values but one
   abbrev others : ℕ → Type 0
@@ -525,13 +519,7 @@ module _ (k : Shape) (m : Memory) (vs : List View) (h : List Mark) (i : HoldsNow
     side = λ y s a l even root none. belongs_same m m' any others contents g on y s a tt;
     link_back = λ s a free none. none;
     emptied = emptied_still;
-    old_for = λ y s even o. record {
-      move = o.move;
-      pending = pending_still o.move o.pending;
-      old = o.old;
-      low = o.low;
-      high = o.high;
-    };
+    old_for = λ y s even o. old_by o (pending_still o.move o.pending);
   }
 
   unraised_kept : unraised_of w ≡ unraised_of v
@@ -585,8 +573,8 @@ module _ (k : Shape) (m : Memory) (vs : List View) (h : List Mark) (i : HoldsNow
       });
     };
     readers = readers_after m m' g g vs id v w there h h' read
-        (aged_same m m' g g vs id v w there h h' outside (gone_done h update) (λ s a. refl)
-        (λ s l. l) (λ s. refl) i.readers.ages) i.locks.readings i.readers;
+        (aged_by m m' g vs (set vs id w) h h' (gone_done h update) (λ s a. refl) (λ at small. met_outside vs id v w there outside at)
+        i.readers.ages) i.locks.readings i.readers;
     front = front_made m m' vs id v w there h h' (stores.within.beside Front tt) i.front commit needs.has_commit refl one_longer
         (subst IsLegal (sym more_updates) (legal_more (updates_of h) update i.front.legal there_now));
     listings = listings_behind m m' g g vs id w h h' outside stores.key

@@ -5,17 +5,17 @@ use mathlib.Core.List.{IsPrefix}
 use lib.ListN.{get_elem?}
 use Rattle.prcu_marks.specs.declared.mark.Mark.{Mark}
 use Rattle.core_state.specs.declared.shape.Shape.{Shape}
-use Rattle.core_state.specs.declared.words.Field.TheVariants.{Clock, Front, Free, Gate, Life}
+use Rattle.core_state.specs.declared.words.Field.TheVariants.{Clock, Front, Free, Gate}
 use Rattle.core_state.specs.declared.view.Section.{Section}
 use Rattle.core_state.specs.declared.view.Waiting.{Waiting}
 use Rattle.core_state.specs.declared.view.View.{View}
-use Rattle.core_state.specs.Memory.{has, Memory, slot_count, stored, sum_below, IsEven}
+use Rattle.core_state.specs.Memory.{has, Memory, slot_count, stored, sum_below}
 use Rattle.core_state.specs.Views.{Works, slots_of, spares_of, held_list, joined_retired, unraised_hand, unraised_among, unraised_of}
-use Rattle.core_state.specs.Parts.{WaitStands, IsTurnedOnce, WaiterParts, turns_to_come, HasEnded, HasFewSlots, IsRetired, IsRetiredOf, IsHeldKnown, AreHandsKnown, IsMoving}
+use Rattle.core_state.specs.Parts.{WaitStands, IsTurnedOnce, WaiterParts, turns_to_come, HasEnded, HasFewSlots, IsRetired, IsRetiredOf, AreHandsKnown, IsMoving, HasRetired, IsHandKnown}
 use Rattle.core_state.specs.Invariant.{HoldsNow}
 use Rattle.core_frames.proofs.Marks.{quiet_same, QuietMarks, quiet_snoc, begun-append, begun_at-append, QuietWaits, others_snoc, prefix_snoc, at_some}
 use Rattle.core_frames.proofs.Views.{reader_words, slots_stay, quiet_words, times_sum, same_slots}
-use Rattle.core_frames.proofs.PlaceFrames.{front_frame, counts_still, sums_same, seat_frame_still, lock_frame, slots_by, retired_of_by}
+use Rattle.core_frames.proofs.PlaceFrames.{front_frame, counts_still, sums_same, seat_frame_still, lock_frame, slots_by}
 use Rattle.core_frames.proofs.TreeFrames.{listing_frame_still, emptied_still, readers_stay, see_by, IsForm, tree_by, moving_by, SameMoves, HadMove, same_form}
 use Rattle.core_frames.proofs.WaitFrames.{AreLoaded, StandsExcused, clocked_same, excused_wait, turned_frame, waiters_by, wait_same, marks_snoc, mark_frame_by, reuse_snoc, grace_frame, grace_longer}
 use Rattle.core_state.specs.declared.words.Field.{Field}
@@ -30,7 +30,7 @@ use Rattle.atomic_table.proofs.Lists.{at_last, drop_at, at_set, at_map}
 use Rattle.prcu_marks.specs.declared.mark.Mark.TheVariants.{Began, Ended, Entered, Left, Done, Given, Unlinked, Freed}
 use Rattle.prcu_marks.proofs.Marks.{open_at-snoc, entered_at-append}
 use Rattle.core_state.specs.Steps.{NeedsBegin, after_begin, new_wait, spot_of, keys_of, NeedsGateTurn, after_gate_turn, turned_gate, is_grace_for, is_move_grace, waited_retired, waited_move}
-use Rattle.list_laws.proofs.Lists.{at_end, times_here, times_other, at_below, each_set, somewhere_here, somewhere_set}
+use Rattle.list_laws.proofs.Lists.{at_end, times_here, times_other, at_below, each_set, somewhere_here, somewhere_set, somewhere_still}
 use Rattle.core_frames.proofs.Roles.{works_there, place_within, open_entered}
 use mathlib.Core.Logic.{dite}
 use native.Mathlib.Decide.{dec_le, ℕ_discrete}
@@ -497,7 +497,7 @@ module _ (vs : List View) (id : ℕ) (v : View) (there : get_elem? vs id ≡ som
       hand = i.hand;
       spare = i.spare;
       copy = λ move is. (let x = move_back wait v.moving move is in
-          subst (λ (z : Move). IsHeldKnown m z.copy × IsEven (m (Life z.copy.slot))) x.same (i.copy x.before x.had));
+          subst (λ (z : Move). IsHandKnown m z.copy) x.same (i.copy x.before x.had));
       spares = i.spares;
     }
 
@@ -508,14 +508,17 @@ module _ (vs : List View) (id : ℕ) (v : View) (there : get_elem? vs id ≡ som
       room = λ move is. (let x = move_back wait v.moving move is in let e = length-map v.hands.retired (waited_retired wait) in
           let f = i.room x.before x.had in omega arith);
       joined = i.joined;
-      joined_spare = i.joined_spare;
-      next_spare = λ works none. (let r = i.next_spare works none in
-          (waited_retired wait r.0, (r.1.0, at_map (waited_retired wait) v.hands.retired r.1.0 r.0 r.1.1), r.2));
+      next_spare = λ works none. (let r = i.next_spare works none in record {
+        retired = waited_retired wait r.retired;
+        has = (r.has.0, at_map (waited_retired wait) v.hands.retired r.has.0 r.retired r.has.1);
+        unraised = r.unraised;
+      });
     }
 
     unlinked_noted : (s : ℕ) → IsRetiredOf vs s → IsRetiredOf (set vs id view_noted) s
-    unlinked_noted s = retired_of_by vs id v view_noted there s (λ r has is.
-        let x = in_noted wait v.hands.retired (joined_retired v.allowance.joined) r has in (x.0, x.1, x.2 ∙ is))
+    unlinked_noted s = somewhere_still vs id v view_noted there (λ (r : HasRetired v s).
+        let x = in_noted wait v.hands.retired (joined_retired v.allowance.joined) r.retired r.has in
+        record { retired = x.0; has = x.1; slot = x.2 ∙ r.slot })
 
     moving_noted : (z : Move) (b : Bool) → IsMoving m g h v z → IsMoving m g h view_noted (record z { waited = b })
     moving_noted z b = moving_by m m (same_slots m).nodes g h h v view_noted z b z.copy.known (λ n x e. e) refl (λ s which. refl) (λ r x. x)

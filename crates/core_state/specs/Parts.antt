@@ -272,8 +272,10 @@ pub record IsServed (m : Memory) (g : Chart) (h : List Mark) (vs : List View) (s
   pub way : IsWay g section.reading
 
 -- the slot has the generation that the section loaded, and is unmarked
-abbrev pub IsAsRecorded : Memory → Reading → ℕ → Type 0
-IsAsRecorded m r s = (generation : ℕ) × LoadedGeneration r s generation × (m (Life s) ≡ 2 * generation)
+pub record IsAsRecorded (m : Memory) (r : Reading) (s : ℕ) : Type 0 where
+  pub generation : ℕ
+  pub recorded : LoadedGeneration r s generation
+  pub same : m (Life s) ≡ 2 * generation
 
 -- A kept record of an empty side: where the slot has the recorded generation, the side is empty and has the recorded tag, the key
 -- belongs there. It says nothing of the old successor of a move whose interval holds the key, nor of a side that its lock's holder
@@ -304,18 +306,31 @@ pub record IsRecord (m : Memory) (g : Chart) (vs : List View) (r : Reading) : Ty
       → SaysOfWalk m g r node walk
 
 -- the view's section is open and was entered before this mark
-abbrev pub HasMetBefore : View → ℕ → Type 0
-HasMetBefore v at = (section : Section) × (v.section ≡ Some section) × (section.entered < at)
+pub record HasMetBefore (v : View) (at : ℕ) : Type 0 where
+  pub section : Section
+  pub is_open : v.section ≡ Some section
+  pub before : section.entered < at
 
 -- that of some view is
 abbrev pub IsMetBefore : List View → ℕ → Type 0
 IsMetBefore vs at = Somewhere vs (λ v. HasMetBefore v at)
 
+-- the slot was unlinked after this mark, and neither given nor freed since
+pub record IsGoneSince (h : List Mark) (since s : ℕ) : Type 0 where
+  pub at : ℕ
+  pub gone : gone_at s h ≡ Some at
+  pub later : since < at
+
+-- a slot leads to another of a greater rank that is linked, or was unlinked after this mark
+pub record LeadsOn (g : Chart) (h : List Mark) (since s c : ℕ) : Type 0 where
+  pub rank : g.rank s < g.rank c
+  pub leads : (g.linked c ≡ true) ⊎ IsGoneSince h since c
+
 -- A link of an unlinked slot that a section may still meet is 0, or leads to a linked slot, or to one that was unlinked later; of a
 -- greater rank.
 abbrev pub AreAged : Memory → Chart → List View → List Mark → Type 0
 AreAged m g vs h = (s at c : ℕ) (b : Side) → gone_at s h ≡ Some at → IsMetBefore vs at → m (Link s b) ≡ c → c ≢ 0
-    → (g.rank s < g.rank c) × ((g.linked c ≡ true) ⊎ ((later : ℕ) × (gone_at c h ≡ Some later) × (at < later)))
+    → LeadsOn g h at s c
 
 -- Each open search will answer what the dictionary said since it was entered; walks, records and slots met are as they should be.
 pub record ReaderParts (m : Memory) (g : Chart) (vs : List View) (h : List Mark) : Type 0 where
@@ -337,9 +352,16 @@ pub record HaveOneRole (m : Memory) (n : ℕ) (g : Chart) (vs : List View) : Typ
   pub beyond : (s : ℕ) → n ≤ s → total (λ v. times s (slots_of v)) vs ≡ 0
   pub states : (s : ℕ) → s < n → m (State s) ≤ 1
 
--- a place that was joined has a spare, or a retired slot whose generation wasn't raised
-abbrev pub HasSpareToCome : Spent → Type 0
-HasSpareToCome s = s.spare ≡ None → (r : Retired) × IsIn s.retired r × (r.raised ≡ false)
+-- one of these retired slots has a generation that wasn't raised
+pub record HasUnraised (rs : List Retired) : Type 0 where
+  pub retired : Retired
+  pub has : IsIn rs retired
+  pub unraised : retired.raised ≡ false
+
+-- a place that was joined has at most so many slots retired, and without a spare one whose generation wasn't raised
+pub record HasFewSpent (most : ℕ) (s : Spent) : Type 0 where
+  pub few : length s.retired ≤ most
+  pub next_spare : s.spare ≡ None → HasUnraised s.retired
 
 -- A place has at most one slot reserved or in hand, and at most so many retired, while a move is pending one less; without a spare it has
 -- a retired slot whose generation wasn't raised. So had those that were joined.
@@ -347,9 +369,8 @@ pub record HasFewSlots (most : ℕ) (v : View) : Type 0 where
   pub one : v.hands.reserved ≡ true → v.hands.hand ≡ None
   pub few : length v.hands.retired ≤ most
   pub room : (move : Move) → v.moving ≡ Some move → length v.hands.retired < most
-  pub joined : Each v.allowance.joined (λ (s : Spent). length s.retired ≤ most)
-  pub joined_spare : Each v.allowance.joined HasSpareToCome
-  pub next_spare : Works v → v.hands.spare ≡ None → (r : Retired) × IsIn v.hands.retired r × (r.raised ≡ false)
+  pub joined : Each v.allowance.joined (HasFewSpent most)
+  pub next_spare : Works v → v.hands.spare ≡ None → HasUnraised v.hands.retired
 
 -- A retired slot was unlinked where the view says, and neither given nor freed since. Until its generation is raised its node is
 -- marked, and its life, its key, its value and its links are as they were known; once it is raised, the node is unmarked, and it was waited
@@ -365,8 +386,10 @@ pub record IsRetired (m : Memory) (h : List Mark) (r : Retired) : Type 0 where
   pub after_wait : r.raised ≡ true → r.waited ≡ true
 
 -- the slot is among the retired ones of the view
-abbrev pub HasRetired : View → ℕ → Type 0
-HasRetired v s = (r : Retired) × IsIn (retired_of v) r × (r.slot ≡ s)
+pub record HasRetired (v : View) (s : ℕ) : Type 0 where
+  pub retired : Retired
+  pub has : IsIn (retired_of v) retired
+  pub slot : retired.slot ≡ s
 
 -- it is among those of some view
 abbrev pub IsRetiredOf : List View → ℕ → Type 0
@@ -377,11 +400,16 @@ abbrev pub IsHeldKnown : Memory → Held → Type 0
 IsHeldKnown m held = (field : Field) (number : ℕ) → known_in held.known field ≡ Some number
     → IsOwnField held.slot field × (m field ≡ number)
 
+-- that is so, and the slot is unmarked
+pub record IsHandKnown (m : Memory) (held : Held) : Type 0 where
+  pub known : IsHeldKnown m held
+  pub even : IsEven (m (Life held.slot))
+
 -- What the view knows of the slot in hand, the spare, and the copy of its move is so; and none of them is marked.
 pub record AreHandsKnown (m : Memory) (v : View) : Type 0 where
-  pub hand : (held : Held) → v.hands.hand ≡ Some held → IsHeldKnown m held × IsEven (m (Life held.slot))
+  pub hand : (held : Held) → v.hands.hand ≡ Some held → IsHandKnown m held
   pub spare : (held : Held) → v.hands.spare ≡ Some held → IsHeldKnown m held
-  pub copy : (move : Move) → v.moving ≡ Some move → IsHeldKnown m move.copy × IsEven (m (Life move.copy.slot))
+  pub copy : (move : Move) → v.moving ≡ Some move → IsHandKnown m move.copy
   pub spares : (s : ℕ) → 1 ≤ times s (spares_of v) → IsEven (m (Life s))
 
 -- Each slot is in one role. Those that are free, in hand, spares or copies are unmarked, and what their holder knows of them is so;
@@ -556,8 +584,11 @@ pub record IsCounted (h : List Mark) (v : View) : Type 0 where
   pub waits : v.counts.waits ≡ begun_at v.allowance.place h
 
 -- the view works at this place and has this section open
-abbrev pub HasOpen : View → ℕ → Open → Type 0
-HasOpen v p o = (v.allowance.place ≡ p) × (section : Section) × (v.section ≡ Some section) × (o ≡ open_of section)
+pub record HasOpen (v : View) (p : ℕ) (o : Open) : Type 0 where
+  pub place : v.allowance.place ≡ p
+  pub section : Section
+  pub is_open : v.section ≡ Some section
+  pub by_marks : o ≡ open_of section
 
 -- an open section, by the marks, is that of the view that works at its place
 abbrev pub IsOpenOf : List View → ℕ → Open → Type 0
