@@ -4,7 +4,7 @@ use Rattle.core_state.specs.declared.words.Field.{Field}
 use Rattle.core_state.specs.declared.view.HeldLock.{HeldLock}
 use Rattle.core_state.specs.declared.view.Known.{Known}
 use Rattle.core_state.specs.Memory.{same_field, same_side}
-use Rattle.core_state.specs.Views.{known_in, known_of, loaded_in, lock_of, change_lock, note_lock, without_lock, is_emptied, with_emptied, IsLoadable}
+use Rattle.core_state.specs.Views.{known_in, known_of, loaded_in, lock_of, change_lock, note_lock, without_lock, is_emptied, with_emptied}
 use Rattle.core_points.specs.Facts.{read_at, AreClear, Owns, SameLocks, one_lock, Bare, Unlocking, Quiet, Ready}
 use Rattle.core_points.specs.DeleteFacts.{Holds, under, ClearButMark, AreApart, HasLoaded, HoldsAll, HoldsSuccessorLocks, IsLoadedNow, IsSkipped, found_number, target_words, two_children}
 use Rattle.core_frames.proofs.Views.{same_self}
@@ -37,7 +37,6 @@ use Rattle.core_points.specs.declared.stage.Found.{Found}
 use Rattle.core_points.specs.declared.stage.Node.{Node}
 use Rattle.core_points.specs.declared.stage.Successor.{Successor}
 use Rattle.core_points.specs.declared.stage.Target.{Target}
-use Rattle.core_state.specs.declared.act.Part.{Part}
 use Rattle.core_state.specs.Acts.{in_slot}
 use Rattle.core_points.specs.declared.stage.Stage.{Stage}
 use Rattle.core_points.specs.declared.stage.Last.TheVariants as last
@@ -511,13 +510,6 @@ word_held locks t i all = by (nat_lt i 2) (nat_lt i 5)
 most_words : (h : Option Successor) → target_words h ≤ 9
 most_words None = omega arith
 most_words (Some u) = omega arith
-
-pub part_loadable : (s : ℕ) (p : Part) → IsLoadable s (in_slot s p)
-part_loadable s part.Life = refl
-part_loadable s part.Key = refl
-part_loadable s part.Value = refl
-part_loadable s (part.Link b) = refl
-part_loadable s (part.Tag b) = refl
 
 -- the words of the node and its parent
 node_words : (t : Target) → t.node.parent ≢ t.node.node → (i j : ℕ) → j < i → i < 5 → same_field (target_word t i) (target_word t j) ≡ false
