@@ -29,7 +29,7 @@ use Rattle.core_frames.proofs.Views.{side_self}
 use Rattle.core_state.specs.declared.act.Act.TheVariants.{SearchLoad}
 use Rattle.core_state.specs.declared.act.Part.{Part}
 use Rattle.core_state.specs.Acts.{in_slot, noted, section_of}
-use Rattle.core_points.proofs.Locks.{part_loadable}
+use Rattle.core_points.proofs.Notes.{part_loadable}
 use Rattle.core_laws.proofs.Acting.{part_word, section_is as opened}
 use Rattle.seat_table.specs.Gains.{Sees, IsSlot, IsAsked, Told, AreFew}
 use Rattle.seat_table.specs.Sections.{is_entry, is_exit, HasEntered, HasLeft, EntersBy}

@@ -26,7 +26,7 @@ use Rattle.core_state.specs.declared.act.Act.TheVariants.{SearchLoad}
 use Rattle.core_state.specs.declared.act.Part.{Part}
 use Rattle.core_state.specs.Acts.{in_slot, noted}
 use Rattle.core_laws.proofs.Acting.{part_word, section_is as opened}
-use Rattle.core_points.proofs.Locks.{part_loadable}
+use Rattle.core_points.proofs.Notes.{part_loadable}
 use Rattle.list_laws.specs.Counts.{IsIn}
 use Rattle.seat_table.specs.Gains.{IsSlot, IsAsked, Told}
 use Rattle.seat_table.specs.Sections.{is_entry, is_exit, HasEntered, HasLeft}
