@@ -275,11 +275,7 @@ module _ (k : Shape) (v w : View) where
       (record { reply = Absent; number = number }) tries None p.1 p.2 refl (λ m none. absent m key none)
   was_set key value tries (Was old) number p = updated (Explains (room_of k)) v w (Set key value)
       (record { reply = Was old; number = number }) tries p.0 [] p.1 refl refl tt tt refl p.2
-  was_set key value tries New number p = absurd p
-  was_set key value tries Old number p = absurd p
-  was_set key value tries Full number p = absurd p
-  was_set key value tries (Val x) number p = absurd p
-  was_set key value tries Gone number p = absurd p
+  was_set key value tries _ number p = absurd p
 
   was_deleted : (key : ℕ) (tries : List Mark) (reply : Reply) (number : ℕ) → DelsBy v key tries reply number w
       → HasAnswered (Explains (room_of k)) (of_view v) (Del key) (record { reply = reply; number = number }) (of_view w)
@@ -306,11 +302,7 @@ module _ (k : Shape) (v w : View) where
           → HasAnswered (Explains (room_of k)) (of_view v) (Del key) (record { reply = Gone; number = number }) (of_view w)
       by after is none keyed waits = updated (Explains (room_of k)) v w (Del key) (record { reply = Gone; number = number }) tries p.0 after
           (subst (λ a. HasUpdated v (Del key) tries p.0 a number w) is p.2) none refl keyed waits refl tt
-  was_deleted key tries New number p = absurd p
-  was_deleted key tries Old number p = absurd p
-  was_deleted key tries Full number p = absurd p
-  was_deleted key tries (Val x) number p = absurd p
-  was_deleted key tries (Was x) number p = absurd p
+  was_deleted key tries _ number p = absurd p
 
   pub made_answers : (op : Op) (told : Told) → IsTold k v op told w → HasAnswered (Explains (room_of k)) (of_view v) op told (of_view w)
   made_answers (Put key value) told p = was_put key value p.0 told.reply told.number p.1

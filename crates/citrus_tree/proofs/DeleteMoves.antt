@@ -23,7 +23,7 @@ use Rattle.prcu_model.specs.declared.operation.Op.{Op}
 use Rattle.core_state.specs.declared.shape.Shape.{Shape}
 use Rattle.core_points.specs.declared.stage.Node.{Node}
 use Rattle.core_points.specs.Programs.{deleting, or_root, move_locks, is_some}
-use Rattle.tree_points.proofs.Passing.{slots_length}
+use Rattle.tree_points.proofs.Passing.{slots_length, needs, passes, commits_any}
 use Rattle.node_slots.proofs.Returns.{listed_length, not_in}
 use Rattle.core_state.specs.declared.view.Waiting.{Waiting}
 use Rattle.core_state.specs.Steps.{waited_retired, spare_slot}
@@ -38,7 +38,6 @@ use Rattle.core_state.specs.declared.words.Field.TheVariants.{Life, Link}
 use Rattle.core_state.specs.Views.{known_in, known_under}
 use Rattle.core_frames.specs.Telling.{IsToldOf}
 use Rattle.tree_points.proofs.Locks.{allowed, needs_copy, needs_copy_age, own_spare, passes_copy, passes_copy_age, further, gone_on}
-use Rattle.tree_points.proofs.Updates.{passes_mark, needs_successor_key, needs_successor_value, passes_successor_key, passes_successor_value}
 use Rattle.citrus_tree.specs.Going.{Opened, Closed, retired_marks}
 use Rattle.citrus_tree.proofs.DeleteUpdates.{keeps, keeps_on, keeps_fill, keeps_locked_load, keeps_own_life, spare_fill, spare_locked_load, spare_own_life, value_fill, value_load, value_on, value_own_life, unlinked_gone}
 use Rattle.core_laws.proofs.Locks.{loaded_known}
@@ -249,7 +248,7 @@ module _ {k : Shape} {op : Op} {kept : ℕ} (d : Node) (child : ℕ) (is : child
 
   pub marked : {v w : View} {n : ℕ} → IsAt k op kept (deleting d None) v → Told k v (acts.Mark d.node (2 * d.generation)) n w
       → IsAt k op kept (at.Commit (update.Bypass d child) 0) w
-  marked a t = passes_mark (marking a) t 0 refl
+  marked a t = commits_any (passes (marking a) refl t) 0 refl
 
 -- with the front to be opened, and open
 pub bypass_paid : {k : Shape} {op : Op} {kept child e : ℕ} {v : View} (d : Node) → IsAt k op kept (at.Commit (update.Bypass d child) e) v
@@ -278,21 +277,21 @@ half_two front = omega arith
 module _ {k : Shape} {op : Op} {kept : ℕ} {d : Node} {u : Successor} {v : View} (copy : ℕ) (spare : IsSlotOf (Some copy) v.hands.spare)
     (a : IsAt k op kept (at.SuccessorKey d u) v) where
   pub loads_key : IsAsked k v (acts.LockedLoad u.slot part.Key)
-  loads_key = needs_successor_key a
+  loads_key = needs a refl
 
   module _ {next_key : ℕ} {v1 : View} (t1 : Told k v (acts.LockedLoad u.slot part.Key) next_key v1) where
     at1 : IsAt k op kept (at.SuccessorValue d u next_key) v1
-    at1 = passes_successor_key a t1
+    at1 = passes a refl t1
 
     spare1 : IsSlotOf (Some copy) v1.hands.spare
     spare1 = spare_locked_load k _ _ _ _ _ copy t1 spare
 
     pub loads_value : IsAsked k v1 (acts.LockedLoad u.slot part.Value)
-    loads_value = needs_successor_value at1
+    loads_value = needs at1 refl
 
     module _ {value : ℕ} {v2 : View} (t2 : Told k v1 (acts.LockedLoad u.slot part.Value) value v2) where
       at2 : IsAt k op kept (at.CopyField d u next_key value 0) v2
-      at2 = passes_successor_value at1 t2
+      at2 = passes at1 refl t2
 
       spare2 : IsSlotOf (Some copy) v2.hands.spare
       spare2 = spare_locked_load k _ _ _ _ _ copy t2 spare1

@@ -19,11 +19,11 @@ use Rattle.core_points.specs.Facts.{is_delete, SameLocks}
 use Rattle.seat_table.specs.Gains.{StoodInside, IsAsked, Told}
 use Rattle.seat_table.specs.Sections.{HasLeft, is_entry, is_exit}
 use Rattle.tree_points.specs.Points.{IsAt, IsDone, HasGone, HasLocks}
-use Rattle.tree_points.proofs.Passing.{moves_on, no_hand_enter, at_false, at_true}
+use Rattle.tree_points.proofs.Passing.{moves_on, no_hand_enter, at_false, at_true, needs, passes}
 use Rattle.seat_table.proofs.SeveralSteps.{made_both}
 use Rattle.citrus_tree.specs.Lookups.{is_load, is_of_lookup, IsSearching, Looked}
 use Rattle.citrus_tree.proofs.Searching.{load_is, entry_is, exit_is}
-use Rattle.tree_points.proofs.Locks.{allowed, further_by, gone_entered, gone_left, gone_none, gone_on, gone_same, gone_stays, needs_target_lock, needs_unlock, passes_target_lock_busy, passes_target_lock_first, passes_target_lock_free, passes_unlock, passes_unlock_again, locks_target_lock, no_further}
+use Rattle.tree_points.proofs.Locks.{allowed, further_by, gone_entered, gone_left, gone_none, gone_on, gone_same, gone_stays, needs_unlock, passes_target_lock_busy, passes_target_lock_first, passes_target_lock_free, passes_unlock, passes_unlock_again, locks_target_lock, no_further}
 use Rattle.tree_points.proofs.Waits.{leaves_delete}
 use Rattle.citrus_tree.specs.Going.{IsSeated, retired_marks}
 use Rattle.citrus_tree.specs.Deletes.{HasSearched, OnlyLoads, retired_slots, Comes, StandsAt, walked_to, KeepsRest, giving_up, AreLivesSmall}
@@ -40,7 +40,6 @@ use Rattle.core_points.specs.declared.stage.Successor.{Successor}
 use Rattle.core_points.specs.Programs.{past_left, past_right, nothing_found, target_lock, target_locks, successor_holds, target_holds, with_found, past_target_load}
 use Rattle.core_state.specs.Acts.{noted}
 use Rattle.core_laws.proofs.Acting.{section_is}
-use Rattle.tree_points.proofs.Updates.{needs_successor_left, passes_node_left, passes_node_life, passes_node_right, passes_parent_life, passes_successor_left, passes_successor_life, passes_successor_parent_life, needs_target_load, passes_target_load}
 use Rattle.citrus_tree.specs.Hops.{slots_in, slots_met}
 use Rattle.citrus_tree.proofs.DeleteUpdates.{loads_self, loads_search_load, loads_on, keeps_rest, locks_busy, rest_lock, rest_unlock}
 use Rattle.core_state.specs.declared.view.HeldLock.{HeldLock}
@@ -194,17 +193,17 @@ node_loaded {k} {op} {kept} {n0} {n1} {n2} {n3} {v} {v1} {v2} {v3} {v4} p s g0 g
     subst (λ (z : ℕ × ℕ). IsAt k op kept (past_right
     (record { parent = p; side = b; node = s; parent_generation = z.0; generation = z.1; left = n2; right = n3 })) v4)
     (λ i. (sym first i, sym second i))
-    (passes_node_right (passes_node_left (passes_node_life (passes_parent_life a t0) t1) t2) t3)
+    (passes (passes (passes (passes a refl t0) refl t1) refl t2) refl t3)
 
 -- The walk.
 pub first_walk : {k : Shape} {op : Op} {kept : ℕ} {v : View} (d : Node) → d.left ≢ 0 → d.right ≢ 0 → IsAt k op kept (past_right d) v
     → IsAt k op kept (at.SuccessorLeft d (walked_to d.node d.right)) v
-first_walk d left right a = at_false ((d.left == 0) || (d.right == 0)) _ _ (ap (λ z. z || (d.right == 0)) (ne_eqb d.left 0 left)
+first_walk d left right a = at_false _ (ap (λ z. z || (d.right == 0)) (ne_eqb d.left 0 left)
     ∙ ne_eqb d.right 0 right) a
 
 pub no_walk : {k : Shape} {op : Op} {kept : ℕ} {v : View} (d : Node) → ((d.left == 0) || (d.right == 0)) ≡ true
     → IsAt k op kept (past_right d) v → IsAt k op kept (at.Leave (next.Delete (record { node = d; successor = None }))) v
-no_walk d few a = at_true ((d.left == 0) || (d.right == 0)) _ _ few a
+no_walk d few a = at_true _ few a
 
 pub slot_fits : {k : Shape} {op : Op} {kept : ℕ} {v : View} (d : Node) (u : Successor) → IsAt k op kept (at.SuccessorLeft d u) v
     → StoodInside k v → u.slot < 4294967296
@@ -222,12 +221,12 @@ walks_first k d v inside = record { at = λ op kept a. a; inside = inside; same 
 
 pub needs_walk : (k : Shape) (d : Node) (parent slot : ℕ) (v w : View) → StandsAt k (at.SuccessorLeft d (walked_to d.node d.right)) v
     → Walks k d parent slot v w → IsAsked k w (acts.SearchLoad slot (part.Link Left))
-needs_walk k d parent slot v w a i = needs_successor_left (i.at a.0 a.1 a.2)
+needs_walk k d parent slot v w a i = needs (i.at a.0 a.1 a.2) refl
 
 pub walks_to : {k : Shape} {op : Op} {kept n : ℕ} {w x : View} (d : Node) (parent slot : ℕ) → n ≢ 0
     → IsAt k op kept (at.SuccessorLeft d (walked_to parent slot)) w → Told k w (acts.SearchLoad slot (part.Link Left)) n x
     → IsAt k op kept (at.SuccessorLeft d (walked_to slot n)) x
-walks_to {n = n} d parent slot some a told = at_false (n == 0) _ _ (ne_eqb n 0 some) (passes_successor_left a told)
+walks_to {n = n} d parent slot some a told = at_false _ (ne_eqb n 0 some) (passes a refl told)
 
 pub walks_on : (k : Shape) (d : Node) (parent slot n : ℕ) (v w x : View) → n ≢ 0 → Walks k d parent slot v w
     → Told k w (acts.SearchLoad slot (part.Link Left)) n x → Walks k d slot n v x
@@ -275,25 +274,25 @@ pub walk_ends : (k : Shape) (d : Node) (parent slot n : ℕ) (v w x : View) → 
     → Told k w (acts.SearchLoad slot (part.Link Left)) n x
     → Comes k (at.SuccessorLeft d (walked_to d.node d.right)) v (past_left d (walked_to parent slot) 0) x × OnlyLoads v x
 walk_ends k d parent slot n v w x none i told = (
-  λ op kept a. subst (λ z. IsAt k op kept (past_left d (walked_to parent slot) z) x) none (passes_successor_left (i.at op kept a) told),
+  λ op kept a. subst (λ z. IsAt k op kept (past_left d (walked_to parent slot) z) x) none (passes (i.at op kept a) refl told),
   loads_on v w x i.same (loads_search_load k w x _ _ _ told),
 )
 
 -- The generations of the successor and of its parent.
 pub at_node : {k : Shape} {op : Op} {kept : ℕ} {v : View} (d : Node) (parent slot : ℕ) → parent ≡ d.node
     → IsAt k op kept (past_left d (walked_to parent slot) 0) v → IsAt k op kept (at.SuccessorLife d (walked_to parent slot)) v
-at_node d parent slot same a = at_true (parent == d.node) _ _ (eq-eqb parent d.node same) a
+at_node d parent slot same a = at_true _ (eq-eqb parent d.node same) a
 
 pub at_other : {k : Shape} {op : Op} {kept : ℕ} {v : View} (d : Node) (parent slot : ℕ) → parent ≢ d.node
     → IsAt k op kept (past_left d (walked_to parent slot) 0) v → IsAt k op kept (at.SuccessorParentLife d (walked_to parent slot)) v
-at_other d parent slot other a = at_false (parent == d.node) _ _ (ne_eqb parent d.node other) a
+at_other d parent slot other a = at_false _ (ne_eqb parent d.node other) a
 
 pub above_loaded : {k : Shape} {op : Op} {kept n : ℕ} {v w : View} (d : Node) (parent slot g : ℕ) → g ≡ n / 2
     → IsAt k op kept (at.SuccessorParentLife d (walked_to parent slot)) v → Told k v (acts.SearchLoad parent part.Life) n w
     → IsAt k op kept (at.SuccessorLife d (record { parent = parent; slot = slot; parent_generation = g; generation = 0 })) w
 above_loaded {k} {op} {kept} {n} {v} {w} d parent slot g e a told =
     subst (λ z. IsAt k op kept (at.SuccessorLife d (record { parent = parent; slot = slot; parent_generation = z; generation = 0 })) w)
-    (sym e) (passes_successor_parent_life a told)
+    (sym e) (passes a refl told)
 
 pub successor_loaded : {k : Shape} {op : Op} {kept n : ℕ} {v w : View} (d : Node) (parent slot above g : ℕ) → g ≡ n / 2
     → IsAt k op kept (at.SuccessorLife d (record { parent = parent; slot = slot; parent_generation = above; generation = 0 })) v
@@ -303,7 +302,7 @@ pub successor_loaded : {k : Shape} {op : Op} {kept n : ℕ} {v w : View} (d : No
 successor_loaded {k} {op} {kept} {n} {v} {w} d parent slot above g e a told =
     subst (λ z. IsAt k op kept (at.Leave (next.Delete
     (record { node = d; successor = Some (record { parent = parent; slot = slot; parent_generation = above; generation = z }) }))) w)
-    (sym e) (passes_successor_life a told)
+    (sym e) (passes a refl told)
 
 -- The locks of a delete, got in order and given up in the other order.
 
@@ -388,11 +387,11 @@ gets_none k t v = record {
 
 to_lock : {k : Shape} {op : Op} {kept : ℕ} {w : View} (t : Target) (i : ℕ) → i < target_locks t → IsAt k op kept (locking t i) w
     → IsAt k op kept (at.TargetLock t i) w
-to_lock t i lt a = at_false (i == target_locks t) _ _ (ne_eqb i (target_locks t) (λ e. omega arith)) a
+to_lock t i lt a = at_false _ (ne_eqb i (target_locks t) (λ e. omega arith)) a
 
 pub needs_get : (k : Shape) (t : Target) (i : ℕ) (v w : View) → StandsAt k (at.TargetLock t 0) v → i < target_locks t → Gets k t i v w
     → IsAsked k w (acts.Lock (target_lock t i))
-needs_get k t i v w a lt g = needs_target_lock (to_lock t i lt (g.at a.0 a.1 a.2))
+needs_get k t i v w a lt g = needs (to_lock t i lt (g.at a.0 a.1 a.2)) refl
 
 pub gets_on : (k : Shape) (t : Target) (i n : ℕ) (v w x : View) → i < target_locks t → Gets k t i v w → n ≡ 0
     → Told k w (acts.Lock (target_lock t i)) n x → Gets k t (i + 1) v x
@@ -461,31 +460,31 @@ next_3 d (Some u) f = refl
 pub load_0 : {k : Shape} {op : Op} {kept n : ℕ} {v w : View} (t : Target) (f : Found) → IsAt k op kept (at.TargetLoad t 0 f) v
     → Told k v (acts.LockedLoad t.node.parent part.Life) n w → IsAt k op kept (at.TargetLoad t 1 (with_found f 0 n)) w
 load_0 {k} {op} {kept} {n} {v} {w} t f a told =
-    subst (λ s. IsAt k op kept s w) (next_0 t.node t.successor (with_found f 0 n)) (passes_target_load a told)
+    subst (λ s. IsAt k op kept s w) (next_0 t.node t.successor (with_found f 0 n)) (passes a refl told)
 
 pub load_1 : {k : Shape} {op : Op} {kept n : ℕ} {v w : View} (t : Target) (f : Found) → IsAt k op kept (at.TargetLoad t 1 f) v
     → Told k v (acts.LockedLoad t.node.parent (part.Link t.node.side)) n w → IsAt k op kept (at.TargetLoad t 2 (with_found f 1 n)) w
 load_1 {k} {op} {kept} {n} {v} {w} t f a told =
-    subst (λ s. IsAt k op kept s w) (next_1 t.node t.successor (with_found f 1 n)) (passes_target_load a told)
+    subst (λ s. IsAt k op kept s w) (next_1 t.node t.successor (with_found f 1 n)) (passes a refl told)
 
 pub load_2 : {k : Shape} {op : Op} {kept n : ℕ} {v w : View} (t : Target) (f : Found) → IsAt k op kept (at.TargetLoad t 2 f) v
     → Told k v (acts.LockedLoad t.node.node part.Life) n w → IsAt k op kept (at.TargetLoad t 3 (with_found f 2 n)) w
 load_2 {k} {op} {kept} {n} {v} {w} t f a told =
-    subst (λ s. IsAt k op kept s w) (next_2 t.node t.successor (with_found f 2 n)) (passes_target_load a told)
+    subst (λ s. IsAt k op kept s w) (next_2 t.node t.successor (with_found f 2 n)) (passes a refl told)
 
 pub load_3 : {k : Shape} {op : Op} {kept n : ℕ} {v w : View} (t : Target) (f : Found) → IsAt k op kept (at.TargetLoad t 3 f) v
     → Told k v (acts.LockedLoad t.node.node (part.Link Left)) n w → IsAt k op kept (at.TargetLoad t 4 (with_found f 3 n)) w
 load_3 {k} {op} {kept} {n} {v} {w} t f a told =
-    subst (λ s. IsAt k op kept s w) (next_3 t.node t.successor (with_found f 3 n)) (passes_target_load a told)
+    subst (λ s. IsAt k op kept s w) (next_3 t.node t.successor (with_found f 3 n)) (passes a refl told)
 
 -- Those of the successor: where the node is its parent, the life of that parent is left out.
 pub to_link : {k : Shape} {op : Op} {kept : ℕ} {v : View} (d : Node) (u : Successor) (f : Found) → u.parent ≡ d.node
     → IsAt k op kept (past_target_load (two_children d u) 4 f) v → IsAt k op kept (at.TargetLoad (two_children d u) 6 f) v
-to_link d u f same a = at_true (u.parent == d.node) _ _ (eq-eqb u.parent d.node same) a
+to_link d u f same a = at_true _ (eq-eqb u.parent d.node same) a
 
 pub to_parent : {k : Shape} {op : Op} {kept : ℕ} {v : View} (d : Node) (u : Successor) (f : Found) → u.parent ≢ d.node
     → IsAt k op kept (past_target_load (two_children d u) 4 f) v → IsAt k op kept (at.TargetLoad (two_children d u) 5 f) v
-to_parent d u f other a = at_false (u.parent == d.node) _ _ (ne_eqb u.parent d.node other) a
+to_parent d u f other a = at_false _ (ne_eqb u.parent d.node other) a
 
 abbrev link_part : Bool → Part
 link_part z = cond z (part.Link Right) (part.Link Left)
@@ -493,24 +492,24 @@ link_part z = cond z (part.Link Right) (part.Link Left)
 pub needs_link_right : {k : Shape} {op : Op} {kept : ℕ} {v : View} (d : Node) (u : Successor) (f : Found) → u.parent ≡ d.node
     → IsAt k op kept (at.TargetLoad (two_children d u) 6 f) v → IsAsked k v (acts.LockedLoad u.parent (part.Link Right))
 needs_link_right {k} {op} {kept} {v} d u f same a =
-    subst (λ z. IsAsked k v (acts.LockedLoad u.parent (link_part z))) (eq-eqb u.parent d.node same) (needs_target_load a)
+    subst (λ z. IsAsked k v (acts.LockedLoad u.parent (link_part z))) (eq-eqb u.parent d.node same) (needs a refl)
 
 pub load_link_right : {k : Shape} {op : Op} {kept n : ℕ} {v w : View} (d : Node) (u : Successor) (f : Found) → u.parent ≡ d.node
     → IsAt k op kept (at.TargetLoad (two_children d u) 6 f) v → Told k v (acts.LockedLoad u.parent (part.Link Right)) n w
     → IsAt k op kept (at.TargetLoad (two_children d u) 7 (with_found f 6 n)) w
 load_link_right {k} {op} {kept} {n} {v} {w} d u f same a told =
-    passes_target_load a (subst (λ z. Told k v (acts.LockedLoad u.parent (link_part z)) n w) (sym (eq-eqb u.parent d.node same)) told)
+    passes a refl (subst (λ z. Told k v (acts.LockedLoad u.parent (link_part z)) n w) (sym (eq-eqb u.parent d.node same)) told)
 
 pub needs_link_left : {k : Shape} {op : Op} {kept : ℕ} {v : View} (d : Node) (u : Successor) (f : Found) → u.parent ≢ d.node
     → IsAt k op kept (at.TargetLoad (two_children d u) 6 f) v → IsAsked k v (acts.LockedLoad u.parent (part.Link Left))
 needs_link_left {k} {op} {kept} {v} d u f other a =
-    subst (λ z. IsAsked k v (acts.LockedLoad u.parent (link_part z))) (ne_eqb u.parent d.node other) (needs_target_load a)
+    subst (λ z. IsAsked k v (acts.LockedLoad u.parent (link_part z))) (ne_eqb u.parent d.node other) (needs a refl)
 
 pub load_link_left : {k : Shape} {op : Op} {kept n : ℕ} {v w : View} (d : Node) (u : Successor) (f : Found) → u.parent ≢ d.node
     → IsAt k op kept (at.TargetLoad (two_children d u) 6 f) v → Told k v (acts.LockedLoad u.parent (part.Link Left)) n w
     → IsAt k op kept (at.TargetLoad (two_children d u) 7 (with_found f 6 n)) w
 load_link_left {k} {op} {kept} {n} {v} {w} d u f other a told =
-    passes_target_load a (subst (λ z. Told k v (acts.LockedLoad u.parent (link_part z)) n w) (sym (ne_eqb u.parent d.node other)) told)
+    passes a refl (subst (λ z. Told k v (acts.LockedLoad u.parent (link_part z)) n w) (sym (ne_eqb u.parent d.node other)) told)
 
 -- A target that holds has lives that were loaded, so they fit a word.
 pub small_lives : (t : Target) (f : Found) → target_holds t f ≡ true → f.life < 2 ^ 64 → f.successor_life < 2 ^ 64

@@ -20,10 +20,9 @@ use Rattle.node_slots.specs.Reclaiming.{HasReclaimed}
 use Rattle.node_slots.specs.Taking.{FoundNone, HasTaken}
 use Rattle.node_slots.proofs.Points.{MayReclaim, gives_all, none_begins_spare, none_gone, reclaim_gone, taken_gone, takes_spare}
 use Rattle.tree_points.specs.Points.{IsAt, HasGone, IsDone, KeepsAllowance}
-use Rattle.tree_points.proofs.Passing.{begins_delete, begins_room, begins_spare, none_raised, has_kept, is_quiet}
+use Rattle.tree_points.proofs.Passing.{begins_delete, begins_room, begins_spare, none_raised, has_kept, is_quiet, needs, passes}
 use Rattle.tree_points.proofs.Locks.{gone_on, gone_same, gone_stays, stays}
 use Rattle.tree_points.proofs.Waits.{reclaims_room, reclaims_spare}
-use Rattle.tree_points.proofs.Updates.{needs_keep, passes_keep}
 use Rattle.citrus_tree.specs.Going.{IsSeated, NeededRoom, NeededSlots, MayBegin, AreTries, IsOfTry, KeepsWait, waits_in}
 use Rattle.citrus_tree.specs.Deletes.{HasMadeRoom, HasWaitedForRoom, IsReadyToDelete, KeepsWaits, BeginsByLookup, DelsAtOnce, HasDeleted, HasSearched, KeepsRest, retired_slots, TellsTaken}
 use Rattle.citrus_tree.proofs.Linking.{at_least_one, needed_on}
@@ -34,7 +33,7 @@ use Rattle.prcu_marks.specs.declared.mark.Mark.{Mark}
 use Rattle.prcu_marks.specs.Callers.{entered_for}
 use Rattle.prcu_marks.proofs.Marks.{entered_for-append}
 use Rattle.prcu_model.specs.declared.operation.Reply.{Reply}
-use Rattle.prcu_model.specs.declared.operation.Reply.TheVariants.{New, Old, Full, Val, Absent, Gone, Was}
+use Rattle.prcu_model.specs.declared.operation.Reply.TheVariants.{Absent, Gone}
 use Rattle.prcu_model.specs.declared.operation.Told.{Told}
 use Rattle.citrus_tree.specs.Replies.{Dels, DelsBy, IsMoveWait, RetiresInOrder, TellsValue, TookOut, WasAnswered}
 use Rattle.citrus_tree.proofs.DeleteMoves.{retires_before}
@@ -148,11 +147,11 @@ module _ {k : Shape} {v : View} (quiet : IsQuiet v) where
           (reserving (record { works = taken.given.seen.works; some_place = some_place }) key kept fits paid)
 
       pub needs_kept : 4 ≤ v.allowance.tickets → IsAsked k w (acts.KeepAsSpare slot)
-      needs_kept paid = λ told. needs_keep (keeping told.tells.some_place 0 0 zero_fits paid) told
+      needs_kept paid = λ told. needs (keeping told.tells.some_place 0 0 zero_fits paid) refl told
 
       module _ {n : ℕ} {x : View} (t : StepTold k w (acts.KeepAsSpare slot) n x) where
         pub ready_kept : IsReadyToDelete k v x
-        ready_kept = λ key kept fits paid. may_begin (passes_keep (keeping t.before.tells.some_place key kept fits paid) t)
+        ready_kept = λ key kept fits paid. may_begin (passes (keeping t.before.tells.some_place key kept fits paid) refl t)
 
         pub room_kept : IsPrefix v.trail.steps w.trail.steps → HasMadeRoom k v x
         room_kept steps = record {
@@ -359,11 +358,7 @@ dels_gone : (v w : View) (key number : ℕ) (ms : List Mark) (reply : Reply) →
     → (left : List Mark) × HasGone v w left
 dels_gone v w key number ms Gone d = ((ms ++ Done (record { caller = v.allowance.place; op = Del key }) ∷ []) ++ d.1, d.2.own)
 dels_gone v w key number ms Absent d = (ms, d.1.own)
-dels_gone v w key number ms New d = absurd d
-dels_gone v w key number ms Old d = absurd d
-dels_gone v w key number ms Full d = absurd d
-dels_gone v w key number ms (Val value) d = absurd d
-dels_gone v w key number ms (Was value) d = absurd d
+dels_gone v w key number ms _ d = absurd d
 
 -- a wait that was needed by what had been seen
 needed_later : {k : Shape} {v u w : View} → IsPrefix u.seen w.seen → NeededSlots k v u → NeededSlots k v w
@@ -421,11 +416,7 @@ module _ {k : Shape} {v u : View} (room : HasMadeRoom k v u) (key : ℕ) where
   )
   dels_by ms bare w Absent number (zero_is, tried, answered) =
       (zero_is, record { tried = all_tries ms bare tried.tried; own = gone_on room.gone tried.own }, answered_before room.gone answered)
-  dels_by ms bare w New number d = absurd d
-  dels_by ms bare w Old number d = absurd d
-  dels_by ms bare w Full number d = absurd d
-  dels_by ms bare w (Val value) number d = absurd d
-  dels_by ms bare w (Was value) number d = absurd d
+  dels_by ms bare w _ number d = absurd d
 
   pub dels : (w : View) (told : Told) → DelsAtOnce u key told w → Dels k v key told w
   dels w told (ms, by, bare) = (

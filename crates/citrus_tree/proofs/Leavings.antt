@@ -26,8 +26,8 @@ use Rattle.core_state.specs.Steps.{with_front, new_wait}
 use Rattle.core_points.specs.declared.stage.Update.{Update}
 use Rattle.core_points.specs.Programs.{past_even}
 use Rattle.core_state.specs.Acts.{noted}
-use Rattle.tree_points.proofs.Passing.{commits_any}
-use Rattle.tree_points.proofs.Updates.{passes_commit_made, passes_commit_again, passes_even}
+use Rattle.tree_points.proofs.Passing.{commits_any, passes}
+use Rattle.tree_points.proofs.Updates.{passes_commit_made, passes_commit_again}
 use Rattle.core_state.specs.declared.view.Retired.{Retired}
 use Rattle.seat_table.specs.Seats.{SeatAt, AreListed, IsQuietSeat}
 use Rattle.seat_table.specs.Waits.{HasWaited}
@@ -262,7 +262,7 @@ module _ (k : Shape) (v w : View) (front : ℕ) where
 
   pub closes_at : Told k v (acts.CloseCommit (front + 2)) (front + 2) w → (op : Op) (kept : ℕ) (u : Update)
       → IsAt k op kept (at.Even u front) v → IsAt k op kept (past_even u ((front + 2) / 2)) w
-  closes_at told op kept u a = passes_even a told
+  closes_at told op kept u a = passes a refl told
 
 -- What calls leave of the slots that a place has retired, one after another.
 

@@ -19,8 +19,9 @@ use Rattle.prcu_marks.specs.declared.mark.Side.TheVariants.{Left, Right}
 use Rattle.core_state.specs.declared.act.Part.{Part}
 use Rattle.seat_table.specs.Seats.{AreListed, IsSlotOf, SeatAt}
 use Rattle.seat_table.specs.Gains.{IsAsked, Told}
+use Rattle.tree_points.proofs.Passing.{needs, passes, at_true, at_false, commits_any}
 use Rattle.tree_points.specs.Points.{IsAt, HasGone, IsDone, HasLocks}
-use Rattle.tree_points.proofs.Locks.{gone_on, gone_stays, needs_leaf, passes_leaf, same_fill, keeps_hand, stays, needs_leaf_lock, passes_leaf_lock_free, passes_leaf_lock_busy, locks_leaf_tag, locks_store_leaf, needs_unlock, passes_unlock_again, passes_unlock_new, keeps_locks, locks_from, same_locked}
+use Rattle.tree_points.proofs.Locks.{gone_on, gone_stays, needs_leaf, passes_leaf, same_fill, keeps_hand, stays, passes_leaf_lock_free, passes_leaf_lock_busy, locks_leaf_tag, locks_store_leaf, needs_unlock, passes_unlock_again, passes_unlock_new, keeps_locks, locks_from, same_locked}
 use Rattle.tree_points.proofs.Waits.{reclaims_leaf}
 use Rattle.node_slots.specs.Slots.{PutsBack}
 use Rattle.node_slots.specs.Taking.{HasTaken, FoundNone, TriesInVain, exchange}
@@ -36,7 +37,7 @@ use Rattle.prcu_marks.specs.declared.mark.Mark.{Mark}
 use Rattle.prcu_marks.proofs.Marks.{updates_of-append}
 use Rattle.core_state.specs.declared.view.HeldLock.{HeldLock}
 use Rattle.core_laws.proofs.Acting.{commit_is}
-use Rattle.tree_points.proofs.Updates.{gone_store_leaf, locks_link, needs_store_leaf, passes_store_leaf, needs_leaf_life, passes_leaf_life, needs_leaf_side, passes_leaf_side, needs_leaf_tag, passes_leaf_tag, passes_leaf_tag_again}
+use Rattle.tree_points.proofs.Updates.{gone_store_leaf, locks_link, needs_store_leaf, passes_store_leaf}
 use Rattle.std.specs.FinMap as finite
 use Rattle.core_points.specs.declared.stage.Stage.TheVariants as at
 use Rattle.core_state.specs.declared.act.Act.TheVariants as acts
@@ -256,21 +257,21 @@ module _ (spot : Spot) (life link tag : ℕ) where
 
 module _ {k : Shape} {op : Op} {kept : ℕ} {spot : Spot} {v : View} (a : IsAt k op kept (at.LeafLife spot) v) where
   pub checks_life : IsAsked k v (acts.LockedLoad spot.slot part.Life)
-  checks_life = needs_leaf_life a
+  checks_life = needs a refl
 
   module _ {life : ℕ} {x : View} (first : Told k v (acts.LockedLoad spot.slot part.Life) life x) where
     at_side : IsAt k op kept (at.LeafSide spot life) x
-    at_side = passes_leaf_life a first
+    at_side = passes a refl first
 
     pub checks_side : IsAsked k x (acts.LockedLoad spot.slot (part.Link spot.side))
-    checks_side = needs_leaf_side at_side
+    checks_side = needs at_side refl
 
     module _ {link : ℕ} {y : View} (second : Told k x (acts.LockedLoad spot.slot (part.Link spot.side)) link y) where
       at_tag : IsAt k op kept (at.LeafTag spot life link) y
-      at_tag = passes_leaf_side at_side second
+      at_tag = passes at_side refl second
 
       pub checks_tag : IsAsked k y (acts.LockedLoad spot.slot (part.Tag spot.side))
-      checks_tag = needs_leaf_tag at_tag
+      checks_tag = needs at_tag refl
 
       module _ {tag : ℕ} {z : View} (third : Told k y (acts.LockedLoad spot.slot (part.Tag spot.side)) tag z) where
         pub checked_goes : Goes v z []
@@ -285,8 +286,9 @@ module _ {k : Shape} {op : Op} {kept : ℕ} {spot : Spot} {v : View} (a : IsAt k
 
         pub checked_at : (b : Bool) → (b ≡ true → (life ≡ 2 * spot.generation) × (link ≡ 0) × (tag ≡ spot.tag))
             → (b ≡ false → life ≡ 2 * spot.generation → link ≡ 0 → tag ≡ spot.tag → ⊥) → IsAt k op kept (held_stage b spot) z
-        checked_at true holds fails = passes_leaf_tag at_tag third (all_same spot life link tag (holds refl)) 0 refl
-        checked_at false holds fails = passes_leaf_tag_again at_tag third (not_all spot life link tag (fails refl))
+        checked_at true holds fails =
+            commits_any (at_true _ (all_same spot life link tag (holds refl)) (passes at_tag refl third)) 0 refl
+        checked_at false holds fails = at_false _ (not_all spot life link tag (fails refl)) (passes at_tag refl third)
 
 -- what still holds, or doesn't
 pub holds_at : {k : Shape} {op : Op} {kept : ℕ} {y : View} (spot : Spot) (b : Bool) → b ≡ true → IsAt k op kept (held_stage b spot) y
@@ -318,7 +320,7 @@ hand_locked {k} {v} {w} {n} {s} leaf t is = subst (IsSlotOf (Some leaf))
 -- The lock is tried, the record holds or not, and the leaf is linked.
 module _ {k : Shape} {key value kept : ℕ} {spot : Spot} {v : View} (a : IsAt k (Put key value) kept (at.LeafLock spot) v) where
   pub locks : IsAsked k v (acts.Lock spot.slot)
-  locks = needs_leaf_lock a
+  locks = needs a refl
 
   module _ {n : ℕ} {x : View} (first : Told k v (acts.Lock spot.slot) n x) where
     pub busy_goes : Goes v x []

@@ -1,5 +1,5 @@
 -- A set: its store under the lock, its tries; and what a compare is told by these.
-use Rattle.std.proofs.Common.{◌≡◌, ℕ, List, Option, true, refl, sym, ap, subst, arith, ◌≢◌, ◌+◌, ◌*◌, ◌/◌, ◌%◌, ◌<◌, ◌==◌, Bool, false, [], ◌∷◌, ◌++◌, length, map, Some, None, ◌∙◌, eq-eqb, eqb-true, length-append, ◌-◌, ◌≤◌, ◌^◌, cond, inl, append-nil, inr}
+use Rattle.std.proofs.Common.{◌≡◌, ℕ, List, Option, true, refl, sym, ap, subst, arith, ◌≢◌, ◌+◌, ◌*◌, ◌/◌, ◌%◌, ◌<◌, ◌==◌, Bool, false, [], ◌∷◌, ◌++◌, length, map, Some, None, ◌∙◌, eq-eqb, ne_eqb, eqb-true, length-append, ◌-◌, ◌≤◌, ◌^◌, cond, inl, append-nil, inr}
 use Rattle.prcu_model.specs.declared.operation.Op.{Op}
 use Rattle.prcu_model.specs.declared.operation.Op.TheVariants.{Set}
 use Rattle.core_state.specs.declared.shape.Shape.{Shape}
@@ -9,7 +9,7 @@ use Rattle.core_points.specs.Facts.{HandFits, is_set, is_put}
 use Rattle.core_points.proofs.Notes.{fits, set_owed, ready_set}
 use Rattle.core_points.proofs.Locks.{one_again}
 use Rattle.tree_points.specs.Points.{IsAt, IsDone, HasLocks, HasGone}
-use Rattle.tree_points.proofs.Passing.{moves_on, begins_set, has_kept, is_quiet, outside_enter, unlocked_enter}
+use Rattle.tree_points.proofs.Passing.{moves_on, begins_set, has_kept, is_quiet, outside_enter, unlocked_enter, needs, at_true, at_false, commits_any, passes}
 use Rattle.prcu_marks.specs.declared.commit.Commit.{Commit}
 use Rattle.prcu_marks.specs.declared.mark.Mark.{Mark}
 use Rattle.prcu_marks.specs.declared.mark.Mark.TheVariants.{Done, Entered, Left as LeftMark, Began, Ended, Given, Unlinked, Freed}
@@ -24,8 +24,8 @@ use Rattle.core_state.specs.Memory.{slot_count}
 use Rattle.core_state.specs.Views.{LoadedGeneration, IsQuiet}
 use Rattle.core_laws.proofs.Acting.{commit_is}
 use Rattle.seat_table.specs.Gains.{IsAsked, Told}
-use Rattle.tree_points.proofs.Updates.{gone_store_value, locks_replace, the_value, needs_set_check, passes_set_check_holds, passes_set_check_again, needs_set_value, passes_set_value, needs_store_value, passes_store_value}
-use Rattle.tree_points.proofs.Locks.{needs_set_lock, passes_set_lock_free, passes_set_lock_busy, locks_set_check, needs_unlock, passes_unlock_again, passes_unlock_was, locks_store_value, keeps_locks, locks_from, same_locked}
+use Rattle.tree_points.proofs.Updates.{gone_store_value, locks_replace, the_value, needs_store_value, passes_store_value}
+use Rattle.tree_points.proofs.Locks.{passes_set_lock_free, passes_set_lock_busy, locks_set_check, needs_unlock, passes_unlock_again, passes_unlock_was, locks_store_value, keeps_locks, locks_from, same_locked}
 use Rattle.citrus_tree.specs.declared.replace.Holder.{Holder}
 use Rattle.citrus_tree.specs.declared.replace.Replaced.{Replaced}
 use Rattle.citrus_tree.specs.Going.{Goes, Opened, Closed, Stores, MayBegin, Sought, set_stage, AreTries, IsOfTry, waits_in}
@@ -133,7 +133,7 @@ module _ {k : Shape} {kept key value : ℕ} where
 -- the steps of the store, one after another
 module _ {k : Shape} {key kept value s g : ℕ} {v : View} (a : IsAt k (Set key value) kept (at.SetLock s g) v) where
   pub locks : IsAsked k v (acts.Lock s)
-  locks = needs_set_lock a
+  locks = needs a refl
 
   module _ {n : ℕ} {x : View} (first : Told k v (acts.Lock s) n x) where
     pub busy_goes : Goes v x []
@@ -147,7 +147,7 @@ module _ {k : Shape} {key kept value s g : ℕ} {v : View} (a : IsAt k (Set key 
       checking = passes_set_lock_free free a first
 
       pub loads_life : IsAsked k x (acts.LockedLoad s part.Life)
-      loads_life = needs_set_check checking
+      loads_life = needs checking refl
 
       module _ {life : ℕ} {y : View} (second : Told k x (acts.LockedLoad s part.Life) life y) where
         goes2 : Goes v y []
@@ -155,7 +155,7 @@ module _ {k : Shape} {key kept value s g : ℕ} {v : View} (a : IsAt k (Set key 
 
         module _ (other : life ≢ 2 * g) where
           again : IsAt k (Set key value) kept (at.Unlock last.Again) y
-          again = passes_set_check_again other checking second
+          again = at_false _ (ne_eqb _ _ other) (passes checking refl second)
 
           has_lock : HasLocks (s ∷ []) y
           has_lock = keeps_locks (same_locked second) (locks_set_check checking)
@@ -172,17 +172,17 @@ module _ {k : Shape} {key kept value s g : ℕ} {v : View} (a : IsAt k (Set key 
 
         module _ (same : life ≡ 2 * g) where
           valuing : IsAt k (Set key value) kept (at.SetValue s) y
-          valuing = passes_set_check_holds same checking second
+          valuing = at_true _ (eq-eqb _ _ same) (passes checking refl second)
 
           pub loads_value : IsAsked k y (acts.LockedLoad s part.Value)
-          loads_value = needs_set_value valuing
+          loads_value = needs valuing refl
 
           module _ {old : ℕ} {z : View} (third : Told k y (acts.LockedLoad s part.Value) old z) where
             goes3 : Goes v z []
             goes3 = goes_stays goes2 (goes_load third)
 
             pub committing : IsAt k (Set key value) kept (at.Commit (update.Value s old) 0) z
-            committing = passes_set_value valuing third 0 refl
+            committing = commits_any (passes valuing refl third) 0 refl
 
             -- another value is asked for
             giving_up : IsAt k (Set key value) kept (at.Unlock last.Again) z

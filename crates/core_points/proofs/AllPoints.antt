@@ -189,128 +189,83 @@ any : Shape
 any = record { waiter = Eer; slots = 0; places = 0; room = 0; tickets = 0 }
 
 module _ (h : List Mark) (o : Own) (v : View) where
+  -- where the next point doesn't speak of the number that was found, any does, as 0
   next_all : (word : Field → ℕ) → IsTold o v h word → (stage : Stage) → is_finished stage ≡ false → Fits o stage v
       → let n : ℕ = said v (act_at o stage) (word (field_of o.place (act_at o stage))) in
       Fits (after o n stage) (after o n stage).stage (view_after v h n (act_at o stage))
   next_all word told at.Finished going f = cc
-  next_all word told at.EnterClock going f = next_clock any h o v (word (field_of o.place (act_at o at.EnterClock))) f
-  next_all word told (at.EnterKey clock) going f = next_key any h o v (word (field_of o.place (act_at o (at.EnterKey clock)))) clock f
-  next_all word told (at.EnterStamp clock) going f = next_stamp any h o v (word (field_of o.place (act_at o (at.EnterStamp clock)))) clock f
-  next_all word told (at.AtLink s b) going f = next_link any h o v (word (field_of o.place (act_at o (at.AtLink s b)))) s b f
-  next_all word told (at.AtKey s p b) going f = next_read any h o v (word (field_of o.place (act_at o (at.AtKey s p b)))) s p b f
-  next_all word told (at.Leave then.Absent) going f = next_absent any h o v (word (field_of o.place (act_at o (at.Leave then.Absent)))) f
-  next_all word told (at.Leave (then.Value value)) going f =
-      next_val any h o v (word (field_of o.place (act_at o (at.Leave (then.Value value))))) value f
-  next_all word told (at.Leave then.Old) going f = next_old any h o v (word (field_of o.place (act_at o (at.Leave then.Old)))) f
-  next_all word told (at.Leave (then.Link spot)) going f =
-      next_link_leaf any h o v (word (field_of o.place (act_at o (at.Leave (then.Link spot))))) spot told.stood f
-  next_all word told (at.Leave (then.Replace s generation)) going f =
-      next_replace any h o v (word (field_of o.place (act_at o (at.Leave (then.Replace s generation))))) s generation told.stood f
-  next_all word told (at.Leave (then.Delete t)) going f =
-      next_delete any h o v (word (field_of o.place (act_at o (at.Leave (then.Delete t))))) t told.stood f
-  next_all word told (at.Value s) going f = next_value any h o v (word (field_of o.place (act_at o (at.Value s)))) s f
-  next_all word told (at.SpotTag s b) going f = next_spot_tag any h o v (word (field_of o.place (act_at o (at.SpotTag s b)))) s b f
-  next_all word told (at.SpotLife s b tag) going f =
-      next_spot_life any h o v (word (field_of o.place (act_at o (at.SpotLife s b tag)))) s b tag f
-  next_all word told (at.LeafField spot i) going f =
-      next_field any h o v (word (field_of o.place (act_at o (at.LeafField spot i)))) spot i f
-  next_all word told (at.LeafLock spot) going f = next_lock any h o v (word (field_of o.place (act_at o (at.LeafLock spot)))) spot f
-  next_all word told (at.LeafLife spot) going f =
-      next_life any h o v (word (field_of o.place (act_at o (at.LeafLife spot)))) spot (told.loads spot.slot (Life spot.slot)) f
-  next_all word told (at.LeafSide spot life) going f =
-      next_side any h o v (word (field_of o.place (act_at o (at.LeafSide spot life)))) spot life
-      (told.loads spot.slot (Link spot.slot spot.side)) f
-  next_all word told (at.LeafTag spot life link) going f =
-      next_tag any h o v (word (field_of o.place (act_at o (at.LeafTag spot life link)))) spot life link
+  next_all word told at.EnterClock going f = next_clock any h o v _ f
+  next_all word told (at.EnterKey clock) going f = next_key any h o v 0 clock f
+  next_all word told (at.EnterStamp clock) going f = next_stamp any h o v 0 clock f
+  next_all word told (at.AtLink s b) going f = next_link any h o v _ s b f
+  next_all word told (at.AtKey s p b) going f = next_read any h o v _ s p b f
+  next_all word told (at.Leave then.Absent) going f = next_absent any h o v 0 f
+  next_all word told (at.Leave (then.Value value)) going f = next_val any h o v 0 value f
+  next_all word told (at.Leave then.Old) going f = next_old any h o v 0 f
+  next_all word told (at.Leave (then.Link spot)) going f = next_link_leaf any h o v 0 spot told.stood f
+  next_all word told (at.Leave (then.Replace s generation)) going f = next_replace any h o v 0 s generation told.stood f
+  next_all word told (at.Leave (then.Delete t)) going f = next_delete any h o v 0 t told.stood f
+  next_all word told (at.Value s) going f = next_value any h o v _ s f
+  next_all word told (at.SpotTag s b) going f = next_spot_tag any h o v _ s b f
+  next_all word told (at.SpotLife s b tag) going f = next_spot_life any h o v _ s b tag f
+  next_all word told (at.LeafField spot i) going f = next_field any h o v 0 spot i f
+  next_all word told (at.LeafLock spot) going f = next_lock any h o v _ spot f
+  next_all word told (at.LeafLife spot) going f = next_life any h o v _ spot (told.loads spot.slot (Life spot.slot)) f
+  next_all word told (at.LeafSide spot life) going f = next_side any h o v _ spot life (told.loads spot.slot (Link spot.slot spot.side)) f
+  next_all word told (at.LeafTag spot life link) going f = next_tag any h o v _ spot life link
       (told.loads spot.slot (Tag spot.slot spot.side)) f
-  next_all word told (at.Reserve aim expected) going f =
-      next_reserve any h o v (word (field_of o.place (act_at o (at.Reserve aim expected)))) aim expected f
-  next_all word told (at.Seize aim) going f = next_seize any h o v (word (field_of o.place (act_at o (at.Seize aim)))) aim f
-  next_all word told (at.Age (Leaf spot) s) going f =
-      next_age any h o v (word (field_of o.place (act_at o (at.Age (Leaf spot) s)))) spot s f
-  next_all word told (at.Age Spare s) going f = next_age_spare any h o v (word (field_of o.place (act_at o (at.Age Spare s)))) s f
+  next_all word told (at.Reserve aim expected) going f = next_reserve any h o v _ aim expected f
+  next_all word told (at.Seize aim) going f = next_seize any h o v _ aim f
+  next_all word told (at.Age (Leaf spot) s) going f = next_age any h o v _ spot s f
+  next_all word told (at.Age Spare s) going f = next_age_spare any h o v _ s f
   next_all word told (at.Age Room s) going f = absurd (f.point).takes
-  next_all word told (at.Keep s) going f = next_keep any h o v (word (field_of o.place (act_at o (at.Keep s)))) s f
-  next_all word told at.Raise going f = next_raise any h o v (word (field_of o.place (act_at o at.Raise))) f
-  next_all word told at.Free going f = next_free any h o v (word (field_of o.place (act_at o at.Free))) f
-  next_all word told at.Count going f = next_count any h o v (word (field_of o.place (act_at o at.Count))) f
-  next_all word told (at.Begin (Reuse aim)) going f =
-      next_begin any h o v (word (field_of o.place (act_at o (at.Begin (Reuse aim))))) aim told.some_place told.older f
-  next_all word told (at.Begin (Move m)) going f =
-      next_move_begin any h o v (word (field_of o.place (act_at o (at.Begin (Move m))))) m told.some_place told.moves f
-  next_all word told (at.LookKey (Reuse aim) clock p) going f =
-      next_look_key any h o v (word (field_of o.place (act_at o (at.LookKey (Reuse aim) clock p)))) aim clock p
+  next_all word told (at.Keep s) going f = next_keep any h o v _ s f
+  next_all word told at.Raise going f = next_raise any h o v 0 f
+  next_all word told at.Free going f = next_free any h o v 0 f
+  next_all word told at.Count going f = next_count any h o v _ f
+  next_all word told (at.Begin (Reuse aim)) going f = next_begin any h o v _ aim told.some_place told.older f
+  next_all word told (at.Begin (Move m)) going f = next_move_begin any h o v _ m told.some_place told.moves f
+  next_all word told (at.LookKey (Reuse aim) clock p) going f = next_look_key any h o v _ aim clock p (comes o v h word told f.owns) f
+  next_all word told (at.LookKey (Move m) clock p) going f = next_move_key any h o v _ m clock p f
+  next_all word told (at.LookStamp (Reuse aim) clock p key) going f = next_look_stamp any h o v _ aim clock p key
       (comes o v h word told f.owns) f
-  next_all word told (at.LookKey (Move m) clock p) going f =
-      next_move_key any h o v (word (field_of o.place (act_at o (at.LookKey (Move m) clock p)))) m clock p f
-  next_all word told (at.LookStamp (Reuse aim) clock p key) going f =
-      next_look_stamp any h o v (word (field_of o.place (act_at o (at.LookStamp (Reuse aim) clock p key)))) aim clock p key
-      (comes o v h word told f.owns) f
-  next_all word told (at.LookStamp (Move m) clock p key) going f =
-      next_move_stamp any h o v (word (field_of o.place (act_at o (at.LookStamp (Move m) clock p key)))) m clock p key f
-  next_all word told (at.OldAge aim) going f = next_old_age any h o v (word (field_of o.place (act_at o (at.OldAge aim)))) aim f
-  next_all word told (at.OldRaise aim life) going f =
-      next_old_raise any h o v (word (field_of o.place (act_at o (at.OldRaise aim life)))) aim life told.alone f
-  next_all word told (at.OldFree aim) going f = next_old_free any h o v
-      (word (field_of o.place (act_at o (at.OldFree aim)))) aim told.alone f
-  next_all word told (at.OldCount aim) going f =
-      next_old_count any h o v (word (field_of o.place (act_at o (at.OldCount aim)))) aim (comes o v h word told f.owns) f
-  next_all word told (at.Commit u expected) going f =
-      next_commit any h o v (word (field_of o.place (act_at o (at.Commit u expected)))) u expected f
-  next_all word told (at.Store (update.Leaf spot) front) going f =
-      next_store any h o v (word (field_of o.place (act_at o (at.Store (update.Leaf spot) front)))) spot front f
-  next_all word told (at.Store (update.Value s old) front) going f =
-      next_set_store any h o v (word (field_of o.place (act_at o (at.Store (update.Value s old) front)))) s old front f
-  next_all word told (at.Store (update.Bypass d child) front) going f =
-      next_bypass any h o v (word (field_of o.place (act_at o (at.Store (update.Bypass d child) front)))) d child front f
-  next_all word told (at.Store (update.Copy d u next_key copy) front) going f =
-      next_copy_store any h o v (word (field_of o.place
-      (act_at o (at.Store (update.Copy d u next_key copy) front)))) d u next_key copy front f
-  next_all word told (at.Even u front) going f = next_even any h o v (word (field_of o.place (act_at o (at.Even u front)))) u front f
-  next_all word told (at.Unlock l) going f = next_unlock any h o v (word (field_of o.place (act_at o (at.Unlock l)))) l told.once f
-  next_all word told (at.SetLife s) going f = next_set_life any h o v (word (field_of o.place (act_at o (at.SetLife s)))) s f
-  next_all word told (at.SetLock s generation) going f =
-      next_set_lock any h o v (word (field_of o.place (act_at o (at.SetLock s generation)))) s generation f
-  next_all word told (at.SetCheck s generation) going f =
-      next_set_check any h o v (word (field_of o.place (act_at o (at.SetCheck s generation)))) s generation f
-  next_all word told (at.SetValue s) going f = next_set_value any h o v (word (field_of o.place (act_at o (at.SetValue s)))) s f
-  next_all word told (at.ParentLife p b d) going f =
-      next_parent_life any h o v (word (field_of o.place (act_at o (at.ParentLife p b d)))) p b d f
-  next_all word told (at.NodeLife d) going f = next_node_life any h o v (word (field_of o.place (act_at o (at.NodeLife d)))) d f
-  next_all word told (at.NodeLeft d) going f = next_node_left any h o v (word (field_of o.place (act_at o (at.NodeLeft d)))) d f
-  next_all word told (at.NodeRight d) going f = next_node_right any h o v (word (field_of o.place (act_at o (at.NodeRight d)))) d f
-  next_all word told (at.SuccessorLeft d u) going f =
-      next_successor_left any h o v (word (field_of o.place (act_at o (at.SuccessorLeft d u)))) d u f
-  next_all word told (at.SuccessorParentLife d u) going f =
-      next_successor_parent any h o v (word (field_of o.place (act_at o (at.SuccessorParentLife d u)))) d u f
-  next_all word told (at.SuccessorLife d u) going f =
-      next_successor_life any h o v (word (field_of o.place (act_at o (at.SuccessorLife d u)))) d u f
-  next_all word told (at.TargetLock t i) going f =
-      next_target_lock any h o v (word (field_of o.place (act_at o (at.TargetLock t i)))) t i
-      (λ free held. told.busy (target_lock t i) held free) f
-  next_all word told (at.TargetLoad t i found) going f =
-      next_target_load any h o v (word (field_of o.place (act_at o (at.TargetLoad t i found)))) t i found f
-  next_all word told (at.Mark d child) going f = next_mark any h o v (word (field_of o.place (act_at o (at.Mark d child)))) d child f
-  next_all word told (at.EmptyTag number s b) going f =
-      next_empty_tag any h o v (word (field_of o.place (act_at o (at.EmptyTag number s b)))) number s b f
-  next_all word told (at.EmptyRaise number s b tag) going f =
-      next_empty_raise any h o v (word (field_of o.place (act_at o (at.EmptyRaise number s b tag)))) number s b tag f
-  next_all word told (at.SuccessorKey d u) going f =
-      next_successor_key any h o v (word (field_of o.place (act_at o (at.SuccessorKey d u)))) d u
-      (is_aside o v h word d u told f.owns f.point) f
-  next_all word told (at.SuccessorValue d u next_key) going f =
-      next_successor_value any h o v (word (field_of o.place (act_at o (at.SuccessorValue d u next_key)))) d u next_key f
-  next_all word told (at.CopyField d u next_key value i) going f =
-      next_copy_field any h o v (word (field_of o.place (act_at o (at.CopyField d u next_key value i)))) d u next_key value i f
-  next_all word told (at.CopyAge d u next_key) going f =
-      next_copy_age any h o v (word (field_of o.place (act_at o (at.CopyAge d u next_key)))) d u next_key f
-  next_all word told (at.CopyLock d u next_key) going f =
-      next_copy_lock any h o v (word (field_of o.place (act_at o (at.CopyLock d u next_key)))) d u next_key f
-  next_all word told (at.CopyMark d u next_key) going f =
-      next_copy_mark any h o v (word (field_of o.place (act_at o (at.CopyMark d u next_key)))) d u next_key f
-  next_all word told (at.OldMark m) going f = next_old_mark any h o v (word (field_of o.place (act_at o (at.OldMark m)))) m f
-  next_all word told (at.OldRight m) going f = next_old_right any h o v (word (field_of o.place (act_at o (at.OldRight m)))) m f
-  next_all word told (at.Unlink m child) going f = next_unlink any h o v (word (field_of o.place (act_at o (at.Unlink m child)))) m child f
+  next_all word told (at.LookStamp (Move m) clock p key) going f = next_move_stamp any h o v _ m clock p key f
+  next_all word told (at.OldAge aim) going f = next_old_age any h o v _ aim f
+  next_all word told (at.OldRaise aim life) going f = next_old_raise any h o v _ aim life told.alone f
+  next_all word told (at.OldFree aim) going f = next_old_free any h o v 0 aim told.alone f
+  next_all word told (at.OldCount aim) going f = next_old_count any h o v _ aim (comes o v h word told f.owns) f
+  next_all word told (at.Commit u expected) going f = next_commit any h o v _ u expected f
+  next_all word told (at.Store (update.Leaf spot) front) going f = next_store any h o v 0 spot front f
+  next_all word told (at.Store (update.Value s old) front) going f = next_set_store any h o v 0 s old front f
+  next_all word told (at.Store (update.Bypass d child) front) going f = next_bypass any h o v 0 d child front f
+  next_all word told (at.Store (update.Copy d u next_key copy) front) going f = next_copy_store any h o v 0 d u next_key copy front f
+  next_all word told (at.Even u front) going f = next_even any h o v 0 u front f
+  next_all word told (at.Unlock l) going f = next_unlock any h o v 0 l told.once f
+  next_all word told (at.SetLife s) going f = next_set_life any h o v _ s f
+  next_all word told (at.SetLock s generation) going f = next_set_lock any h o v _ s generation f
+  next_all word told (at.SetCheck s generation) going f = next_set_check any h o v _ s generation f
+  next_all word told (at.SetValue s) going f = next_set_value any h o v _ s f
+  next_all word told (at.ParentLife p b d) going f = next_parent_life any h o v _ p b d f
+  next_all word told (at.NodeLife d) going f = next_node_life any h o v _ d f
+  next_all word told (at.NodeLeft d) going f = next_node_left any h o v _ d f
+  next_all word told (at.NodeRight d) going f = next_node_right any h o v _ d f
+  next_all word told (at.SuccessorLeft d u) going f = next_successor_left any h o v _ d u f
+  next_all word told (at.SuccessorParentLife d u) going f = next_successor_parent any h o v _ d u f
+  next_all word told (at.SuccessorLife d u) going f = next_successor_life any h o v _ d u f
+  next_all word told (at.TargetLock t i) going f = next_target_lock any h o v _ t i (λ free held. told.busy (target_lock t i) held free) f
+  next_all word told (at.TargetLoad t i found) going f = next_target_load any h o v _ t i found f
+  next_all word told (at.Mark d child) going f = next_mark any h o v 0 d child f
+  next_all word told (at.EmptyTag number s b) going f = next_empty_tag any h o v _ number s b f
+  next_all word told (at.EmptyRaise number s b tag) going f = next_empty_raise any h o v 0 number s b tag f
+  next_all word told (at.SuccessorKey d u) going f = next_successor_key any h o v _ d u (is_aside o v h word d u told f.owns f.point) f
+  next_all word told (at.SuccessorValue d u next_key) going f = next_successor_value any h o v _ d u next_key f
+  next_all word told (at.CopyField d u next_key value i) going f = next_copy_field any h o v 0 d u next_key value i f
+  next_all word told (at.CopyAge d u next_key) going f = next_copy_age any h o v _ d u next_key f
+  next_all word told (at.CopyLock d u next_key) going f = next_copy_lock any h o v _ d u next_key f
+  next_all word told (at.CopyMark d u next_key) going f = next_copy_mark any h o v 0 d u next_key f
+  next_all word told (at.OldMark m) going f = next_old_mark any h o v 0 m f
+  next_all word told (at.OldRight m) going f = next_old_right any h o v _ m f
+  next_all word told (at.Unlink m child) going f = next_unlink any h o v _ m child f
 
 pub next_fits : NextFits
 next_fits h o v word stage told going f = next_all h o v word told stage going f
@@ -417,8 +372,6 @@ module _ (k : Shape) (h : List Mark) (o : Own) (v : View) (word : Field → ℕ)
 
   within : (stage : Stage) → (is_step (act_at o stage) ≡ false → k.waiter ≡ Eer) → Fits o stage v → Needs k v 0 (act_at o stage)
       → IsWord k (field_of v.allowance.place (act_at o stage))
-  within at.Finished eer f d = tt
-  within at.EnterClock eer f d = tt
   within (at.EnterKey clock) eer f d = place_in v.allowance.place (eer refl) told.place_within
   within (at.EnterStamp clock) eer f d = place_in v.allowance.place (eer refl) told.place_within
   within (at.AtLink s b) eer f d = searched s (part.Link b) d
@@ -432,14 +385,11 @@ module _ (k : Shape) (h : List Mark) (o : Own) (v : View) (word : Field → ℕ)
   within (at.LeafLife spot) eer f d = locked spot.slot part.Life d
   within (at.LeafSide spot life) eer f d = locked spot.slot (part.Link spot.side) d
   within (at.LeafTag spot life link) eer f d = locked spot.slot (part.Tag spot.side) d
-  within (at.Reserve aim expected) eer f d = tt
   within (at.Seize aim) eer f d = slot_in o.scan (let le = f.owns.scans_table in omega arith)
   within (at.Age aim s) eer f d = slot_in s (held_in_table d.0 s d.1)
   within (at.Keep s) eer f d = in_hand d.0 s (d.1).in_hand
   within at.Raise eer f d = in_hand d.0 (or_root o.hand) (d.1).in_hand
   within at.Free eer f d = in_hand d.0 (or_root o.hand) (d.1).in_hand
-  within at.Count eer f d = tt
-  within (at.Begin waits) eer f d = tt
   within (at.LookKey (Reuse aim) clock p) eer f d = place_in p (eer refl) ((f.point).2)
   within (at.LookKey (Move m) clock p) eer f d = place_in p (eer refl) (((f.point).3).0)
   within (at.LookStamp (Reuse aim) clock p key) eer f d = place_in p (eer refl) ((f.point).2)
@@ -449,8 +399,6 @@ module _ (k : Shape) (h : List Mark) (o : Own) (v : View) (word : Field → ℕ)
       let s : ℕ = first_or_root o.retired in
       either (is_some o.spare) _ _ d (λ x. retired x.0 x.1 s (x.2).retired) (λ x. retired x.0 x.1 s (x.2).retired)
   within (at.OldFree aim) eer f d = retired d.0 d.1 (first_or_root o.retired) (d.2).retired
-  within (at.OldCount aim) eer f d = tt
-  within (at.Commit u expected) eer f d = tt
   within (at.Store (update.Leaf spot) front) eer f d = under_lock spot.slot (d.lock, d.locked)
   within (at.Store (update.Value s old) front) eer f d =
       under_lock s (let l = lock_under v s (Life s) (2 * d.generation) d.life_now in (l.0, l.1))
@@ -458,7 +406,6 @@ module _ (k : Shape) (h : List Mark) (o : Own) (v : View) (word : Field → ℕ)
       linked x.parent x.node x.side ((d.records).records).link_now
   within (at.Store (update.Copy x u next_key copy) front) eer f d =
       linked x.parent x.node x.side ((d.records).records).link_now
-  within (at.Even u front) eer f d = tt
   within (at.Unlock l) eer f d = under_lock (first_or_root o.locks) (d.lock, d.held)
   within (at.SetLife s) eer f d = searched s part.Life d
   within (at.SetLock s generation) eer f d = slot_in s ((f.point).found).inside
@@ -488,6 +435,7 @@ module _ (k : Shape) (h : List Mark) (o : Own) (v : View) (word : Field → ℕ)
       either (m.successor.parent == m.node.node) _ _ d
       (λ x. slot_in m.copy (subst (λ t. t < table_of o) x.parent_is (told.move_within x.move x.moving)))
       (λ x. slot_in m.successor.parent (subst (λ t. t < table_of o) x.parent_is (told.move_within x.move x.moving)))
+  within _ eer f d = tt
 
 pub acts_are_within : ActsAreWithin
 acts_are_within k h o v word stage eer slots places room told f =
@@ -625,46 +573,10 @@ old_is k m vs h id v o s old front inv there f =
         ∙ known_of-one (Value s) old (known_here (read_at (Life s) (2 * (f.point).0) ∷ []) (Value s) old false)
 
 pub answers_are_said : AnswersAreSaid
-answers_are_said k m vs h id o v at.Finished inv there f = tt
-answers_are_said k m vs h id o v at.EnterClock inv there f = tt
-answers_are_said k m vs h id o v (at.EnterKey clock) inv there f = tt
-answers_are_said k m vs h id o v (at.EnterStamp clock) inv there f = tt
-answers_are_said k m vs h id o v (at.AtLink s b) inv there f = tt
-answers_are_said k m vs h id o v (at.AtKey s p b) inv there f = tt
 answers_are_said k m vs h id o v (at.Leave then.Absent) inv there f = absent_said k m vs h id v o inv there f
 answers_are_said k m vs h id o v (at.Leave (then.Value value)) inv there f = value_said k m vs h id v o value inv there f
 answers_are_said k m vs h id o v (at.Leave then.Old) inv there f = old_said k m vs h id v o inv there f
-answers_are_said k m vs h id o v (at.Leave (then.Link spot)) inv there f = tt
-answers_are_said k m vs h id o v (at.Leave (then.Replace s generation)) inv there f = tt
-answers_are_said k m vs h id o v (at.Leave (then.Delete t)) inv there f = tt
-answers_are_said k m vs h id o v (at.Value s) inv there f = tt
-answers_are_said k m vs h id o v (at.SpotTag s b) inv there f = tt
-answers_are_said k m vs h id o v (at.SpotLife s b tag) inv there f = tt
-answers_are_said k m vs h id o v (at.LeafField spot i) inv there f = tt
-answers_are_said k m vs h id o v (at.LeafLock spot) inv there f = tt
-answers_are_said k m vs h id o v (at.LeafLife spot) inv there f = tt
-answers_are_said k m vs h id o v (at.LeafSide spot life) inv there f = tt
-answers_are_said k m vs h id o v (at.LeafTag spot life link) inv there f = tt
 answers_are_said k m vs h id o v (at.Reserve (Leaf spot) expected) inv there f = full_said k m vs h id v o spot expected inv there f
-answers_are_said k m vs h id o v (at.Reserve Spare expected) inv there f = tt
-answers_are_said k m vs h id o v (at.Reserve Room expected) inv there f = tt
-answers_are_said k m vs h id o v (at.Seize aim) inv there f = tt
-answers_are_said k m vs h id o v (at.Age aim s) inv there f = tt
-answers_are_said k m vs h id o v (at.Keep s) inv there f = tt
-answers_are_said k m vs h id o v at.Raise inv there f = tt
-answers_are_said k m vs h id o v at.Free inv there f = tt
-answers_are_said k m vs h id o v at.Count inv there f = tt
-answers_are_said k m vs h id o v (at.Begin (Reuse aim)) inv there f = tt
-answers_are_said k m vs h id o v (at.Begin (Move move)) inv there f = tt
-answers_are_said k m vs h id o v (at.LookKey (Reuse aim) clock p) inv there f = tt
-answers_are_said k m vs h id o v (at.LookKey (Move move) clock p) inv there f = tt
-answers_are_said k m vs h id o v (at.LookStamp (Reuse aim) clock p key) inv there f = tt
-answers_are_said k m vs h id o v (at.LookStamp (Move move) clock p key) inv there f = tt
-answers_are_said k m vs h id o v (at.OldAge aim) inv there f = tt
-answers_are_said k m vs h id o v (at.OldRaise aim life) inv there f = tt
-answers_are_said k m vs h id o v (at.OldFree aim) inv there f = tt
-answers_are_said k m vs h id o v (at.OldCount aim) inv there f = tt
-answers_are_said k m vs h id o v (at.Commit u expected) inv there f = tt
 answers_are_said k m vs h id o v (at.Store (update.Leaf spot) front) inv there f =
     (is_numbered k m vs h id v front inv there (((f.point).bare).turn_is), tt)
 answers_are_said k m vs h id o v (at.Store (update.Value s old) front) inv there f =
@@ -673,33 +585,7 @@ answers_are_said k m vs h id o v (at.Store (update.Bypass d child) front) inv th
     (is_numbered k m vs h id v front inv there (((f.point).quiet).turn_is), tt)
 answers_are_said k m vs h id o v (at.Store (update.Copy d u next_key copy) front) inv there f =
     (is_numbered k m vs h id v front inv there ((((f.point).copying).quiet).turn_is), tt)
-answers_are_said k m vs h id o v (at.Even u front) inv there f = tt
-answers_are_said k m vs h id o v (at.Unlock l) inv there f = tt
-answers_are_said k m vs h id o v (at.SetLife s) inv there f = tt
-answers_are_said k m vs h id o v (at.SetLock s generation) inv there f = tt
-answers_are_said k m vs h id o v (at.SetCheck s generation) inv there f = tt
-answers_are_said k m vs h id o v (at.SetValue s) inv there f = tt
-answers_are_said k m vs h id o v (at.ParentLife p b d) inv there f = tt
-answers_are_said k m vs h id o v (at.NodeLife d) inv there f = tt
-answers_are_said k m vs h id o v (at.NodeLeft d) inv there f = tt
-answers_are_said k m vs h id o v (at.NodeRight d) inv there f = tt
-answers_are_said k m vs h id o v (at.SuccessorLeft d u) inv there f = tt
-answers_are_said k m vs h id o v (at.SuccessorParentLife d u) inv there f = tt
-answers_are_said k m vs h id o v (at.SuccessorLife d u) inv there f = tt
-answers_are_said k m vs h id o v (at.TargetLock t i) inv there f = tt
-answers_are_said k m vs h id o v (at.TargetLoad t i found) inv there f = tt
-answers_are_said k m vs h id o v (at.Mark d child) inv there f = tt
-answers_are_said k m vs h id o v (at.EmptyTag number s b) inv there f = tt
-answers_are_said k m vs h id o v (at.EmptyRaise number s b tag) inv there f = tt
-answers_are_said k m vs h id o v (at.SuccessorKey d u) inv there f = tt
-answers_are_said k m vs h id o v (at.SuccessorValue d u next_key) inv there f = tt
-answers_are_said k m vs h id o v (at.CopyField d u next_key value i) inv there f = tt
-answers_are_said k m vs h id o v (at.CopyAge d u next_key) inv there f = tt
-answers_are_said k m vs h id o v (at.CopyLock d u next_key) inv there f = tt
-answers_are_said k m vs h id o v (at.CopyMark d u next_key) inv there f = tt
-answers_are_said k m vs h id o v (at.OldMark move) inv there f = tt
-answers_are_said k m vs h id o v (at.OldRight move) inv there f = tt
-answers_are_said k m vs h id o v (at.Unlink move child) inv there f = tt
+answers_are_said k m vs h id o v _ inv there f = tt
 
 -- Whoever makes the act of its point keeps the invariant, and fits the next point.
 

@@ -13,7 +13,7 @@ use Rattle.core_points.specs.declared.stage.Aim.TheVariants.{Spare}
 use Rattle.core_points.specs.Programs.{Own, is_some, go, target_locks}
 use Rattle.core_points.specs.Facts.{is_delete, is_put, read_at, AreClear, table_of}
 use Rattle.core_points.specs.Fits.{IsGiven, GoesOn, owed_op, Fits}
-use Rattle.core_points.proofs.Notes.{fits, here_loaded, life_here, calm_quiet, owns_noted, owns_spared, bare_noted, held_here, spare_noted, StillFound, life_loaded, link_loaded, life_walk, left_walk, life_still, link_still, found_next}
+use Rattle.core_points.proofs.Notes.{loads_at, fits, here_loaded, life_here, calm_quiet, owns_noted, owns_spared, bare_noted, held_here, spare_noted, StillFound, life_loaded, link_loaded, life_walk, left_walk, life_still, link_still, found_next}
 use Rattle.core_points.proofs.Waits.{no_spare}
 use Rattle.std.proofs.lemmas.Bool.{eqb-true}
 use Rattle.prcu_marks.specs.declared.mark.Side.{Side}
@@ -27,7 +27,7 @@ use Rattle.core_state.specs.declared.view.SearchState.TheVariants.{Found as Foun
 use Rattle.list_laws.specs.Counts.{IsIn}
 use Rattle.core_state.specs.Acts.{section_of}
 use Rattle.core_state.specs.declared.act.Part.TheVariants as part
-use Rattle.core_laws.proofs.Acting.{section_is, may_search}
+use Rattle.core_laws.proofs.Acting.{section_is}
 use Rattle.core_points.specs.declared.stage.Node.{Node}
 use Rattle.core_points.specs.declared.stage.Successor.{Successor}
 use Rattle.core_points.specs.declared.stage.Target.{Target}
@@ -35,6 +35,7 @@ use Rattle.core_points.specs.declared.stage.Stage.{Stage}
 use Rattle.core_points.specs.DeleteFacts.{ReadsLives, WalksTo, ReadsParent, ReadsChildren, AreApart}
 use Rattle.core_points.proofs.Locks.{no_locks}
 use Rattle.core_laws.proofs.LockSteps.{known_still}
+use Rattle.core_state.specs.declared.act.Part.TheVariants as part
 use Rattle.core_points.specs.declared.stage.Stage.TheVariants as at
 use Rattle.core_points.specs.declared.stage.Then.TheVariants as then
 
@@ -172,7 +173,7 @@ left_walks r d p b parent slot n e w =
 
 module _ (k : Shape) (h : List Mark) (o : Own) (v : View) (n : ℕ) where
   pub needs_parent_life : (p : ℕ) (b : Side) (d : ℕ) → IsGiven k o v n (at.ParentLife p b d)
-  needs_parent_life p b d f = let i = (f.point).2 in may_search v p part.Life i.is (i.stands).searches (i.known).0
+  needs_parent_life p b d f = let i = (f.point).2 in loads_at v i p part.Life (i.known).0
 
   pub next_parent_life : (p : ℕ) (b : Side) (d : ℕ) → GoesOn h o v n (at.ParentLife p b d)
   next_parent_life p b d f =
@@ -187,7 +188,7 @@ module _ (k : Shape) (h : List Mark) (o : Own) (v : View) (n : ℕ) where
       (λ section i. ((f.point).0, (f.point).1, i))
 
   pub needs_node_life : (d : Node) → IsGiven k o v n (at.NodeLife d)
-  needs_node_life d f = let i = (f.point).2 in may_search v d.node part.Life i.is (i.stands).searches (i.stands).here
+  needs_node_life d f = let i = (f.point).2 in loads_at v i d.node part.Life (i.stands).here
 
   pub next_node_life : (d : Node) → GoesOn h o v n (at.NodeLife d)
   next_node_life d f =
@@ -213,7 +214,7 @@ module _ (k : Shape) (h : List Mark) (o : Own) (v : View) (n : ℕ) where
       (λ section i. ((f.point).0, (f.point).1, i))
 
   pub needs_node_left : (d : Node) → IsGiven k o v n (at.NodeLeft d)
-  needs_node_left d f = let i = (f.point).2 in may_search v d.node (part.Link Left) i.is (i.stands).searches (i.stands).here
+  needs_node_left d f = let i = (f.point).2 in loads_at v i d.node (part.Link Left) (i.stands).here
 
   pub next_node_left : (d : Node) → GoesOn h o v n (at.NodeLeft d)
   next_node_left d f =
@@ -239,7 +240,7 @@ module _ (k : Shape) (h : List Mark) (o : Own) (v : View) (n : ℕ) where
       (λ section i. ((f.point).0, (f.point).1, i))
 
   pub needs_node_right : (d : Node) → IsGiven k o v n (at.NodeRight d)
-  needs_node_right d f = let i = (f.point).2 in may_search v d.node (part.Link Right) i.is (i.stands).searches (i.stands).here
+  needs_node_right d f = let i = (f.point).2 in loads_at v i d.node (part.Link Right) (i.stands).here
 
   pub next_node_right : (d : Node) → GoesOn h o v n (at.NodeRight d)
   next_node_right d f = by ((d.left == 0) || (n == 0)) refl
@@ -310,7 +311,7 @@ module _ (k : Shape) (h : List Mark) (o : Own) (v : View) (n : ℕ) where
           (λ section i. ((f.point).0, (f.point).1, i))
 
   pub needs_successor_left : (d : Node) (u : Successor) → IsGiven k o v n (at.SuccessorLeft d u)
-  needs_successor_left d u f = let i = (f.point).2 in may_search v u.slot (part.Link Left) i.is (i.stands).searches (((i.known).1).1).slot_stood
+  needs_successor_left d u f = let i = (f.point).2 in loads_at v i u.slot (part.Link Left) (((i.known).1).1).slot_stood
 
   pub next_successor_left : (d : Node) (u : Successor) → GoesOn h o v n (at.SuccessorLeft d u)
   next_successor_left d u f = by (n == 0) refl (u.parent == d.node) refl
@@ -395,7 +396,7 @@ module _ (k : Shape) (h : List Mark) (o : Own) (v : View) (n : ℕ) where
           (λ section i. ((f.point).0, (f.point).1, i))
 
   pub needs_successor_parent : (d : Node) (u : Successor) → IsGiven k o v n (at.SuccessorParentLife d u)
-  needs_successor_parent d u f = let i = (f.point).2 in may_search v u.parent part.Life i.is (i.stands).searches (((i.known).1).1).parent_stood
+  needs_successor_parent d u f = let i = (f.point).2 in loads_at v i u.parent part.Life (((i.known).1).1).parent_stood
 
   pub next_successor_parent : (d : Node) (u : Successor) → GoesOn h o v n (at.SuccessorParentLife d u)
   next_successor_parent d u f =
@@ -424,7 +425,7 @@ module _ (k : Shape) (h : List Mark) (o : Own) (v : View) (n : ℕ) where
       (λ section i. ((f.point).0, (f.point).1, i))
 
   pub needs_successor_life : (d : Node) (u : Successor) → IsGiven k o v n (at.SuccessorLife d u)
-  needs_successor_life d u f = let i = (f.point).2 in may_search v u.slot part.Life i.is (i.stands).searches (((i.known).1).0).slot_stood
+  needs_successor_life d u f = let i = (f.point).2 in loads_at v i u.slot part.Life (((i.known).1).0).slot_stood
 
   pub next_successor_life : (d : Node) (u : Successor) → GoesOn h o v n (at.SuccessorLife d u)
   next_successor_life d u f =

@@ -17,8 +17,8 @@ use Rattle.core_state.specs.Parts.{state_slot}
 use Rattle.prcu_marks.specs.declared.commit.Commit.{Commit}
 use Rattle.core_state.specs.declared.view.Retired.{Retired}
 use Rattle.core_state.specs.declared.view.View.{View}
-use Rattle.core_state.specs.Views.{known_in, LoadedGeneration, lock_of, change_lock, note_lock, note_held, note_option, note_moving, noting}
-use Rattle.core_state.specs.Steps.{leaving, new_lock, spare_slot, loaded, searched, walked, walking, after_search_load}
+use Rattle.core_state.specs.Views.{known_in, LoadedGeneration, lock_of, change_lock, note_lock, note_held, note_option, note_moving, noting, IsLoadable}
+use Rattle.core_state.specs.Steps.{leaving, new_lock, spare_slot, loaded, searched, walked, walking, after_search_load, NeedsSearchLoad}
 use Rattle.list_laws.specs.Counts.{IsIn, times, Each}
 use Rattle.core_points.specs.Programs.{Own, is_none_left, is_some, key_now, value_in, answer, begun_with, first_point, spare_first, go}
 use Rattle.core_points.specs.Facts.{AreClear, Bare, BareParts, HandFits, IsLeaf, Owns, QuietParts, SameLocks, Stands, UnlockingParts, leaf_held, one_lock, read_at, stored_at, Idle, IsReady, OwnsParts, Quiet, Calm, Ready, is_delete, is_put, is_set, Inside}
@@ -37,8 +37,10 @@ use Rattle.prcu_marks.specs.declared.mark.Mark.{Mark}
 use Rattle.prcu_marks.specs.declared.mark.Side.{Side}
 use Rattle.core_state.specs.declared.view.SearchState.TheVariants.{Found}
 use Rattle.core_state.specs.declared.view.Walk.{Walk}
-use Rattle.core_state.specs.Acts.{section_of}
-use Rattle.core_laws.proofs.Acting.{section_is}
+use Rattle.core_state.specs.Acts.{section_of, in_slot}
+use Rattle.core_state.specs.declared.act.Part.{Part}
+use Rattle.core_laws.proofs.Acting.{section_is, may_search}
+use Rattle.core_state.specs.declared.act.Part.TheVariants as part
 use Rattle.core_points.specs.declared.stage.Stage.TheVariants as at
 
 -- What is known after one more load or store, of a view's groups.
@@ -322,6 +324,11 @@ leaf_is s life key value = record {
 pub fits : {o : Own} {v : View} {stage : Stage} → Owns o v → Each v.hands.retired (λ (r : Retired). r.raised ≡ false)
     → owed o stage + 4 * length o.rest + o.kept ≤ v.allowance.tickets → Point o stage (plain v) → Fits o stage v
 fits owns unraised paid point = record { owns = owns; unraised = λ z. unraised; tickets = paid; point = point }
+
+-- What a load in a section needs, of a slot at which its search stood.
+pub loads_at : (v : View) {key : ℕ} {state : SearchState} {more : Section → Type 0} (i : Inside v key state more) (s : ℕ) (p : Part)
+    → IsIn i.section.reading.stood s → NeedsSearchLoad v (section_of v) s (in_slot s p)
+loads_at v i s p stood = may_search v s p i.is i.stands.searches stood
 
 -- After an answer the first point of the next operation.
 

@@ -18,11 +18,11 @@ use Rattle.core_state.specs.Steps.{new_section, key_stand, after_search_load, le
 use Rattle.core_frames.proofs.Views.{link_moves, key_moves, value_moves, missed_stays}
 use Rattle.core_state.specs.Acts.{clocked_at, section_of}
 use Rattle.core_state.specs.declared.act.Part.TheVariants as part
-use Rattle.core_laws.proofs.Acting.{section_is, may_search, clocked_is}
+use Rattle.core_laws.proofs.Acting.{section_is, clocked_is}
 use Rattle.core_points.specs.Programs.{Own, go, key_now, after, ended, found, key_read, is_some, value_in, answer, left_section, taking, is_none_left, none_free}
 use Rattle.core_points.specs.Facts.{Calm, Inside, InsideParts, Nothing, Stands, is_delete, is_put, is_set, HandFits, HasSpot, Owns, table_of, read_at}
 use Rattle.core_points.specs.Fits.{owed, owed_op, Fits, Point, owed_reserve, owed_taken, IsGiven, GoesOn}
-use Rattle.core_points.proofs.Notes.{stands_on, answers, positive, owns_scanned, owns_noted, bare_noted, bare_reserved, held_here, fits}
+use Rattle.core_points.proofs.Notes.{loads_at, stands_on, answers, positive, owns_scanned, owns_noted, bare_noted, bare_reserved, held_here, fits}
 use Rattle.prcu_model.specs.declared.operation.Reply.TheVariants.{Old, Val, Absent, Full}
 use Rattle.core_state.specs.declared.view.Retired.{Retired}
 use Rattle.core_points.specs.declared.stage.Spot.{Spot}
@@ -37,6 +37,7 @@ use Rattle.core_state.specs.Links.{seized}
 use Rattle.core_points.specs.declared.stage.Aim.{Aim}
 use Rattle.core_points.specs.declared.stage.Waits.TheVariants.{Reuse}
 use Rattle.core_laws.proofs.LockSteps.{known_here}
+use Rattle.core_state.specs.declared.act.Part.TheVariants as part
 use Rattle.core_points.specs.declared.stage.Then.TheVariants as then
 use Rattle.core_points.specs.declared.stage.Stage.TheVariants as at
 
@@ -84,7 +85,7 @@ module _ (k : Shape) (h : List Mark) (o : Own) (v : View) (n : ℕ) where
       )
 
   pub needs_link : (s : ℕ) (b : Side) → IsGiven k o v n (at.AtLink s b)
-  needs_link s b f = let i = (f.point).1 in may_search v s (part.Link b) i.is (i.stands).searches (i.stands).here
+  needs_link s b f = let i = (f.point).1 in loads_at v i s (part.Link b) (i.stands).here
 
   ended_point : (op : Op) → o.op ≡ op → (s : ℕ) (b : Side) (w : View) → Calm o w → Inside w (key_now o) (Missed s b) Nothing
       → Point (go o (ended op s b)) (ended op s b) w
@@ -144,7 +145,7 @@ module _ (k : Shape) (h : List Mark) (o : Own) (v : View) (n : ℕ) where
       )
 
   pub needs_read : (s p : ℕ) (b : Side) → IsGiven k o v n (at.AtKey s p b)
-  needs_read s p b f = let i = (f.point).1 in may_search v s part.Key i.is (i.stands).searches (i.stands).here
+  needs_read s p b f = let i = (f.point).1 in loads_at v i s part.Key (i.stands).here
 
   is_get : (key : ℕ) → o.op ≡ Get key → o.op ≡ Get (key_now o)
   is_get key e = e ∙ ap (λ x. Get x) (sym (ap key_of e))
@@ -216,7 +217,7 @@ module _ (k : Shape) (h : List Mark) (o : Own) (v : View) (n : ℕ) where
       )
 
   pub needs_value : (s : ℕ) → IsGiven k o v n (at.Value s)
-  needs_value s f = let i = ((f.point).2).2 in may_search v s part.Value i.is (i.stands).searches (i.stands).here
+  needs_value s f = let i = ((f.point).2).2 in loads_at v i s part.Value (i.stands).here
 
   pub next_value : (s : ℕ) → GoesOn h o v n (at.Value s)
   next_value s f =
@@ -353,7 +354,7 @@ more_owed Room retired = omega arith
 module _ (k : Shape) (h : List Mark) (o : Own) (v : View) (n : ℕ) where
   -- the record: the tag and the life, in the section
   pub needs_spot_tag : (s : ℕ) (b : Side) → IsGiven k o v n (at.SpotTag s b)
-  needs_spot_tag s b f = let i = (f.point).2 in may_search v s (part.Tag b) i.is (i.stands).searches (i.stands).here
+  needs_spot_tag s b f = let i = (f.point).2 in loads_at v i s (part.Tag b) (i.stands).here
 
   pub next_spot_tag : (s : ℕ) (b : Side) → GoesOn h o v n (at.SpotTag s b)
   next_spot_tag s b f =
@@ -375,7 +376,7 @@ module _ (k : Shape) (h : List Mark) (o : Own) (v : View) (n : ℕ) where
       )))
 
   pub needs_spot_life : (s : ℕ) (b : Side) (tag : ℕ) → IsGiven k o v n (at.SpotLife s b tag)
-  needs_spot_life s b tag f = let i = (f.point).2 in may_search v s part.Life i.is (i.stands).searches (i.stands).here
+  needs_spot_life s b tag f = let i = (f.point).2 in loads_at v i s part.Life (i.stands).here
 
   pub next_spot_life : (s : ℕ) (b : Side) (tag : ℕ) → GoesOn h o v n (at.SpotLife s b tag)
   next_spot_life s b tag f =

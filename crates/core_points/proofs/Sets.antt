@@ -13,8 +13,7 @@ use Rattle.list_laws.specs.Counts.{IsIn}
 use Rattle.core_state.specs.Views.{known_in, known_of, LoadedGeneration, noting}
 use Rattle.core_state.specs.Links.{after_replace}
 use Rattle.core_state.specs.Steps.{new_lock, leaving}
-use Rattle.core_state.specs.declared.act.Part.TheVariants as part
-use Rattle.core_laws.proofs.Acting.{commit_is, section_is, may_search, may_update}
+use Rattle.core_laws.proofs.Acting.{commit_is, section_is, may_update}
 use Rattle.core_points.specs.declared.stage.Last.TheVariants as last
 use Rattle.core_points.specs.declared.stage.Stage.{Stage}
 use Rattle.core_points.specs.declared.stage.Stage.TheVariants as at
@@ -23,14 +22,14 @@ use Rattle.core_points.specs.declared.stage.Update.TheVariants as update
 use Rattle.core_points.specs.Programs.{Own, go, key_now, value_in}
 use Rattle.core_points.specs.Facts.{Setting, is_put, one_lock, read_at, set_known, stored_at, table_of}
 use Rattle.core_points.specs.Fits.{Fits, IsGiven, GoesOn, plain}
-use Rattle.core_points.proofs.Notes.{fits, calm_quiet, found_next, life_here, life_still, owns_noted, quiet_calm, quiet_noted, quiet_turned, ready_set, set_owed, the_set}
+use Rattle.core_points.proofs.Notes.{loads_at, fits, calm_quiet, found_next, life_here, life_still, owns_noted, quiet_calm, quiet_noted, quiet_turned, ready_set, set_owed, the_set}
 use Rattle.core_points.proofs.Links.{made_even}
 use Rattle.core_points.proofs.Locks.{goes_locking, one_again, one_clear, one_held, one_lock_more, one_owned}
 use Rattle.core_laws.proofs.LockSteps.{known_here}
 
 module _ (k : Shape) (h : List Mark) (o : Own) (v : View) (n : ℕ) where
   pub needs_set_life : (s : ℕ) → IsGiven k o v n (at.SetLife s)
-  needs_set_life s f = let i = ((f.point).2).2 in may_search v s part.Life i.is (i.stands).searches (i.stands).here
+  needs_set_life s f = let i = ((f.point).2).2 in loads_at v i s part.Life (i.stands).here
 
   pub next_set_life : (s : ℕ) → GoesOn h o v n (at.SetLife s)
   next_set_life s f =

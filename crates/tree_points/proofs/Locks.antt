@@ -41,7 +41,7 @@ use Rattle.core_points.specs.declared.stage.Last.{Last}
 use Rattle.core_points.specs.declared.stage.Stage.{Stage}
 use Rattle.core_points.specs.Programs.{Own, go, is_none_left, nothing_found, target_lock, target_locks, answer, begun_with, past_lock, content_part, contents, key_now, or_root, value_in, move_locks, act_at, is_step}
 use Rattle.core_points.specs.Fits.{Fits, PointUnlock, plain, owed_last}
-use Rattle.tree_points.proofs.Passing.{moves_on, fits_next, needs_at, next_own, passes_at, passes_as, needs_as}
+use Rattle.tree_points.proofs.Passing.{moves_on, fits_next, goes_to, needs, needs_as, passes, passes_as}
 use Rattle.prcu_model.specs.declared.operation.Reply.{Reply}
 use Rattle.prcu_model.specs.declared.operation.Reply.TheVariants.{New, Gone, Was}
 use Rattle.core_points.specs.DeleteFacts.{all_locks, first_locks, two_children}
@@ -307,64 +307,47 @@ busy_stage : (o : Own) (s n : ℕ) (next : Stage) (z : Bool) → n ≢ 0 → is_
     → (past_lock o s n next).stage ≡ (if z then at.EnterClock else at.Unlock last.Again)
 busy_stage o s n next z ne e = ap (λ (x : Own). x.stage) (lock_busy o s n next ne) ∙ ap (λ b. cond b at.EnterClock (at.Unlock last.Again)) e
 
-pub needs_leaf_lock : {k : Shape} {op : Op} {kept : ℕ} {v : View} {spot : Spot} → IsAt k op kept (at.LeafLock spot) v → TellsNow k v
-    → Asks k v (acts.Lock spot.slot)
-needs_leaf_lock a now = needs_at _ _ _ _ _ a refl now
-
 pub passes_leaf_lock_free : {k : Shape} {op : Op} {kept n : ℕ} {v w : View} {spot : Spot} → n ≡ 0 → IsAt k op kept (at.LeafLock spot) v
     → Told k v (acts.Lock spot.slot) n w → IsAt k op kept (at.LeafLife spot) w
 passes_leaf_lock_free {n = n} {spot = spot} free a t =
-    passes_as (at.LeafLock spot) (at.LeafLife spot) (acts.Lock spot.slot) a refl refl
-    (ap (λ (x : Own). x.stage) (lock_free a.own spot.slot n (at.LeafLife spot) free)) t
+    passes_as a refl refl (ap (λ (x : Own). x.stage) (lock_free a.own spot.slot n (at.LeafLife spot) free)) t
 
 pub passes_leaf_lock_busy : {k : Shape} {op : Op} {kept n : ℕ} {v w : View} {spot : Spot} → n ≢ 0 → IsAt k op kept (at.LeafLock spot) v
     → Told k v (acts.Lock spot.slot) n w → IsAt k op kept at.EnterClock w
 passes_leaf_lock_busy {n = n} {v = v} {spot = spot} busy a t =
-    passes_as (at.LeafLock spot) at.EnterClock (acts.Lock spot.slot) a refl refl
-    (busy_stage a.own spot.slot n (at.LeafLife spot) true busy
-    (ap is_none_left (no_locks a.own v (a.fits).owns (((a.fits).point).bare).locks_are))) t
-
-pub needs_set_lock : {k : Shape} {op : Op} {kept : ℕ} {v : View} {s generation : ℕ} → IsAt k op kept (at.SetLock s generation) v
-    → TellsNow k v → Asks k v (acts.Lock s)
-needs_set_lock a now = needs_at _ _ _ _ _ a refl now
+    passes_as a refl refl (busy_stage a.own spot.slot n (at.LeafLife spot) true busy (ap is_none_left (no_locks a.own v (a.fits).owns (((a.fits).point).bare).locks_are))) t
 
 pub passes_set_lock_free : {k : Shape} {op : Op} {kept n : ℕ} {v w : View} {s generation : ℕ} → n ≡ 0
     → IsAt k op kept (at.SetLock s generation) v → Told k v (acts.Lock s) n w → IsAt k op kept (at.SetCheck s generation) w
 passes_set_lock_free {n = n} {s = s} {generation = generation} free a t =
-    passes_as (at.SetLock s generation) (at.SetCheck s generation) (acts.Lock s) a refl refl
-    (ap (λ (x : Own). x.stage) (lock_free a.own s n (at.SetCheck s generation) free)) t
+    passes_as a refl refl (ap (λ (x : Own). x.stage) (lock_free a.own s n (at.SetCheck s generation) free)) t
 
 pub passes_set_lock_busy : {k : Shape} {op : Op} {kept n : ℕ} {v w : View} {s generation : ℕ} → n ≢ 0
     → IsAt k op kept (at.SetLock s generation) v → Told k v (acts.Lock s) n w → IsAt k op kept at.EnterClock w
 passes_set_lock_busy {n = n} {v = v} {s = s} {generation = generation} busy a t =
-    passes_as (at.SetLock s generation) at.EnterClock (acts.Lock s) a refl refl
-    (busy_stage a.own s n (at.SetCheck s generation) true busy (ap is_none_left (no_locks a.own v a.fits.owns a.fits.point.locks_are))) t
+    passes_as a refl refl (busy_stage a.own s n (at.SetCheck s generation) true busy (ap is_none_left (no_locks a.own v a.fits.owns a.fits.point.locks_are))) t
 
 -- the locks of a delete
-pub needs_target_lock : {k : Shape} {op : Op} {kept i : ℕ} {v : View} {t : Target} → IsAt k op kept (at.TargetLock t i) v → TellsNow k v
-    → Asks k v (acts.Lock (target_lock t i))
-needs_target_lock a now = needs_at _ _ _ _ _ a refl now
-
 pub passes_target_lock_free : {k : Shape} {op : Op} {kept n i : ℕ} {v w : View} {t : Target} → n ≡ 0 → IsAt k op kept (at.TargetLock t i) v
     → Told k v (acts.Lock (target_lock t i)) n w
     → IsAt k op kept (if i + 1 == target_locks t then at.TargetLoad t 0 nothing_found else at.TargetLock t (i + 1)) w
 passes_target_lock_free {n = n} {i = i} {t = target} free a t =
     let next : Stage = if i + 1 == target_locks target then at.TargetLoad target 0 nothing_found else at.TargetLock target (i + 1) in
-    passes_as (at.TargetLock target i) next (acts.Lock (target_lock target i)) a refl refl
+    passes_as a refl refl
     (ap (λ (x : Own). x.stage) (lock_free a.own (target_lock target i) n next free)) t
 
 pub passes_target_lock_first : {k : Shape} {op : Op} {kept n : ℕ} {v w : View} {t : Target} → n ≢ 0 → IsAt k op kept (at.TargetLock t 0) v
     → Told k v (acts.Lock (target_lock t 0)) n w → IsAt k op kept at.EnterClock w
 passes_target_lock_first {n = n} {t = target} busy a t =
     let next : Stage = if 0 + 1 == target_locks target then at.TargetLoad target 0 nothing_found else at.TargetLock target (0 + 1) in
-    passes_as (at.TargetLock target 0) at.EnterClock (acts.Lock (target_lock target 0)) a refl refl
+    passes_as a refl refl
     (busy_stage a.own (target_lock target 0) n next true busy (ap is_none_left ((a.fits).point).locks_are)) t
 
 pub passes_target_lock_busy : {k : Shape} {op : Op} {kept n : ℕ} {v w : View} {t : Target} (i : ℕ) → 1 ≤ i → n ≢ 0
     → IsAt k op kept (at.TargetLock t i) v → Told k v (acts.Lock (target_lock t i)) n w → IsAt k op kept (at.Unlock last.Again) w
 passes_target_lock_busy {n = n} {t = target} i some busy a t =
     let next : Stage = if i + 1 == target_locks target then at.TargetLoad target 0 nothing_found else at.TargetLock target (i + 1) in
-    passes_as (at.TargetLock target i) (at.Unlock last.Again) (acts.Lock (target_lock target i)) a refl refl
+    passes_as a refl refl
     (busy_stage a.own (target_lock target i) n next false busy (ap is_none_left ((a.fits).point).locks_are ∙ more i some)) t
   where
     more : (i : ℕ) → 1 ≤ i → is_none_left (first_locks target i) ≡ false
@@ -411,19 +394,19 @@ relocked {v = v} {l = l} s rest has a = moves_on a (record a.own { locks = s ∷
 
 pub needs_unlock : {k : Shape} {op : Op} {kept : ℕ} {v : View} {l : Last} {s : ℕ} {rest : List ℕ} → HasLocks (s ∷ rest) v
     → IsAt k op kept (at.Unlock l) v → TellsNow k v → Asks k v (acts.Unlock s)
-needs_unlock {s = s} {rest = rest} has a now = needs_at _ _ _ _ _ (relocked s rest has a) refl now
+needs_unlock {s = s} {rest = rest} has a now = needs (relocked s rest has a) refl now
 
 pub passes_unlock : {k : Shape} {op : Op} {kept n : ℕ} {v w : View} {l : Last} {s next : ℕ} {rest : List ℕ} → HasLocks (s ∷ next ∷ rest) v
     → IsAt k op kept (at.Unlock l) v → Told k v (acts.Unlock s) n w
     → IsAt k op kept (at.Unlock l) w × HasLocks (next ∷ rest) w
 passes_unlock {k} {op} {kept} {n} {v} {w} {l} {s} {next} {rest} has a t =
     let b = relocked s (next ∷ rest) has a in
-    let f = fits_next k op kept v w n (at.Unlock l) b refl t in
-    (next_own k op kept v w n (at.Unlock l) b f, record { same = (f.owns).locks_are })
+    let f = fits_next b refl t in
+    (goes_to b n f, record { same = (f.owns).locks_are })
 
 pub passes_unlock_again : {k : Shape} {op : Op} {kept n : ℕ} {v w : View} {s : ℕ} → HasLocks (s ∷ []) v
     → IsAt k op kept (at.Unlock last.Again) v → Told k v (acts.Unlock s) n w → IsAt k op kept at.EnterClock w
-passes_unlock_again {s = s} has a t = passes_at _ _ _ _ _ _ _ (relocked s [] has a) refl t
+passes_unlock_again {s = s} has a t = passes (relocked s [] has a) refl t
 
 pub done_stage : (o : Own) (reply : Reply) (number : ℕ) → o.rest ≡ [] → (answer o reply number).stage ≡ at.Finished
 done_stage o reply number e = ap (λ ops. (begun_with
@@ -432,20 +415,17 @@ done_stage o reply number e = ap (λ ops. (begun_with
 pub passes_unlock_new : {k : Shape} {op : Op} {kept n number : ℕ} {v w : View} {s : ℕ} → HasLocks (s ∷ []) v
     → IsAt k op kept (at.Unlock (last.New number)) v → Told k v (acts.Unlock s) n w → IsDone k op kept w
 passes_unlock_new {number = number} {s = s} has a t =
-    passes_as (at.Unlock (last.New number)) at.Finished (acts.Unlock s) (relocked s [] has a) refl refl
-    (done_stage (record a.own { locks = [] }) New number a.last) t
+    passes_as (relocked s [] has a) refl refl (done_stage (record a.own { locks = [] }) New number a.last) t
 
 pub passes_unlock_gone : {k : Shape} {op : Op} {kept n number : ℕ} {v w : View} {s : ℕ} → HasLocks (s ∷ []) v
     → IsAt k op kept (at.Unlock (last.Gone number)) v → Told k v (acts.Unlock s) n w → IsDone k op kept w
 passes_unlock_gone {number = number} {s = s} has a t =
-    passes_as (at.Unlock (last.Gone number)) at.Finished (acts.Unlock s) (relocked s [] has a) refl refl
-    (done_stage (record a.own { locks = [] }) Gone number a.last) t
+    passes_as (relocked s [] has a) refl refl (done_stage (record a.own { locks = [] }) Gone number a.last) t
 
 pub passes_unlock_was : {k : Shape} {op : Op} {kept n value number : ℕ} {v w : View} {s : ℕ} → HasLocks (s ∷ []) v
     → IsAt k op kept (at.Unlock (last.Was value number)) v → Told k v (acts.Unlock s) n w → IsDone k op kept w
 passes_unlock_was {value = value} {number = number} {s = s} has a t =
-    passes_as (at.Unlock (last.Was value number)) at.Finished (acts.Unlock s) (relocked s [] has a) refl refl
-    (done_stage (record a.own { locks = [] }) (Was value) number a.last) t
+    passes_as (relocked s [] has a) refl refl (done_stage (record a.own { locks = [] }) (Was value) number a.last) t
 
 -- The points of the slot in hand and of the spare.
 
@@ -472,16 +452,13 @@ leaf_case {leaf = leaf} i a is =
 pub needs_leaf : {k : Shape} {kept leaf key value : ℕ} {v : View} {spot : Spot} (i : ℕ) → IsSlotOf (Some leaf) v.hands.hand
     → IsAt k (Put key value) kept (at.LeafField spot i) v → TellsNow k v
     → Asks k v (acts.Fill leaf (content_part i) (contents key value 0 0 i))
-needs_leaf {leaf = leaf} {key = key} {value = value} {spot = spot} i is a now =
-    needs_as (at.LeafField spot i) (acts.Fill leaf (content_part i) (contents key value 0 0 i)) a refl (leaf_case i a is) now
+needs_leaf i is a now = needs_as a refl (leaf_case i a is) now
 
 pub passes_leaf : {k : Shape} {kept n leaf key value : ℕ} {v w : View} {spot : Spot} (i : ℕ) → IsSlotOf (Some leaf) v.hands.hand
     → IsAt k (Put key value) kept (at.LeafField spot i) v
     → Told k v (acts.Fill leaf (content_part i) (contents key value 0 0 i)) n w
     → IsAt k (Put key value) kept (if i == 3 then at.LeafLock spot else at.LeafField spot (i + 1)) w
-passes_leaf {leaf = leaf} {key = key} {value = value} {spot = spot} i is a t =
-    passes_as (at.LeafField spot i) (if i == 3 then at.LeafLock spot else at.LeafField spot (i + 1))
-    (acts.Fill leaf (content_part i) (contents key value 0 0 i)) a refl (leaf_case i a is) refl t
+passes_leaf i is a t = passes_as a refl (leaf_case i a is) refl t
 
 -- The place's locks and slots stay as they are.
 pub same_fill : {k : Shape} {v w : View} {n slot number : ℕ} {p : Part} → Told k v (acts.Fill slot p number) n w → IsSame v w
@@ -504,50 +481,38 @@ copy_case {next_key = next_key} {value = value} {d = d} i a is =
 pub needs_copy : {k : Shape} {op : Op} {kept copy next_key value : ℕ} {v : View} {d : Node} {u : Successor} (i : ℕ)
     → IsSlotOf (Some copy) v.hands.spare → IsAt k op kept (at.CopyField d u next_key value i) v → TellsNow k v
     → Asks k v (acts.Fill copy (content_part i) (contents next_key value d.left d.right i))
-needs_copy {copy = copy} {next_key = next_key} {value = value} {d = d} {u = u} i is a now =
-    needs_as (at.CopyField d u next_key value i) (acts.Fill copy (content_part i) (contents next_key value d.left d.right i)) a refl
-    (copy_case i a is) now
+needs_copy i is a now = needs_as a refl (copy_case i a is) now
 
 pub passes_copy : {k : Shape} {op : Op} {kept n copy next_key value : ℕ} {v w : View} {d : Node} {u : Successor} (i : ℕ)
     → IsSlotOf (Some copy) v.hands.spare → IsAt k op kept (at.CopyField d u next_key value i) v
     → Told k v (acts.Fill copy (content_part i) (contents next_key value d.left d.right i)) n w
     → IsAt k op kept (if i == 3 then at.CopyAge d u next_key else at.CopyField d u next_key value (i + 1)) w
-passes_copy {copy = copy} {next_key = next_key} {value = value} {d = d} {u = u} i is a t =
-    passes_as (at.CopyField d u next_key value i) (if i == 3 then at.CopyAge d u next_key else at.CopyField d u next_key value (i + 1))
-    (acts.Fill copy (content_part i) (contents next_key value d.left d.right i)) a refl (copy_case i a is) refl t
+passes_copy i is a t = passes_as a refl (copy_case i a is) refl t
 
 pub needs_copy_age : {k : Shape} {op : Op} {kept copy next_key : ℕ} {v : View} {d : Node} {u : Successor}
     → IsSlotOf (Some copy) v.hands.spare → IsAt k op kept (at.CopyAge d u next_key) v → TellsNow k v → Asks k v (acts.LoadOwnLife copy)
-needs_copy_age {copy = copy} {next_key = next_key} {d = d} {u = u} is a now =
-    needs_as (at.CopyAge d u next_key) (acts.LoadOwnLife copy) a refl (ap (λ x. acts.LoadOwnLife (or_root x)) (own_spare a is)) now
+needs_copy_age is a now = needs_as a refl (ap (λ x. acts.LoadOwnLife (or_root x)) (own_spare a is)) now
 
 pub passes_copy_age : {k : Shape} {op : Op} {kept n copy next_key : ℕ} {v w : View} {d : Node} {u : Successor}
     → IsSlotOf (Some copy) v.hands.spare → IsAt k op kept (at.CopyAge d u next_key) v → Told k v (acts.LoadOwnLife copy) n w
     → IsAt k op kept (at.CopyLock d u next_key) w
-passes_copy_age {copy = copy} {next_key = next_key} {d = d} {u = u} is a t =
-    passes_as (at.CopyAge d u next_key) (at.CopyLock d u next_key) (acts.LoadOwnLife copy) a refl
-    (ap (λ x. acts.LoadOwnLife (or_root x)) (own_spare a is)) refl t
+passes_copy_age is a t = passes_as a refl (ap (λ x. acts.LoadOwnLife (or_root x)) (own_spare a is)) refl t
 
 pub needs_copy_lock : {k : Shape} {op : Op} {kept copy next_key : ℕ} {v : View} {d : Node} {u : Successor}
     → IsSlotOf (Some copy) v.hands.spare → IsAt k op kept (at.CopyLock d u next_key) v → TellsNow k v → Asks k v (acts.Lock copy)
-needs_copy_lock {copy = copy} {next_key = next_key} {d = d} {u = u} is a now =
-    needs_as (at.CopyLock d u next_key) (acts.Lock copy) a refl (ap (λ x. acts.Lock (or_root x)) (own_spare a is)) now
+needs_copy_lock is a now = needs_as a refl (ap (λ x. acts.Lock (or_root x)) (own_spare a is)) now
 
 pub passes_copy_lock_free : {k : Shape} {op : Op} {kept n copy next_key : ℕ} {v w : View} {d : Node} {u : Successor} → n ≡ 0
     → IsSlotOf (Some copy) v.hands.spare → IsAt k op kept (at.CopyLock d u next_key) v → Told k v (acts.Lock copy) n w
     → IsAt k op kept (at.CopyMark d u next_key) w
-passes_copy_lock_free {n = n} {copy = copy} {next_key = next_key} {d = d} {u = u} free is a t =
-    passes_as (at.CopyLock d u next_key) (at.CopyMark d u next_key) (acts.Lock copy) a refl
-    (ap (λ x. acts.Lock (or_root x)) (own_spare a is))
-    (ap (λ (x : Own). x.stage) (lock_free a.own (or_root a.own.spare) n (at.CopyMark d u next_key) free)) t
+passes_copy_lock_free {n = n} {next_key = next_key} {d = d} {u = u} free is a t =
+    passes_as a refl (ap (λ x. acts.Lock (or_root x)) (own_spare a is)) (ap (λ (x : Own). x.stage) (lock_free a.own (or_root a.own.spare) n (at.CopyMark d u next_key) free)) t
 
 pub passes_copy_lock_busy : {k : Shape} {op : Op} {kept n copy next_key : ℕ} {v w : View} {d : Node} {u : Successor} → n ≢ 0
     → IsSlotOf (Some copy) v.hands.spare → IsAt k op kept (at.CopyLock d u next_key) v → Told k v (acts.Lock copy) n w
     → IsAt k op kept (at.Unlock last.Again) w
-passes_copy_lock_busy {n = n} {copy = copy} {next_key = next_key} {d = d} {u = u} busy is a t =
-    passes_as (at.CopyLock d u next_key) (at.Unlock last.Again) (acts.Lock copy) a refl (ap (λ x. acts.Lock (or_root x)) (own_spare a is))
-    (ap (λ (x : Own). x.stage) (lock_busy a.own (or_root a.own.spare) n (at.CopyMark d u next_key) busy)
-    ∙ ap (λ b. cond b at.EnterClock (at.Unlock last.Again)) (ap is_none_left a.fits.point.0.locks_are ∙ some_left (u.parent == d.node))) t
+passes_copy_lock_busy {n = n} {next_key = next_key} {d = d} {u = u} busy is a t =
+    passes_as a refl (ap (λ x. acts.Lock (or_root x)) (own_spare a is)) (ap (λ (x : Own). x.stage) (lock_busy a.own (or_root a.own.spare) n (at.CopyMark d u next_key) busy) ∙ ap (λ b. cond b at.EnterClock (at.Unlock last.Again)) (ap is_none_left a.fits.point.0.locks_are ∙ some_left (u.parent == d.node))) t
   where
     some_left : (z : Bool) → is_none_left (first_locks (two_children d u) (cond z 3 4)) ≡ false
     some_left true = refl
@@ -574,15 +539,11 @@ unlink_step o m child = by (m.successor.parent == m.node.node)
 
 pub needs_unlink_copy : {k : Shape} {op : Op} {kept child : ℕ} {v : View} {m : Moving} → (m.successor.parent == m.node.node) ≡ true
     → IsAt k op kept (at.Unlink m child) v → TellsNow k v → Asks k v (acts.UnlinkRight m.copy m.successor.slot child)
-needs_unlink_copy {child = child} {m = m} e a now =
-    needs_as (at.Unlink m child) (acts.UnlinkRight m.copy m.successor.slot child) a (unlink_step a.own m child)
-    (unlink_copy_case a.own m child e) now
+needs_unlink_copy {child = child} {m = m} e a now = needs_as a (unlink_step a.own m child) (unlink_copy_case a.own m child e) now
 
 pub needs_unlink_parent : {k : Shape} {op : Op} {kept child : ℕ} {v : View} {m : Moving} → (m.successor.parent == m.node.node) ≡ false
     → IsAt k op kept (at.Unlink m child) v → TellsNow k v → Asks k v (acts.UnlinkLeft m.successor.parent m.successor.slot child)
-needs_unlink_parent {child = child} {m = m} e a now =
-    needs_as (at.Unlink m child) (acts.UnlinkLeft m.successor.parent m.successor.slot child) a (unlink_step a.own m child)
-    (unlink_parent_case a.own m child e) now
+needs_unlink_parent {child = child} {m = m} e a now = needs_as a (unlink_step a.own m child) (unlink_parent_case a.own m child e) now
 
 -- Afterwards it holds the same locks; where the link is empty now, its tag is to be raised.
 abbrev unlink_next : Moving → ℕ → Stage
@@ -594,8 +555,8 @@ unlink_next m child =
 unlinked : {k : Shape} {op : Op} {kept n child : ℕ} {v w : View} {m : Moving} → IsAt k op kept (at.Unlink m child) v → (c : Act)
     → ((o : Own) → act_at o (at.Unlink m child) ≡ c) → Told k v c n w → IsAt k op kept (unlink_next m child) w × HasLocks (move_locks m) w
 unlinked {k} {op} {kept} {n} {child} {v} {w} {m} a c e t =
-    let f = fits_next k op kept v w n (at.Unlink m child) a (unlink_step a.own m child) (subst (λ x. Told k v x n w) (sym (e a.own)) t) in
-    (next_own k op kept v w n (at.Unlink m child) a f, record { same = (f.owns).locks_are })
+    let f = fits_next a (unlink_step a.own m child) (subst (λ x. Told k v x n w) (sym (e a.own)) t) in
+    (goes_to a n f, record { same = (f.owns).locks_are })
 
 pub passes_unlink_copy : {k : Shape} {op : Op} {kept n child : ℕ} {v w : View} {m : Moving} → (m.successor.parent == m.node.node) ≡ true
     → IsAt k op kept (at.Unlink m child) v → Told k v (acts.UnlinkRight m.copy m.successor.slot child) n w

@@ -1,5 +1,5 @@
-use Rattle.tree_points.proofs.Passing.{needs_at}
+use Rattle.tree_points.proofs.Passing.{needs}
 use Rattle.tree_points.proofs.laws.steps_are_asked.Goals as goal
 
 pub returns : goal.returns
-returns c = needs_at
+returns c k op kept v stage a = needs a

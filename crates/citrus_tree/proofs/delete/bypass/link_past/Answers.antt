@@ -1,11 +1,12 @@
-use Rattle.std.proofs.Common.{◌∷◌, ◌++◌, ap, ◌+◌, ◌/◌, [], sym, subst, ◌∙◌}
+use Rattle.std.proofs.Common.{◌∷◌, ◌++◌, ap, ◌+◌, ◌/◌, [], sym, subst, ◌∙◌, refl}
 use Rattle.prcu_model.specs.declared.operation.Op.TheVariants.{Del}
 use Rattle.core_points.specs.declared.stage.Last.TheVariants as last
 use Rattle.core_points.specs.declared.stage.Stage.TheVariants as at
 use Rattle.core_points.specs.declared.stage.Update.TheVariants as update
 use Rattle.seat_table.specs.Seats.{shape_of}
+use Rattle.tree_points.proofs.Passing.{needs}
 use Rattle.tree_points.specs.Points.{IsAt}
-use Rattle.tree_points.proofs.Updates.{needs_mark, needs_store_bypass, passes_store_bypass}
+use Rattle.tree_points.proofs.Updates.{needs_store_bypass, passes_store_bypass}
 use Rattle.citrus_tree.specs.Deletes.{HasDone, TakesValue}
 use Rattle.citrus_tree.proofs.DeleteMoves.{bypass_odd, bypass_paid, child_is, marked, opened_keeps, closed_keeps, half_two}
 use Rattle.citrus_tree.proofs.DeleteUpdates.{keeps_on, keeps_mark, bypass_stay, bypass_done, bypass_locked, bypass_retired, bypass_takes, bypass_waits, done_later, done_still, takes_more, takes_since, value_mark, value_on, value_opened}
@@ -13,7 +14,7 @@ use Rattle.citrus_tree.proofs.DeleteTries.{waits_on}
 use Rattle.citrus_tree.proofs.delete.bypass.link_past.Goals as goal
 
 pub mark-requires-clause-asks : goal.mark-requires-clause-asks
-mark-requires-clause-asks g c = needs_mark (c.requires.at).1
+mark-requires-clause-asks g c = needs (c.requires.at).1 refl
 
 pub open_commit-requires-clause-settled : goal.open_commit-requires-clause-settled
 open_commit-requires-clause-settled g c =

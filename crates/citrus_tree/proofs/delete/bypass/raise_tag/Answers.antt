@@ -1,18 +1,19 @@
+use Rattle.std.proofs.Common.{refl}
 use Rattle.seat_table.specs.Seats.{shape_of}
-use Rattle.tree_points.proofs.Updates.{needs_empty_tag, passes_empty_tag, needs_empty_raise, passes_empty_raise}
+use Rattle.tree_points.proofs.Passing.{needs, passes}
 use Rattle.citrus_tree.proofs.DeleteUpdates.{keeps_on, keeps_locked_load, keeps_raise_tag}
 use Rattle.citrus_tree.proofs.delete.bypass.raise_tag.Goals as goal
 
 pub locked_load-tag-requires-clause-asks : goal.locked_load-tag-requires-clause-asks
-locked_load-tag-requires-clause-asks g c = needs_empty_tag {b = c.args.side} ((c.requires.at).1).2
+locked_load-tag-requires-clause-asks g c = needs ((c.requires.at).1).2 refl
 
 pub raise_tag-requires-clause-asks : goal.raise_tag-requires-clause-asks
-raise_tag-requires-clause-asks g c = needs_empty_raise
-    (passes_empty_tag {b = c.args.side} ((c.requires.at).1).2 c.locked_load-tag.ensures.told)
+raise_tag-requires-clause-asks g c = needs
+    (passes ((c.requires.at).1).2 refl c.locked_load-tag.ensures.told) refl
 
 pub returns-clause-at : goal.returns-clause-at
-returns-clause-at g c = λ number op kept a. passes_empty_raise
-    (passes_empty_tag {b = c.args.side} a c.locked_load-tag.ensures.told) c.raise_tag.ensures.told
+returns-clause-at g c = λ number op kept a. passes
+    (passes a refl c.locked_load-tag.ensures.told) refl c.raise_tag.ensures.told
 
 pub returns-clause-same : goal.returns-clause-same
 returns-clause-same g c =

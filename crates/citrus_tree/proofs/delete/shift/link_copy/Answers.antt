@@ -4,8 +4,9 @@ use Rattle.core_points.specs.declared.stage.Stage.TheVariants as at
 use Rattle.core_points.specs.declared.stage.Update.TheVariants as update
 use Rattle.core_points.specs.declared.stage.Waits.TheVariants as waits
 use Rattle.seat_table.specs.Seats.{shape_of}
+use Rattle.tree_points.proofs.Passing.{needs}
 use Rattle.tree_points.specs.Points.{IsAt}
-use Rattle.tree_points.proofs.Updates.{needs_copy_mark, passes_copy_mark, needs_store_copy, passes_store_copy}
+use Rattle.tree_points.proofs.Updates.{passes_copy_mark, needs_store_copy, passes_store_copy}
 use Rattle.citrus_tree.specs.Deletes.{HasCopied, TakesValue}
 use Rattle.citrus_tree.proofs.DeleteMoves.{opened_keeps, closed_keeps, half_two, copy_paid, copy_odd}
 use Rattle.citrus_tree.proofs.DeleteUpdates.{keeps_on, keeps_mark, copy_made, copy_locked, copy_retired, copy_takes, copy_waits, copied_later, copied_still, takes_more, takes_since, value_mark, value_on, value_opened}
@@ -13,7 +14,7 @@ use Rattle.citrus_tree.proofs.DeleteTries.{waits_on}
 use Rattle.citrus_tree.proofs.delete.shift.link_copy.Goals as goal
 
 pub mark-requires-clause-asks : goal.mark-requires-clause-asks
-mark-requires-clause-asks g c = needs_copy_mark (c.requires.at).1
+mark-requires-clause-asks g c = needs (c.requires.at).1 refl
 
 pub open_commit-requires-clause-settled : goal.open_commit-requires-clause-settled
 open_commit-requires-clause-settled g c = (copy_paid c.args.node c.args.successor

@@ -1,28 +1,28 @@
-use Rattle.std.proofs.Common.{[], ◌∷◌, ◌++◌, ap, ◌∙◌, eq-eqb, ne_eqb}
+use Rattle.std.proofs.Common.{[], ◌∷◌, ◌++◌, ap, ◌∙◌, eq-eqb, ne_eqb, refl}
 use Rattle.seat_table.specs.Seats.{shape_of}
-use Rattle.tree_points.proofs.Updates.{needs_old_right, passes_old_right, needs_old_mark, passes_old_mark}
+use Rattle.tree_points.proofs.Passing.{needs, passes}
 use Rattle.tree_points.proofs.Locks.{needs_unlink_copy, needs_unlink_parent, passes_unlink_copy, passes_unlink_parent, gone_on}
 use Rattle.citrus_tree.proofs.DeleteUpdates.{keeps_on, keeps_locked_load, keeps_mark, same_locks}
 use Rattle.citrus_tree.proofs.DeleteMoves.{unlinking, copy_unlinks, parent_unlinks, unlinked_on}
 use Rattle.citrus_tree.proofs.delete.shift.unlink_old.Goals as goal
 
 pub mark-requires-clause-asks : goal.mark-requires-clause-asks
-mark-requires-clause-asks g c = needs_old_mark (c.requires.at).2
+mark-requires-clause-asks g c = needs (c.requires.at).2 refl
 
 pub locked_load-right-requires-clause-asks : goal.locked_load-right-requires-clause-asks
-locked_load-right-requires-clause-asks g c = needs_old_right (passes_old_mark (c.requires.at).2 c.mark.ensures.told)
+locked_load-right-requires-clause-asks g c = needs (passes (c.requires.at).2 refl c.mark.ensures.told) refl
 
 pub unlink_right-requires-clause-asks : goal.unlink_right-requires-clause-asks
 unlink_right-requires-clause-asks g c = λ told. needs_unlink_copy
     (eq-eqb c.args.moving.successor.parent c.args.moving.node.node c.if-successor-node.true)
     (unlinking c.args.moving c.slot_of-child.ensures told.tells
-    (passes_old_right (passes_old_mark (c.requires.at).2 c.mark.ensures.told) c.locked_load-right.ensures.told)) told
+    (passes (passes (c.requires.at).2 refl c.mark.ensures.told) refl c.locked_load-right.ensures.told)) told
 
 pub unlink_left-requires-clause-asks : goal.unlink_left-requires-clause-asks
 unlink_left-requires-clause-asks g c = λ told. needs_unlink_parent
     (ne_eqb c.args.moving.successor.parent c.args.moving.node.node c.if-successor-node.false)
     (unlinking c.args.moving c.slot_of-child.ensures told.tells
-    (passes_old_right (passes_old_mark (c.requires.at).2 c.mark.ensures.told) c.locked_load-right.ensures.told)) told
+    (passes (passes (c.requires.at).2 refl c.mark.ensures.told) refl c.locked_load-right.ensures.told)) told
 
 pub settle_side-requires-clause-at : goal.settle_side-requires-clause-at
 settle_side-requires-clause-at g c = let a = c.requires.at in (
@@ -33,7 +33,7 @@ settle_side-requires-clause-at g c = let a = c.requires.at in (
     (passes_unlink_copy
         (eq-eqb c.args.moving.successor.parent c.args.moving.node.node c.if-successor-node.true)
         (unlinking c.args.moving c.slot_of-child.ensures c.unlink_right.ensures.told.before.tells
-        (passes_old_right (passes_old_mark a.2 c.mark.ensures.told) c.locked_load-right.ensures.told)) c.unlink_right.ensures.told).0,
+        (passes (passes a.2 refl c.mark.ensures.told) refl c.locked_load-right.ensures.told)) c.unlink_right.ensures.told).0,
   ),
 )
 
@@ -46,7 +46,7 @@ settle_side-requires-2-clause-at g c = let a = c.requires.at in (
     (passes_unlink_parent
         (ne_eqb c.args.moving.successor.parent c.args.moving.node.node c.if-successor-node.false)
         (unlinking c.args.moving c.slot_of-child.ensures c.unlink_left.ensures.told.before.tells
-        (passes_old_right (passes_old_mark a.2 c.mark.ensures.told) c.locked_load-right.ensures.told)) c.unlink_left.ensures.told).0,
+        (passes (passes a.2 refl c.mark.ensures.told) refl c.locked_load-right.ensures.told)) c.unlink_left.ensures.told).0,
   ),
 )
 
@@ -54,28 +54,28 @@ pub returns-then-successor-node-clause-at : goal.returns-then-successor-node-cla
 returns-then-successor-node-clause-at g c = λ op kept a. c.settle_side.ensures.at c.args.moving.number op kept
     (passes_unlink_copy (eq-eqb c.args.moving.successor.parent c.args.moving.node.node c.if-successor-node.true)
     (unlinking c.args.moving c.slot_of-child.ensures c.unlink_right.ensures.told.before.tells
-    (passes_old_right (passes_old_mark a c.mark.ensures.told) c.locked_load-right.ensures.told)) c.unlink_right.ensures.told).0
+    (passes (passes a refl c.mark.ensures.told) refl c.locked_load-right.ensures.told)) c.unlink_right.ensures.told).0
 
 pub returns-clause-at : goal.returns-clause-at
 returns-clause-at g c = λ op kept a. c.settle_side-2.ensures.at c.args.moving.number op kept
     (passes_unlink_parent (ne_eqb c.args.moving.successor.parent c.args.moving.node.node c.if-successor-node.false)
     (unlinking c.args.moving c.slot_of-child.ensures c.unlink_left.ensures.told.before.tells
-    (passes_old_right (passes_old_mark a c.mark.ensures.told) c.locked_load-right.ensures.told)) c.unlink_left.ensures.told).0
+    (passes (passes a refl c.mark.ensures.told) refl c.locked_load-right.ensures.told)) c.unlink_left.ensures.told).0
 
 pub returns-then-successor-node-clause-locked : goal.returns-then-successor-node-clause-locked
 returns-then-successor-node-clause-locked g c =
     same_locks (c.settle_side.ensures.same).locked
     (passes_unlink_copy (eq-eqb c.args.moving.successor.parent c.args.moving.node.node c.if-successor-node.true)
     (unlinking c.args.moving c.slot_of-child.ensures c.unlink_right.ensures.told.before.tells
-    (passes_old_right
-    (passes_old_mark (c.requires.at).2 c.mark.ensures.told) c.locked_load-right.ensures.told)) c.unlink_right.ensures.told).1
+    (passes
+    (passes (c.requires.at).2 refl c.mark.ensures.told) refl c.locked_load-right.ensures.told)) c.unlink_right.ensures.told).1
 
 pub returns-clause-locked : goal.returns-clause-locked
 returns-clause-locked g c = same_locks (c.settle_side-2.ensures.same).locked
     (passes_unlink_parent (ne_eqb c.args.moving.successor.parent c.args.moving.node.node c.if-successor-node.false)
     (unlinking c.args.moving c.slot_of-child.ensures c.unlink_left.ensures.told.before.tells
-    (passes_old_right
-    (passes_old_mark (c.requires.at).2 c.mark.ensures.told) c.locked_load-right.ensures.told)) c.unlink_left.ensures.told).1
+    (passes
+    (passes (c.requires.at).2 refl c.mark.ensures.told) refl c.locked_load-right.ensures.told)) c.unlink_left.ensures.told).1
 
 pub returns-then-successor-node-clause-gone : goal.returns-then-successor-node-clause-gone
 returns-then-successor-node-clause-gone g c =

@@ -1,26 +1,27 @@
+use Rattle.std.proofs.Common.{refl}
 use Rattle.seat_table.specs.Seats.{shape_of}
-use Rattle.tree_points.proofs.Updates.{needs_parent_life, needs_node_life, needs_node_left, needs_node_right, passes_parent_life, passes_node_life, passes_node_left}
+use Rattle.tree_points.proofs.Passing.{needs, passes}
 use Rattle.citrus_tree.proofs.DeleteSearches.{node_loaded}
 use Rattle.citrus_tree.proofs.DeleteUpdates.{loads_on, loads_search_load}
 use Rattle.citrus_tree.proofs.delete.target.load_node.Goals as goal
 
 pub search_load-parent_life-requires-clause-asks : goal.search_load-parent_life-requires-clause-asks
-search_load-parent_life-requires-clause-asks g c = needs_parent_life (c.requires.at).2
+search_load-parent_life-requires-clause-asks g c = needs (c.requires.at).2 refl
 
 pub search_load-life-requires-clause-asks : goal.search_load-life-requires-clause-asks
 search_load-life-requires-clause-asks g c =
-    needs_node_life (passes_parent_life (c.requires.at).2 c.search_load-parent_life.ensures.told)
+    needs (passes (c.requires.at).2 refl c.search_load-parent_life.ensures.told) refl
 
 pub search_load-left-requires-clause-asks : goal.search_load-left-requires-clause-asks
 search_load-left-requires-clause-asks g c =
-    needs_node_left (passes_node_life (passes_parent_life
-    (c.requires.at).2 c.search_load-parent_life.ensures.told) c.search_load-life.ensures.told)
+    needs (passes (passes
+    (c.requires.at).2 refl c.search_load-parent_life.ensures.told) refl c.search_load-life.ensures.told) refl
 
 pub search_load-right-requires-clause-asks : goal.search_load-right-requires-clause-asks
 search_load-right-requires-clause-asks g c =
-    needs_node_right (passes_node_left (passes_node_life
-    (passes_parent_life
-    (c.requires.at).2 c.search_load-parent_life.ensures.told) c.search_load-life.ensures.told) c.search_load-left.ensures.told)
+    needs (passes (passes
+    (passes
+    (c.requires.at).2 refl c.search_load-parent_life.ensures.told) refl c.search_load-life.ensures.told) refl c.search_load-left.ensures.told) refl
 
 pub returns-clause-at : goal.returns-clause-at
 returns-clause-at g c =

@@ -1,12 +1,13 @@
+use Rattle.std.proofs.Common.{refl}
 use Rattle.seat_table.specs.Seats.{shape_of}
-use Rattle.tree_points.proofs.Updates.{needs_successor_life}
+use Rattle.tree_points.proofs.Passing.{needs}
 use Rattle.citrus_tree.proofs.DeleteSearches.{successor_loaded}
 use Rattle.citrus_tree.proofs.DeleteUpdates.{loads_on, loads_search_load}
 use Rattle.citrus_tree.proofs.delete.target.load_successor.Goals as goal
 
 pub search_load-life-requires-clause-asks : goal.search_load-life-requires-clause-asks
 search_load-life-requires-clause-asks g c =
-    needs_successor_life (c.load_above-parent_generation.ensures.at _ _ (c.requires.at).2)
+    needs (c.load_above-parent_generation.ensures.at _ _ (c.requires.at).2) refl
 
 pub returns-clause-at : goal.returns-clause-at
 returns-clause-at g c = λ op kept a.
