@@ -14,6 +14,7 @@ use Rattle.core_state.specs.Views.{known_in, known_of, LoadedGeneration, noting}
 use Rattle.core_state.specs.Links.{after_replace}
 use Rattle.core_state.specs.Steps.{new_lock, leaving}
 use Rattle.core_laws.proofs.Acting.{commit_is, section_is, may_update}
+use Rattle.core_state.specs.declared.act.Part.TheVariants as part
 use Rattle.core_points.specs.declared.stage.Last.TheVariants as last
 use Rattle.core_points.specs.declared.stage.Stage.{Stage}
 use Rattle.core_points.specs.declared.stage.Stage.TheVariants as at

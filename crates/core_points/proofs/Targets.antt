@@ -28,7 +28,7 @@ use Rattle.core_points.specs.DeleteFacts.{ReadsParent, AreGot, BothHold, FewHold
 use Rattle.core_points.specs.Fits.{Fits, IsGiven, GoesOn}
 use Rattle.core_points.proofs.DeleteSearches.{lacks_child, has_children}
 use Rattle.core_points.proofs.Locks.{no_slots, clear_changed, each_more, IsClear, word_held, one_more, held_still, none_in}
-use Rattle.core_points.proofs.Notes.{owns_more, owns_noted, quiet_unlocking, fits, quiet_noted, quiet_calm, quiet_hand, part_loadable}
+use Rattle.core_points.proofs.Notes.{owns_more, owns_noted, quiet_unlocking, fits, quiet_noted, quiet_calm, quiet_hand}
 use Rattle.core_points.proofs.Links.{both_true}
 use Rattle.core_laws.proofs.Locks.{length_change}
 use Rattle.core_points.specs.declared.stage.Last.TheVariants as last
