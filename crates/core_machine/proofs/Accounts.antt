@@ -22,10 +22,10 @@ use Rattle.prcu_marks.proofs.Callers.{HasTold, IsSettled, MayStandBesideBy-longe
 use Rattle.core_state.specs.declared.shape.Shape.{Shape}
 use Rattle.core_state.specs.declared.view.Section.{Section}
 use Rattle.core_state.specs.declared.view.View.{View}
-use Rattle.core_points.specs.declared.stage.Aim.TheVariants.{Leaf, Spare, Room as ForRoom}
+use Rattle.core_points.specs.declared.stage.Aim.TheVariants.{Leaf}
 use Rattle.core_points.specs.declared.stage.Last.TheVariants as last
 use Rattle.core_points.specs.declared.stage.Update.TheVariants as update
-use Rattle.core_points.specs.declared.stage.Waits.TheVariants.{Reuse, Move}
+use Rattle.core_points.specs.declared.stage.Waits.TheVariants.{Reuse}
 use Rattle.core_points.specs.declared.stage.Stage.{Stage}
 use Rattle.core_points.specs.declared.stage.Stage.TheVariants as at
 use Rattle.core_state.specs.Acts.{noted}
@@ -208,93 +208,19 @@ position_of (moving number next) = Some number
 position_of _ = None
 
 untold_is : (stage : Stage) → untold stage ≡ position_of (phase stage)
-untold_is at.Finished = refl
-untold_is at.EnterClock = refl
-untold_is (at.EnterKey clock) = refl
-untold_is (at.EnterStamp clock) = refl
-untold_is (at.AtLink s b) = refl
-untold_is (at.AtKey s p b) = refl
-untold_is (at.Leave next) = refl
-untold_is (at.Value s) = refl
-untold_is (at.SpotTag s b) = refl
-untold_is (at.SpotLife s b tag) = refl
-untold_is (at.LeafField spot i) = refl
-untold_is (at.LeafLock spot) = refl
-untold_is (at.LeafLife spot) = refl
-untold_is (at.LeafSide spot life) = refl
-untold_is (at.LeafTag spot life link) = refl
 untold_is (at.Reserve (Leaf spot) expected) = refl
-untold_is (at.Reserve Spare expected) = refl
-untold_is (at.Reserve ForRoom expected) = refl
 untold_is (at.Seize (Leaf spot)) = refl
-untold_is (at.Seize Spare) = refl
-untold_is (at.Seize ForRoom) = refl
 untold_is (at.Age (Leaf spot) s) = refl
-untold_is (at.Age Spare s) = refl
-untold_is (at.Age ForRoom s) = refl
-untold_is (at.Keep s) = refl
-untold_is at.Raise = refl
-untold_is at.Free = refl
-untold_is at.Count = refl
 untold_is (at.Begin (Reuse (Leaf spot))) = refl
-untold_is (at.Begin (Reuse Spare)) = refl
-untold_is (at.Begin (Reuse ForRoom)) = refl
-untold_is (at.Begin (Move m)) = refl
 untold_is (at.LookKey (Reuse (Leaf spot)) clock p) = refl
-untold_is (at.LookKey (Reuse Spare) clock p) = refl
-untold_is (at.LookKey (Reuse ForRoom) clock p) = refl
-untold_is (at.LookKey (Move m) clock p) = refl
 untold_is (at.LookStamp (Reuse (Leaf spot)) clock p key) = refl
-untold_is (at.LookStamp (Reuse Spare) clock p key) = refl
-untold_is (at.LookStamp (Reuse ForRoom) clock p key) = refl
-untold_is (at.LookStamp (Move m) clock p key) = refl
 untold_is (at.OldAge (Leaf spot)) = refl
-untold_is (at.OldAge Spare) = refl
-untold_is (at.OldAge ForRoom) = refl
 untold_is (at.OldRaise (Leaf spot) life) = refl
-untold_is (at.OldRaise Spare life) = refl
-untold_is (at.OldRaise ForRoom life) = refl
 untold_is (at.OldFree (Leaf spot)) = refl
-untold_is (at.OldFree Spare) = refl
-untold_is (at.OldFree ForRoom) = refl
 untold_is (at.OldCount (Leaf spot)) = refl
-untold_is (at.OldCount Spare) = refl
-untold_is (at.OldCount ForRoom) = refl
-untold_is (at.Commit u expected) = refl
-untold_is (at.Store u front) = refl
 untold_is (at.Even (update.Leaf spot) front) = refl
-untold_is (at.Even (update.Value s old) front) = refl
-untold_is (at.Even (update.Bypass d child) front) = refl
-untold_is (at.Even (update.Copy d u next_key copy) front) = refl
 untold_is (at.Unlock last.Again) = refl
-untold_is (at.Unlock (last.New number)) = refl
-untold_is (at.Unlock (last.Gone number)) = refl
-untold_is (at.Unlock (last.Was value number)) = refl
-untold_is (at.SetLife s) = refl
-untold_is (at.SetLock s generation) = refl
-untold_is (at.SetCheck s generation) = refl
-untold_is (at.SetValue s) = refl
-untold_is (at.ParentLife p b d) = refl
-untold_is (at.NodeLife d) = refl
-untold_is (at.NodeLeft d) = refl
-untold_is (at.NodeRight d) = refl
-untold_is (at.SuccessorLeft d u) = refl
-untold_is (at.SuccessorParentLife d u) = refl
-untold_is (at.SuccessorLife d u) = refl
-untold_is (at.TargetLock t i) = refl
-untold_is (at.TargetLoad t i found) = refl
-untold_is (at.Mark d child) = refl
-untold_is (at.EmptyTag number s b) = refl
-untold_is (at.EmptyRaise number s b tag) = refl
-untold_is (at.SuccessorKey d u) = refl
-untold_is (at.SuccessorValue d u next_key) = refl
-untold_is (at.CopyField d u next_key value i) = refl
-untold_is (at.CopyAge d u next_key) = refl
-untold_is (at.CopyLock d u next_key) = refl
-untold_is (at.CopyMark d u next_key) = refl
-untold_is (at.OldMark m) = refl
-untold_is (at.OldRight m) = refl
-untold_is (at.Unlink m child) = refl
+untold_is _ = refl
 
 module _ (room : Room) (i : ℕ) (script : List Op) (o : Own) (section : Opt Section) (h : List Mark)
     (t : Tells room i script o section h) where

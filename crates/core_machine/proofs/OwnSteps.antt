@@ -117,15 +117,7 @@ module _ (o : Own) (v : View) where
   says (at.Value s) f = inside (in_value s) ((f.point).0).bare.turn_is
   says (at.SpotTag s b) f = inside (in_spot_tag s b) ((f.point).0).bare.turn_is
   says (at.SpotLife s b tag) f = inside (in_spot_life s b tag) ((f.point).0).bare.turn_is
-  says (at.LeafField spot i) f = aside refl (f.point).outside (f.point).bare.turn_is
-  says (at.LeafLock spot) f = aside refl (f.point).outside (f.point).bare.turn_is
-  says (at.LeafLife spot) f = aside refl (f.point).outside (f.point).bare.turn_is
-  says (at.LeafSide spot l) f = aside refl (f.point).outside (f.point).bare.turn_is
-  says (at.LeafTag spot l link) f = aside refl (f.point).outside (f.point).bare.turn_is
   says (at.Reserve aim e) f = aside refl (f.point).idle.outside (f.point).idle.bare.turn_is
-  says (at.Seize aim) f = aside refl (f.point).outside (f.point).bare.turn_is
-  says (at.Age aim s) f = aside refl (f.point).outside (f.point).bare.turn_is
-  says (at.Keep s) f = aside refl (f.point).outside (f.point).bare.turn_is
   says at.Raise f = aside refl (f.point).0 ((f.point).2).bare.turn_is
   says at.Free f = aside refl (f.point).0 ((f.point).1).turn_is
   says at.Count f = aside refl ((f.point).0).outside ((f.point).0).no_turn
@@ -169,6 +161,7 @@ module _ (o : Own) (v : View) where
   says (at.OldMark m) f = aside refl ((f.point).0).outside ((f.point).0).turn_is
   says (at.OldRight m) f = aside refl ((f.point).0).outside ((f.point).0).turn_is
   says (at.Unlink m child) f = aside refl ((f.point).0).outside ((f.point).0).turn_is
+  says _ f = aside refl (f.point).outside (f.point).bare.turn_is
 
 -- whoever has an open section is at a point in it, and whoever has the front at a point with it
 pub section_points : (stage : Stage) (v : View) (section : Section) → v.section ≡ Some section → Says stage v → InSection stage
@@ -186,19 +179,7 @@ front_points stage v commit is (aside other outside turn) = absurd (let e : None
 -- nobody at these points has ended its script
 pub section_goes : (stage : Stage) → InSection stage → is_finished stage ≡ false
 section_goes stage (in_link s b) = refl
-section_goes stage (in_key s p b) = refl
-section_goes stage (in_leave later) = refl
-section_goes stage (in_value s) = refl
-section_goes stage (in_spot_tag s b) = refl
-section_goes stage (in_spot_life s b tag) = refl
-section_goes stage (in_set_life s) = refl
-section_goes stage (in_parent_life p b d) = refl
-section_goes stage (in_node_life d) = refl
-section_goes stage (in_node_left d) = refl
-section_goes stage (in_node_right d) = refl
-section_goes stage (in_successor_left d u) = refl
-section_goes stage (in_successor_parent_life d u) = refl
-section_goes stage (in_successor_life d u) = refl
+section_goes stage _ = refl
 
 -- A caller at a point, its next step, and the steps of others between: what each step of its own brings nearer comes.
 

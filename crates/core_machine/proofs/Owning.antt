@@ -368,64 +368,13 @@ commit_stays false odd x n why e = refl
 
 stays_at : (o : Own) (n : ℕ) (stage : Stage) (why : Why) → blocked o (said_by (access_of o.place (act_at o stage)) n) stage ≡ Some why
     → left_by (access_of o.place (act_at o stage)) n ≡ n
-stays_at o n at.Finished why e = cc
-stays_at o n at.EnterClock why e = cc
-stays_at o n (at.EnterKey clock) why e = cc
-stays_at o n (at.EnterStamp clock) why e = cc
-stays_at o n (at.AtLink s b) why e = cc
-stays_at o n (at.AtKey s parent b) why e = cc
-stays_at o n (at.Leave next) why e = cc
-stays_at o n (at.Value s) why e = cc
-stays_at o n (at.SpotTag s b) why e = cc
-stays_at o n (at.SpotLife s b tag) why e = cc
-stays_at o n (at.LeafField spot i) why e = cc
 stays_at o n (at.LeafLock spot) why e = lock_stays spot.slot (o.place + 1) n why e
-stays_at o n (at.LeafLife spot) why e = cc
-stays_at o n (at.LeafSide spot life) why e = cc
-stays_at o n (at.LeafTag spot life link) why e = cc
-stays_at o n (at.Reserve aim expected) why e = cc
-stays_at o n (at.Seize aim) why e = cc
-stays_at o n (at.Age aim s) why e = cc
-stays_at o n (at.Keep s) why e = cc
-stays_at o n at.Raise why e = cc
-stays_at o n at.Free why e = cc
-stays_at o n at.Count why e = cc
-stays_at o n (at.Begin waits) why e = cc
-stays_at o n (at.LookKey waits clock p) why e = cc
 stays_at o n (at.LookStamp waits clock p key) why e = refl
-stays_at o n (at.OldAge aim) why e = cc
-stays_at o n (at.OldRaise aim life) why e = cc
-stays_at o n (at.OldFree aim) why e = cc
-stays_at o n (at.OldCount aim) why e = cc
 stays_at o n (at.Commit update expected) why e = commit_stays (n == expected) (n % 2 == 1) (expected + 1) n why e
-stays_at o n (at.Store update front) why e = cc
-stays_at o n (at.Even update front) why e = cc
-stays_at o n (at.Unlock last) why e = cc
-stays_at o n (at.SetLife s) why e = cc
 stays_at o n (at.SetLock s generation) why e = lock_stays s (o.place + 1) n why e
-stays_at o n (at.SetCheck s generation) why e = cc
-stays_at o n (at.SetValue s) why e = cc
-stays_at o n (at.ParentLife p b d) why e = cc
-stays_at o n (at.NodeLife d) why e = cc
-stays_at o n (at.NodeLeft d) why e = cc
-stays_at o n (at.NodeRight d) why e = cc
-stays_at o n (at.SuccessorLeft d u) why e = cc
-stays_at o n (at.SuccessorParentLife d u) why e = cc
-stays_at o n (at.SuccessorLife d u) why e = cc
 stays_at o n (at.TargetLock t i) why e = lock_stays (target_lock t i) (o.place + 1) n why e
-stays_at o n (at.TargetLoad t i found) why e = cc
-stays_at o n (at.Mark d child) why e = cc
-stays_at o n (at.EmptyTag number s b) why e = cc
-stays_at o n (at.EmptyRaise number s b tag) why e = cc
-stays_at o n (at.SuccessorKey d u) why e = cc
-stays_at o n (at.SuccessorValue d u next_key) why e = cc
-stays_at o n (at.CopyField d u next_key value i) why e = cc
-stays_at o n (at.CopyAge d u next_key) why e = cc
 stays_at o n (at.CopyLock d u next_key) why e = lock_stays (or_root o.spare) (o.place + 1) n why e
-stays_at o n (at.CopyMark d u next_key) why e = cc
-stays_at o n (at.OldMark m) why e = cc
-stays_at o n (at.OldRight m) why e = cc
-stays_at o n (at.Unlink m child) why e = cc
+stays_at o n _ why e = cc
 
 no_end : (why : Opt Why) → stepped_of why ≡ Finished → {C : Type 0} → C
 no_end None e = cc

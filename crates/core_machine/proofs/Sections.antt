@@ -22,7 +22,7 @@ use Rattle.core_state.specs.declared.words.Field.TheVariants.{Key, Link}
 use Rattle.core_state.specs.Memory.{Memory, slot_count, step_side, flag}
 use Rattle.core_state.specs.Steps.{linked_on, loaded, walked, walking}
 use Rattle.core_frames.proofs.Views.{way_once, way_short, link_moves}
-use Rattle.core_laws.proofs.Searches.{Outcome, outcome, stays, ended, hopped, turned, found, valued, began, went_on}
+use Rattle.core_laws.proofs.Searches.{Outcome, outcome, stays}
 use Rattle.core_laws.proofs.Acting.{section_is}
 use Rattle.core_state.specs.Acts.{access_of, in_slot, section_of}
 use Rattle.core_state.specs.declared.act.Act.TheVariants.{SearchLoad}
@@ -38,7 +38,7 @@ use Rattle.core_points.specs.Laws.{is_finished}
 use Rattle.core_machine.specs.Runs.{Core, core, shape_of, step}
 use Rattle.core_machine.proofs.Running.{is_told}
 use Rattle.core_machine.specs.Laws.{Comes, IsAnswered, IsOutside, SectionsAreLeft, SectionsStandOnce, alone, GetsAnswer, GetsAreWaitFree, is_getting}
-use Rattle.core_machine.proofs.OwnSteps.{At, Going, at_stage, comes, core_goes, fits, goes, next, own_of, so, stays_at, view_by, Entering, InSection, enter_clock, enter_key, enter_stamp, in_key, in_leave, in_link, in_node_left, in_node_life, in_node_right, in_parent_life, in_set_life, in_spot_life, in_spot_tag, in_successor_left, in_successor_life, in_successor_parent_life, in_value, says, section_points, view_of, Says, WithFront, aside, enters, evening, has_front, inside, storing}
+use Rattle.core_machine.proofs.OwnSteps.{At, Going, at_stage, comes, core_goes, fits, next, own_of, so, stays_at, view_by, Entering, InSection, enter_clock, enter_key, enter_stamp, in_key, in_leave, in_link, in_node_left, in_node_life, in_node_right, in_parent_life, in_set_life, in_spot_life, in_spot_tag, in_successor_left, in_successor_life, in_successor_parent_life, in_value, says, section_points, view_of, Says, WithFront, aside, enters, evening, has_front, inside, storing}
 use Rattle.core_state.specs.declared.act.Part.TheVariants as part
 use Rattle.core_points.specs.declared.stage.Stage.TheVariants as at
 use Rattle.core_points.specs.declared.stage.Then.TheVariants as then
@@ -81,19 +81,7 @@ to_leave op n stood _ = 0
 
 some_to_leave : (op : Op) (n stood : ℕ) (stage : Stage) → InSection stage → 1 ≤ to_leave op n stood stage
 some_to_leave op n stood stage (in_link s b) = omega arith
-some_to_leave op n stood stage (in_key s p b) = omega arith
-some_to_leave op n stood stage (in_leave later) = omega arith
-some_to_leave op n stood stage (in_value s) = omega arith
-some_to_leave op n stood stage (in_spot_tag s b) = omega arith
-some_to_leave op n stood stage (in_spot_life s b tag) = omega arith
-some_to_leave op n stood stage (in_set_life s) = omega arith
-some_to_leave op n stood stage (in_parent_life p b d) = omega arith
-some_to_leave op n stood stage (in_node_life d) = omega arith
-some_to_leave op n stood stage (in_node_left d) = omega arith
-some_to_leave op n stood stage (in_node_right d) = omega arith
-some_to_leave op n stood stage (in_successor_left d u) = omega arith
-some_to_leave op n stood stage (in_successor_parent_life d u) = omega arith
-some_to_leave op n stood stage (in_successor_life d u) = omega arith
+some_to_leave op n stood stage _ = omega arith
 
 some_to_enter : (op : Op) (n stood : ℕ) (stage : Stage) → Entering stage → 1 ≤ n → 1 ≤ to_leave op n stood stage
 some_to_enter op n stood stage enter_clock one = omega arith
@@ -109,30 +97,13 @@ few_after (Del key) = omega arith
 most_to_leave : (op : Op) (n stood : ℕ) (stage : Stage) → InSection stage → to_leave op n stood stage ≤ 2 * n + 10
 most_to_leave op n stood stage (in_link s b) = let few = few_after op in omega (arith, few)
 most_to_leave op n stood stage (in_key s p b) = let few = few_after op in omega (arith, few)
-most_to_leave op n stood stage (in_leave later) = omega arith
-most_to_leave op n stood stage (in_value s) = omega arith
-most_to_leave op n stood stage (in_spot_tag s b) = omega arith
-most_to_leave op n stood stage (in_spot_life s b tag) = omega arith
-most_to_leave op n stood stage (in_set_life s) = omega arith
-most_to_leave op n stood stage (in_parent_life p b d) = omega arith
-most_to_leave op n stood stage (in_node_life d) = omega arith
-most_to_leave op n stood stage (in_node_left d) = omega arith
-most_to_leave op n stood stage (in_node_right d) = omega arith
-most_to_leave op n stood stage (in_successor_left d u) = omega arith
-most_to_leave op n stood stage (in_successor_parent_life d u) = omega arith
-most_to_leave op n stood stage (in_successor_life d u) = omega arith
+most_to_leave op n stood stage _ = omega arith
 
 -- ---- what a load adds to the slots at which a section stood
 
 grown_by : (m : Memory) (r : Reading) (field : Field) (to : Reading) → Outcome m r field to → length r.stood ≤ length to.stood
 grown_by m r field to stays = omega arith
-grown_by m r field to (ended e empty) = omega arith
-grown_by m r field to (hopped e link nz) = omega arith
-grown_by m r field to (turned e is_key goes) = omega arith
-grown_by m r field to (found e is_key here) = omega arith
-grown_by m r field to (valued e is) = omega arith
-grown_by m r field to (began e none link nz) = omega arith
-grown_by m r field to (went_on e on link nz) = omega arith
+grown_by m r field to _ = omega arith
 
 grown : (m : Memory) (r : Reading) (field : Field) → length r.stood ≤ length (loaded r field (m field)).stood
 grown m r field = grown_by m r field (loaded r field (m field)) (outcome m r field)
@@ -521,16 +492,7 @@ most_of_get x n stood stage gets (inr (in_link s b)) = omega arith
 most_of_get x n stood stage gets (inr (in_key s p b)) = omega arith
 most_of_get x n stood stage gets (inr (in_leave later)) = omega arith
 most_of_get x n stood stage gets (inr (in_value s)) = omega arith
-most_of_get x n stood stage gets (inr (in_spot_tag s b)) = absurd (cc)
-most_of_get x n stood stage gets (inr (in_spot_life s b tag)) = absurd (cc)
-most_of_get x n stood stage gets (inr (in_set_life s)) = absurd (cc)
-most_of_get x n stood stage gets (inr (in_parent_life p b d)) = absurd (cc)
-most_of_get x n stood stage gets (inr (in_node_life d)) = absurd (cc)
-most_of_get x n stood stage gets (inr (in_node_left d)) = absurd (cc)
-most_of_get x n stood stage gets (inr (in_node_right d)) = absurd (cc)
-most_of_get x n stood stage gets (inr (in_successor_left d u)) = absurd (cc)
-most_of_get x n stood stage gets (inr (in_successor_parent_life d u)) = absurd (cc)
-most_of_get x n stood stage gets (inr (in_successor_life d u)) = absurd (cc)
+most_of_get x n stood stage gets _ = absurd (cc)
 
 pub gets_are_wait_free : GetsAreWaitFree
 gets_are_wait_free scripts slots callers more i x o m there op_is gets many =

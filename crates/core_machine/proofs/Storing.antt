@@ -27,7 +27,8 @@ use Rattle.core_points.specs.Laws.{IsTold, is_finished}
 use Rattle.core_points.specs.Fits.{Fits}
 use Rattle.seat_table.specs.Gains.{WordFits}
 use Rattle.core_machine.specs.Stored.{IsAble, MayStore}
-use Rattle.core_machine.proofs.Running.{same_table, IsRun, moves, core_runs, step_is, is_told, has_its_word, needs_met, stays_word}
+use Rattle.core_points.proofs.Calls.{OfTable, keeps_call}
+use Rattle.core_machine.proofs.Running.{IsRun, moves, core_runs, step_is, is_told, has_its_word, needs_met, stays_word}
 use mathlib.Core.Option.{some}
 use lib.ListN.{get_elem?}
 use Rattle.atomic_table.proofs.Lists.{set_here}
@@ -95,9 +96,9 @@ module _ (k : Shape) (shape : IsShape k) (o : Own) (v w : View) (h h' : List Mar
   -- a slot of the next caller's table is a number of 32 bits
   small : (n : ℕ) (stage : Stage) (s : ℕ) → s < table_of (after o n stage) → s < 2 ^ 32
   small n stage s below =
-      let same = same_table o n stage in
-      let a : (after o n stage).slots ≡ o.slots = ap (λ (t : ℕ × ℕ × ℕ × ℕ). t.1) same in
-      let b : (after o n stage).places ≡ o.places = ap (λ (t : ℕ × ℕ × ℕ × ℕ). t.2) same in
+      let same = (keeps_call o n stage).0 in
+      let a : (after o n stage).slots ≡ o.slots = ap (λ (t : OfTable). t.slots) same in
+      let b : (after o n stage).places ≡ o.places = ap (λ (t : OfTable). t.places) same in
       let few_slots = shape.few_slots in
       let few_places = shape.few_places in
       omega arith
@@ -257,21 +258,16 @@ behind slots places =
     slot_base + half * n + half * n + n + room_behind n
 
 same_word : (k l : Shape) → k.slots ≡ l.slots → k.places ≡ l.places → (field : Field) → word_of k field ≡ word_of l field
-same_word k l slots places fields.Clock = refl
-same_word k l slots places fields.Front = refl
-same_word k l slots places fields.Free = refl
 same_word k l slots places (fields.Announced p) = λ i. behind (slots i) (places i) + place_room * p
 same_word k l slots places (fields.Stamp p) = λ i. behind (slots i) (places i) + place_room * p + 1
 same_word k l slots places (fields.Gate c) = λ i. behind (slots i) (places i) + class_room * c
 same_word k l slots places (fields.Count c side) = λ i. behind (slots i) (places i) + class_room * c + 1 + side
 same_word k l slots places (fields.Row p c) = λ i. behind (slots i) (places i) + row_room * p + c
 same_word k l slots places (fields.State s) = λ i. slot_base + half * (slots i + places i + 1) + half * (slots i + places i + 1) + s
-same_word k l slots places (fields.Key s) = refl
-same_word k l slots places (fields.Value s) = refl
-same_word k l slots places (fields.Link s b) = refl
 same_word k l slots places (fields.Lock s) = λ i. slot_base + half * (slots i + places i + 1) + half * s
 same_word k l slots places (fields.Life s) = λ i. slot_base + half * (slots i + places i + 1) + half * s + 1
 same_word k l slots places (fields.Tag s b) = λ i. slot_base + half * (slots i + places i + 1) + half * s + side_number b
+same_word k l slots places _ = refl
 
 -- the shape of a caller's table, but for the tickets
 untold_tickets : Shape → Shape
@@ -280,20 +276,7 @@ untold_tickets k = record { waiter = k.waiter; slots = k.slots; places = k.place
 same_is_field : (k : Shape) (field : Field) → is_field k field
     ≡ is_field (record { waiter = k.waiter; slots = k.slots; places = k.places; room = k.room; tickets = 0 }) field
 same_is_field k fields.Clock = refl
-same_is_field k fields.Front = refl
-same_is_field k fields.Free = refl
-same_is_field k (fields.Announced p) = refl
-same_is_field k (fields.Stamp p) = refl
-same_is_field k (fields.Gate c) = refl
-same_is_field k (fields.Count c side) = refl
-same_is_field k (fields.Row p c) = refl
-same_is_field k (fields.State s) = refl
-same_is_field k (fields.Lock s) = refl
-same_is_field k (fields.Life s) = refl
-same_is_field k (fields.Key s) = refl
-same_is_field k (fields.Value s) = refl
-same_is_field k (fields.Link s b) = refl
-same_is_field k (fields.Tag s b) = refl
+same_is_field k _ = refl
 
 -- ---- one step
 

@@ -532,8 +532,6 @@ module _ (k : Shape) (m : Memory) (vs : List View) (h : List Mark) (i : ℕ) (o 
     -- one step at any point
     pub turn : (stage : Stage) → is_finished stage ≡ false → Fits o stage v → Before stage → After stage
     turn at.Finished going f t = absurd (cc)
-    turn at.EnterClock going f t = quiet at.EnterClock t refl (λ e. absurd (cc)) _ _ (refl, refl, inl refl)
-    turn (at.EnterKey clock) going f t = quiet (at.EnterKey clock) t refl (λ e. absurd (cc)) _ _ (refl, refl, inl refl)
     turn (at.EnterStamp clock) going f t = enters clock t f
     turn (at.AtLink s b) going f t =
         let n : ℕ = m (Link s b) in
@@ -560,8 +558,6 @@ module _ (k : Shape) (m : Memory) (vs : List View) (h : List Mark) (i : ℕ) (o 
         (refl, refl, inl refl))
     turn (at.LeafLock spot) going f t = quiet (at.LeafLock spot) t refl
         (λ e. absurd (cc)) _ _ (lock_next (go o (at.LeafLock spot)) o spot.slot (m (Lock spot.slot)) (at.LeafLife spot) refl refl refl)
-    turn (at.LeafLife spot) going f t = quiet (at.LeafLife spot) t refl (λ e. absurd (cc)) _ _ (refl, refl, inl refl)
-    turn (at.LeafSide spot life) going f t = quiet (at.LeafSide spot life) t refl (λ e. absurd (cc)) _ _ (refl, refl, inl refl)
     turn (at.LeafTag spot life link) going f t =
         let n : ℕ = m (Tag spot.slot spot.side) in
         let holds : Bool = (life == 2 * spot.generation) && ((link == 0) && (n == spot.tag)) in
@@ -574,10 +570,6 @@ module _ (k : Shape) (m : Memory) (vs : List View) (h : List Mark) (i : ℕ) (o 
         calm (at.Seize aim) t refl (aim_outside aim) _ (seize_adds i (key_now o) _ v place o.scan (n == 0)) _ _ (either_next
         (go o (at.Seize aim)) (aiming aim) (n == 0) _ _ (refl, refl, inl refl) (refl, refl, inl refl))
     turn (at.Age (Leaf spot) s) going f t = quiet (at.Age (Leaf spot) s) t refl (λ e. absurd (cc)) _ _ (refl, refl, inl refl)
-    turn (at.Age Spare s) going f t = quiet (at.Age Spare s) t refl (λ e. absurd (cc)) _ _ (refl, refl, inl refl)
-    turn (at.Age ForRoom s) going f t = quiet (at.Age ForRoom s) t refl (λ e. absurd (cc)) _ _ (refl, refl, inl refl)
-    turn (at.Keep s) going f t = quiet (at.Keep s) t refl (λ e. absurd (cc)) _ _ (refl, refl, inl refl)
-    turn at.Raise going f t = quiet at.Raise t refl (λ e. absurd (cc)) _ _ (refl, refl, inl refl)
     turn at.Free going f t = calm at.Free t refl (λ e. absurd (cc)) _ (no_marks i (key_now o) _ _ refl) _ _ (refl, refl, inl refl)
     turn at.Count going f t = present_answers t (record o { free = m Free + 1 }) refl _
     turn (at.Begin waits) going f t = begins waits t (m Clock) v.counts.waits _
@@ -611,16 +603,10 @@ module _ (k : Shape) (m : Memory) (vs : List View) (h : List Mark) (i : ℕ) (o 
         quiet (at.Commit u expected) t refl (λ e. absurd (cc)) _ _ (either_next (go o (at.Commit u expected)) outside
         (n == expected) _ _ (refl, refl, inl refl) (refl, refl, inl refl))
     turn (at.Store u front) going f t = store_turn u front f t
-    turn (at.Even (update.Leaf spot) front) going f t =
-        quiet (at.Even (update.Leaf spot) front) t refl (λ e. absurd (cc)) _ _ (refl, refl, inl refl)
-    turn (at.Even (update.Value s old) front) going f t =
-        quiet (at.Even (update.Value s old) front) t refl (λ e. absurd (cc)) _ _ (refl, refl, inl refl)
     turn (at.Even (update.Bypass d child) front) going f t =
         quiet (at.Even (update.Bypass d child) front) t refl
         (λ e. absurd (cc)) _ _ (stage_next (go o (at.Even (update.Bypass d child) front)) (made ((front + 2) / 2) Gone)
         (record o { front = front + 2 }) (child == 0) _ _ (refl, refl, inl refl) (refl, refl, inl refl))
-    turn (at.Even (update.Copy d u next_key copy) front) going f t =
-        quiet (at.Even (update.Copy d u next_key copy) front) t refl (λ e. absurd (cc)) _ _ (refl, refl, inl refl)
     turn (at.Unlock l) going f t = unlocks l t _
     turn (at.SetLife s) going f t = loads (at.SetLife s) t refl (f.point.2).2.section (f.point.2).2.is (Life s) (act_at o (at.SetLife s))
         (m (Life s)) _ (refl, refl, inl refl)
@@ -630,7 +616,6 @@ module _ (k : Shape) (m : Memory) (vs : List View) (h : List Mark) (i : ℕ) (o 
         quiet (at.SetCheck s generation) t refl (λ e. absurd (cc))
         (go o (cond (n == 2 * generation) (at.SetValue s) (at.Unlock last.Again))) _ (stage_next (go o (at.SetCheck s generation)) outside o
         (n == 2 * generation) _ _ (refl, refl, inl refl) (refl, refl, inr (refl, refl)))
-    turn (at.SetValue s) going f t = quiet (at.SetValue s) t refl (λ e. absurd (cc)) _ _ (refl, refl, inl refl)
     turn (at.ParentLife p b d) going f t = loads (at.ParentLife p b d) t refl (f.point).2.section (f.point).2.is (Life p)
         (act_at o (at.ParentLife p b d)) (m (Life p)) _ (refl, refl, inl refl)
     turn (at.NodeLife d) going f t = loads (at.NodeLife d) t refl f.point.2.section f.point.2.is (Life d.node) (act_at o (at.NodeLife d))
@@ -660,24 +645,13 @@ module _ (k : Shape) (m : Memory) (vs : List View) (h : List Mark) (i : ℕ) (o 
     turn (at.TargetLoad target j found) going f t =
         quiet (at.TargetLoad target j found) t refl (λ e. absurd (cc)) _ _ (target_next (go o (at.TargetLoad target j found)) o target j
         (with_found found j (m (in_slot (target_slot target j) (target_part target j)))) refl)
-    turn (at.Mark d child) going f t = quiet (at.Mark d child) t refl (λ e. absurd (cc)) _ _ (refl, refl, inl refl)
-    turn (at.EmptyTag number s b) going f t = quiet (at.EmptyTag number s b) t refl (λ e. absurd (cc)) _ _ (refl, refl, inl refl)
-    turn (at.EmptyRaise number s b tag) going f t =
-        quiet (at.EmptyRaise number s b tag) t refl (λ e. absurd (cc)) _ _ (refl, refl, inl refl)
-    turn (at.SuccessorKey d u) going f t = quiet (at.SuccessorKey d u) t refl (λ e. absurd (cc)) _ _ (refl, refl, inl refl)
-    turn (at.SuccessorValue d u next_key) going f t =
-        quiet (at.SuccessorValue d u next_key) t refl (λ e. absurd (cc)) _ _ (refl, refl, inl refl)
     turn (at.CopyField d u next_key value j) going f t =
         quiet (at.CopyField d u next_key value j) t refl
         (λ e. absurd (cc)) _ _ (stage_next (go o (at.CopyField d u next_key value j)) outside o (j == 3) _ _ (refl, refl, inl refl)
         (refl, refl, inl refl))
-    turn (at.CopyAge d u next_key) going f t = quiet (at.CopyAge d u next_key) t refl (λ e. absurd (cc)) _ _ (refl, refl, inl refl)
     turn (at.CopyLock d u next_key) going f t = quiet (at.CopyLock d u next_key) t refl
         (λ e. absurd (cc)) _ _ (lock_next (go o (at.CopyLock d u next_key)) o (or_root o.spare) (m (Lock (or_root o.spare)))
         (at.CopyMark d u next_key) refl refl refl)
-    turn (at.CopyMark d u next_key) going f t = quiet (at.CopyMark d u next_key) t refl (λ e. absurd (cc)) _ _ (refl, refl, inl refl)
-    turn (at.OldMark move) going f t = quiet (at.OldMark move) t refl (λ e. absurd (cc)) _ _ (refl, refl, inl refl)
-    turn (at.OldRight move) going f t = quiet (at.OldRight move) t refl (λ e. absurd (cc)) _ _ (refl, refl, inl refl)
     turn (at.Unlink move child) going f t =
         let a : Act = act_at o (at.Unlink move child) in
         let n : ℕ = said_by (access_of o.place a) (m (field_of o.place a)) in
@@ -687,3 +661,4 @@ module _ (k : Shape) (m : Memory) (vs : List View) (h : List Mark) (i : ℕ) (o 
         (stage_next (go o (at.Unlink move child)) (made move.number Gone) o'
         (child == 0) _ _ (stage_next (go o (at.Unlink move child)) (made move.number Gone) o'
         (move.successor.parent == move.node.node) _ _ (refl, refl, inl refl) (refl, refl, inl refl)) (refl, refl, inl refl))
+    turn stage going f t = quiet stage t refl (λ e. absurd (cc)) _ _ (refl, refl, inl refl)
