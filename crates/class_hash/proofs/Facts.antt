@@ -136,12 +136,12 @@ pub few_readers : {capacities : List ℕ} {places tickets : ℕ} {m : Memory} {v
 few_readers {places = places} {vs = vs} r c = few_count (λ (v : View). v.place) places (λ (v : View). inside_count c v.section) vs
     (λ i j v w a b x y same.
     let s = inside_some c v.section x in let t = inside_some c w.section y in
-    let live = (r.sections.open_here i v s.0 a s.1).0 in let live' = (r.sections.open_here j w t.0 b t.1).0 in
+    let live = (r.sections.open_here i v s.0 a s.1).works in let live' = (r.sections.open_here j w t.0 b t.1).works in
     r.apart.apart i j v.place v w a b (inl (omega arith, omega arith)) (inl (omega arith, omega arith)))
     (λ i v a. (
       inside_one c v.section,
       λ x.
-          let s = inside_some c v.section x in let live = (r.sections.open_here i v s.0 a s.1).0 in
+          let s = inside_some c v.section x in let live = (r.sections.open_here i v s.0 a s.1).works in
           r.apart.within i v v.place a (inl (omega arith, omega arith)),
     ))
 
@@ -464,7 +464,7 @@ module _ (capacities : List ℕ) (v : View) (place : HasPlace v) where
   field_there (act.TakeSlot slot next) d = held_class d.0 d.1.hold_is
   field_there (act.TakeRetired slot) d = held_class d.0 d.1.hold_is
   field_there (act.FreeRetired slot) d = held_class d.0 d.1.hold_is
-  field_there (act.StoreChain slot number) d = field_inside capacities d.0.class (place.held d.0 d.1.0) (Chain slot) d.2
+  field_there (act.StoreChain slot number) d = field_inside capacities d.0.class (place.held d.0 d.1.hold_is) (Chain slot) d.2
   field_there (act.Retire slot) d = held_class d.0 d.2.hold_is
   field_there (act.Fill field number) d = field_inside capacities d.0.class (place.held d.0 d.2.hold_is) field d.3
   field_there (act.OpenCommit even) d = refl

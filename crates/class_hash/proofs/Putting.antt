@@ -17,7 +17,7 @@ use Rattle.hash_core.proofs.SlotLists.{slot_within}
 use Rattle.class_hash.specs.declared.bucket.Poll.TheVariants.{NotYet}
 use Rattle.class_hash.specs.Seats.{TableAt}
 use Rattle.class_hash.specs.Calls.{Told, HasFinished, Lists, MayPoll, Refilled, Polls, polled, AddsNoLists, HasLoaded, KnowsMore, Unlocks}
-use Rattle.class_hash.proofs.Walking.{goes_by, goes_on, known_here, lacks_still, avoids_zero, whole_kept, lacks_kept, adds_none, adds_step, adds_both, loaded_first, loaded_second, knows_second, kept_absent}
+use Rattle.class_hash.proofs.Walking.{goes_by, goes_on, known_here, lacks_still, whole_kept, lacks_kept, adds_none, adds_step, adds_both, loaded_first, loaded_second, knows_second, kept_absent}
 use Rattle.class_hash.specs.Updates.{HasStepped, HasPolled, HasFree, MayFill, Filled, HasTurned, with_update, MayAdd, MayLink, Linked, Added}
 use Rattle.prcu_model.proofs.ListFacts.{prefix_trans}
 use Rattle.prcu_model.specs.declared.operation.Op.TheVariants.{Put}

@@ -10,7 +10,6 @@ use Rattle.prcu_model.specs.declared.operation.Op.TheVariants.{Put, Set, Del, Ge
 use Rattle.prcu_model.specs.declared.operation.Reply.TheVariants.{New, Old, Full, Gone, Was, Val, Absent}
 use Rattle.hash_core.specs.declared.words.Field.TheVariants.{Lock, Free, Retired}
 use Rattle.hash_core.specs.declared.words.Kind.TheVariants.{H7, H9}
-use Rattle.hash_core.specs.declared.view.Section.{Section}
 use Rattle.hash_core.specs.declared.view.Hold.{Hold}
 use Rattle.hash_core.specs.declared.view.StepMade.{StepMade}
 use Rattle.hash_core.specs.declared.view.View.{View}

@@ -12,7 +12,7 @@ use Rattle.hash_core.specs.declared.view.Hold.{Hold}
 use Rattle.prcu_marks.specs.declared.commit.Commit.{Commit}
 use Rattle.hash_core.specs.declared.view.View.{View}
 use Rattle.prcu_marks.specs.Marks.{updates_of, most_front}
-use Rattle.hash_core.specs.Steps.{known_in, knowing, stepped, NeedsUnlock, NeedsReplace, NeedsEven, after_lock, fresh_hold, hold_of, commit_of, LinksTo, NeedsUnlink, NeedsPush}
+use Rattle.hash_core.specs.Steps.{known_in, knowing, stepped, NeedsUnlock, NeedsReplace, NeedsEven, after_lock, fresh_hold, hold_of, commit_of, LinksTo, NeedsUnlink, NeedsPush, NeedsChain}
 use Rattle.hash_core.specs.Memory.{is_slot_of, IsOfClass}
 use Rattle.class_hash.specs.Seats.{TableAt}
 use Rattle.class_hash.specs.Calls.{Told, loads_free, AddsNoLists, HasFinished, Unlocks, HasLoaded, KnowsMore, IsLinkedFrom}
@@ -291,9 +291,8 @@ module _ {table : TableAt} {v : View} {previous : Option ℕ} {slot key : ℕ} (
         unlinked_is : w_cut ≡ unlinked_view
         unlinked_is = goes_on turned_is c
 
-        pub may_chain : (hold : Hold) × ((w_cut.hold ≡ Some hold) × (hold.unlinked ≡ Some slot))
-            × (is_slot_of table.capacities hold.class slot ≡ true)
-        may_chain = (hold_cut, (ap (λ (z : View). z.hold) unlinked_is, refl), may.slot_is)
+        pub may_chain : (hold : Hold) × NeedsChain w_cut hold slot × (is_slot_of table.capacities hold.class slot ≡ true)
+        may_chain = (hold_cut, record { hold_is = ap (λ (z : View). z.hold) unlinked_is; unlinked = refl }, may.slot_is)
 
         module _ {w_chained : View} (d : Told table w_cut (act.StoreChain slot first) first w_chained) where
           abbrev hold_chained : Hold

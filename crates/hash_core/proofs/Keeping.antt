@@ -96,7 +96,7 @@ module _ {capacities : List ℕ} {places tickets : ℕ} {m : Memory} {vs : List 
       leads = bucket_rule.chained.path;
       found = sym (bucket_rule.mapped.answers section.key refl);
     },
-    said_now (updates_of h) section.key section.from (r.sections.open_here opened.id opened.view section opened.there opened.has).2,
+    said_now (updates_of h) section.key section.from (r.sections.open_here opened.id opened.view section opened.there opened.has).since,
   )
   answered (Unread s) w = (seek m section.key (w.olds ++ w.rest), record { path = w.olds ++ w.rest; leads = w.path; found = refl }, w.said)
   answered (Passed s) w =
@@ -474,8 +474,8 @@ module _ {capacities : List ℕ} {places tickets : ℕ} {m : Memory} {vs : List 
       (unmarked a _ _ (kept_by f slot (λ s gone of. of)) (λ us now. law_refill now d.1.hold_is slot (search rules)))
   keeps (act.StoreChain slot number) d =
       let a : Act = act.StoreChain slot number in let u : View = noted v a number in let f = Chain slot in
-      held (λ z. Kept (stored m f number) (after_chain u z slot number) []) d.0 d.1.0
-      (unmarked a _ _ (kept_by f number (λ s gone of. of)) (λ us now. law_chain now d.1.0 slot number d.1))
+      held (λ z. Kept (stored m f number) (after_chain u z slot number) []) d.0 d.1.hold_is
+      (unmarked a _ _ (kept_by f number (λ s gone of. of)) (λ us now. law_chain now d.1.hold_is slot number (search rules)))
   keeps (act.Retire slot) d =
       let a : Act = act.Retire slot in let u : View = noted v a slot in let f = Retired d.0.class in
       held (λ z. Kept (stored m (Retired z.class) slot) (after_push u z slot) []) d.0 d.2.hold_is

@@ -64,7 +64,7 @@ module _ {capacities : List ℕ} {places tickets : ℕ} {m : Memory} {vs : List 
       → (section.entered < length h) × (section.from ≤ length (updates_of h))
   section_bounds j u section there is =
       let o = seat.rule.sections.open_here j u section there is in
-      (open_at-below u.place h (open_of section) o.1, o.2)
+      (open_at-below u.place h (open_of section) o.opened, o.since)
 
   -- readers' answers after a step of a view that stays in its section
   pub answered_from : (w : View) → w.section ≡ v.section → (m' : Memory) (h' : List Mark) (us' : List Update) (chain' : List ℕ)

@@ -20,7 +20,7 @@ use Rattle.hash_core.specs.declared.view.Hold.{Hold}
 use Rattle.prcu_marks.specs.declared.commit.Commit.{Commit}
 use Rattle.hash_core.specs.declared.view.View.{View}
 use Rattle.list_laws.specs.Counts.{times, total}
-use Rattle.hash_core.specs.Rule.{HasHeard, AreSeen, HasPlace, AnswersFor, AreApart, AreOwned, open_of, AreOpen, AreHeld, HasNoCommit, IsTurned, Bucket, BucketRule, MemoryRule, HasOpen, MakesOdd}
+use Rattle.hash_core.specs.Rule.{HasHeard, AreSeen, HasPlace, AnswersFor, AreApart, AreOwned, open_of, AreOpen, AreHeld, HasNoCommit, IsTurned, Bucket, BucketRule, MemoryRule, HasOpen, MakesOdd, IsOpenHere}
 use Rattle.prcu_model.proofs.ListFacts.{prefix_self, prefix_trans, all_map}
 use Rattle.prcu_model.specs.Dictionary.{IsLegal}
 use Rattle.hash_core.proofs.Frames.{SameWords, SameMarks, SameView, bucket_frame, SameSection, SameHold, same_words}
@@ -291,22 +291,27 @@ module _ {capacities : List ℕ} {places tickets : ℕ} {m : Memory} {vs : List 
       → ((p : ℕ) → open_at p h' ≡ open_at p h) → ((p : ℕ) → entered_at p h' ≡ entered_at p h) → length (updates_of h) ≤ length (updates_of h')
       → AreOpen (set vs id w) h' (updates_of h')
   open_same h' place places sections back forth opened entered longer = record {
-    open_here = λ j u section there is. each_set (λ k z. z.section ≡ Some section
-        → (1 ≤ z.places) × (open_at z.place h' ≡ Some (open_of section)) × (section.from ≤ length (updates_of h')) × (section.key < 2 ^ 64)) vs id w
+    open_here = λ j u section there is. each_set
+        (λ k z. z.section ≡ Some section → IsOpenHere z h' (updates_of h') section) vs id w
         (λ mine. let old = back section mine in let o = seat.rule.sections.open_here id v old.0 seat.at old.1 in
-        let same_key : section.key ≡ old.0.key = ap (λ (z : Open). z.key) old.2 in let same_from = old.3 in (
-          let a = o.0 in omega arith,
-          opened w.place ∙ ap (λ p. open_at p h) place ∙ o.1 ∙ ap Some (sym old.2),
-          let a = o.2 in omega arith,
-          let a = o.3 in omega arith,
-        ))
-        (λ k z other e theirs. let o = seat.rule.sections.open_here k z section e theirs in
-        (o.0, opened z.place ∙ o.1, let a = o.2 in omega arith, o.3)) j u there is;
+        let same_key : section.key ≡ old.0.key = ap (λ (z : Open). z.key) old.2 in let same_from = old.3 in record {
+          works = let a = o.works in omega arith;
+          opened = opened w.place ∙ ap (λ p. open_at p h) place ∙ o.opened ∙ ap Some (sym old.2);
+          since = let a = o.since in omega arith;
+          fits = let a = o.fits in omega arith;
+        })
+        (λ k z other e theirs. let o = seat.rule.sections.open_here k z section e theirs in record {
+          works = o.works;
+          opened = opened z.place ∙ o.opened;
+          since = let a = o.since in omega arith;
+          fits = o.fits;
+        }) j u there is;
     entered = λ j u there works. each_set (λ k z. 1 ≤ z.places → z.sections ≡ entered_at z.place h') vs id w
         (λ mine. sections ∙ seat.rule.sections.entered id v seat.at (omega arith) ∙ ap (λ p. entered_at p h) (sym place) ∙ sym (entered w.place))
         (λ k z other e theirs. seat.rule.sections.entered k z e theirs ∙ sym (entered z.place)) j u there works;
     all = λ p o is. somewhere_still vs id v w seat.at
-        (λ (mine : HasOpen v p o). let now = forth mine.1 mine.2 in (place ∙ mine.0, now.0, now.1, mine.3 ∙ now.2))
+        (λ (mine : HasOpen v p o). let now = forth mine.section mine.inside in
+        record { place = place ∙ mine.place; section = now.0; inside = now.1; is = mine.is ∙ now.2 })
         (seat.rule.sections.all p o (sym (opened p) ∙ is));
   }
 

@@ -19,7 +19,7 @@ use Rattle.hash_core.specs.declared.view.View.{View}
 use Rattle.list_laws.specs.Counts.{total}
 use Rattle.hash_core.specs.Memory.{IsPath, Memory, stored, is_slot_of, IsOfClass}
 use Rattle.prcu_marks.specs.Marks.{updates_of, Open, open_at, gone_at, entered_at, last_unlinked}
-use Rattle.hash_core.specs.Rule.{Bucket, seek, inside_count, IsKnown, IsFreeOfReaders, AreClean, IsHeldBack, HasWay, WillAnswer, open_of, AreOpen, IsTurned, BucketRule, MemoryRule, HasOpen}
+use Rattle.hash_core.specs.Rule.{Bucket, seek, inside_count, IsKnown, IsFreeOfReaders, AreClean, IsHeldBack, HasWay, WillAnswer, open_of, AreOpen, IsTurned, BucketRule, MemoryRule, HasOpen, IsOpenHere}
 use Rattle.hash_core.specs.Steps.{after_enter, after_leave, after_search_load, link_stand, searched, MayLoad}
 use Rattle.prcu_model.proofs.ListFacts.{all_map}
 use Rattle.list_laws.proofs.Lists.{each_set, total_set, total_part, somewhere_at, somewhere_here, somewhere_still}
@@ -120,27 +120,28 @@ module _ {capacities : List ℕ} {places tickets : ℕ} {m : Memory} {vs : List 
         closed_case None is = refl
         closed_case (Some o) is =
             let q = seat.rule.sections.all v.place o is in
-            let there = seat.rule.sections.open_here q.id q.view q.has.1 q.there q.has.2 in
+            let there = seat.rule.sections.open_here q.id q.view q.has.section q.there q.has.inside in
             let me : q.id ≡ id = seat.rule.apart.apart q.id id v.place q.view v q.there seat.at
-            (let e = q.has.0 in let w = there.0 in inl (omega arith, omega arith)) (inl (omega arith, omega arith)) in
+            (let e = q.has.place in let w = there.works in inl (omega arith, omega arith)) (inl (omega arith, omega arith)) in
             let mine : HasOpen v v.place o = somewhere_at vs id v seat.at q me in
-            absurd (let z : Some mine.1 ≡ None = sym mine.2 ∙ outside in cc)
+            absurd (let z : Some mine.section ≡ None = sym mine.inside ∙ outside in cc)
 
     sections_enter : AreOpen (set vs id w_enter) h_enter (updates_of h_enter)
     sections_enter = record {
       open_here = λ j u section there is. each_set
-          (λ k z. z.section ≡ Some section → (1 ≤ z.places) × (open_at z.place h_enter ≡ Some (open_of section))
-          × (section.from ≤ length (updates_of h_enter)) × (section.key < 2 ^ 64)) vs id w_enter
-          (λ mine. let e : section_enter ≡ section = cc in
-          subst (λ (z : Section). (1 ≤ v.places) × (open_at v.place h_enter ≡ Some (open_of z)) × (z.from ≤ length (updates_of h_enter))
-          × (z.key < 2 ^ 64)) e (works, open_here_enter, let n = ap length same_updates_enter in omega arith, fits))
-          (λ k z other e theirs. let o = seat.rule.sections.open_here k z section e theirs in (
-            o.0,
-            open_else_enter z.place (other_place k z other e works o.0) ∙ o.1,
-            let n = ap length same_updates_enter in let a = o.2 in
-                omega arith,
-            o.3,
-          )) j u there is;
+          (λ k z. z.section ≡ Some section → IsOpenHere z h_enter (updates_of h_enter) section) vs id w_enter
+          (λ mine. let e : section_enter ≡ section = cc in subst (IsOpenHere w_enter h_enter (updates_of h_enter)) e (record {
+            works = works;
+            opened = open_here_enter;
+            since = let n = ap length same_updates_enter in omega arith;
+            fits = fits;
+          }))
+          (λ k z other e theirs. let o = seat.rule.sections.open_here k z section e theirs in record {
+            works = o.works;
+            opened = open_else_enter z.place (other_place k z other e works o.works) ∙ o.opened;
+            since = let n = ap length same_updates_enter in let a = o.since in omega arith;
+            fits = o.fits;
+          }) j u there is;
       entered = λ j u there has. each_set (λ k z. 1 ≤ z.places → z.sections ≡ entered_at z.place h_enter) vs id w_enter
           (λ mine. let a = entered_at-append v.place h (mark_enter ∷ []) in
           let one : entered_at v.place (mark_enter ∷ []) ≡ 1 = ap (λ b. cond b 1 0 + 0) (eq-eqb v.place v.place refl) in
@@ -152,9 +153,9 @@ module _ {capacities : List ℕ} {places tickets : ℕ} {m : Memory} {vs : List 
       all = λ p o is. dite (ℕ_discrete p v.place)
           (λ e. let now : open_at v.place h_enter ≡ Some o = subst (λ q. open_at q h_enter ≡ Some o) e is in
           let same : open_of section_enter ≡ o = cc (open_here_enter, now) in
-          somewhere_here vs id v w_enter seat.at (sym e, section_enter, refl, sym same))
+          somewhere_here vs id v w_enter seat.at (record { place = sym e; section = section_enter; inside = refl; is = sym same }))
           (λ ne. somewhere_still vs id v w_enter seat.at
-          (λ (mine : HasOpen v p o). absurd (let z : Some mine.1 ≡ None = sym mine.2 ∙ outside in cc))
+          (λ (mine : HasOpen v p o). absurd (let z : Some mine.section ≡ None = sym mine.inside ∙ outside in cc))
           (seat.rule.sections.all p o (sym (open_else_enter p ne) ∙ is)));
     }
 
@@ -229,7 +230,7 @@ module _ {capacities : List ℕ} {places tickets : ℕ} {m : Memory} {vs : List 
 
   module _ (section : Section) (inside : v.section ≡ Some section) where
     works_leave : 1 ≤ v.places
-    works_leave = (seat.rule.sections.open_here id v section seat.at inside).0
+    works_leave = (seat.rule.sections.open_here id v section seat.at inside).works
 
     abbrev mark_leave : Mark
     mark_leave = Left v.place section.count
@@ -266,24 +267,21 @@ module _ {capacities : List ℕ} {places tickets : ℕ} {m : Memory} {vs : List 
 
     sections_leave : AreOpen (set vs id w_leave) h_leave (updates_of h_leave)
     sections_leave = record {
-      open_here = λ j u other there is. each_set (λ k z. z.section ≡ Some other
-          → (1 ≤ z.places) × (open_at z.place h_leave ≡ Some (open_of other)) × (other.from ≤ length (updates_of h_leave))
-          × (other.key < 2 ^ 64)) vs id w_leave
-          (λ mine. absurd (cc))
-          (λ k z far e theirs. let o = seat.rule.sections.open_here k z other e theirs in (
-            o.0,
-            open_else_leave z.place (other_place k z far e works_leave o.0) ∙ o.1,
-            let n = ap length same_updates_leave in let a = o.2 in
-                omega arith,
-            o.3,
-          )) j u there is;
+      open_here = λ j u other there is. each_set
+          (λ k z. z.section ≡ Some other → IsOpenHere z h_leave (updates_of h_leave) other) vs id w_leave (λ mine. absurd (cc))
+          (λ k z far e theirs. let o = seat.rule.sections.open_here k z other e theirs in record {
+            works = o.works;
+            opened = open_else_leave z.place (other_place k z far e works_leave o.works) ∙ o.opened;
+            since = let n = ap length same_updates_leave in let a = o.since in omega arith;
+            fits = o.fits;
+          }) j u there is;
       entered = λ j u there has. each_set (λ k z. 1 ≤ z.places → z.sections ≡ entered_at z.place h_leave) vs id w_leave
           (λ mine. seat.rule.sections.entered id v seat.at works_leave ∙ sym (same_entered_leave v.place))
           (λ k z far e theirs. seat.rule.sections.entered k z e theirs ∙ sym (same_entered_leave z.place)) j u there has;
       all = λ p o is. dite (ℕ_discrete p v.place)
           (λ e. absurd (let now : open_at v.place h_leave ≡ Some o = subst (λ q. open_at q h_leave ≡ Some o) e is in
           let z : None ≡ Some o = sym open_here_leave ∙ now in cc))
-          (λ ne. somewhere_still vs id v w_leave seat.at (λ (mine : HasOpen v p o). absurd (ne (sym mine.0)))
+          (λ ne. somewhere_still vs id v w_leave seat.at (λ (mine : HasOpen v p o). absurd (ne (sym mine.place)))
           (seat.rule.sections.all p o (sym (open_else_leave p ne) ∙ is)));
     }
 
@@ -300,7 +298,7 @@ module _ {capacities : List ℕ} {places tickets : ℕ} {m : Memory} {vs : List 
       tickets_are = ap (λ us. length us + total (λ (z : View). z.tickets) (set vs id w_leave)) same_updates_leave
           ∙ tickets_same seat w_leave refl;
       legal = subst IsLegal (sym same_updates_leave) seat.rule.legal;
-      marks = marks_snoc places h mark_leave (open_of section, (seat.rule.sections.open_here id v section seat.at inside).1, refl) seat.rule.marks;
+      marks = marks_snoc places h mark_leave (open_of section, (seat.rule.sections.open_here id v section seat.at inside).opened, refl) seat.rule.marks;
       reuse = reuse_more capacities h mark_leave (λ s e. absurd (cc)) seat.rule.reuse;
     }
 
@@ -363,7 +361,7 @@ module _ {capacities : List ℕ} {places tickets : ℕ} {m : Memory} {vs : List 
       -- what the dictionary says now
       says : (answer : Option ℕ) → seek m section.key (seat.rule.bucket c).chain ≡ answer → WasSaid (updates_of h) section.key section.from answer
       says answer is = subst (WasSaid (updates_of h) section.key section.from) ((seat.rule.buckets c small).mapped.answers section.key class ∙ is)
-          (said_now (updates_of h) section.key section.from (seat.rule.sections.open_here id v section seat.at inside).2)
+          (said_now (updates_of h) section.key section.from (seat.rule.sections.open_here id v section seat.at inside).since)
 
       -- from the head
       pub way_from_head : (link : ℕ) → link ≡ m (Head c)

@@ -1,6 +1,6 @@
 -- The rule where no step is made: seats are split and joined, and a table is made.
 -- What keeps the rule where only views change that are outside a section and without a lock.
-use Rattle.std.proofs.Common.{◌≡◌, ◌⊎◌, ℕ, ◌+◌, ◌≤◌, List, length, Option, Some, None, sym, ap, subst, ◌∙◌, ⊎_elim, inl, inr, refl, ◌≢◌, zero, suc, ◌-◌, ◌<◌, ◌==◌, true, false, cond, [], ◌∷◌, ◌++◌, set, arith, append-nil, ◌^◌, ◌&&◌, nat_lt, nat_le, Bool, sum, slice_index, eq-eqb, ne_eqb}
+use Rattle.std.proofs.Common.{◌≡◌, ◌⊎◌, ℕ, ◌+◌, ◌≤◌, List, length, Option, Some, None, sym, ap, subst, ◌∙◌, ⊎_elim, inl, inr, refl, ◌≢◌, zero, suc, ◌-◌, ◌<◌, ◌==◌, true, false, cond, [], ◌∷◌, ◌++◌, set, arith, append-nil, ◌&&◌, nat_lt, nat_le, Bool, sum, slice_index, eq-eqb, ne_eqb}
 use mathlib.Core.Option.{some, some-injective, some-ne-none}
 use lib.ListN.{get_elem?}
 use Rattle.prcu_marks.specs.declared.mark.Mark.{Mark}
@@ -10,8 +10,8 @@ use Rattle.hash_core.specs.declared.view.Hold.{Hold}
 use Rattle.hash_core.specs.declared.view.View.{View}
 use Rattle.list_laws.specs.Counts.{total, times, numbers_from, Somewhere}
 use Rattle.hash_core.specs.Memory.{Memory, IsPath, word_of, memory_of, capacity, base, is_slot_of}
-use Rattle.prcu_marks.specs.Marks.{updates_of, entered_at, own_of, longer, open_at}
-use Rattle.hash_core.specs.Rule.{Bucket, IsLocked, inside_count, IsFreeOfReaders, AreSeen, AreApart, AreOwned, HasNoCommit, IsTurned, BucketRule, MemoryRule, HasHeard, HasPlace, AnswersFor, HoldsOther, WillAnswer, open_of, IsShape}
+use Rattle.prcu_marks.specs.Marks.{updates_of, entered_at, own_of, longer}
+use Rattle.hash_core.specs.Rule.{Bucket, IsLocked, inside_count, IsFreeOfReaders, AreSeen, AreApart, AreOwned, HasNoCommit, IsTurned, BucketRule, MemoryRule, HasHeard, HasPlace, AnswersFor, HoldsOther, WillAnswer, IsShape, IsOpenHere}
 use Rattle.hash_core.specs.Steps.{IsQuiet, NeedsSplit, first_of, second_of, both_of, spent}
 use Rattle.hash_core.proofs.Frames.{clean_by}
 use Rattle.list_laws.proofs.Lists.{at_one, at_below, at_end, each_set, total_set, total_append, times_append, times_from, from_times, all_from_times, somewhere_set, somewhere_still, somewhere_longer, only_at}
@@ -120,7 +120,7 @@ module _ (vs vs' : List View) (busy : SameBusy vs vs') where
       open_here = λ j u section at is. r.sections.open_here j u section (section_back j u section at is) is;
       entered = entered;
       all = λ p o is. let q = r.sections.all p o is in
-          record { id = q.id; view = q.view; there = section_forth q.id q.view q.has.1 q.there q.has.2; has = q.has };
+          record { id = q.id; view = q.view; there = section_forth q.id q.view q.has.section q.there q.has.inside; has = q.has };
     };
     held = record { held = λ j u hold at is. r.held.held j u hold (hold_back j u hold at is) is };
     turned = turned_busy m (length (updates_of h)) r.turned;
@@ -625,8 +625,7 @@ module _ (capacities : List ℕ) (places tickets : ℕ) (shape : IsShape capacit
     };
     sections = record {
       open_here = λ j u section there is. each_view
-          (λ k z. z.section ≡ Some section → (1 ≤ z.places) × (open_at z.place [] ≡ Some (open_of section)) × (section.from ≤ 0)
-          × (section.key < 2 ^ 64)) (λ mine. absurd (cc)) j u there is;
+          (λ k z. z.section ≡ Some section → IsOpenHere z [] [] section) (λ mine. absurd (cc)) j u there is;
       entered = λ j u there works. each_view (λ k z. z.sections ≡ entered_at z.place []) refl j u there;
       all = λ p o is. absurd (cc);
     };

@@ -269,7 +269,7 @@ module _ {capacities : List ℕ} {places tickets : ℕ} {m : Memory} {vs : List 
     m_chain = stored m (Chain slot) number
 
     slot_of_chain : is_slot_of capacities hold.class slot ≡ true
-    slot_of_chain = unlinked_slot rule.roles slot (ap unlinked_of had ∙ needs.1)
+    slot_of_chain = unlinked_slot rule.roles slot (ap unlinked_of had ∙ needs.unlinked)
 
     -- the slot in hand is on no list
     chain_else : (first : ℕ) (xs : List ℕ) → ((x : ℕ) → times x xs + times x (option_to_list hold.unlinked) ≤ 1)
@@ -278,7 +278,7 @@ module _ {capacities : List ℕ} {places tickets : ℕ} {m : Memory} {vs : List 
         (λ s there. ap (λ t. cond t number (m (Chain s))) (ne_eqb slot s (λ e.
         let a = once slot in
         let b : times slot (option_to_list hold.unlinked) ≡ 1 =
-        ap (λ o. times slot (option_to_list o)) needs.1 ∙ (let t = times_here slot [] in omega arith) in
+        ap (λ o. times slot (option_to_list o)) needs.unlinked ∙ (let t = times_here slot [] in omega arith) in
         let d : 1 ≤ times slot xs = subst (λ z. 1 ≤ times z xs) (sym e) there in omega arith)))
 
     pub law_chain : MemoryRule capacities places tickets m_chain (set vs id (after_chain v hold slot number)) h
@@ -461,9 +461,9 @@ module _ {capacities : List ℕ} {places tickets : ℕ} {m : Memory} {vs : List 
         let q = seat.rule.sections.all p o now in
         let c_is : hold.class ≡ d = one_class capacities hold.class d slot slot_of_take
         (subst (λ z. is_slot_of capacities d z ≡ true) (sym e) of) in
-        let key : q.has.1.key % 64 ≡ hold.class = ap (λ (z : Open). z.key % 64) (sym q.has.3) ∙ class ∙ sym c_is in
-        let l = slot_clean i q.id q.view q.has.1 (ap (λ z. last_unlinked z h) e ∙ last) q.there q.has.2 key in
-        let at_is : o.at ≡ q.has.1.entered = ap (λ (z : Open). z.at) q.has.3 in omega arith)
+        let key : q.has.section.key % 64 ≡ hold.class = ap (λ (z : Open). z.key % 64) (sym q.has.is) ∙ class ∙ sym c_is in
+        let l = slot_clean i q.id q.view q.has.section (ap (λ z. last_unlinked z h) e ∙ last) q.there q.has.inside key in
+        let at_is : o.at ≡ q.has.section.entered = ap (λ (z : Open). z.at) q.has.is in omega arith)
         (λ n old _ last now. seat.rule.reuse n s d i p o old of last now class) j given refl gone there
 
     same_marks_take : (d : ℕ) → d ≢ hold.class → SameMarks capacities d h h_take (updates_of h) (updates_of h_take)

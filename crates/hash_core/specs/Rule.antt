@@ -215,18 +215,27 @@ abbrev pub open_of : Section → Open
 open_of section = record { count = section.count; key = section.key; at = section.entered }
 
 -- the view works at this place and has this section open
-abbrev pub HasOpen : View → ℕ → Open → Type 0
-HasOpen v p o = (v.place ≡ p) × (section : Section) × (v.section ≡ Some section) × (o ≡ open_of section)
+pub record HasOpen (v : View) (p : ℕ) (o : Open) : Type 0 where
+  pub place : v.place ≡ p
+  pub section : Section
+  pub inside : v.section ≡ Some section
+  pub is : o ≡ open_of section
 
 -- an open section, by the marks, is that of the view that works at its place
 abbrev pub IsOpenOf : List View → ℕ → Open → Type 0
 IsOpenOf vs p o = Somewhere vs (λ v. HasOpen v p o)
 
--- A view's section is the open one of its place, by the marks; no other is open. Its number is that of the sections
--- entered before it.
+-- The view works at a place, of which the section is the open one, by the marks. It was entered at a front, with a word as its key.
+pub record IsOpenHere (v : View) (h : List Mark) (us : List Update) (section : Section) : Type 0 where
+  pub works : 1 ≤ v.places
+  pub opened : open_at v.place h ≡ Some (open_of section)
+  pub since : section.from ≤ length us
+  pub fits : section.key < 2 ^ 64
+
+-- A view's section is the open one of its place; no other is open. Its number is that of the sections entered before it.
 pub record AreOpen (vs : List View) (h : List Mark) (us : List Update) : Type 0 where
   pub open_here : (id : ℕ) (v : View) (section : Section) → get_elem? vs id ≡ some v → v.section ≡ Some section
-      → (1 ≤ v.places) × (open_at v.place h ≡ Some (open_of section)) × (section.from ≤ length us) × (section.key < 2 ^ 64)
+      → IsOpenHere v h us section
   pub entered : (id : ℕ) (v : View) → get_elem? vs id ≡ some v → 1 ≤ v.places → v.sections ≡ entered_at v.place h
   pub all : (p : ℕ) (o : Open) → open_at p h ≡ Some o → IsOpenOf vs p o
 

@@ -235,8 +235,9 @@ abbrev pub after_push : View → Hold → ℕ → View
 after_push v hold slot = record v { hold = Some (record (knowing hold (Retired hold.class) slot) { unlinked = None }) }
 
 -- Chain: the chain of the slot unlinked is stored.
-abbrev pub NeedsChain : View → Hold → ℕ → Type 0
-NeedsChain v hold slot = (v.hold ≡ Some hold) × (hold.unlinked ≡ Some slot)
+pub record NeedsChain (v : View) (hold : Hold) (slot : ℕ) : Type 0 where
+  pub hold_is : v.hold ≡ Some hold
+  pub unlinked : hold.unlinked ≡ Some slot
 
 abbrev pub after_chain : View → Hold → ℕ → ℕ → View
 after_chain v hold slot number = record v { hold = Some (knowing hold (Chain slot) number) }
