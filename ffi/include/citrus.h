@@ -210,6 +210,24 @@ CITRUS_STATUS_MATTERS int32_t citrus_share(citrus_handle *handle, uint32_t handl
  * DONE, of a lost handle too; CLOSED. */
 CITRUS_STATUS_MATTERS int32_t citrus_left(citrus_handle *handle, uint32_t *handles, uint64_t *tickets);
 
+/* What a handle knows of itself and of its index, for a page of metrics. The size comes first, as in citrus_options. */
+struct citrus_stats {
+    size_t size;      /* sizeof(struct citrus_stats), set by the caller */
+    uint64_t slots;   /* slots of the index: one for each pair that it was opened for, and 68 for each handle */
+    uint64_t free;    /* how many of them were free when this handle last took one or gave one back; all, where it did neither yet. The others
+                       * have a pair, or are kept back by a handle */
+    uint64_t waits;   /* waits for readers that were begun from this handle's place */
+    uint64_t tickets; /* tickets of this handle */
+    uint64_t kept;    /* slots that this handle keeps back, whose pairs were removed, until no reader can stand there */
+    uint64_t room;    /* how many it keeps back at most */
+    uint32_t handles; /* how many handles the index can have at once */
+    uint32_t unshared; /* how many more of them can be shared from this one */
+};
+
+/* Tells these numbers. It takes no step on the tree, costs a few loads, and answers of a handle in a section, and of a lost one, too.
+ * DONE, and *stats; CLOSED; BAD_ARGUMENT where stats->size is another. */
+CITRUS_STATUS_MATTERS int32_t citrus_stats(citrus_handle *handle, struct citrus_stats *stats);
+
 /* Closes the handle. A closed one may be closed again. What it had, its place, the handles that could be shared from it and its tickets, it
  * leaves to citrus_reopen, unless it is lost. So does a handle over which another is opened or shared. The memory of the index is freed with
  * the last of its handles. It waits for nobody, and costs a few atomic steps. */

@@ -212,6 +212,14 @@ public:
         return has;
     }
 
+    // What the handle knows of itself and of its index: the numbers of citrus.h. Throws closed.
+    struct citrus_stats stats() {
+        struct citrus_stats told{};
+        told.size = sizeof told;
+        refuse_unless_done(citrus_stats(&at_, &told));
+        return told;
+    }
+
     // The calls below throw closed, holds, spent or lost. `first` and `last` never throw spent, and what lists pages throws no_memory in
     // its place.
 

@@ -202,6 +202,11 @@ static inline int32_t citrus_debug_left(citrus_handle *handle, uint32_t *handles
     return citrus_debug_ended(word, citrus_left(handle, handles, tickets));
 }
 
+static inline int32_t citrus_debug_stats(citrus_handle *handle, struct citrus_stats *stats) {
+    void **const word = citrus_debug_begins("citrus_stats", handle);
+    return citrus_debug_ended(word, citrus_stats(handle, stats));
+}
+
 static inline int32_t citrus_debug_reopen(citrus_handle *handle, citrus_handle *other) {
     void **const word = citrus_debug_begins("citrus_reopen", handle);
     return citrus_debug_ended(word, citrus_reopen(handle, other));

@@ -96,7 +96,7 @@ mod waits;
 
 pub use error::Error;
 pub use guards::{Held, Section};
-pub use handle::Handle;
+pub use handle::{Handle, Stats};
 pub use index::{Builder, Index, Waiter};
 pub use lanes::{Lanes, LANES};
 pub use lists::{Page, Range};
