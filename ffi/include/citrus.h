@@ -5,7 +5,7 @@
  *
  *     citrus_handle mine = CITRUS_CLOSED_HANDLE, other = CITRUS_CLOSED_HANDLE;
  *     citrus_open(&mine, 100000, 2, CITRUS_EER);
- *     citrus_share(&mine, 1, CITRUS_ALL_TICKETS / 2, &other);      // hand `other` to a second thread
+ *     citrus_share(&mine, 1, citrus_fair_share(&mine, 1), &other); // hand `other` to a second thread
  *     citrus_insert(&mine, 5, 50);
  *     citrus_close(&other);
  *     citrus_close(&mine);
@@ -201,7 +201,8 @@ CITRUS_STATUS_MATTERS static inline int32_t citrus_open(citrus_handle *handle, u
 }
 
 /* Makes `other` a second handle of the index. So many of the handles that are left to the first one (1 or more; `other` itself is one of
- * them) and so many of its tickets (0 or more) go over to it, and can be shared from it in turn. What `other` was open on before is closed.
+ * them) and so many of its tickets (0 or more; citrus_fair_share tells an even part) go over to it, and can be shared from it in turn. With 0
+ * tickets it can do what needs none. What `other` was open on before is closed.
  * It waits for nobody and takes half a kilobyte of memory.
  * DONE; CLOSED; HOLDS; BAD_ARGUMENT where the first has fewer handles or tickets; NO_MEMORY; LOST. At all but DONE both are as they were. */
 CITRUS_STATUS_MATTERS int32_t citrus_share(citrus_handle *handle, uint32_t handles, uint64_t tickets, citrus_handle *other);
@@ -209,6 +210,15 @@ CITRUS_STATUS_MATTERS int32_t citrus_share(citrus_handle *handle, uint32_t handl
 /* Tells how many more handles can be shared from this one, and how many tickets it has. It costs a few loads.
  * DONE, of a lost handle too; CLOSED. */
 CITRUS_STATUS_MATTERS int32_t citrus_left(citrus_handle *handle, uint32_t *handles, uint64_t *tickets);
+
+/* The even part of the handle's tickets for so many of the handles that are left to it, where it keeps one itself: what to share with these. It
+ * is 0 of a closed handle. */
+static inline uint64_t citrus_fair_share(citrus_handle *handle, uint32_t handles) {
+    uint32_t left = 0;
+    uint64_t tickets = 0;
+    if (citrus_left(handle, &left, &tickets) != CITRUS_DONE) return 0;
+    return tickets / ((uint64_t)left + 1) * handles;
+}
 
 /* Closes the handle. A closed one may be closed again. What it had, its place, the handles that could be shared from it and its tickets, it
  * leaves to citrus_reopen, unless it is lost. So does a handle over which another is opened or shared. The memory of the index is freed with
