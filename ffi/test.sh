@@ -61,7 +61,7 @@ link_objects() { g++ -pthread "${@:2}" -L"$prefix/lib" -lcitrus -o "$room/$1"; }
 
 compile_all() {
     compile_c answers && compile_c misuse && compile_c own_keys && compile_c moments && compile_c reopened && compile_c tidy && compile_c version && compile_c salts &&
-        compile_c always && compile_c many_handles && compile_c counters && compile_c lanes &&
+        compile_c backtraces && compile_cpp index && compile_c always && compile_c many_handles && compile_c counters && compile_c lanes &&
         compile_c memory -Wl,--wrap=malloc,--wrap=realloc,--wrap=free && compile_cpp answers && compile_cpp order && compile_cpp whole &&
         compile_c holds && compile_c begun && compile_c objects && compile_c prcu && compile_cpp map && compile_debug
 }
@@ -70,6 +70,14 @@ compile_all() {
 compile_debug() {
     gcc -std=gnu11 "${strict[@]}" -DOTHER_FILE -c "$here/tests/debug.c" -o "$room/other_file.o" && compile_c debug "$room/other_file.o"
 }
+
+# A debugger that looks at a call that hangs names who made it.
+gdb_names_the_caller() {
+    gdb -nx -batch -ex 'handle SIGALRM nostop noprint pass' -ex run -ex 'thread apply all backtrace' --args "$room/backtraces" hang >"$room/report" 2>&1
+    grep -q ' citrus_\(insert\|remove\) ' "$room/report" && grep -q ' changes_behind_a_reader ' "$room/report" && grep -q ' main ' "$room/report"
+}
+
+has_debugger() { hash gdb 2>/dev/null && gdb -nx -batch -ex run --args true 2>&1 | grep -q 'exited normally'; }
 
 # A page shows the program as it is compiled here: `shows PAGE PROGRAM`.
 shows() { python3 "$here/tests/page_has.py" "$top/$1" "$here/$2"; }
@@ -339,8 +347,9 @@ case_is 'the cache in C++' example '5: five' g++ -std=c++17 -Wall -Wextra -Werro
 if hash pkg-config 2>/dev/null; then case_is "the page's program by pkg-config" with_pkg_config; else echo 'left out: pkg-config'; fi
 case_is 'the tests compile' compile_all
 [ -x "$room/order_cpp" ] || end
-for program in answers misuse memory moments own_keys always many_handles counters reopened lanes tidy salts version answers_cpp; do cases_of "$room/$program"; done
+for program in answers misuse memory moments own_keys always many_handles counters reopened lanes tidy salts version backtraces answers_cpp index_cpp; do cases_of "$room/$program"; done
 for program in holds begun objects prcu debug map_cpp whole_cpp; do cases_of "$room/$program"; done
+if has_debugger; then case_is 'gdb names the caller of a call that hangs' gdb_names_the_caller; else echo 'left out: gdb'; fi
 threads_that_are_stopped
 [ ! -x "$room/jitter.so" ] || planted_faults
 if has_thread_sanitizer; then hand_overs; else echo 'left out: ThreadSanitizer'; fi
