@@ -300,6 +300,15 @@ rust_cache() {
     [ "$(cd "$here/citrus_map" && in_rust cargo run --offline --quiet --example cache)" = '5 swept; 3 has Some(6) letters, 4 has None' ]
 }
 
+# A check and the pages need no archive. What is linked does, and is told where it is looked for.
+without_an_archive() {
+    (cd "$here/citrus_map" && env -u CITRUS_LIB_DIR PKG_CONFIG_PATH='' PKG_CONFIG_LIBDIR="$room" CARGO_TARGET_DIR="$room/unlinked" timeout 100 cargo "$@" --offline)
+}
+rust_links_alone_take_the_archive() {
+    without_an_archive check && without_an_archive doc --no-deps && ! without_an_archive build 2>"$room/report" && grep -q 'set CITRUS_LIB_DIR' "$room/report" &&
+        grep -q 'could not find native static library' "$room/report"
+}
+
 # What takes a nightly toolchain of Rust, which isn't fetched: `in_nightly FOLDER WORDS..` runs cargo's words in a folder.
 in_nightly() { (cd "$1" && RUSTUP_AUTO_INSTALL=0 in_rust cargo +nightly "${@:2}"); }
 
@@ -324,6 +333,7 @@ sanitizer_reports_a_wait_left_out() {
 
 rust_maps() {
     case_is 'the cache in Rust' rust_cache
+    case_is 'the Rust crate is checked, and its pages are made, without the archive' rust_links_alone_take_the_archive
     if RUSTUP_AUTO_INSTALL=0 cargo +nightly --version >/dev/null 2>&1; then
         case_is "what mustn't compile in Rust is refused for its reason" refusals_have_their_codes
         case_is 'values of a Rust map under AddressSanitizer' sanitized "$here/citrus_map"

@@ -6,8 +6,8 @@
 //     auto mine = index.lend();                         // a handle for a few calls
 //     for (const citrus_pair &pair : mine->range()) std::cout << pair.key;
 //
-// A thread is lent the handle that it had last, where nobody has it: so with as many handles as threads each comes to have its own, and a call costs
-// little more than by a handle that is kept. No thread keeps anything: threads may come and go.
+// A thread is lent the handle that it had last, where nobody has it: so with as many handles as threads each comes to have its own, and a call
+// costs little more than by a handle that is kept. No thread keeps anything: threads may come and go.
 //
 // What is left to owe beside what citrus.hpp says: the index outlives what it lent, and all calls.
 #ifndef CITRUS_INDEX_HPP
