@@ -20,11 +20,11 @@
  * loaded before; and a wait has loaded what the release stored. That is an argument on paper. Under ThreadSanitizer the header tells of it: see
  * citrus_tsan.h.
  *
- * What a caller owes, which nothing can test:
+ * What a caller owes, which the library can't test:
  *   - a handle is CITRUS_CLOSED_HANDLE, or as the last call with it left it. It is moved and never copied: who hands it on sets the old one
  *     to citrus_closed_handle(), and nobody touches its member;
  *   - one call at a time with one handle. It may go from thread to thread, by a lock, or by a thread's start or join. CITRUS_DEBUG, defined
- *     before this header is included, tells of two threads in calls with one: see citrus_debug.h;
+ *     before this header is included in each file, tells of two threads in calls with one, and of a copy that is used: see citrus_debug.h;
  *   - the pointers of one call aren't null and don't overlap, and each leads to memory of its type that lives as long as the call;
  *   - no call from a signal handler, nor from the child of a fork of a program with threads;
  *   - malloc, realloc and free are of one allocator;
