@@ -71,6 +71,14 @@ compile_debug() {
     gcc -std=gnu11 "${strict[@]}" -DOTHER_FILE -c "$here/tests/debug.c" -o "$room/other_file.o" && compile_c debug "$room/other_file.o"
 }
 
+# No function of the archive lacks an unwind table, by which a backtrace goes on.
+each_function_has_a_table() {
+    local functions tables
+    functions=$(readelf -sW "$prefix/lib/libcitrus.a" | awk '$4 == "FUNC" && $7 != "UND"' | wc -l)
+    tables=$(readelf --debug-dump=frames "$prefix/lib/libcitrus.a" | grep -c ' FDE ')
+    echo "$tables tables of $functions functions" && [ "$functions" -gt 0 ] && [ "$tables" = "$functions" ]
+}
+
 # A debugger that looks at a call that hangs names who made it.
 gdb_names_the_caller() {
     gdb -nx -batch -ex 'handle SIGALRM nostop noprint pass' -ex run -ex 'thread apply all backtrace' --args "$room/backtraces" hang >"$room/report" 2>&1
@@ -347,6 +355,7 @@ rust_maps() {
 "$here/install.sh" "$prefix" "$@"
 case_is 'the library is built and installed' [ -e "$prefix/lib/pkgconfig/citrus.pc" ]
 [ "$failed" = 0 ] || end
+case_is 'each function has an unwind table' each_function_has_a_table
 case_is 'one version is named everywhere' python3 "$top/build/version.py" --check
 cases_of "$here/tests/headers.sh" "$prefix/include"
 case_is "the page's program in C" first_program c/first.c '5 has 50' gcc -Wall -Wextra -Werror
