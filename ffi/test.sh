@@ -61,7 +61,7 @@ link_objects() { g++ -pthread "${@:2}" -L"$prefix/lib" -lcitrus -o "$room/$1"; }
 
 compile_all() {
     compile_c answers && compile_c misuse && compile_c own_keys && compile_c moments && compile_c reopened && compile_c tidy && compile_c version && compile_c salts &&
-        compile_c always && compile_c many_handles && compile_c counters && compile_c lanes &&
+        compile_c backtraces && compile_cpp index && compile_c always && compile_c many_handles && compile_c counters && compile_c lanes &&
         compile_c memory -Wl,--wrap=malloc,--wrap=realloc,--wrap=free && compile_cpp answers && compile_cpp order && compile_cpp whole &&
         compile_c holds && compile_c begun && compile_c objects && compile_c prcu && compile_cpp map && compile_debug
 }
@@ -70,6 +70,22 @@ compile_all() {
 compile_debug() {
     gcc -std=gnu11 "${strict[@]}" -DOTHER_FILE -c "$here/tests/debug.c" -o "$room/other_file.o" && compile_c debug "$room/other_file.o"
 }
+
+# No function of the archive lacks an unwind table, by which a backtrace goes on.
+each_function_has_a_table() {
+    local functions tables
+    functions=$(readelf -sW "$prefix/lib/libcitrus.a" | awk '$4 == "FUNC" && $7 != "UND"' | wc -l)
+    tables=$(readelf --debug-dump=frames "$prefix/lib/libcitrus.a" | grep -c ' FDE ')
+    echo "$tables tables of $functions functions" && [ "$functions" -gt 0 ] && [ "$tables" = "$functions" ]
+}
+
+# A debugger that looks at a call that hangs names who made it.
+gdb_names_the_caller() {
+    gdb -nx -batch -ex 'handle SIGALRM nostop noprint pass' -ex run -ex 'thread apply all backtrace' --args "$room/backtraces" hang >"$room/report" 2>&1
+    grep -q ' citrus_\(insert\|remove\) ' "$room/report" && grep -q ' changes_behind_a_reader ' "$room/report" && grep -q ' main ' "$room/report"
+}
+
+has_debugger() { hash gdb 2>/dev/null && gdb -nx -batch -ex run --args true 2>&1 | grep -q 'exited normally'; }
 
 # A page shows the program as it is compiled here: `shows PAGE PROGRAM`.
 shows() { python3 "$here/tests/page_has.py" "$top/$1" "$here/$2"; }
@@ -292,6 +308,15 @@ rust_cache() {
     [ "$(cd "$here/citrus_map" && in_rust cargo run --offline --quiet --example cache)" = '5 swept; 3 has Some(6) letters, 4 has None' ]
 }
 
+# A check and the pages need no archive. What is linked does, and is told where it is looked for.
+without_an_archive() {
+    (cd "$here/citrus_map" && env -u CITRUS_LIB_DIR PKG_CONFIG_PATH='' PKG_CONFIG_LIBDIR="$room" CARGO_TARGET_DIR="$room/unlinked" timeout 100 cargo "$@" --offline)
+}
+rust_links_alone_take_the_archive() {
+    without_an_archive check && without_an_archive doc --no-deps && ! without_an_archive build 2>"$room/report" && grep -q 'set CITRUS_LIB_DIR' "$room/report" &&
+        grep -q 'could not find native static library' "$room/report"
+}
+
 # What takes a nightly toolchain of Rust, which isn't fetched: `in_nightly FOLDER WORDS..` runs cargo's words in a folder.
 in_nightly() { (cd "$1" && RUSTUP_AUTO_INSTALL=0 in_rust cargo +nightly "${@:2}"); }
 
@@ -316,6 +341,7 @@ sanitizer_reports_a_wait_left_out() {
 
 rust_maps() {
     case_is 'the cache in Rust' rust_cache
+    case_is 'the Rust crate is checked, and its pages are made, without the archive' rust_links_alone_take_the_archive
     if RUSTUP_AUTO_INSTALL=0 cargo +nightly --version >/dev/null 2>&1; then
         case_is "what mustn't compile in Rust is refused for its reason" refusals_have_their_codes
         case_is 'values of a Rust map under AddressSanitizer' sanitized "$here/citrus_map"
@@ -329,6 +355,7 @@ rust_maps() {
 "$here/install.sh" "$prefix" "$@"
 case_is 'the library is built and installed' [ -e "$prefix/lib/pkgconfig/citrus.pc" ]
 [ "$failed" = 0 ] || end
+case_is 'each function has an unwind table' each_function_has_a_table
 case_is 'one version is named everywhere' python3 "$top/build/version.py" --check
 cases_of "$here/tests/headers.sh" "$prefix/include"
 case_is "the page's program in C" first_program c/first.c '5 has 50' gcc -Wall -Wextra -Werror
@@ -339,8 +366,9 @@ case_is 'the cache in C++' example '5: five' g++ -std=c++17 -Wall -Wextra -Werro
 if hash pkg-config 2>/dev/null; then case_is "the page's program by pkg-config" with_pkg_config; else echo 'left out: pkg-config'; fi
 case_is 'the tests compile' compile_all
 [ -x "$room/order_cpp" ] || end
-for program in answers misuse memory moments own_keys always many_handles counters reopened lanes tidy salts version answers_cpp; do cases_of "$room/$program"; done
+for program in answers misuse memory moments own_keys always many_handles counters reopened lanes tidy salts version backtraces answers_cpp index_cpp; do cases_of "$room/$program"; done
 for program in holds begun objects prcu debug map_cpp whole_cpp; do cases_of "$room/$program"; done
+if has_debugger; then case_is 'gdb names the caller of a call that hangs' gdb_names_the_caller; else echo 'left out: gdb'; fi
 threads_that_are_stopped
 [ ! -x "$room/jitter.so" ] || planted_faults
 if has_thread_sanitizer; then hand_overs; else echo 'left out: ThreadSanitizer'; fi

@@ -5,7 +5,7 @@
  *
  *     citrus_handle mine = CITRUS_CLOSED_HANDLE, other = CITRUS_CLOSED_HANDLE;
  *     citrus_open(&mine, 100000, 2, CITRUS_EER);
- *     citrus_share(&mine, 1, CITRUS_ALL_TICKETS / 2, &other);      // hand `other` to a second thread
+ *     citrus_share(&mine, 1, citrus_fair_share(&mine, 1), &other); // hand `other` to a second thread
  *     citrus_insert(&mine, 5, 50);
  *     citrus_close(&other);
  *     citrus_close(&mine);
@@ -20,11 +20,11 @@
  * loaded before; and a wait has loaded what the release stored. That is an argument on paper. Under ThreadSanitizer the header tells of it: see
  * citrus_tsan.h.
  *
- * What a caller owes, which nothing can test:
+ * What a caller owes, which the library can't test:
  *   - a handle is CITRUS_CLOSED_HANDLE, or as the last call with it left it. It is moved and never copied: who hands it on sets the old one
  *     to citrus_closed_handle(), and nobody touches its member;
  *   - one call at a time with one handle. It may go from thread to thread, by a lock, or by a thread's start or join. CITRUS_DEBUG, defined
- *     before this header is included, tells of two threads in calls with one: see citrus_debug.h;
+ *     before this header is included in each file, tells of two threads in calls with one, and of a copy that is used: see citrus_debug.h;
  *   - the pointers of one call aren't null and don't overlap, and each leads to memory of its type that lives as long as the call;
  *   - no call from a signal handler, nor from the child of a fork of a program with threads;
  *   - malloc, realloc and free are of one allocator;
@@ -201,7 +201,8 @@ CITRUS_STATUS_MATTERS static inline int32_t citrus_open(citrus_handle *handle, u
 }
 
 /* Makes `other` a second handle of the index. So many of the handles that are left to the first one (1 or more; `other` itself is one of
- * them) and so many of its tickets (0 or more) go over to it, and can be shared from it in turn. What `other` was open on before is closed.
+ * them) and so many of its tickets (0 or more; citrus_fair_share tells an even part) go over to it, and can be shared from it in turn. With 0
+ * tickets it can do what needs none. What `other` was open on before is closed.
  * It waits for nobody and takes half a kilobyte of memory.
  * DONE; CLOSED; HOLDS; BAD_ARGUMENT where the first has fewer handles or tickets; NO_MEMORY; LOST. At all but DONE both are as they were. */
 CITRUS_STATUS_MATTERS int32_t citrus_share(citrus_handle *handle, uint32_t handles, uint64_t tickets, citrus_handle *other);
@@ -227,6 +228,15 @@ struct citrus_stats {
 /* Tells these numbers. It takes no step on the tree, costs a few loads, and answers of a handle in a section, and of a lost one, too.
  * DONE, and *stats; CLOSED; BAD_ARGUMENT where stats->size is another. */
 CITRUS_STATUS_MATTERS int32_t citrus_stats(citrus_handle *handle, struct citrus_stats *stats);
+
+/* The even part of the handle's tickets for so many of the handles that are left to it, where it keeps one itself: what to share with these. It
+ * is 0 of a closed handle. */
+static inline uint64_t citrus_fair_share(citrus_handle *handle, uint32_t handles) {
+    uint32_t left = 0;
+    uint64_t tickets = 0;
+    if (citrus_left(handle, &left, &tickets) != CITRUS_DONE) return 0;
+    return tickets / ((uint64_t)left + 1) * handles;
+}
 
 /* Closes the handle. A closed one may be closed again. What it had, its place, the handles that could be shared from it and its tickets, it
  * leaves to citrus_reopen, unless it is lost. So does a handle over which another is opened or shared. The memory of the index is freed with

@@ -375,6 +375,27 @@ static void a_closed_handle_is_opened_again(uint32_t waiter) {
 }
 
 /* What each of them had comes back once, that of the handle which opened the index too. */
+static void tickets_are_shared_fairly(uint32_t waiter) {
+    citrus_handle first = open_index(10, 4, waiter), second = CITRUS_CLOSED_HANDLE, third = CITRUS_CLOSED_HANDLE;
+    uint32_t handles = 0;
+    uint64_t tickets = 0;
+    WANT(citrus_fair_share(&second, 1), 0);
+    WANT(citrus_fair_share(&first, 1), CITRUS_ALL_TICKETS / 4);
+    WANT(citrus_fair_share(&first, 3), CITRUS_ALL_TICKETS / 4 * 3);
+    WANT(citrus_share(&first, 2, citrus_fair_share(&first, 2), &second), CITRUS_DONE);
+    WANT(citrus_share(&second, 1, citrus_fair_share(&second, 1), &third), CITRUS_DONE);
+    WANT(citrus_left(&third, &handles, &tickets), CITRUS_DONE);
+    WANT(tickets, CITRUS_ALL_TICKETS / 4);
+    WANT(citrus_fair_share(&second, 0), 0);
+    WANT(citrus_fair_share(&first, 1), CITRUS_ALL_TICKETS / 4);
+    citrus_close(&second);
+    WANT(citrus_share(&first, 1, 0, &second), CITRUS_DONE);
+    WANT(citrus_insert(&second, 1, 10), CITRUS_SPENT);
+    citrus_close(&first);
+    citrus_close(&second);
+    citrus_close(&third);
+}
+
 static void all_handles_but_one_are_opened_again(uint32_t waiter) {
     citrus_handle handles[4] = {open_index(10, 4, waiter), CITRUS_CLOSED_HANDLE, CITRUS_CLOSED_HANDLE, CITRUS_CLOSED_HANDLE};
     uint32_t more = 0;
@@ -535,6 +556,7 @@ static const struct waiter_case cases[] = {
     {"a remove at each node", a_remove_at_each_node},
     {"lists", lists},
     {"handles and tickets are shared", handles_and_tickets_are_shared},
+    {"tickets are shared fairly", tickets_are_shared_fairly},
     {"a closed handle is opened again", a_closed_handle_is_opened_again},
     {"all handles but one are opened again", all_handles_but_one_are_opened_again},
     {"a handle that is made over is left", a_handle_that_is_made_over_is_left},

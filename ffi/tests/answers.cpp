@@ -265,7 +265,7 @@ static void refusals() {
     WANT(is_refused(citrus::fault::full, [&] { full.upsert(100, 20); }), true);
     citrus::handle poor = index.share(1, 3);
     WANT(is_refused(citrus::fault::spent, [&] { poor.get(1); }), true);
-    WANT(is_refused(citrus::fault::bad_argument, [&] { index.share(); }), true);
+    WANT(is_refused(citrus::fault::no_handle, [&] { index.share(); }), true);
     poor.close();
     WANT(is_refused(citrus::fault::closed, [&] { poor.get(1); }), true);
     WANT(is_refused(citrus::fault::closed, [] { citrus::handle().list(0, 1); }), true);
@@ -296,11 +296,18 @@ static void handles_are_shared() {
     WANT(first.left().handles, 1);
     WANT(first.left().tickets, CITRUS_ALL_TICKETS - 1000);
     WANT(second.left().tickets, 500);
+    WANT(second.fair_share(), 500);
+    WANT(first.fair_share(), (CITRUS_ALL_TICKETS - 1000) / 2);
     WANT(third.left().handles, 0);
     third.insert(1, 10);
     WANT(first.get(1).value_or(0), 10);
-    WANT(is_refused(citrus::fault::bad_argument, [&] { third.share(); }), true);
+    WANT(is_refused(citrus::fault::no_handle, [&] { third.share(); }), true);
+    WANT(is_refused(citrus::fault::no_handle, [&] { third.share(2, 0); }), true);
+    WANT(is_refused(citrus::fault::bad_argument, [&] { third.share(0, 0); }), true);
+    WANT(is_refused(citrus::fault::bad_argument, [&] { first.share(2, 0); }), true);
     WANT(is_refused(citrus::fault::bad_argument, [&] { first.share(1, CITRUS_ALL_TICKETS); }), true);
+    WANT(std::string(citrus::text_of(citrus::fault::no_handle)) == "citrus: no handle is left: open with more", true);
+    WANT(citrus::handle().fair_share(), 0);
     second.close();
     first.close();
     WANT(third.get(1).value_or(0), 10);

@@ -137,12 +137,20 @@ programs() {
 
 # --- a folder that may stand anywhere
 
+# What INSTALL.md says first, as it stands there, in a shell that is in the folder. Its program is as it was told.
+as_the_page_says() {
+    local words
+    words=$(awk '/^```/ { is_shell = $0 ~ /sh$/; next } is_shell' "$1/INSTALL.md")
+    [ "$(cd "$1" && bare env -u PKG_CONFIG_LIBDIR sh -ec "$words")" = '5 has 50' ] && rm "$1/first"
+}
+
 unpack() { mkdir -p "$room/a folder" && tar -xzf "$tarball" -C "$room/a folder"; }
 
 tarball_anywhere() {
     local root="$room/a folder/citrus-$version-x86_64-linux"
     pkg_config_folder=$root/lib/pkgconfig sysroot='' run_path=''
     case_is 'the folder is unpacked, in one with a space' unpack
+    case_is 'folder: the program of INSTALL.md, as it is written there' as_the_page_says "$root"
     programs folder "$root" "$root/lib" "$root/ffi/citrus_map"
 }
 
