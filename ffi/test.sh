@@ -284,10 +284,10 @@ hand_overs() {
     case_is 'ThreadSanitizer tells of a race where nobody tells it of the index' is_told_of_a_race
 }
 
-# The Rust crate's own tests, counted as cargo counts them.
+# The Rust crate's own tests, counted as cargo counts them. What compiles them has a time of its own.
 rust_tests() {
     local status lost=$failed told='^test result: .* ([0-9]+) passed; ([0-9]+) failed'
-    (cd "$here/$1" && in_rust cargo test --offline --quiet) >"$room/told" 2>&1
+    (cd "$here/$1" && in_rust cargo test --offline --quiet --no-run && in_rust cargo test --offline --quiet) >"$room/told" 2>&1
     status=$?
     while read -r; do
         [[ $REPLY =~ $told ]] || continue

@@ -1,6 +1,6 @@
-/* What citrus.h does where CITRUS_DEBUG is defined: an update or a wait of a thread that is in a section by another handle aborts the program, and
- * so does a call with a handle, or with lanes, with which another thread is in a call, or of which a copy made a call since. With OTHER_FILE this is a
- * second file of it, which holds. */
+/* What citrus.h does where CITRUS_DEBUG is defined: an update or a wait of a thread that is in a section by another handle aborts the program,
+ * and so does a call with a handle, or with lanes, with which another thread is in a call, or of which a copy made a call since. With OTHER_FILE
+ * this is a second file of it, which holds. */
 #define CITRUS_DEBUG
 #include "cases.h"
 
