@@ -255,11 +255,21 @@ cookies() {
         printf "| %s | %s | %s | %s | %s | %s | %s | %d of %d | %d of %d |\n", $1, $3, $4, $5, $6, $7, $8, $9, $10, $11, $12 }' "$1"
 }
 
-# Programs in turns: of each row the first one's least, and how many times that the others take.
+# Programs in turns: of each row the first one's least, and how many times that the others take. A row that has them tells the median and
+# both quartiles too.
 ratios() {
-    head_of pages 'gets of 100, keys' threads what 'least, ns' 'times the first' 'median of rounds' 'rounds' 'steal, %'
+    head_of pages 'gets of 100, keys' threads what 'least, ns' 'median, ns (quartiles)' 'times the first' 'median of rounds' 'rounds' 'steal, %'
     awk -F, '/^#/ || /^pages/ { next } {
-        printf "| %s | %s | %s | %s | %s | %s | %s | %s of %s | %s |\n", $1, $2, $3, $4, $5, $6, $7, $8, $9, $10 }' "$1"
+        median = $11 == "" ? "-" : $11 " (" $12 " to " $13 ")"
+        printf "| %s | %s | %s | %s | %s | %s | %s | %s | %s of %s | %s |\n", $1, $2, $3, $4, $5, median, $6, $7, $8, $9, $10 }' "$1"
+}
+
+# How long single calls take: medians of the runs, with the least and the greatest.
+latency() {
+    head_of 'gets of 100, keys' threads what call 'half take, ns' '99 of 100' '999 of 1,000' 'the longest, µs'
+    awk -F, '/^#/ || /^series/ { next }
+        function spread(from) { return $from == $(from + 2) ? $from : $from " (" $(from + 1) " to " $(from + 2) ")" }
+        { printf "| %s | %s | %s | %s | %s | %s | %s | %.0f |\n", $2, $3, $1, $4, spread(5), spread(8), spread(11), $14 / 1000 }' "$1"
 }
 
 # Medians through the C library; and by how much its minima are above those of the tree's own calls.
@@ -321,7 +331,7 @@ if [ $# -gt 0 ]; then
 fi
 out=$top/bench/out
 mkdir -p "$out"
-for name in tree waits sections writers shapes depth threads text limits cookies embed many ratios crowded size handles rust_map server; do
+for name in tree waits sections writers shapes depth threads text limits cookies embed many ratios latency crowded size handles rust_map server; do
     [ -e "$results/$name.csv" ] || continue
     grep -qxF "<!-- $name -->" "$top/docs/BENCHMARKS.md" "$top/bench/TABLES.md" || continue
     { echo; table "$name"; echo; } >"$out/table"
