@@ -132,6 +132,18 @@ handles() {
     awk -F, '/^#/ || /^waiter/ { next } { printf "| %s | %s | %s | %s | %s | %s | %s | %s | %s | %s |\n", $1, $2, $3, $4, $5, $6, $7, $8, $9, $10 }' "$1"
 }
 
+# Whom a reader that stays holds up.
+stays() {
+    head_of updates waiter 'came before one stood still' 'for, s' 'gets meanwhile, and lists of 16 pairs'
+    awk -F, '
+        BEGIN { split("first second third", waiters, " "); split("replaces;removes, each with an insert;inserts of ascending keys", kinds, ";") }
+        /^#/ || /^waiter/ { next }
+        {
+            came = ($4 > 0 ? $3 : $3 ", and none stood still")
+            printf "| %s | %s | %s | %s | %d, %d |\n", kinds[$2 + 1], waiters[$1 + 1], came, ($4 > 0 ? $4 : "-"), $5, $6
+        }' "$1"
+}
+
 # Lookups one by one, and by lanes at once.
 many() {
     head_of pairs 'one by one' '1 lane' '2 lanes' 4 8 'a wait beside no lanes' 'beside 8 idle ones' 'beside 8 busy ones'
@@ -300,17 +312,28 @@ table() {
     sed -n '1s/^# \([^,]*\), \(.*\)$/Measured on \1: \2./p' "$results/$1.csv"
 }
 
-# The pictures that are there.
+# Of the pictures that standard input names, with a caption each, those that are there: `pictures FOLDER`.
 pictures() {
     local name caption
     while read -r name caption; do
-        [ ! -e "$top/docs/pictures/bench_$name.svg" ] || printf '![%s](pictures/bench_%s.svg)\n\n%s\n\n' "$name" "$name" "$caption"
-    done <<'END'
-threads Operations a second of all threads together, medians. A line that rises gains by threads.
+        [ ! -e "$top/docs/pictures/bench_$name.svg" ] || printf '![%s](%s/bench_%s.svg)\n\n%s\n\n' "$name" "$1" "$name" "$caption"
+    done
+}
+
+pictures_for_users() {
+    pictures pictures <<'END'
+maps Operations a second of all threads together, medians. More is better, and a line that rises gains by threads.
+crowd The same with more threads than processors.
+keys How an operation's time grows with the keys, medians; both axes are logarithmic. A twin of the tree in C++ is drawn, [as fast as the library](#in-turns). Where a median is more than twice the best run, that is named.
+END
+}
+
+pictures_for_builders() {
+    pictures ../docs/pictures <<'END'
+threads Operations a second of all threads together, medians: the proved tree's own calls, and what it is measured beside.
 ratio The proved tree beside the same steps in C++, minima. At 1 it takes as long as the C++, below less.
 layout What words that stand apart gain, at four threads with the first waiter, medians. Less is better.
-keys How an operation's time grows with the keys, medians. Both axes are logarithmic; the tree is that in C++.
-places How the time grows with the places of the table, and what more threads than processors give, medians. The tree is that in C++.
+places How the time grows with the places of the table, medians, in the same steps in C++.
 END
 }
 
@@ -331,11 +354,13 @@ if [ $# -gt 0 ]; then
 fi
 out=$top/bench/out
 mkdir -p "$out"
-for name in tree waits sections writers shapes depth threads text limits cookies embed many ratios latency crowded size handles rust_map server; do
+for name in tree waits sections writers shapes depth threads text limits cookies embed many ratios latency crowded size handles stays rust_map server; do
     [ -e "$results/$name.csv" ] || continue
     grep -qxF "<!-- $name -->" "$top/docs/BENCHMARKS.md" "$top/bench/TABLES.md" || continue
     { echo; table "$name"; echo; } >"$out/table"
     put_in "$name" "$out/table"
 done
-{ echo; pictures; } >"$out/table"
-put_in pictures "$out/table"
+for readers in users builders; do
+    { echo; "pictures_for_$readers"; } >"$out/table"
+    put_in "pictures for $readers" "$out/table"
+done

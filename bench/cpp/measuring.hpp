@@ -19,7 +19,7 @@
 
 using Clock = std::chrono::steady_clock;
 
-enum class Subject { Calls, Keys, Places, Crowd, Crowded, Size, Turns, Latency };
+enum class Subject { Calls, Keys, Places, Crowded, Size, Turns, Latency };
 
 struct Options {
     Subject subject = Subject::Calls;
@@ -55,14 +55,13 @@ inline Options options_of(int count, char **words) {
         else if (word == "calls") options.subject = Subject::Calls;
         else if (word == "keys") options.subject = Subject::Keys;
         else if (word == "places") options.subject = Subject::Places;
-        else if (word == "crowd") options.subject = Subject::Crowd;
         else if (word == "crowded") options.subject = Subject::Crowded;
         else if (word == "size") options.subject = Subject::Size;
         else if (word == "turns") options.subject = Subject::Turns;
         else if (word == "latency") options.subject = Subject::Latency;
         else {
             fprintf(stderr,
-                    "usage: %s [--operations N] [--seconds S] [--packed] [--only SERIES] calls|keys|places|crowd|crowded\n"
+                    "usage: %s [--operations N] [--seconds S] [--packed] [--only SERIES] calls|keys|places|crowded\n"
                     "       %s [--operations N] [--pairs N] [--threads N] [--only SERIES] size\n"
                     "       %s [--mix GETS|load|fill] [--pairs N] [--wear N] [--threads N] --only SERIES turns\n"
                     "       %s [--mix GETS] [--pairs N] [--wear N] [--threads N] [--operations N] [--only SERIES] latency\n",
@@ -179,9 +178,6 @@ template <class Make> void measure_all(const std::string &name, const Options &o
         break;
     case Subject::Places:
         for (const uint32_t places : {1, 2, 4, 8, 16, 32, 64}) cell(Uniform<50, 1000>{}, {std::min(places, 4u), places});
-        break;
-    case Subject::Crowd:
-        for (const uint32_t threads : {1, 2, 4, 8, 16, 32, 64}) cell(Uniform<90, 20000>{}, {threads, threads});
         break;
     // More threads than processors.
     case Subject::Crowded:
