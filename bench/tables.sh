@@ -188,7 +188,7 @@ depth() {
         }' "$1"
 }
 
-# Medians of the Rust crate, and of other maps for Rust.
+# Medians of the Rust crate, and of other maps for Rust, with the least and the greatest where they were kept.
 rust_map() {
     head_of gets keys threads 'first waiter' second third 'BTreeMap, Mutex' RwLock DashMap
     awk -F, '
@@ -196,13 +196,13 @@ rust_map() {
             split("90 50 load 98 100", mixes, " "); split("1 2 4", crews, " ")
             split("citrus_map first,citrus_map second,citrus_map third,BTreeMap under Mutex,BTreeMap under RwLock,DashMap", series, ",")
         }
-        { median[$1, $2, $4] = $7; keys[$2] = $3 }
+        { median[$1, $2, $4] = sprintf("%.0f", $7) ($10 == "" ? "" : sprintf(" (%.0f to %.0f)", $6, $10)); keys[$2] = $3 }
         END {
             for (m = 1; m <= 5; m++) for (c = 1; c <= 3; c += 2) {
                 row = "| " mixes[m] " | " keys[mixes[m]] " | " crews[c] " |"
                 for (s = 1; s <= 6; s++) {
                     ns = median[series[s], mixes[m], crews[c]]
-                    row = row " " (ns == "" ? "-" : sprintf("%.0f", ns)) " |"
+                    row = row " " (ns == "" ? "-" : ns) " |"
                 }
                 print row
             }
@@ -284,13 +284,13 @@ latency() {
         { printf "| %s | %s | %s | %s | %s | %s | %s | %.0f |\n", $2, $3, $1, $4, spread(5), spread(8), spread(11), $14 / 1000 }' "$1"
 }
 
-# Medians through the C library; and by how much its minima are above those of the tree's own calls.
+# Medians through the C library, with the least and the greatest where they were kept; and by how much its minima are above those of the tree's own calls.
 embed() {
     head_of gets keys threads first second third 'more than the tree, first' second third 'best std::map under a lock' TBB
     with_best "$1" | awk -F, '
         BEGIN { split("90 50 load 98 100", mixes, " "); split("1 2 4", crews, " "); split("first second third", waiters, " ") }
-        { least[$1, $2, $4] = $6; median[$1, $2, $4] = $7; keys[$2] = $3 }
-        function ns(value) { return value == "" ? "-" : sprintf("%.0f", value) }
+        { least[$1, $2, $4] = $6; median[$1, $2, $4] = sprintf("%.0f", $7) ($10 == "" ? "" : sprintf(" (%.0f to %.0f)", $6, $10)); keys[$2] = $3 }
+        function ns(value) { return value == "" ? "-" : value }
         END {
             for (m = 1; m <= 5; m++) for (c = 1; c <= 3; c += 2) {
                 mix = mixes[m]; crew = crews[c]
