@@ -10,8 +10,8 @@
  *     citrus_close(&other);
  *     citrus_close(&mine);
  *
- * Every function behind these calls is proved to keep its contract, for all inputs and every order of the threads' steps. It checks what can
- * be checked, a closed handle too, and answers with a status. No contract says, but tests do: that a close leaves its section, and hands all
+ * Every function behind these calls is proved to keep its contract, for all inputs and every order of the threads' steps. A call checks what
+ * can be checked, a closed handle too, and answers with a status. No contract says, but tests do: that a close leaves its section, and hands all
  * that the handle had to the next reopen; that a reopen finds it and gives it to the new handle as it was; that no pair comes or goes by these
  * two, by an open or a share over an open handle, or by a place that waits for a reopen; and that memory is freed.
  *
@@ -102,8 +102,8 @@ static inline citrus_handle citrus_closed_handle(void) {
  * CITRUS_DEER has a stamp for each handle and each key modulo 64, and its lookups make one store fewer. */
 enum { CITRUS_EER = 0, CITRUS_DOMAIN = 1, CITRUS_DEER = 2 };
 
-/* What a call answers. Those below 0 say that the call did nothing, but for CITRUS_LOST, and for the tickets that an upsert's rounds used
- * before it was CITRUS_SPENT. Of several causes the first is told: CLOSED, LOST, HOLDS, BAD_ARGUMENT, SPENT, NO_MEMORY. */
+/* What a call answers. Those below 0 say that the call did nothing, except CITRUS_LOST, and except for the tickets that an upsert's rounds used
+ * before it was CITRUS_SPENT. If there are several causes, the first of these is told: CLOSED, LOST, HOLDS, BAD_ARGUMENT, SPENT, NO_MEMORY. */
 enum {
     CITRUS_DONE = 0,
     CITRUS_UNCHANGED = 1,     /* insert: the key is there already; get, replace, compare, remove: it is absent; first, last: there is no such
@@ -113,12 +113,12 @@ enum {
     CITRUS_MOVED = 4,         /* upsert: others put the key in and took it out in each of 1,000 rounds; nothing was changed. A later call may
                                  get through; poll: the wait is no longer the handle's latest, or its end was told */
     CITRUS_NEW = 5,           /* upsert: the pair was added */
-    CITRUS_DIFFERENT = 6,     /* compare: the key has another value than the expected one */
+    CITRUS_DIFFERENT = 6,     /* compare: the key's value isn't the expected one */
     CITRUS_CLOSED = -1,       /* the handle is closed, or the lanes are */
     CITRUS_BAD_ARGUMENT = -2, /* a number is out of its range; reopen: the other handle is open; open_lanes: the lanes are */
     CITRUS_NO_MEMORY = -3,    /* malloc gave none; open, share, reopen, list, tidy, open_lanes and get_many alone take memory */
     CITRUS_SPENT = -4,        /* the handle has fewer than 4 tickets (get, updates, tidy), or none (wait, begin). All other calls are left to it,
-                                 as list, first, last, hold, share, reopen and lanes */
+                                 such as list, first, last, hold, share, reopen and lanes */
     CITRUS_LOST = -5,         /* a call with this handle gave up after 2^64 - 1 rounds of waiting: the handle can only be closed */
     CITRUS_HOLDS = -6         /* the handle is in a section: release, left and close alone are left to it */
 };
@@ -149,7 +149,7 @@ const char *citrus_version(void);
 
 typedef struct { uint64_t key, value; } citrus_pair;
 
-/* What an index is opened for. It begins with its size, and citrus_options_for fills all of it: so a program goes on with a later library,
+/* What an index is opened for. It begins with its size, and citrus_options_for fills all of it: so a program still works with a later library,
  * whose record has more at its end. A library answers BAD_ARGUMENT to each size that it doesn't know, a smaller one than this and a larger one
  * than its own, since it can't do what it doesn't know; of a record of another size it reads nothing else. What an earlier record lacks is as it
  * was before. This is the first record. */
@@ -157,7 +157,7 @@ typedef struct {
     size_t size; /* sizeof(citrus_options) */
     uint32_t pairs, handles, waiter;
     uint32_t flags; /* 0, since none is known */
-    uint64_t salt;  /* any number: by it the tree turns its nodes. Who knows it can choose keys by which each call is as slow as there are pairs */
+    uint64_t salt;  /* any number: the tree turns its nodes by it. Whoever knows it can choose keys by which calls are as slow as a walk over all */
 } citrus_options;
 
 /* A number from the system, which nobody can guess. If the system gives none, as under some filters of system calls, it is made of the clock and
@@ -173,7 +173,7 @@ static inline uint64_t citrus_drawn_salt(void) {
     return drawn ^ (uint64_t)(uintptr_t)&drawn * UINT64_C(0x94d049bb133111eb);
 }
 
-/* The options of an index for so many pairs and handles, with this waiter: a drawn salt, and nothing else that isn't said. */
+/* The options of an index for so many pairs and handles, with this waiter, a drawn salt and no flags. */
 static inline citrus_options citrus_options_for(uint32_t pairs, uint32_t handles, uint32_t waiter) {
     citrus_options options;
     options.size = sizeof options;
@@ -185,7 +185,7 @@ static inline citrus_options citrus_options_for(uint32_t pairs, uint32_t handles
     return options;
 }
 
-/* Opens an index as citrus_open does, by a record of options: for a salt that is always the same, as tests want it.
+/* Opens an index as citrus_open does, by a record of options: for a salt that is always the same, as tests need it.
  * DONE; BAD_ARGUMENT where a number is out of range, the size or a flag too; NO_MEMORY. At all but DONE the handle is as it was. */
 CITRUS_STATUS_MATTERS int32_t citrus_open_with(citrus_handle *handle, const citrus_options *options);
 
@@ -297,8 +297,8 @@ CITRUS_STATUS_MATTERS int32_t citrus_first(citrus_handle *handle, uint64_t low, 
  * DONE, and *key and *value; UNCHANGED where there is none, as where low is above high; CLOSED; HOLDS; LOST. */
 CITRUS_STATUS_MATTERS int32_t citrus_last(citrus_handle *handle, uint64_t low, uint64_t high, uint64_t *key, uint64_t *value);
 
-/* Makes the tree shallow on the ways to the keys from low to high, without a change of any pair: for an index that was filled and is only
- * read from then on, since else inserts turn nodes where they went deep. It lists the first 256 of these keys and turns nodes on the way to
+/* Makes the tree shallow on the ways to the keys from low to high, without changing any pair: for an index that was filled and is only read
+ * from then on, since otherwise inserts turn nodes where they went deep. It lists the first 256 of these keys and turns nodes on the way to
  * each, in order, until so many turns (1 or more) were tried; those that others' locks or changes brought to nothing count too. So it goes
  * down at most 256 ways and one for each turn. A whole index takes one call after another, each from *next of the one before, while the
  * answer is MORE:
@@ -309,7 +309,7 @@ CITRUS_STATUS_MATTERS int32_t citrus_last(citrus_handle *handle, uint64_t low, u
  *
  * A turn locks three nodes, and waits for nobody; but where the handle keeps back 63 slots, two for each turn, it first waits for all
  * readers. It needs 4 tickets, and uses at most 3 for each turn that was tried and for each key.
- * *made is how many turns were made: 0 but at DONE, MORE and FULL. *next is written at MORE and FULL alone.
+ * *made is how many turns were made: 0 except at DONE, MORE and FULL. *next is written only at MORE and FULL.
  * DONE, where no way to a key of the range needs a turn any more; MORE where it isn't through, and *next is the key to go on with: so many
  * turns were tried, tickets are short, there are more keys, or no slot was free for a turn and the handle gave slots back that it kept, behind
  * a wait for all readers; FULL where no slot is free and it keeps none, and *next; CLOSED; HOLDS; BAD_ARGUMENT where low is above high, or
@@ -347,11 +347,11 @@ CITRUS_STATUS_MATTERS int32_t citrus_tidy(citrus_handle *handle, uint64_t low, u
  * up. */
 CITRUS_STATUS_MATTERS int32_t citrus_hold(citrus_handle *handle, uint64_t key, uint64_t *value);
 
-/* Enters a section with the key without a search, for something else than the index: see prcu.h. A few steps, and no ticket.
+/* Enters a section with the key without a search, for something other than the index: see prcu.h. A few steps, and no ticket.
  * DONE; CLOSED; HOLDS; LOST. */
 CITRUS_STATUS_MATTERS int32_t citrus_enter(citrus_handle *handle, uint64_t key);
 
-/* Leaves the section. It costs a step. Whatever closes the handle does the same.
+/* Leaves the section, as does whatever closes the handle. It costs a step.
  * DONE; UNCHANGED where the handle is in none; CLOSED; LOST. */
 int32_t citrus_release(citrus_handle *handle);
 
