@@ -1,5 +1,5 @@
 #!/usr/bin/env bash
-# Writes the tables of docs/BENCHMARKS.md and bench/TABLES.md from the summaries in bench/results: what stands between `<!-- NAME -->`
+# Writes the tables of README.md, docs/BENCHMARKS.md and bench/TABLES.md from the summaries in bench/results: what stands between `<!-- NAME -->`
 # and `<!-- end of NAME -->` is replaced where the summary of this name is there. `tables.sh NAME..` prints tables instead.
 set -eu
 # shellcheck source=bench/results.sh
@@ -209,6 +209,26 @@ rust_map() {
         }' "$1"
 }
 
+# README's table, of two summaries: medians of the library in Rust and in C, beside the maps that each is measured with.
+figures() {
+    # shellcheck disable=SC2016
+    head_of 'gets of 100, keys' threads 'Citrus in Rust' '`BTreeMap` under the better of two locks' DashMap 'Citrus in C' "TBB's map"
+    { with_best "$results/rust_map.csv" && grep -E '^(C library first|TBB map),' "$results/embed.csv"; } | awk -F, '
+        BEGIN {
+            split("100 98 90 50", mixes, " "); split("1 4", crews, " ")
+            split("citrus_map first,best under a lock,DashMap,C library first,TBB map", series, ",")
+        }
+        { median[$1, $2, $4] = $7; keys[$2] = $3 }
+        function grouped(number) { return number < 1000 ? number : sprintf("%d,%03d", number / 1000, number % 1000) }
+        END {
+            for (m = 1; m <= 4; m++) for (c = 1; c <= 2; c++) {
+                row = c == 1 ? "| " mixes[m] ", " grouped(keys[mixes[m]]) " | 1 |" : "| | 4 |"
+                for (s = 1; s <= 5; s++) row = row sprintf(" %.0f |", median[series[s], mixes[m], crews[c]])
+                print row
+            }
+        }'
+}
+
 # Thousands of requests a second, medians.
 server() {
     head_of command connections citrus_server redis-server
@@ -340,7 +360,7 @@ END
 # Puts a file in place of what stands between the marks of this name, in the page that has them: `put_in NAME FILE`.
 put_in() {
     local page
-    page=$(grep -lxF "<!-- $1 -->" "$top/docs/BENCHMARKS.md" "$top/bench/TABLES.md")
+    page=$(grep -lxF "<!-- $1 -->" "$top/README.md" "$top/docs/BENCHMARKS.md" "$top/bench/TABLES.md")
     awk -v name="$1" -v file="$2" '
         $0 == "<!-- end of " name " -->" { while ((getline line <file) > 0) print line; inside = 0 }
         !inside { print }
@@ -360,6 +380,10 @@ for name in tree waits sections writers shapes depth threads text limits cookies
     { echo; table "$name"; echo; } >"$out/table"
     put_in "$name" "$out/table"
 done
+if [ -e "$results/rust_map.csv" ] && [ -e "$results/embed.csv" ]; then
+    { echo; figures; echo; } >"$out/table"
+    put_in figures "$out/table"
+fi
 for readers in users builders; do
     { echo; "pictures_for_$readers"; } >"$out/table"
     put_in "pictures for $readers" "$out/table"
