@@ -229,7 +229,7 @@ CITRUS_STATUS_MATTERS int32_t citrus_reopen(citrus_handle *handle, citrus_handle
 
 /* Tells the key's value. If values are pointers, take citrus_hold.
  * It takes no lock and waits for nobody: a few stores, and two or three loads for each level of the tree. Writers can make its way longer, but
- * not without end: it makes at most three steps for each slot of the index, and four. It needs 4 tickets and uses none.
+ * not without end: it makes at most three steps for each slot of the index, and four more. It needs 4 tickets and uses none.
  * DONE, and *value; UNCHANGED where the key is absent; CLOSED; HOLDS; SPENT; LOST where an earlier call gave up. */
 CITRUS_STATUS_MATTERS int32_t citrus_get(citrus_handle *handle, uint64_t key, uint64_t *value);
 
