@@ -1,15 +1,16 @@
 #!/usr/bin/env bash
 # Measures how long single gets, inserts and removes take beside each other: of 1,000 of them 500, 990 and 999 take so long or less. Programs
 # are the C library, plain CITRUS, std::map under std's locks and TBB's map, at four threads: `latency.sh [--threads N] [--runs N]
-# [--operations N] [--wear N] [--row GETS/KEYS]... [--archive FILE]`. With `--wear` so many updates are made for each key before. It installs
-# the proved library for itself, or the libcitrus_c.a that is named. The median of the runs, with the least and the greatest, goes to
-# bench/results/latency.csv. A run beside which the host gave more than 5 % to others is left out. It stands outside the gate.
+# [--operations N] [--wear N] [--row GETS/KEYS]... [--archive FILE]`. Each row is measured as the dictionary was filled, and after so many
+# updates for each key as `--wear` says, unless that is 0. It installs the proved library for itself, or the libcitrus_c.a that is named. The
+# median of the runs, with the least and the greatest, goes to bench/results/latency.csv. A run beside which the host gave more than 5 % to
+# others is left out. It stands outside the gate.
 set -eu
 # shellcheck source=bench/peers.sh
 . "$(dirname "$0")/peers.sh"
 # shellcheck source=bench/results.sh
 . "$top/bench/results.sh"
-threads=4 runs=7 operations=1000000 wear=0 rows=() archive=()
+threads=4 runs=7 operations=1000000 wear=100 rows=() archive=()
 while [ $# -gt 0 ]; do
     case $1 in
         --threads) threads=$2 ;;
@@ -26,6 +27,8 @@ while [ $# -gt 0 ]; do
     shift 2
 done
 [ ${#rows[@]} != 0 ] || rows=(98/200000 90/20000 50/1000)
+wears=(0)
+[ "$wear" = 0 ] || wears+=("$wear")
 
 build_library "${archive[@]}"
 build_cpp citrus
@@ -33,24 +36,26 @@ build_cpp locked
 programs=("$out/embed --only C_library_first_waiter" "$out/citrus" "$out/locked")
 ! build_with oneapi/tbb/concurrent_map.h libtbb-dev tbb tbb || programs+=("$out/tbb")
 
-# The lines of a program, where the host gave the processors to it: `lines_of GETS KEYS PROGRAM [--only SERIES]`.
+# The lines of a program, where the host gave the processors to it: `lines_of GETS KEYS WEAR PROGRAM [--only SERIES]`.
 lines_of() {
     local only=() busy stolen busy_before stolen_before
-    [ $# = 3 ] || only=(--only "${5//_/ }")
+    [ $# = 4 ] || only=(--only "${6//_/ }")
     read_ticks
     busy_before=$busy stolen_before=$stolen
-    "$3" --mix "$1" --pairs "$2" --wear "$wear" --threads "$threads" --operations "$operations" "${only[@]}" latency >"$out/latency_now"
+    "$4" --mix "$1" --pairs "$2" --wear "$3" --threads "$threads" --operations "$operations" "${only[@]}" latency >"$out/latency_now"
     read_ticks
-    if [ $((100 * (stolen - stolen_before))) -lt $((5 * (busy - busy_before + 1))) ]; then cat "$out/latency_now"; else echo "left out: $3" >&2; fi
+    if [ $((100 * (stolen - stolen_before))) -lt $((5 * (busy - busy_before + 1))) ]; then cat "$out/latency_now"; else echo "left out: $4" >&2; fi
 }
 
-measured_here "$runs runs of $operations operations a thread, $wear updates a key before" >"$out/latency.csv"
+measured_here "$runs runs of $operations operations a thread" >"$out/latency.csv"
 : >"$out/latency_lines"
 for ((run = 1; run <= runs; run++)); do
     for row in "${rows[@]}"; do
-        for program in "${programs[@]}"; do
-            # shellcheck disable=SC2086
-            lines_of "${row%/*}" "${row#*/}" $program >>"$out/latency_lines"
+        for before in "${wears[@]}"; do
+            for program in "${programs[@]}"; do
+                # shellcheck disable=SC2086
+                lines_of "${row%/*}" "${row#*/}" "$before" $program >>"$out/latency_lines"
+            done
         done
     done
     echo "run $run of $runs, after $SECONDS s" >&2

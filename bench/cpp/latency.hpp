@@ -91,7 +91,8 @@ void measure_latency(Dictionary &dictionary, const std::string &name, const Draw
         crew.emplace_back([&, place] { time_calls(parts[place]->client, mix, place, operations, *told[place]); });
     for (auto &thread : crew) thread.join();
     for (uint32_t place = 1; place < threads; place++) told[0]->add(*told[place]);
-    const std::string mixed = std::to_string(mix.gets) + "/" + std::to_string(mix.keys);
+    const std::string worn = wear == 0 ? "" : " after " + std::to_string(wear) + " updates a key";
+    const std::string mixed = std::to_string(mix.gets) + "/" + std::to_string(mix.keys) + worn;
     tell_latency(name.c_str(), mixed.c_str(), threads, "get", told[0]->get);
     tell_latency(name.c_str(), mixed.c_str(), threads, "insert", told[0]->insert);
     tell_latency(name.c_str(), mixed.c_str(), threads, "remove", told[0]->remove);
