@@ -1,6 +1,6 @@
 #!/usr/bin/env bash
 # Tests the library as C, C++ and Rust programs see it: installs it into a folder of its own, and runs the programs of ffi/tests, those of
-# docs/EMBEDDING.md, and the tests of the Rust crate. Its last line is `N passed, M failed`, and its status 1 where something failed.
+# README.md and docs/EMBEDDING.md, and the tests of the Rust crate. Its last line is `N passed, M failed`, and its status 1 where something failed.
 # `test.sh ARCHIVE` takes a libcitrus_c.a that stands elsewhere.
 # Functions are called by name as words of others, which shellcheck can't see.
 # shellcheck disable=SC2317
@@ -90,9 +90,9 @@ has_debugger() { hash gdb 2>/dev/null && gdb -nx -batch -ex run --args true 2>&1
 # A page shows the program as it is compiled here: `shows PAGE PROGRAM`.
 shows() { python3 "$here/tests/page_has.py" "$top/$1" "$here/$2"; }
 
-# A program of the page: it stands there, and writes what the page says.
-first_program() {
-    shows docs/EMBEDDING.md "$1" && "${@:3}" "$here/$1" "-I$prefix/include" "-L$prefix/lib" -lcitrus -o "$room/first" && [ "$("$room/first")" = "$2" ]
+# A program of a page stands there, and writes the text: `program_of PAGE PROGRAM TEXT WORDS..`, with the words that compile it.
+program_of() {
+    shows "$1" "$2" && "${@:4}" "$here/$2" "-I$prefix/include" "-L$prefix/lib" -lcitrus -o "$room/first" && [ "$("$room/first")" = "$3" ]
 }
 
 # A program that isn't on a page: `example TEXT WORDS..` compiles it, and it writes the text.
@@ -105,10 +105,10 @@ with_pkg_config() {
     cc "$here/c/first.c" $words -o "$room/first" && [ "$("$room/first")" = '5 has 50' ]
 }
 
-# The page's program in Rust, in a folder of its own.
+# README's program in Rust, in a folder of its own.
 rust_program() {
     mkdir -p "$room/page/src"
-    awk '/^```/ { is_rust = $0 ~ /rust$/; next } is_rust' "$top/docs/EMBEDDING.md" >"$room/page/src/main.rs"
+    awk '/^```/ { is_rust = $0 ~ /rust$/; next } is_rust' "$top/README.md" >"$room/page/src/main.rs"
     printf '[package]\nname = "page"\nedition = "2021"\n[dependencies]\ncitrus_map = { path = "%s" }\n[workspace]\n' "$here/citrus_map" \
         >"$room/page/Cargo.toml"
     [ "$(cd "$room/page" && in_rust cargo run --offline --quiet)" = '5 has Some(50)' ]
@@ -303,10 +303,11 @@ rust_tests() {
     fi
 }
 
-# The crate's cache, an example.
-rust_cache() {
-    [ "$(cd "$here/citrus_map" && in_rust cargo run --offline --quiet --example cache)" = '5 swept; 3 has Some(6) letters, 4 has None' ]
-}
+# An example of the crate writes the text: `rust_example NAME TEXT`.
+rust_example() { [ "$(cd "$here/citrus_map" && in_rust cargo run --offline --quiet --example "$1")" = "$2" ]; }
+
+# A page shows it too: `rust_example_of PAGE NAME TEXT`.
+rust_example_of() { shows "$1" "citrus_map/examples/$2.rs" && rust_example "$2" "$3"; }
 
 # A check and the pages need no archive. What is linked does, and is told where it is looked for.
 without_an_archive() {
@@ -340,7 +341,9 @@ sanitizer_reports_a_wait_left_out() {
 }
 
 rust_maps() {
-    case_is 'the cache in Rust' rust_cache
+    case_is 'the cache in Rust' rust_example cache '5 swept; 3 has Some(6) letters, 4 has None'
+    case_is "README's program in Rust, an example" rust_example_of README.md first '5 has Some(50)'
+    case_is "the page's map in Rust" rust_example_of docs/EMBEDDING.md names $'5 is five\nSome("five") is gone'
     case_is 'the Rust crate is checked, and its pages are made, without the archive' rust_links_alone_take_the_archive
     if RUSTUP_AUTO_INSTALL=0 cargo +nightly --version >/dev/null 2>&1; then
         case_is "what mustn't compile in Rust is refused for its reason" refusals_have_their_codes
@@ -358,12 +361,12 @@ case_is 'the library is built and installed' [ -e "$prefix/lib/pkgconfig/citrus.
 case_is 'each function has an unwind table' each_function_has_a_table
 case_is 'one version is named everywhere' python3 "$top/build/version.py" --check
 cases_of "$here/tests/headers.sh" "$prefix/include"
-case_is "the page's program in C" first_program c/first.c '5 has 50' gcc -Wall -Wextra -Werror
-case_is 'README shows the program in C' shows README.md c/first.c
-case_is "the page's program in C++" first_program cpp/first.cpp '5 has 50' g++ -std=c++17 -Wall -Wextra -Werror -pthread
+case_is "README's program in C" program_of README.md c/first.c '5 has 50' gcc -Wall -Wextra -Werror
+case_is "README's program in C++" program_of README.md cpp/first.cpp '5 has 50' g++ -std=c++17 -Wall -Wextra -Werror -pthread
+case_is "the page's map in C++" program_of docs/EMBEDDING.md cpp/names.cpp $'5 is five\nfive is gone' g++ -std=c++17 -Wall -Wextra -Werror -pthread
 case_is 'the cache in C' example '5: five' gcc -Wall -Wextra -Werror "$here/c/cache.c"
 case_is 'the cache in C++' example '5: five' g++ -std=c++17 -Wall -Wextra -Werror -pthread "$here/cpp/cache.cpp"
-if hash pkg-config 2>/dev/null; then case_is "the page's program by pkg-config" with_pkg_config; else echo 'left out: pkg-config'; fi
+if hash pkg-config 2>/dev/null; then case_is "README's program by pkg-config" with_pkg_config; else echo 'left out: pkg-config'; fi
 case_is 'the tests compile' compile_all
 [ -x "$room/order_cpp" ] || end
 for program in answers misuse memory moments own_keys always many_handles counters reopened lanes tidy salts version backtraces answers_cpp index_cpp; do cases_of "$room/$program"; done
@@ -376,7 +379,7 @@ if has_sanitizer; then values_under_a_sanitizer; else echo 'left out: AddressSan
 if [ -x "$checker" ]; then orders; else echo "left out: one order of all calls, since $checker isn't built"; fi
 for crate in citrus_map server; do [ ! -e "$here/$crate/Cargo.toml" ] || rust_tests "$crate"; done
 if [ -e "$here/citrus_map/Cargo.toml" ]; then
-    case_is "the page's program in Rust" rust_program
+    case_is "README's program in Rust" rust_program
     rust_maps
 fi
 end
