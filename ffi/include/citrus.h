@@ -120,7 +120,7 @@ enum {
     CITRUS_SPENT = -4,        /* the handle has fewer than 4 tickets (get, updates, tidy), or none (wait, begin). All other calls are left to it,
                                  such as list, first, last, hold, share, reopen and lanes */
     CITRUS_LOST = -5,         /* a call with this handle gave up after 2^64 - 1 rounds of waiting: the handle can only be closed */
-    CITRUS_HOLDS = -6         /* the handle is in a section: release, left and close alone are left to it */
+    CITRUS_HOLDS = -6         /* the handle is in a section: release, left, stats and close alone are allowed */
 };
 
 /* A status by the name that it has above, for messages. */
