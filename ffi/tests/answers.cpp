@@ -295,6 +295,8 @@ static void handles_are_shared() {
     citrus::handle second = first.share(2, 1000), third = second.share();
     WANT(first.left().handles, 1);
     WANT(first.left().tickets, CITRUS_ALL_TICKETS - 1000);
+    WANT(first.stats().tickets, CITRUS_ALL_TICKETS - 1000);
+    WANT(first.stats().unshared, 1);
     WANT(second.left().tickets, 500);
     WANT(second.fair_share(), 500);
     WANT(first.fair_share(), (CITRUS_ALL_TICKETS - 1000) / 2);
