@@ -1,7 +1,7 @@
 #!/usr/bin/env bash
-# Measures how an operation's time grows: with 1,000 to 1,000,000 keys, at one and at four threads; with 1 to 64 places of the table, of
-# which four have a thread; and with 1 to 64 threads. `growth.sh [--rounds N] [--operations N] [--seconds S]`, as tree.sh has them. The
-# tree is that of the same steps in C++. Minima and medians go to bench/results/{keys,places,crowd}.csv. It stands outside the gate.
+# Measures how an operation's time grows: with 1,000 to 1,000,000 keys, at one and at four threads; and with 1 to 64 places of the table, of
+# which four have a thread. `growth.sh [--rounds N] [--operations N] [--seconds S]`, as tree.sh has them. The tree is that of the same steps
+# in C++. Minima and medians go to bench/results/{keys,places}.csv. It stands outside the gate.
 set -eu
 # shellcheck source=bench/peers.sh
 . "$(dirname "$0")/peers.sh"
@@ -42,5 +42,3 @@ for peer in "${peers[@]}"; do
 done
 measure keys "$operations" "$out/same" "${others[@]}"
 measure places "$operations" "$out/same"
-# Up to 64 threads: fewer operations for each.
-measure crowd $((operations / 5)) "$out/same" "${others[@]}"

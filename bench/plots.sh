@@ -1,5 +1,5 @@
 #!/usr/bin/env bash
-# Draws the pictures of docs/BENCHMARKS.md from the summaries in bench/results, by gnuplot (Debian's gnuplot-nox), into docs/pictures:
+# Draws the pictures of README.md, docs/BENCHMARKS.md and bench/TABLES.md from the summaries in bench/results, by gnuplot (Debian's gnuplot-nox), into docs/pictures:
 # those whose summaries are there.
 set -eu
 # shellcheck source=bench/results.sh
@@ -51,6 +51,9 @@ layouts() {
         }' "$1"
 }
 
+# Of the maps under a lock in a summary the one that had the least median in each cell, under a name: `best_of NAME FILE`.
+best_of() { with_best "$2" | sed -n "s/^best under a lock,/$1,/p"; }
+
 if [ -e "$results/tree.csv" ]; then
     with_best "$results/tree.csv" >"$drawn/tree.csv"
     ratios "$drawn/tree.csv" >"$drawn/ratio.csv"
@@ -65,8 +68,20 @@ if [ -e "$results/keys.csv" ]; then
     with_best "$results/keys.csv" >"$drawn/keys.csv"
     draw keys -e "data='$drawn/keys.csv'"
 fi
-if [ -e "$results/places.csv" ] && [ -e "$results/crowd.csv" ]; then
-    with_best "$results/places.csv" >"$drawn/places.csv"
-    with_best "$results/crowd.csv" >"$drawn/crowd.csv"
-    draw places -e "data='$drawn/places.csv'; crowd='$drawn/crowd.csv'"
+if [ -e "$results/places.csv" ]; then
+    cp "$results/places.csv" "$drawn/places.csv"
+    draw places -e "data='$drawn/places.csv'"
+fi
+if [ -e "$results/crowded.csv" ]; then
+    with_best "$results/crowded.csv" >"$drawn/crowded.csv"
+    draw crowd -e "data='$drawn/crowded.csv'"
+fi
+if [ -e "$results/embed.csv" ] && [ -e "$results/rust_map.csv" ]; then
+    {
+        grep -E '^(C library first|TBB map),' "$results/embed.csv"
+        grep -E '^(citrus_map first|DashMap),' "$results/rust_map.csv"
+        best_of 'std::map best' "$results/embed.csv"
+        best_of 'BTreeMap best' "$results/rust_map.csv"
+    } >"$drawn/maps.csv"
+    draw maps -e "data='$drawn/maps.csv'"
 fi

@@ -1,11 +1,12 @@
 #!/usr/bin/env bash
 # Measures dictionaries beside each other in a way that a busy host doesn't fool: each program makes its dictionary once, and then all take
 # turns, a cell of some milliseconds each, round after round. Of each it tells the least of all rounds, how many times the first program's
-# least that is, and the median of the same within rounds. Beside each row it tells `steal`, the share of the busy time that the host gave
+# least that is, the median of the same within rounds, and of its own nanoseconds the median and both quartiles. Beside each row it tells `steal`, the share of the busy time that the host gave
 # to others (/proc/stat); rounds above 5 % are left out, and rows above 5 % or with fewer than five rounds.
 #
-# `ratios.sh [--row MIX/KEYS]... [--threads N]... [--pages small|huge]... [--series NAME]... [--rounds N] [--cell MS] [--archive FILE]
-# [--beside FILE]`. A mix is a number of gets of 100, `load`, or `fill`, which fills a new dictionary in each cell. Without --row it
+# `ratios.sh [--row MIX/KEYS]... [--threads N]... [--pages small|huge]... [--series NAME]... [--rounds N] [--cell MS] [--wear N]
+# [--archive FILE] [--beside FILE]`. With `--wear` so many updates are made for each key before the first round, and the row says so: a tree
+# isn't then as it was filled. A mix is a number of gets of 100, `load`, or `fill`, which fills a new dictionary in each cell. Without --row it
 # measures ten rows, of which that of 10,000,000 keys takes 5 GB. The programs are the C library, the proved one or that of `--archive`,
 # with the first waiter and with the others; that of `--beside`, which may be of another commit; the same steps in C++; plain CITRUS;
 # TBB's map, by gcc and by clang; and for gets alone the library's lanes, which look up many keys at once. All draw the same keys, and it
@@ -17,12 +18,12 @@ set -eu
 # shellcheck source=bench/results.sh
 . "$top/bench/results.sh"
 usage() {
-    echo 'usage: ratios.sh [--row MIX/KEYS]... [--threads N]... [--pages small|huge]... [--series NAME]... [--rounds N] [--cell MS]
+    echo 'usage: ratios.sh [--row MIX/KEYS]... [--threads N]... [--pages small|huge]... [--series NAME]... [--rounds N] [--cell MS] [--wear N]
            [--archive FILE] [--beside FILE]' >&2
     exit 2
 }
 
-rows=() crews=() pages=() series=() rounds=60 cell=15 archive=() beside=()
+rows=() crews=() pages=() series=() rounds=60 cell=15 wear=0 archive=() beside=()
 named=
 while [ $# -gt 0 ]; do
     [ $# -ge 2 ] || usage
@@ -36,6 +37,7 @@ while [ $# -gt 0 ]; do
         --series) series+=("$2") named=yes ;;
         --rounds) rounds=$2 ;;
         --cell) cell=$2 ;;
+        --wear) wear=$2 named=yes ;;
         --archive) archive=("$2") ;;
         --beside) beside=("$2") ;;
         *) usage ;;
@@ -96,7 +98,7 @@ start() {
     mkfifo "$room/ask" "$room/tell"
     exec {ask}<>"$room/ask" {tell}<>"$room/tell"
     rm "$room/ask" "$room/tell"
-    GLIBC_TUNABLES=glibc.malloc.hugetlb=$huge "${program[$1]}" --only "${word[$1]}" --mix "$2" --pairs "$3" --threads "$4" turns \
+    GLIBC_TUNABLES=glibc.malloc.hugetlb=$huge "${program[$1]}" --only "${word[$1]}" --mix "$2" --pairs "$3" --threads "$4" --wear "$wear" turns \
         <&"$ask" >&"$tell" &
     names+=("$1") pids+=($!) asks+=("$ask") tells+=("$tell")
 }
@@ -132,7 +134,7 @@ take_round() {
 
 # A row: `measure MIX KEYS THREADS PAGES`.
 measure() {
-    local name i operations=3000 picos=() sums=() answer=()
+    local name i row=$1/$2 operations=3000 picos=() sums=() answer=()
     for name in "${series[@]}"; do
         case $name in *lanes) [ "$1" = 100 ] || continue ;; esac
         [ -z "${program[$name]:-}" ] || start "$name" "$@"
@@ -143,14 +145,15 @@ measure() {
         # One processor for all, so that none has a better one.
         [ "$3" != 1 ] || taskset -cp "$(($(nproc) - 1))" "${pids[i]}" >/dev/null
     done
+    [ "$wear" = 0 ] || row="$row after $wear updates a key"
     # Two thirds of a cell are timed.
     for i in 1 2; do
         take_turns "$operations" 0
         operations=$((cell * 1500000000 / (picos[0] + 1)))
     done
-    for ((i = 1; i <= rounds; i++)); do take_round "$4,$1/$2,$3" "$operations" "$i"; done
+    for ((i = 1; i <= rounds; i++)); do take_round "$4,$row,$3" "$operations" "$i"; done
     stop_all
-    echo "$1/$2, $3 threads, $4 pages, after $SECONDS s" >&2
+    echo "$row, $3 threads, $4 pages, after $SECONDS s" >&2
 }
 
 : >"$out/ratio_cells"
@@ -163,13 +166,16 @@ done
 # Of the rounds that are kept the least of each series, and its ratios to the first one.
 ratios() {
     awk -F, '
-        function median(values, count,    i, j, value) {
+        # Sorts the values, and tells the one that so much of them is below.
+        function part(values, count, share,    i, j, value, at) {
             for (i = 2; i <= count; i++) {
                 value = values[i]
                 for (j = i - 1; j > 0 && values[j] > value; j--) values[j + 1] = values[j]
                 values[j + 1] = value
             }
-            return (values[int((count + 1) / 2)] + values[int((count + 2) / 2)]) / 2
+            at = 1 + share * (count - 1)
+            i = int(at)
+            return i == count ? values[i] : values[i] + (at - i) * (values[i + 1] - values[i])
         }
         { row = $1 "," $2 "," $3 }
         !(row in rounds) { order[++rows] = row; first[row] = $7; rounds[row] = 0 }
@@ -179,6 +185,7 @@ ratios() {
             if ($7 == first[row]) kept[row]++
             if ($8 < least[row, $7]) least[row, $7] = $8
             ratio[row, $7, ++count[row, $7]] = $8 / own
+            nanos[row, $7, count[row, $7]] = $8 / 1000
         }
         END {
             for (r = 1; r <= rows; r++) {
@@ -190,10 +197,12 @@ ratios() {
                 many = split(substr(names[row], 2), each, ",")
                 for (i = 1; i <= many; i++) {
                     name = each[i]
-                    for (k = 1; k <= count[row, name]; k++) values[k] = ratio[row, name, k]
+                    many_of = count[row, name]
+                    for (k = 1; k <= many_of; k++) { values[k] = ratio[row, name, k]; own_ns[k] = nanos[row, name, k] }
                     times = least[row, name] / least[row, first[row]]
-                    printf "%s,%s,%.1f,%.3f,%.3f,%d,%d,%.1f\n", row, name, least[row, name] / 1000, times,
-                        median(values, count[row, name]), kept[row], rounds[row], share
+                    printf "%s,%s,%.1f,%.3f,%.3f,%d,%d,%.1f,%.1f,%.1f,%.1f\n", row, name, least[row, name] / 1000, times,
+                        part(values, many_of, 0.5), kept[row], rounds[row], share, part(own_ns, many_of, 0.5), part(own_ns, many_of, 0.25),
+                        part(own_ns, many_of, 0.75)
                 }
             }
         }' "$out/ratio_cells"
@@ -209,7 +218,7 @@ awk -F, '$3 == 1 || $2 ~ /^(100|fill)\// {
 ratios >"$out/ratio_rows"
 if [ -z "$named" ] || [ ! -e "$results/ratios.csv" ]; then
     measured_here "up to $rounds rounds a row, cells of $cell ms" >"$results/ratios.csv"
-    echo 'pages,row,threads,series,least_ns,times_the_first,median_times,kept,rounds,steal' >>"$results/ratios.csv"
+    echo 'pages,row,threads,series,least_ns,times_the_first,median_times,kept,rounds,steal,median_ns,quarter_ns,three_quarters_ns' >>"$results/ratios.csv"
 fi
 # A row that was measured again takes the place of the one before.
 awk -F, 'NR == FNR { now[$1, $2, $3]; next } /^#/ || !(($1, $2, $3) in now)' "$out/ratio_rows" "$results/ratios.csv" >"$out/ratios.csv"

@@ -1,7 +1,7 @@
 #!/usr/bin/env bash
-# Runs the commands of README.md and docs/FORMATS.md, and fails where one fails, waits for more input than it names, or takes longer than
+# Runs the commands of README.md, docs/TOOL.md and docs/FORMATS.md, and fails where one fails, waits for more input than it names, or takes longer than
 # it should. The answer without proofs and the gate come first, as on a fresh clone, and the others in their order. Only with the word `gate`
-# it runs the gate, and holds the command after it to the program that the gate left; else the program is built before. What stands
+# it runs the gate, and holds the tool's next command to the program that the gate left; else the program is built before. What stands
 # below ~/ in a command is put into bench/out. It stands outside the gate.
 set -eu
 if [ "${1:-}" = gate ]; then
@@ -23,19 +23,20 @@ commands() {
 
 # As someone runs them who begins with a fresh clone.
 in_order() {
-    { commands README.md && commands docs/FORMATS.md; } >"$out/commands"
+    { commands README.md && commands docs/TOOL.md && commands docs/FORMATS.md; } >"$out/commands"
     grep -e '--unproved' -e '^\.ci/run$' "$out/commands"
     grep -v -e '--unproved' -e '^\.ci/run$' "$out/commands"
 }
 
 # How long a command may take: the gate three hours, a build without proofs a minute and as long as its program may run, the library what
-# its proofs take where the gate didn't run, and what comes after the gate some seconds, which are too few to build anything.
+# its proofs take where the gate didn't run, and the tool's first command after the gate some seconds, which are too few to build anything.
 seconds_for() {
     case $1 in
         .ci/run) echo 10800 ;;
         *--unproved*) echo 120 ;;
-        ffi/install.sh*) echo 3600 ;;
-        *) [ "$before" = .ci/run ] && echo 5 || echo 60 ;;
+        ffi/package.sh*) echo 3600 ;;
+        ./citrus*) [ -n "$left_by_gate" ] && echo 5 || echo 60 ;;
+        *) echo 60 ;;
     esac
 }
 
@@ -44,7 +45,7 @@ rm -f "$out/terminal"
 mkfifo "$out/terminal"
 exec 8<>"$out/terminal"
 done=0
-before=
+left_by_gate=
 while IFS= read -r command; do
     case $command in
         .ci/run) [ "${1:-}" = gate ] || continue ;;
@@ -62,7 +63,10 @@ while IFS= read -r command; do
     fi
     echo "$command: $(head -1 "$out/told") ($took ms)"
     done=$((done + 1))
-    before=$command
+    case $command in
+        .ci/run) left_by_gate=yes ;;
+        ./citrus*) left_by_gate= ;;
+    esac
 done < <(in_order)
 rm -f "$out/terminal" "$out/told" "$out/commands"
 [ "$done" -ge 6 ] || { echo "readme.sh: only $done commands were found" >&2; exit 1; }

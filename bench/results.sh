@@ -53,14 +53,14 @@ add_cells() {
     rm "$file.now"
 }
 
-# Of the cells that stand in a file, the minimum and the median of each, and the mean of `steal` where it is told.
+# Of the cells that stand in a file, the minimum, the median and the maximum of each, and the mean of `steal` where it is told.
 summary() {
-    echo 'series,mix,keys,threads,places,minimum_ns,median_ns,runs,steal'
+    echo 'series,mix,keys,threads,places,minimum_ns,median_ns,runs,steal,maximum_ns'
     sort -t, -k 1,1 -k 2,2 -k 3,3n -k 4,4n -k 5,5n -k 6,6n "$1" | awk -F, '
         function flush() {
             if (!count) return
-            printf "%s,%.1f,%.1f,%d,%s\n", cell, ns[1], (ns[int((count + 1) / 2)] + ns[int((count + 2) / 2)]) / 2, count,
-                told ? sprintf("%.1f", steal / count) : ""
+            printf "%s,%.1f,%.1f,%d,%s,%.1f\n", cell, ns[1], (ns[int((count + 1) / 2)] + ns[int((count + 2) / 2)]) / 2, count,
+                told ? sprintf("%.1f", steal / count) : "", ns[count]
         }
         {
             now = $1 "," $2 "," $3 "," $4 "," $5

@@ -1,5 +1,5 @@
 #!/usr/bin/env bash
-# Writes the tables of docs/BENCHMARKS.md and bench/TABLES.md from the summaries in bench/results: what stands between `<!-- NAME -->`
+# Writes the tables of README.md, docs/BENCHMARKS.md and bench/TABLES.md from the summaries in bench/results: what stands between `<!-- NAME -->`
 # and `<!-- end of NAME -->` is replaced where the summary of this name is there. `tables.sh NAME..` prints tables instead.
 set -eu
 # shellcheck source=bench/results.sh
@@ -132,6 +132,18 @@ handles() {
     awk -F, '/^#/ || /^waiter/ { next } { printf "| %s | %s | %s | %s | %s | %s | %s | %s | %s | %s |\n", $1, $2, $3, $4, $5, $6, $7, $8, $9, $10 }' "$1"
 }
 
+# Whom a reader that stays holds up.
+stays() {
+    head_of updates waiter 'came before one stood still' 'for, s' 'gets meanwhile, and lists of 16 pairs'
+    awk -F, '
+        BEGIN { split("first second third", waiters, " "); split("replaces;removes, each with an insert;inserts of ascending keys", kinds, ";") }
+        /^#/ || /^waiter/ { next }
+        {
+            came = ($4 > 0 ? $3 : $3 ", and none stood still")
+            printf "| %s | %s | %s | %s | %d, %d |\n", kinds[$2 + 1], waiters[$1 + 1], came, ($4 > 0 ? $4 : "-"), $5, $6
+        }' "$1"
+}
+
 # Lookups one by one, and by lanes at once.
 many() {
     head_of pairs 'one by one' '1 lane' '2 lanes' 4 8 'a wait beside no lanes' 'beside 8 idle ones' 'beside 8 busy ones'
@@ -176,7 +188,7 @@ depth() {
         }' "$1"
 }
 
-# Medians of the Rust crate, and of other maps for Rust.
+# Medians of the Rust crate, and of other maps for Rust, with the least and the greatest where they were kept.
 rust_map() {
     head_of gets keys threads 'first waiter' second third 'BTreeMap, Mutex' RwLock DashMap
     awk -F, '
@@ -184,17 +196,37 @@ rust_map() {
             split("90 50 load 98 100", mixes, " "); split("1 2 4", crews, " ")
             split("citrus_map first,citrus_map second,citrus_map third,BTreeMap under Mutex,BTreeMap under RwLock,DashMap", series, ",")
         }
-        { median[$1, $2, $4] = $7; keys[$2] = $3 }
+        { median[$1, $2, $4] = sprintf("%.0f", $7) ($10 == "" ? "" : sprintf(" (%.0f to %.0f)", $6, $10)); keys[$2] = $3 }
         END {
             for (m = 1; m <= 5; m++) for (c = 1; c <= 3; c += 2) {
                 row = "| " mixes[m] " | " keys[mixes[m]] " | " crews[c] " |"
                 for (s = 1; s <= 6; s++) {
                     ns = median[series[s], mixes[m], crews[c]]
-                    row = row " " (ns == "" ? "-" : sprintf("%.0f", ns)) " |"
+                    row = row " " (ns == "" ? "-" : ns) " |"
                 }
                 print row
             }
         }' "$1"
+}
+
+# README's table, of two summaries: medians of the library in Rust and in C, beside the maps that each is measured with.
+figures() {
+    # shellcheck disable=SC2016
+    head_of 'gets of 100, keys' threads 'Citrus in Rust' '`BTreeMap` under the better of two locks' DashMap 'Citrus in C' "TBB's map"
+    { with_best "$results/rust_map.csv" && grep -E '^(C library first|TBB map),' "$results/embed.csv"; } | awk -F, '
+        BEGIN {
+            split("100 98 90 50", mixes, " "); split("1 4", crews, " ")
+            split("citrus_map first,best under a lock,DashMap,C library first,TBB map", series, ",")
+        }
+        { median[$1, $2, $4] = $7; keys[$2] = $3 }
+        function grouped(number) { return number < 1000 ? number : sprintf("%d,%03d", number / 1000, number % 1000) }
+        END {
+            for (m = 1; m <= 4; m++) for (c = 1; c <= 2; c++) {
+                row = c == 1 ? "| " mixes[m] ", " grouped(keys[mixes[m]]) " | 1 |" : "| | 4 |"
+                for (s = 1; s <= 5; s++) row = row sprintf(" %.0f |", median[series[s], mixes[m], crews[c]])
+                print row
+            }
+        }'
 }
 
 # Thousands of requests a second, medians.
@@ -255,20 +287,30 @@ cookies() {
         printf "| %s | %s | %s | %s | %s | %s | %s | %d of %d | %d of %d |\n", $1, $3, $4, $5, $6, $7, $8, $9, $10, $11, $12 }' "$1"
 }
 
-# Programs in turns: of each row the first one's least, and how many times that the others take.
+# Programs in turns: of each row the first one's least, and how many times that the others take. A row that has them tells the median and
+# both quartiles too.
 ratios() {
-    head_of pages 'gets of 100, keys' threads what 'least, ns' 'times the first' 'median of rounds' 'rounds' 'steal, %'
+    head_of pages 'gets of 100, keys' threads what 'least, ns' 'median, ns (quartiles)' 'times the first' 'median of rounds' 'rounds' 'steal, %'
     awk -F, '/^#/ || /^pages/ { next } {
-        printf "| %s | %s | %s | %s | %s | %s | %s | %s of %s | %s |\n", $1, $2, $3, $4, $5, $6, $7, $8, $9, $10 }' "$1"
+        median = $11 == "" ? "-" : $11 " (" $12 " to " $13 ")"
+        printf "| %s | %s | %s | %s | %s | %s | %s | %s | %s of %s | %s |\n", $1, $2, $3, $4, $5, median, $6, $7, $8, $9, $10 }' "$1"
 }
 
-# Medians through the C library; and by how much its minima are above those of the tree's own calls.
+# How long single calls take: medians of the runs, with the least and the greatest.
+latency() {
+    head_of 'gets of 100, keys' threads what call 'half take, ns' '99 of 100' '999 of 1,000' 'the longest, µs'
+    awk -F, '/^#/ || /^series/ { next }
+        function spread(from) { return $from == $(from + 2) ? $from : $from " (" $(from + 1) " to " $(from + 2) ")" }
+        { printf "| %s | %s | %s | %s | %s | %s | %s | %.0f |\n", $2, $3, $1, $4, spread(5), spread(8), spread(11), $14 / 1000 }' "$1"
+}
+
+# Medians through the C library, with the least and the greatest where they were kept; and by how much its minima are above those of the tree's own calls.
 embed() {
     head_of gets keys threads first second third 'more than the tree, first' second third 'best std::map under a lock' TBB
     with_best "$1" | awk -F, '
         BEGIN { split("90 50 load 98 100", mixes, " "); split("1 2 4", crews, " "); split("first second third", waiters, " ") }
-        { least[$1, $2, $4] = $6; median[$1, $2, $4] = $7; keys[$2] = $3 }
-        function ns(value) { return value == "" ? "-" : sprintf("%.0f", value) }
+        { least[$1, $2, $4] = $6; median[$1, $2, $4] = sprintf("%.0f", $7) ($10 == "" ? "" : sprintf(" (%.0f to %.0f)", $6, $10)); keys[$2] = $3 }
+        function ns(value) { return value == "" ? "-" : value }
         END {
             for (m = 1; m <= 5; m++) for (c = 1; c <= 3; c += 2) {
                 mix = mixes[m]; crew = crews[c]
@@ -290,24 +332,35 @@ table() {
     sed -n '1s/^# \([^,]*\), \(.*\)$/Measured on \1: \2./p' "$results/$1.csv"
 }
 
-# The pictures that are there.
+# Of the pictures that standard input names, with a caption each, those that are there: `pictures FOLDER`.
 pictures() {
     local name caption
     while read -r name caption; do
-        [ ! -e "$top/docs/pictures/bench_$name.svg" ] || printf '![%s](pictures/bench_%s.svg)\n\n%s\n\n' "$name" "$name" "$caption"
-    done <<'END'
-threads Operations a second of all threads together, medians. A line that rises gains by threads.
+        [ ! -e "$top/docs/pictures/bench_$name.svg" ] || printf '![%s](%s/bench_%s.svg)\n\n%s\n\n' "$name" "$1" "$name" "$caption"
+    done
+}
+
+pictures_for_users() {
+    pictures pictures <<'END'
+maps Operations a second of all threads together, medians. More is better, and a line that rises gains by threads.
+crowd The same with more threads than processors.
+keys How an operation's time grows with the keys, medians; both axes are logarithmic. A twin of the tree in C++ is drawn, [as fast as the library](#in-turns). Where a median is more than twice the best run, that is named.
+END
+}
+
+pictures_for_builders() {
+    pictures ../docs/pictures <<'END'
+threads Operations a second of all threads together, medians: the proved tree's own calls, and what it is measured beside.
 ratio The proved tree beside the same steps in C++, minima. At 1 it takes as long as the C++, below less.
 layout What words that stand apart gain, at four threads with the first waiter, medians. Less is better.
-keys How an operation's time grows with the keys, medians. Both axes are logarithmic; the tree is that in C++.
-places How the time grows with the places of the table, and what more threads than processors give, medians. The tree is that in C++.
+places How the time grows with the places of the table, medians, in the same steps in C++.
 END
 }
 
 # Puts a file in place of what stands between the marks of this name, in the page that has them: `put_in NAME FILE`.
 put_in() {
     local page
-    page=$(grep -lxF "<!-- $1 -->" "$top/docs/BENCHMARKS.md" "$top/bench/TABLES.md")
+    page=$(grep -lxF "<!-- $1 -->" "$top/README.md" "$top/docs/BENCHMARKS.md" "$top/bench/TABLES.md")
     awk -v name="$1" -v file="$2" '
         $0 == "<!-- end of " name " -->" { while ((getline line <file) > 0) print line; inside = 0 }
         !inside { print }
@@ -321,11 +374,17 @@ if [ $# -gt 0 ]; then
 fi
 out=$top/bench/out
 mkdir -p "$out"
-for name in tree waits sections writers shapes depth threads text limits cookies embed many ratios crowded size handles rust_map server; do
+for name in tree waits sections writers shapes depth threads text limits cookies embed many ratios latency crowded size handles stays rust_map server; do
     [ -e "$results/$name.csv" ] || continue
     grep -qxF "<!-- $name -->" "$top/docs/BENCHMARKS.md" "$top/bench/TABLES.md" || continue
     { echo; table "$name"; echo; } >"$out/table"
     put_in "$name" "$out/table"
 done
-{ echo; pictures; } >"$out/table"
-put_in pictures "$out/table"
+if [ -e "$results/rust_map.csv" ] && [ -e "$results/embed.csv" ]; then
+    { echo; figures; echo; } >"$out/table"
+    put_in figures "$out/table"
+fi
+for readers in users builders; do
+    { echo; "pictures_for_$readers"; } >"$out/table"
+    put_in "pictures for $readers" "$out/table"
+done

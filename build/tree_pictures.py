@@ -13,6 +13,11 @@ def words(x, y, text, size=12, colour=INK, anchor="middle", weight="normal"):
             f'text-anchor="{anchor}" font-weight="{weight}">{text}</text>')
 
 
+def remark(x, y, *texts):
+    """What is said beside the tree, in short lines."""
+    return [words(x, y + 13 * i, text, 11, BLUE) for i, text in enumerate(texts)]
+
+
 def node(x, y, key, kind):
     """A node: plain, locked (a thick edge), copy, or gone (marked and unlinked)."""
     edge = {"plain": INK, "locked": INK, "copy": BLUE, "gone": GREY, "marked": RED}[kind]
@@ -76,7 +81,7 @@ def delete_two_children():
               arrow(copy, sixty, "new"), arrow(copy, ten, "new")]
     second = whole("gone", "locked") + beside + [arrow(sixty, forty), arrow(forty, last), reader(140, 150, "get 40")]
     third = whole("gone", "locked") + beside + [arrow(sixty, forty), arrow(forty, last), reader(95, 200, "get 40"),
-                                                 words(200, 60, "later: get 40", 11, BLUE), words(200, 73, "meets the copy", 11, BLUE)]
+                                                 *remark(203, 57, "later: get", "40 meets", "the copy")]
     fourth = whole("gone", "gone") + beside + [arrow(forty, last, "gone"), arrow(sixty, last)]
     picture("delete_two_children", "A delete of 30, whose successor is 40", [
         frame(0, "1. found and locked", first, ["40 is the next key after 30.", "Thick: locked by the delete."]),
@@ -106,7 +111,7 @@ def rotation():
     beside = copies("new") + [arrow(top, new_upper, "new")]
     third = whole("gone", "locked") + ways("gone") + beside + [reader(53, 105, "get 40")]
     fourth = whole("gone", "plain") + ways("gone") + beside + [
-        reader(96, 259, "get 40"), words(196, 50, "later: get 40", 11, BLUE), words(196, 63, "meets the new two", 11, BLUE)]
+        reader(96, 259, "get 40"), *remark(210, 50, "later: get", "40 meets", "these two")]
     picture("rotation", "A rotation of 30 and its child 50", [
         frame(0, "1. found and locked", first, ["30 and its child 50 are to change places.", "Thick: locked by the seat."]),
         frame(1, "2. two are filled, two are marked", second,

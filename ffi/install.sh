@@ -12,7 +12,7 @@ usage: install.sh PREFIX [ARCHIVE]
        install.sh --uninstall PREFIX
 
 Installs the C library below the folder PREFIX, which is made where it isn't there:
-  include/                  citrus.h, citrus.hpp, citrus_map.hpp, prcu.h, and what they include
+  include/                  citrus.h, citrus.hpp, citrus_index.hpp, citrus_map.hpp, prcu.h, and what they include
   lib/libcitrus.a           the archive, with all that it needs beside the C library
   lib/libcitrus.so.*        the same as a shared library
   lib/pkgconfig/            citrus.pc, and citrus-shared.pc for the shared library
@@ -20,8 +20,8 @@ Installs the C library below the folder PREFIX, which is made where it isn't the
   share/citrus/installed    what was installed, for --uninstall
 
 It is built of the crate citrus_c over the libraries that .ci/run proved. What isn't proved yet is proved first, which takes long on a fresh
-clone. With ARCHIVE a libcitrus_c.a that stands elsewhere is taken. It needs the toolchain's command rt, ar, ld, objcopy and a C compiler
-(cc, or what CC names).
+clone. With ARCHIVE a libcitrus_c.a that stands elsewhere is taken. It needs the toolchain's command rt, python3, ar, ld, objcopy, objdump and a
+C compiler (cc, or what CC names).
 
 --uninstall removes what was installed there, and the folders that were made for it where nothing else is in them.
 

@@ -1,6 +1,6 @@
 #!/usr/bin/env bash
 # Tests the library as C, C++ and Rust programs see it: installs it into a folder of its own, and runs the programs of ffi/tests, those of
-# docs/EMBEDDING.md, and the tests of the Rust crate. Its last line is `N passed, M failed`, and its status 1 where something failed.
+# README.md and docs/EMBEDDING.md, and the tests of the Rust crate. Its last line is `N passed, M failed`, and its status 1 where something failed.
 # `test.sh ARCHIVE` takes a libcitrus_c.a that stands elsewhere.
 # Functions are called by name as words of others, which shellcheck can't see.
 # shellcheck disable=SC2317
@@ -61,7 +61,7 @@ link_objects() { g++ -pthread "${@:2}" -L"$prefix/lib" -lcitrus -o "$room/$1"; }
 
 compile_all() {
     compile_c answers && compile_c misuse && compile_c own_keys && compile_c moments && compile_c reopened && compile_c tidy && compile_c version && compile_c salts &&
-        compile_c always && compile_c many_handles && compile_c counters && compile_c lanes &&
+        compile_c backtraces && compile_cpp index && compile_c always && compile_c many_handles && compile_c counters && compile_c lanes &&
         compile_c memory -Wl,--wrap=malloc,--wrap=realloc,--wrap=free && compile_cpp answers && compile_cpp order && compile_cpp whole &&
         compile_c holds && compile_c begun && compile_c objects && compile_c prcu && compile_cpp map && compile_debug
 }
@@ -71,12 +71,28 @@ compile_debug() {
     gcc -std=gnu11 "${strict[@]}" -DOTHER_FILE -c "$here/tests/debug.c" -o "$room/other_file.o" && compile_c debug "$room/other_file.o"
 }
 
+# No function of the archive lacks an unwind table, by which a backtrace goes on.
+each_function_has_a_table() {
+    local functions tables
+    functions=$(readelf -sW "$prefix/lib/libcitrus.a" | awk '$4 == "FUNC" && $7 != "UND"' | wc -l)
+    tables=$(readelf --debug-dump=frames "$prefix/lib/libcitrus.a" | grep -c ' FDE ')
+    echo "$tables tables of $functions functions" && [ "$functions" -gt 0 ] && [ "$tables" = "$functions" ]
+}
+
+# A debugger that looks at a call that hangs names who made it.
+gdb_names_the_caller() {
+    gdb -nx -batch -ex 'handle SIGALRM nostop noprint pass' -ex run -ex 'thread apply all backtrace' --args "$room/backtraces" hang >"$room/report" 2>&1
+    grep -q ' citrus_\(insert\|remove\) ' "$room/report" && grep -q ' changes_behind_a_reader ' "$room/report" && grep -q ' main ' "$room/report"
+}
+
+has_debugger() { hash gdb 2>/dev/null && gdb -nx -batch -ex run --args true 2>&1 | grep -q 'exited normally'; }
+
 # A page shows the program as it is compiled here: `shows PAGE PROGRAM`.
 shows() { python3 "$here/tests/page_has.py" "$top/$1" "$here/$2"; }
 
-# A program of the page: it stands there, and writes what the page says.
-first_program() {
-    shows docs/EMBEDDING.md "$1" && "${@:3}" "$here/$1" "-I$prefix/include" "-L$prefix/lib" -lcitrus -o "$room/first" && [ "$("$room/first")" = "$2" ]
+# A program of a page stands there, and writes the text: `program_of PAGE PROGRAM TEXT WORDS..`, with the words that compile it.
+program_of() {
+    shows "$1" "$2" && "${@:4}" "$here/$2" "-I$prefix/include" "-L$prefix/lib" -lcitrus -o "$room/first" && [ "$("$room/first")" = "$3" ]
 }
 
 # A program that isn't on a page: `example TEXT WORDS..` compiles it, and it writes the text.
@@ -89,10 +105,10 @@ with_pkg_config() {
     cc "$here/c/first.c" $words -o "$room/first" && [ "$("$room/first")" = '5 has 50' ]
 }
 
-# The page's program in Rust, in a folder of its own.
+# README's program in Rust, in a folder of its own.
 rust_program() {
     mkdir -p "$room/page/src"
-    awk '/^```/ { is_rust = $0 ~ /rust$/; next } is_rust' "$top/docs/EMBEDDING.md" >"$room/page/src/main.rs"
+    awk '/^```/ { is_rust = $0 ~ /rust$/; next } is_rust' "$top/README.md" >"$room/page/src/main.rs"
     printf '[package]\nname = "page"\nedition = "2021"\n[dependencies]\ncitrus_map = { path = "%s" }\n[workspace]\n' "$here/citrus_map" \
         >"$room/page/Cargo.toml"
     [ "$(cd "$room/page" && in_rust cargo run --offline --quiet)" = '5 has Some(50)' ]
@@ -268,10 +284,10 @@ hand_overs() {
     case_is 'ThreadSanitizer tells of a race where nobody tells it of the index' is_told_of_a_race
 }
 
-# The Rust crate's own tests, counted as cargo counts them.
+# The Rust crate's own tests, counted as cargo counts them. What compiles them has a time of its own.
 rust_tests() {
     local status lost=$failed told='^test result: .* ([0-9]+) passed; ([0-9]+) failed'
-    (cd "$here/$1" && in_rust cargo test --offline --quiet) >"$room/told" 2>&1
+    (cd "$here/$1" && in_rust cargo test --offline --quiet --no-run && in_rust cargo test --offline --quiet) >"$room/told" 2>&1
     status=$?
     while read -r; do
         [[ $REPLY =~ $told ]] || continue
@@ -287,9 +303,19 @@ rust_tests() {
     fi
 }
 
-# The crate's cache, an example.
-rust_cache() {
-    [ "$(cd "$here/citrus_map" && in_rust cargo run --offline --quiet --example cache)" = '5 swept; 3 has Some(6) letters, 4 has None' ]
+# An example of the crate writes the text: `rust_example NAME TEXT`.
+rust_example() { [ "$(cd "$here/citrus_map" && in_rust cargo run --offline --quiet --example "$1")" = "$2" ]; }
+
+# A page shows it too: `rust_example_of PAGE NAME TEXT`.
+rust_example_of() { shows "$1" "citrus_map/examples/$2.rs" && rust_example "$2" "$3"; }
+
+# A check and the pages need no archive. What is linked does, and is told where it is looked for.
+without_an_archive() {
+    (cd "$here/citrus_map" && env -u CITRUS_LIB_DIR PKG_CONFIG_PATH='' PKG_CONFIG_LIBDIR="$room" CARGO_TARGET_DIR="$room/unlinked" timeout 100 cargo "$@" --offline)
+}
+rust_links_alone_take_the_archive() {
+    without_an_archive check && without_an_archive doc --no-deps && ! without_an_archive build 2>"$room/report" && grep -q 'set CITRUS_LIB_DIR' "$room/report" &&
+        grep -q 'could not find native static library' "$room/report"
 }
 
 # What takes a nightly toolchain of Rust, which isn't fetched: `in_nightly FOLDER WORDS..` runs cargo's words in a folder.
@@ -315,7 +341,10 @@ sanitizer_reports_a_wait_left_out() {
 }
 
 rust_maps() {
-    case_is 'the cache in Rust' rust_cache
+    case_is 'the cache in Rust' rust_example cache '5 swept; 3 has Some(6) letters, 4 has None'
+    case_is "README's program in Rust, an example" rust_example_of README.md first '5 has Some(50)'
+    case_is "the page's map in Rust" rust_example_of docs/EMBEDDING.md names $'5 is five\nSome("five") is gone'
+    case_is 'the Rust crate is checked, and its pages are made, without the archive' rust_links_alone_take_the_archive
     if RUSTUP_AUTO_INSTALL=0 cargo +nightly --version >/dev/null 2>&1; then
         case_is "what mustn't compile in Rust is refused for its reason" refusals_have_their_codes
         case_is 'values of a Rust map under AddressSanitizer' sanitized "$here/citrus_map"
@@ -329,18 +358,20 @@ rust_maps() {
 "$here/install.sh" "$prefix" "$@"
 case_is 'the library is built and installed' [ -e "$prefix/lib/pkgconfig/citrus.pc" ]
 [ "$failed" = 0 ] || end
+case_is 'each function has an unwind table' each_function_has_a_table
 case_is 'one version is named everywhere' python3 "$top/build/version.py" --check
 cases_of "$here/tests/headers.sh" "$prefix/include"
-case_is "the page's program in C" first_program c/first.c '5 has 50' gcc -Wall -Wextra -Werror
-case_is 'README shows the program in C' shows README.md c/first.c
-case_is "the page's program in C++" first_program cpp/first.cpp '5 has 50' g++ -std=c++17 -Wall -Wextra -Werror -pthread
+case_is "README's program in C" program_of README.md c/first.c '5 has 50' gcc -Wall -Wextra -Werror
+case_is "README's program in C++" program_of README.md cpp/first.cpp '5 has 50' g++ -std=c++17 -Wall -Wextra -Werror -pthread
+case_is "the page's map in C++" program_of docs/EMBEDDING.md cpp/names.cpp $'5 is five\nfive is gone' g++ -std=c++17 -Wall -Wextra -Werror -pthread
 case_is 'the cache in C' example '5: five' gcc -Wall -Wextra -Werror "$here/c/cache.c"
 case_is 'the cache in C++' example '5: five' g++ -std=c++17 -Wall -Wextra -Werror -pthread "$here/cpp/cache.cpp"
-if hash pkg-config 2>/dev/null; then case_is "the page's program by pkg-config" with_pkg_config; else echo 'left out: pkg-config'; fi
+if hash pkg-config 2>/dev/null; then case_is "README's program by pkg-config" with_pkg_config; else echo 'left out: pkg-config'; fi
 case_is 'the tests compile' compile_all
 [ -x "$room/order_cpp" ] || end
-for program in answers misuse memory moments own_keys always many_handles counters reopened lanes tidy salts version answers_cpp; do cases_of "$room/$program"; done
+for program in answers misuse memory moments own_keys always many_handles counters reopened lanes tidy salts version backtraces answers_cpp index_cpp; do cases_of "$room/$program"; done
 for program in holds begun objects prcu debug map_cpp whole_cpp; do cases_of "$room/$program"; done
+if has_debugger; then case_is 'gdb names the caller of a call that hangs' gdb_names_the_caller; else echo 'left out: gdb'; fi
 threads_that_are_stopped
 [ ! -x "$room/jitter.so" ] || planted_faults
 if has_thread_sanitizer; then hand_overs; else echo 'left out: ThreadSanitizer'; fi
@@ -348,7 +379,7 @@ if has_sanitizer; then values_under_a_sanitizer; else echo 'left out: AddressSan
 if [ -x "$checker" ]; then orders; else echo "left out: one order of all calls, since $checker isn't built"; fi
 for crate in citrus_map server; do [ ! -e "$here/$crate/Cargo.toml" ] || rust_tests "$crate"; done
 if [ -e "$here/citrus_map/Cargo.toml" ]; then
-    case_is "the page's program in Rust" rust_program
+    case_is "README's program in Rust" rust_program
     rust_maps
 fi
 end

@@ -3,6 +3,7 @@
 // which answers a found value, or 1 (or the update's number) where an update changed something, else 0; and `may_call`, whether it has
 // the means for one more.
 #pragma once
+#include "latency.hpp"
 #include "mixes.hpp"
 #include "size.hpp"
 #include "turns.hpp"
@@ -18,7 +19,7 @@
 
 using Clock = std::chrono::steady_clock;
 
-enum class Subject { Calls, Keys, Places, Crowd, Crowded, Size, Turns };
+enum class Subject { Calls, Keys, Places, Crowded, Size, Turns, Latency };
 
 struct Options {
     Subject subject = Subject::Calls;
@@ -39,6 +40,7 @@ inline Turns turns_of(const std::string &mix, uint64_t keys) {
 inline Options options_of(int count, char **words) {
     Options options;
     std::string mix = "100";
+    uint64_t wear = 0;
     for (int i = 1; i < count; i++) {
         const std::string word = words[i];
         const auto number = [&] { return ++i < count ? strtod(words[i], nullptr) : 0; };
@@ -48,25 +50,28 @@ inline Options options_of(int count, char **words) {
         else if (word == "--only") options.only = ++i < count ? words[i] : "";
         else if (word == "--pairs") options.size.pairs = uint64_t(number());
         else if (word == "--mix") mix = ++i < count ? words[i] : "";
+        else if (word == "--wear") wear = uint64_t(number());
         else if (word == "--threads") options.size.threads = std::max(uint32_t(number()), 1u);
         else if (word == "calls") options.subject = Subject::Calls;
         else if (word == "keys") options.subject = Subject::Keys;
         else if (word == "places") options.subject = Subject::Places;
-        else if (word == "crowd") options.subject = Subject::Crowd;
         else if (word == "crowded") options.subject = Subject::Crowded;
         else if (word == "size") options.subject = Subject::Size;
         else if (word == "turns") options.subject = Subject::Turns;
+        else if (word == "latency") options.subject = Subject::Latency;
         else {
             fprintf(stderr,
-                    "usage: %s [--operations N] [--seconds S] [--packed] [--only SERIES] calls|keys|places|crowd|crowded\n"
+                    "usage: %s [--operations N] [--seconds S] [--packed] [--only SERIES] calls|keys|places|crowded\n"
                     "       %s [--operations N] [--pairs N] [--threads N] [--only SERIES] size\n"
-                    "       %s [--mix GETS|load|fill] [--pairs N] [--threads N] --only SERIES turns\n",
-                    words[0], words[0], words[0]);
+                    "       %s [--mix GETS|load|fill] [--pairs N] [--wear N] [--threads N] --only SERIES turns\n"
+                    "       %s [--mix GETS] [--pairs N] [--wear N] [--threads N] [--operations N] [--only SERIES] latency\n",
+                    words[0], words[0], words[0], words[0]);
             exit(2);
         }
     }
     options.size.operations = options.operations;
     options.turns = turns_of(mix, options.size.pairs);
+    options.turns.wear = wear;
     return options;
 }
 
@@ -140,8 +145,8 @@ template <class Make> void measure_turns(const Turns &turns, uint32_t threads, c
     const auto made = [&] { return make(Room{turns.keys, threads, UINT32_MAX, kept_by_handles}); };
     switch (turns.what) {
     case Turns::What::Fill: take_fills(made, turns.keys, threads); break;
-    case Turns::What::Load: take_turns(*made(), Load{}, threads); break;
-    case Turns::What::Mix: take_turns(*made(), Drawn{turns.gets, turns.keys}, threads); break;
+    case Turns::What::Load: take_turns(*made(), Load{}, threads, 0); break;
+    case Turns::What::Mix: take_turns(*made(), Drawn{turns.gets, turns.keys}, threads, turns.wear); break;
     }
 }
 
@@ -174,9 +179,6 @@ template <class Make> void measure_all(const std::string &name, const Options &o
     case Subject::Places:
         for (const uint32_t places : {1, 2, 4, 8, 16, 32, 64}) cell(Uniform<50, 1000>{}, {std::min(places, 4u), places});
         break;
-    case Subject::Crowd:
-        for (const uint32_t threads : {1, 2, 4, 8, 16, 32, 64}) cell(Uniform<90, 20000>{}, {threads, threads});
-        break;
     // More threads than processors.
     case Subject::Crowded:
         for (const uint32_t threads : {4, 16, 64}) {
@@ -188,5 +190,10 @@ template <class Make> void measure_all(const std::string &name, const Options &o
         measure_size(name, options.size, [&](uint64_t pairs) { return make(Room{pairs, options.size.threads, 2 * options.operations}); });
         break;
     case Subject::Turns: measure_turns(options.turns, options.size.threads, make); break;
+    case Subject::Latency: {
+        const auto dictionary = make(Room{options.turns.keys, options.size.threads, UINT32_MAX, kept_by_handles});
+        measure_latency(*dictionary, name, Drawn{options.turns.gets, options.turns.keys}, options.size.threads, options.operations, options.turns.wear);
+        break;
+    }
     }
 }

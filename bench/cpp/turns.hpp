@@ -6,10 +6,11 @@
 #include "size.hpp"
 #include <optional>
 
-// What a cell makes: so many of 100 are gets, or the operations of `load`, or a dictionary is filled anew.
+// What a cell makes: so many of 100 are gets, or the operations of `load`, or a dictionary is filled anew. Before the first cell of a mix
+// so many updates are made for each key.
 struct Turns {
     enum class What { Mix, Load, Fill } what = What::Mix;
-    uint64_t gets = 100, keys = 20000;
+    uint64_t gets = 100, keys = 20000, wear = 0;
 };
 
 // A draw has 31 bits, and the upper ones choose: a division would take as long as a step of a search.
@@ -21,6 +22,16 @@ struct Drawn {
         return draw_of(gets, kind, key);
     }
 };
+
+// So many updates for each key, by one thread: a dictionary isn't then as it was filled.
+template <class Client> void wear_out(Client &client, const Drawn &mix, uint64_t updates) {
+    const Drawn alone{0, mix.keys};
+    Draws draws{54321};
+    for (uint64_t i = 0; i < updates * mix.keys; i++) client.call(alone.draw(draws, 0));
+}
+
+// The load puts its keys in and takes them out as it goes, so nothing is worn out before.
+template <class Client> void wear_out(Client &, const Load &, uint64_t) {}
 
 // The sum of so many calls' answers. Of an update it is told whether it changed something, since only some dictionaries number them. A
 // client that makes many lookups at once has an overload.
@@ -86,9 +97,10 @@ inline void tell_ready() {
     fflush(stdout);
 }
 
-template <class Dictionary, class Mix> void take_turns(Dictionary &dictionary, const Mix &mix, uint32_t threads) {
+template <class Dictionary, class Mix> void take_turns(Dictionary &dictionary, const Mix &mix, uint32_t threads, uint64_t wear) {
     const auto parts = parts_of(dictionary, threads);
     fill(parts[0]->client, mix);
+    wear_out(parts[0]->client, mix, wear);
     tell_ready();
     while (const auto operations = next_turn()) {
         const uint64_t untimed = *operations / 3, timed = *operations - untimed;

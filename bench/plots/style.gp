@@ -15,5 +15,5 @@ set style line 7 lc rgb "#777777" lw 2 pt 4 ps 0.6
 set style line 8 lc rgb "#333333" lw 2 pt 8 ps 0.7
 set style line 9 lc rgb "#b0b0b0" lw 2 pt 3 ps 0.6
 
-# The rows of one series, where the condition on awk's fields holds, by the number in a column.
-rows(series, condition, column) = sprintf("< awk -F, '$1 == \"%s\" && (%s)' %s | sort -t, -k %dn", series, condition, data, column)
+# The rows of one series, or of all where it is .*, where the condition on awk's fields holds, by the number in a column.
+rows(series, condition, column) = sprintf("< awk -F, '(\"%s\" == \".*\" || $1 == \"%s\") && (%s)' %s | sort -t, -k %dn", series, series, condition, data, column)

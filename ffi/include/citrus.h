@@ -1,41 +1,45 @@
 /* Citrus: an ordered index from 64-bit keys to 64-bit values, in memory, that up to 1,024 threads use at once.
  *
- * Lookups take no lock and wait for nobody; updates lock the few nodes that they change. Each thread calls through a handle of its own, and
- * looks at each status, which is left out here:
+ * Lookups take no lock and wait for nobody; updates lock the few nodes that they change. Each thread calls through a handle of its own. Look
+ * at every status; that is left out here:
  *
  *     citrus_handle mine = CITRUS_CLOSED_HANDLE, other = CITRUS_CLOSED_HANDLE;
  *     citrus_open(&mine, 100000, 2, CITRUS_EER);
- *     citrus_share(&mine, 1, CITRUS_ALL_TICKETS / 2, &other);      // hand `other` to a second thread
+ *     citrus_share(&mine, 1, citrus_fair_share(&mine, 1), &other); // hand `other` to a second thread
  *     citrus_insert(&mine, 5, 50);
  *     citrus_close(&other);
  *     citrus_close(&mine);
  *
- * The library's side of each call is proved. It tests what can be tested, a closed handle too, and answers with a status. Not proved, but
- * tested: that a close leaves its section, and to a reopen all that the handle had, that a reopen finds it and hands it on as it was, that no
- * pair comes or goes by these two, by an open or a share over an open handle, or by a place that waits for a reopen, and that memory is freed.
+ * Every function behind these calls is proved to keep its contract, for all inputs and every order of the threads' steps. A call checks what
+ * can be checked, a closed handle too, and answers with a status. No contract says, but tests do: that a close leaves its section, and hands all
+ * that the handle had to the next reopen; that a reopen finds it and gives it to the new handle as it was; that no pair comes or goes by these
+ * two, by an open or a share over an open handle, or by a place that waits for a reopen; and that memory is freed.
  *
- * What a thread wrote before an insert, a replace, a compare or an upsert is seen by whoever is told that value of that key, and what a reader did before
- * its release is over where a wait for its key ends. For all steps are sequentially consistent: an insert stores the link to its node, and a
- * replace the node's value; whoever is told the value has loaded that link and that value, or those of a copy, which the thread that made it had
- * loaded before; and a wait has loaded what the release stored. That is an argument on paper. Under ThreadSanitizer the header tells of it: see
- * citrus_tsan.h.
+ * The words used here: a *ticket* is used up by an update or a wait, and an index has 2^57 of them; a *slot* is the place of a pair; a handle is
+ * in a *section* while it holds a value, or after an enter; a *waiter* is the way in which a call waits for readers.
  *
- * What a caller owes, which nothing can test:
- *   - a handle is CITRUS_CLOSED_HANDLE, or as the last call with it left it. It is moved and never copied: who hands it on sets the old one
+ * What a thread wrote before an insert, a replace, a compare or an upsert is seen by whoever is told that value of that key; and what a reader
+ * did before its release is over when a wait for its key ends. For all steps are sequentially consistent: an insert stores the link to its
+ * node, and a replace the node's value; whoever is told the value has loaded that link and that value, or those of a copy, which the thread
+ * that made it had loaded before; and a wait has loaded what the release stored. That is an argument on paper. The header tells
+ * ThreadSanitizer of it: see citrus_tsan.h.
+ *
+ * What a caller owes, which the library can't test:
+ *   - a handle is CITRUS_CLOSED_HANDLE, or as the last call with it left it. It is moved and never copied: whoever hands it on sets the old one
  *     to citrus_closed_handle(), and nobody touches its member;
  *   - one call at a time with one handle. It may go from thread to thread, by a lock, or by a thread's start or join. CITRUS_DEBUG, defined
- *     before this header is included, tells of two threads in calls with one: see citrus_debug.h;
- *   - the pointers of one call aren't null and don't overlap, and each leads to memory of its type that lives as long as the call;
+ *     before this header is included in each file, detects two threads in calls with one, and a copy that is used: see citrus_debug.h;
+ *   - the pointers of one call aren't null and don't overlap, and each points to memory of its type that lives as long as the call;
  *   - no call from a signal handler, nor from the child of a fork of a program with threads;
- *   - malloc, realloc and free are of one allocator;
+ *   - malloc, realloc and free belong to one allocator;
  *   - a thread that is in a section (citrus_hold, citrus_enter) makes no update, tidy or wait by another handle of the index. CITRUS_DEBUG
  *     tests it too.
  *
- * What is seen of a mistake, and what it may be:
+ * What you see of a mistake, and what it may be:
  *   - CITRUS_CLOSED of a handle that is open, an answer to another key, SIGILL or SIGSEGV: two threads call with one handle, or it was copied;
- *   - a call that doesn't end: this thread is in a section by another handle, or another one is and waits for something of this one;
- *   - an object that is freed twice, or changes as it is read: a get in place of a hold, a free without a wait, a wait for other keys;
- *   - calls that are as slow as there are pairs: somebody chose keys by the salt of the index (citrus_options).
+ *   - a call that doesn't end: this thread is in a section by another handle, or another thread is and waits for something of this one;
+ *   - an object that is freed twice, or changes while it is read: a get in place of a hold, a free without a wait, a wait for other keys;
+ *   - calls that are as slow as a walk over all pairs: somebody chose keys by the salt of the index (citrus_options).
  *
  * What is written: *value, *old, *found, *key, *next and *cookie only where the status says so; *count of citrus_list and *made always. */
 #ifndef CITRUS_H
@@ -70,8 +74,8 @@
 extern "C" {
 #endif
 
-/* Each call writes the handle. So handles of different threads should stand 128 bytes apart, or each on its thread's stack: in one line of
-   memory each call waits for the others' lines. */
+/* Each call writes the handle. So keep handles of different threads 128 bytes apart, or each on its thread's stack: in one line of memory each
+   call waits for the others. */
 typedef struct { void *at; } citrus_handle;
 
 /* A closed handle: the first to begin with, for a static variable too, and the second for an assignment. */
@@ -93,13 +97,13 @@ static inline citrus_handle citrus_closed_handle(void) {
 /* 2^57: what the first handle of an index has. At a million updates a second, 16 tickets each, they last 280 years. */
 #define CITRUS_ALL_TICKETS 144115188075855872u
 
-/* How a remove waits for the readers that may still stand on what it takes out. CITRUS_EER looks at the place of each handle, open or not:
- * begin with it. CITRUS_DOMAIN counts readers by key modulo 64, so its waits cost the same with many handles: try it with hundreds.
- * CITRUS_DEER has a stamp for each handle and each key modulo 64, and its lookups store once less. */
+/* The waiters: how a remove waits for the readers that may still stand on what it takes out. CITRUS_EER looks at the place of each handle, open
+ * or not: begin with it. CITRUS_DOMAIN counts readers by key modulo 64, so its waits cost the same with many handles: try it with hundreds.
+ * CITRUS_DEER has a stamp for each handle and each key modulo 64, and its lookups make one store fewer. */
 enum { CITRUS_EER = 0, CITRUS_DOMAIN = 1, CITRUS_DEER = 2 };
 
-/* What a call answers. Those below 0 say that the call did nothing, but for CITRUS_LOST, and for the tickets that an upsert's rounds used
- * before it was CITRUS_SPENT. Of several causes the first is told: CLOSED, LOST, HOLDS, BAD_ARGUMENT, SPENT, NO_MEMORY. */
+/* What a call answers. Those below 0 say that the call did nothing, except CITRUS_LOST, and except for the tickets that an upsert's rounds used
+ * before it was CITRUS_SPENT. If there are several causes, the first of these is told: CLOSED, LOST, HOLDS, BAD_ARGUMENT, SPENT, NO_MEMORY. */
 enum {
     CITRUS_DONE = 0,
     CITRUS_UNCHANGED = 1,     /* insert: the key is there already; get, replace, compare, remove: it is absent; first, last: there is no such
@@ -109,14 +113,14 @@ enum {
     CITRUS_MOVED = 4,         /* upsert: others put the key in and took it out in each of 1,000 rounds; nothing was changed. A later call may
                                  get through; poll: the wait is no longer the handle's latest, or its end was told */
     CITRUS_NEW = 5,           /* upsert: the pair was added */
-    CITRUS_DIFFERENT = 6,     /* compare: the key has another value than the expected one */
+    CITRUS_DIFFERENT = 6,     /* compare: the key's value isn't the expected one */
     CITRUS_CLOSED = -1,       /* the handle is closed, or the lanes are */
     CITRUS_BAD_ARGUMENT = -2, /* a number is out of its range; reopen: the other handle is open; open_lanes: the lanes are */
     CITRUS_NO_MEMORY = -3,    /* malloc gave none; open, share, reopen, list, tidy, open_lanes and get_many alone take memory */
     CITRUS_SPENT = -4,        /* the handle has fewer than 4 tickets (get, updates, tidy), or none (wait, begin). All other calls are left to it,
-                                 as list, first, last, hold, share, reopen and lanes */
+                                 such as list, first, last, hold, share, reopen and lanes */
     CITRUS_LOST = -5,         /* a call with this handle gave up after 2^64 - 1 rounds of waiting: the handle can only be closed */
-    CITRUS_HOLDS = -6         /* the handle is in a section: release, left and close alone are left to it */
+    CITRUS_HOLDS = -6         /* the handle is in a section: release, left, stats and close alone are allowed */
 };
 
 /* A status by the name that it has above, for messages. */
@@ -145,7 +149,7 @@ const char *citrus_version(void);
 
 typedef struct { uint64_t key, value; } citrus_pair;
 
-/* What an index is opened for. It begins with its size, and citrus_options_for fills all of it: so a program goes on with a later library,
+/* What an index is opened for. It begins with its size, and citrus_options_for fills all of it: so a program still works with a later library,
  * whose record has more at its end. A library answers BAD_ARGUMENT to each size that it doesn't know, a smaller one than this and a larger one
  * than its own, since it can't do what it doesn't know; of a record of another size it reads nothing else. What an earlier record lacks is as it
  * was before. This is the first record. */
@@ -153,11 +157,11 @@ typedef struct {
     size_t size; /* sizeof(citrus_options) */
     uint32_t pairs, handles, waiter;
     uint32_t flags; /* 0, since none is known */
-    uint64_t salt;  /* any number: by it the tree turns its nodes. Who knows it can choose keys by which each call is as slow as there are pairs */
+    uint64_t salt;  /* any number: the tree turns its nodes by it. Whoever knows it can choose keys by which calls are as slow as a walk over all */
 } citrus_options;
 
-/* A number from the system, which nobody can guess. Where the system gives none, as under some filters of system calls, it is made of the clock
- * and of addresses, which some can guess. It waits for nobody. */
+/* A number from the system, which nobody can guess. If the system gives none, as under some filters of system calls, it is made of the clock and
+ * of addresses, which some can guess. It waits for nobody. */
 static inline uint64_t citrus_drawn_salt(void) {
     uint64_t drawn = 0;
     time_t now = 0;
@@ -169,7 +173,7 @@ static inline uint64_t citrus_drawn_salt(void) {
     return drawn ^ (uint64_t)(uintptr_t)&drawn * UINT64_C(0x94d049bb133111eb);
 }
 
-/* The options of an index for so many pairs and handles, with this waiter: a drawn salt, and nothing else that isn't said. */
+/* The options of an index for so many pairs and handles, with this waiter, a drawn salt and no flags. */
 static inline citrus_options citrus_options_for(uint32_t pairs, uint32_t handles, uint32_t waiter) {
     citrus_options options;
     options.size = sizeof options;
@@ -181,18 +185,18 @@ static inline citrus_options citrus_options_for(uint32_t pairs, uint32_t handles
     return options;
 }
 
-/* Opens an index as citrus_open does, by a record of options: for a salt that is always the same, as tests want it.
+/* Opens an index as citrus_open does, by a record of options: for a salt that is always the same, as tests need it.
  * DONE; BAD_ARGUMENT where a number is out of range, the size or a flag too; NO_MEMORY. At all but DONE the handle is as it was. */
 CITRUS_STATUS_MATTERS int32_t citrus_open_with(citrus_handle *handle, const citrus_options *options);
 
 /* Opens a new, empty index with a salt of its own. At DONE, what the handle was open on before is closed.
- *   pairs    1 to CITRUS_MAX_PAIRS: so many always fit. Up to 68 more fit for each handle: as many slots are there for it, which its thread
- *            may have taken out of the index and not yet given back
+ *   pairs    1 to CITRUS_MAX_PAIRS: so many always fit. Up to 68 more fit for each handle: it has so many slots, which its thread may have
+ *            taken out of the index and not given back yet
  *   handles  1 to CITRUS_MAX_HANDLES: how many there can be at once. Each has a place, and a closed one leaves it to a reopen
  *   waiter   CITRUS_EER, CITRUS_DOMAIN or CITRUS_DEER
  * It takes all memory of the index, 72 bytes for each pair and some 7 kB for each handle; only a list, a tidy, a share or a reopen takes more
- * later. The index is made from a list of its words: so it takes twice as much until it comes back, and writes all of it. 10,000,000 pairs
- * keep 720 MB, and take 1.44 GB for a moment. Where the system promises memory that it hasn't, as Linux does, it may end the program in this
+ * later. The index is made from a list of its words: so the call takes twice as much until it returns, and writes all of it. 10,000,000 pairs
+ * keep 720 MB, and take 1.44 GB for a moment. A system that promises memory that it doesn't have, as Linux does, may end the program in this
  * call instead of NO_MEMORY.
  * DONE; BAD_ARGUMENT or NO_MEMORY, and then the handle is as it was. */
 CITRUS_STATUS_MATTERS static inline int32_t citrus_open(citrus_handle *handle, uint32_t pairs, uint32_t handles, uint32_t waiter) {
@@ -201,7 +205,8 @@ CITRUS_STATUS_MATTERS static inline int32_t citrus_open(citrus_handle *handle, u
 }
 
 /* Makes `other` a second handle of the index. So many of the handles that are left to the first one (1 or more; `other` itself is one of
- * them) and so many of its tickets (0 or more) go over to it, and can be shared from it in turn. What `other` was open on before is closed.
+ * them) and so many of its tickets (0 or more; citrus_fair_share tells an even part) go over to it, and can be shared from it in turn. With 0
+ * tickets it can do what needs none. What `other` was open on before is closed.
  * It waits for nobody and takes half a kilobyte of memory.
  * DONE; CLOSED; HOLDS; BAD_ARGUMENT where the first has fewer handles or tickets; NO_MEMORY; LOST. At all but DONE both are as they were. */
 CITRUS_STATUS_MATTERS int32_t citrus_share(citrus_handle *handle, uint32_t handles, uint64_t tickets, citrus_handle *other);
@@ -210,74 +215,101 @@ CITRUS_STATUS_MATTERS int32_t citrus_share(citrus_handle *handle, uint32_t handl
  * DONE, of a lost handle too; CLOSED. */
 CITRUS_STATUS_MATTERS int32_t citrus_left(citrus_handle *handle, uint32_t *handles, uint64_t *tickets);
 
-/* Closes the handle. A closed one may be closed again. What it had, its place, the handles that could be shared from it and its tickets, it
- * leaves to citrus_reopen, unless it is lost. So does a handle over which another is opened or shared. The memory of the index is freed with
- * the last of its handles. It waits for nobody, and costs a few atomic steps. */
+/* What a handle knows of itself and of its index, for a page of metrics. The size comes first, as in citrus_options. */
+struct citrus_stats {
+    size_t size;      /* sizeof(struct citrus_stats), set by the caller */
+    uint64_t slots;   /* slots of the index: one for each pair that it was opened for, and 68 for each handle */
+    uint64_t free;    /* how many of them were free when this handle last took one or gave one back; all, where it did neither yet. The others
+                       * have a pair, or are kept back by a handle */
+    uint64_t waits;   /* waits for readers that were begun from this handle's place */
+    uint64_t tickets; /* tickets of this handle */
+    uint64_t kept;    /* slots that this handle keeps back, whose pairs were removed, until no reader can stand there */
+    uint64_t room;    /* how many it keeps back at most */
+    uint32_t handles; /* how many handles the index can have at once */
+    uint32_t unshared; /* how many more of them can be shared from this one */
+};
+
+/* Tells these numbers. It takes no step on the tree, costs a few loads, and answers of a handle in a section, and of a lost one, too.
+ * DONE, and *stats; CLOSED; BAD_ARGUMENT where stats->size is another. */
+CITRUS_STATUS_MATTERS int32_t citrus_stats(citrus_handle *handle, struct citrus_stats *stats);
+
+/* The even part of the handle's tickets for so many of the handles that are left to it, where it keeps one itself: what to share with these. It
+ * is 0 of a closed handle. */
+static inline uint64_t citrus_fair_share(citrus_handle *handle, uint32_t handles) {
+    uint32_t left = 0;
+    uint64_t tickets = 0;
+    if (citrus_left(handle, &left, &tickets) != CITRUS_DONE) return 0;
+    return tickets / ((uint64_t)left + 1) * handles;
+}
+
+/* Closes the handle. A closed one may be closed again. What it had (its place, the handles that could be shared from it, and its tickets) goes
+ * to citrus_reopen, unless the handle is lost. So it is with a handle over which another is opened or shared. The memory of the index is freed
+ * with the last of its handles. It waits for nobody, and costs a few atomic steps. */
 void citrus_close(citrus_handle *handle);
 
-/* Makes `other`, which must be closed, a handle of the index, with all that one handle had which was closed: whose it was isn't told, and
+/* Makes `other`, which must be closed, a handle of the index, with all that one closed handle had: it doesn't say whose that was, and
  * citrus_left tells what it has. So threads that come and go may close their handles and open them again without end, while one handle of
- * the index stays open. It waits for nobody: it looks at the places, one after the other, and again only where another reopen was first. It takes
- * half a kilobyte of memory.
+ * the index stays open. It waits for nobody: it looks at the places one by one, and again only where another reopen came first. It takes half
+ * a kilobyte of memory.
  * DONE; UNCHANGED where no closed handle left a place; CLOSED; HOLDS; BAD_ARGUMENT where `other` is open; NO_MEMORY, and the place is left
  * still; LOST, where `handle` is. `handle` is as it was, and at all but DONE `other` too. */
 CITRUS_STATUS_MATTERS int32_t citrus_reopen(citrus_handle *handle, citrus_handle *other);
 
-/* Tells the key's value. Where values are pointers, take citrus_hold.
- * It takes no lock and waits for nobody: a few stores, and two loads or three for each level of the tree. Writers can make its way longer, and
- * never without end: it makes at most three steps for each slot of the index, and four. It needs 4 tickets and uses none.
+/* Tells the key's value. If values are pointers, take citrus_hold.
+ * It takes no lock and waits for nobody: a few stores, and two or three loads for each level of the tree. Writers can make its way longer, but
+ * not without end: it makes at most three steps for each slot of the index, and four more. It needs 4 tickets and uses none.
  * DONE, and *value; UNCHANGED where the key is absent; CLOSED; HOLDS; SPENT; LOST where an earlier call gave up. */
 CITRUS_STATUS_MATTERS int32_t citrus_get(citrus_handle *handle, uint64_t key, uint64_t *value);
 
-/* The updates. Each searches as a get does, locks the few nodes that it changes, and begins again where another thread changed them first.
- * Where another thread holds one of these locks it spins, since the library can't yield the processor: take no more threads that update
- * than there are processors, or let updates take turns by a mutex of yours. A thread that is in a section never waits for that, since whoever
- * has it may wait for the section. An update waits for a list that keeps updates off, and for readers, who are inside a call or a section,
+/* The updates. Each searches as a get does, locks the few nodes that it changes, and begins again if another thread changed them first. If
+ * another thread holds one of these locks it spins, since the library can't yield the processor: have no more threads that update than there
+ * are processors, or let updates take turns by a mutex of yours. A thread that is in a section must never wait for that mutex, since whoever
+ * has it may wait for the section. An update waits for a list that keeps updates off, and for readers, which are inside a call or a section,
  * only as said below. It needs 4 tickets and uses 4 at most, an insert that turns nodes up to 72 more; and so does each replace and insert
  * of an upsert.
  *
- * One reader that stays stops writers, whatever their keys and the waiter: whoever holds a value, or was put aside by the system inside a
- * get. After some 50 removes or 60 inserts of ascending keys, or sooner, where one waits for just this reader with locks held, each thread
- * that writes spins until it leaves. So hold briefly, and take no more threads than processors. */
+ * One reader that stays stops writers, whatever their keys and the waiter: a thread that holds a value, or that the system stopped inside a
+ * get. After some 50 removes or 60 inserts of ascending keys, or sooner if a call waits for just this reader with locks held, each thread that
+ * writes spins until the reader leaves. So hold briefly, and take no more threads than processors. */
 
-/* Adds the pair, where the key is absent. Where no slot is free it first waits for all readers, to give back slots of its own.
- * Where it went deep to add the pair, and has 72 tickets left, it then turns nodes on the way, in 24 attempts at most, so that the tree
- * stays shallow in whatever order keys come. A turn locks three nodes, and is given up where one of them is locked. It waits for all readers
- * only where the way is a third deeper than it is to be, or more, and the handle keeps back 63 slots or more.
+/* Adds the pair, if the key is absent. If no slot is free it first waits for all readers, to give back slots of its own.
+ * If it went deep to add the pair, and has 72 tickets left, it then turns nodes on the way, in 24 attempts at most, so that the tree stays
+ * shallow in whatever order keys come. A turn locks three nodes, and is given up if one of them is locked. It waits for all readers only if
+ * the way is deeper by a third or more than it should be, and the handle keeps back 63 slots or more.
  * DONE, and after a loss at a turn too: then the next call is LOST; UNCHANGED where the key is there; FULL; CLOSED; HOLDS; SPENT;
  * LOST. */
 CITRUS_STATUS_MATTERS int32_t citrus_insert(citrus_handle *handle, uint64_t key, uint64_t value);
 
-/* Gives the key another value, where it is present. It waits for no reader.
+/* Gives the key another value, if it is present. It waits for no reader.
  * DONE, and the value before in *old; UNCHANGED where the key is absent; CLOSED; HOLDS; SPENT; LOST. */
 CITRUS_STATUS_MATTERS int32_t citrus_replace(citrus_handle *handle, uint64_t key, uint64_t value, uint64_t *old);
 
-/* Gives the key another value, where its value is `expected` at that moment. It waits for no reader. Where the value that it finds first is
- * another it locks nothing, and costs what a get costs; so the code is, and no clause says it. To raise a counter call it again with *found
- * as `expected` while it is DIFFERENT: a round that is lost was won by another thread. Of values that are pointers see below.
+/* Gives the key another value, if its value is `expected` at that moment. It waits for no reader. If it first finds another value it locks
+ * nothing, and costs what a get costs; the code is so, though no clause says it. To raise a counter, call it again with *found as `expected`
+ * while it is DIFFERENT: another thread won each round that is lost. For values that are pointers see below.
  * DONE where one update replaced `expected`; DIFFERENT where the key had the value *found, which isn't `expected`, at a moment of the call;
  * UNCHANGED where the key is absent; CLOSED; HOLDS; SPENT; LOST. */
 CITRUS_STATUS_MATTERS int32_t citrus_compare(citrus_handle *handle, uint64_t key, uint64_t expected, uint64_t value, uint64_t *found);
 
-/* Gives the key this value: a replace, or else an insert, in turn until one of the two told an update.
+/* Gives the key this value: a replace or else an insert, by turns, until one of the two made an update.
  * DONE, and the value before in *old, where the key was present; NEW where the pair was added; FULL; MOVED where other threads put the key
  * in and took it out in each of 1,000 rounds; CLOSED; HOLDS; SPENT; LOST. */
 CITRUS_STATUS_MATTERS int32_t citrus_upsert(citrus_handle *handle, uint64_t key, uint64_t value, uint64_t *old);
 
-/* Takes the pair out, where the key is present. Where its node has two children it waits for the readers whose key lies above this key and
- * up to the next one. Before that, and where the key is absent too, it may wait for all readers, a list too, to give back the slots that the
- * handle keeps back, a slot or two of each remove and two of each turn of an insert: where these are 63; or where the index has no free slot,
- * and a remove of a node with two children or a turn used the one that the handle has at hand.
+/* Takes the pair out, if the key is present. If its node has two children it waits for the readers whose key is above this key and at most the
+ * next one. Before that, and if the key is absent too, it may wait for all readers, lists too, to give back the slots that the handle keeps
+ * back, one or two of each remove and two of each turn of an insert: if these are 63; or if the index has no free slot, and a remove of a
+ * node with two children or a turn used the one that the handle has at hand.
  * DONE, and the value in *old; UNCHANGED where the key is absent; CLOSED; HOLDS; SPENT; LOST. */
 CITRUS_STATUS_MATTERS int32_t citrus_remove(citrus_handle *handle, uint64_t key, uint64_t *old);
 
 /* Lists of a key range, and the pairs nearest to a key: each as it was at one moment of the call. Beside writers none fails. They need no
  * tickets and lock no node.
  *
- * What they cost others: where an update came in each of 4 tries, such a call keeps all updates off for one walk more, which loads each
- * value once, some 30 ns a pair, or for one way down. Lookups and sections go on meanwhile. So beside writers a list of 1,000,000 pairs
- * holds each update up for some 30 ms: where that is too long, list in pages. A thread that the system stops within that walk holds all
- * updates up, as one does that is stopped within an update. Lists and updates race for their turn; none has a place in a queue. */
+ * What they cost others: if an update came in each of 4 tries, such a call keeps all updates off for one more walk, which loads each value
+ * once, some 30 ns a pair, or for one way down. Lookups and sections go on meanwhile. So beside writers a list of 1,000,000 pairs holds each
+ * update up for some 30 ms: if that is too long, list in pages. A thread that the system stops within that walk holds all updates up, as does
+ * one that is stopped within an update. Lists and updates race for their turn; there is no queue. */
 
 /* Lists the pairs with keys from low to high, both among them, keys ascending.
  * It fills pairs[0] to pairs[*count - 1], and *count is 0 except at DONE and MORE. It takes memory for `room` pairs, and gives it back.
@@ -293,8 +325,8 @@ CITRUS_STATUS_MATTERS int32_t citrus_first(citrus_handle *handle, uint64_t low, 
  * DONE, and *key and *value; UNCHANGED where there is none, as where low is above high; CLOSED; HOLDS; LOST. */
 CITRUS_STATUS_MATTERS int32_t citrus_last(citrus_handle *handle, uint64_t low, uint64_t high, uint64_t *key, uint64_t *value);
 
-/* Makes the tree shallow on the ways to the keys from low to high, without a change of any pair: for an index that was filled and is only
- * read from then on, since else inserts turn nodes where they went deep. It lists the first 256 of these keys and turns nodes on the way to
+/* Makes the tree shallow on the ways to the keys from low to high, without changing any pair: for an index that was filled and is only read
+ * from then on, since otherwise inserts turn nodes where they went deep. It lists the first 256 of these keys and turns nodes on the way to
  * each, in order, until so many turns (1 or more) were tried; those that others' locks or changes brought to nothing count too. So it goes
  * down at most 256 ways and one for each turn. A whole index takes one call after another, each from *next of the one before, while the
  * answer is MORE:
@@ -305,7 +337,7 @@ CITRUS_STATUS_MATTERS int32_t citrus_last(citrus_handle *handle, uint64_t low, u
  *
  * A turn locks three nodes, and waits for nobody; but where the handle keeps back 63 slots, two for each turn, it first waits for all
  * readers. It needs 4 tickets, and uses at most 3 for each turn that was tried and for each key.
- * *made is how many turns were made: 0 but at DONE, MORE and FULL. *next is written at MORE and FULL alone.
+ * *made is how many turns were made: 0 except at DONE, MORE and FULL. *next is written only at MORE and FULL.
  * DONE, where no way to a key of the range needs a turn any more; MORE where it isn't through, and *next is the key to go on with: so many
  * turns were tried, tickets are short, there are more keys, or no slot was free for a turn and the handle gave slots back that it kept, behind
  * a wait for all readers; FULL where no slot is free and it keeps none, and *next; CLOSED; HOLDS; BAD_ARGUMENT where low is above high, or
@@ -314,8 +346,8 @@ CITRUS_STATUS_MATTERS int32_t citrus_tidy(citrus_handle *handle, uint64_t low, u
 
 /* Values that are pointers.
  *
- * What citrus_get tells may be out of date when it comes. Where values are pointers to objects of yours, look them up by citrus_hold: the
- * object stays until citrus_release, since whoever takes it out waits before it frees it:
+ * What citrus_get tells may be out of date when it comes. If values are pointers to objects of yours, look them up by citrus_hold: the object
+ * stays until citrus_release, since whoever takes it out waits before freeing it:
  *
  *     if (citrus_hold(&mine, key, &value) == CITRUS_DONE) {
  *         read((struct object *)(uintptr_t)value);
@@ -325,8 +357,8 @@ CITRUS_STATUS_MATTERS int32_t citrus_tidy(citrus_handle *handle, uint64_t low, u
  *     if (citrus_remove(&mine, key, &value) == CITRUS_DONE && citrus_wait(&mine, key, key) == CITRUS_DONE)
  *         free((struct object *)(uintptr_t)value);
  *
- * So it is with the old value of a replace or an upsert, and at a compare's DONE with `expected`. Who would rather not wait there begins a
- * wait and asks later: citrus_begin, citrus_poll. What a caller owes for this, which nothing tests:
+ * So it is with the old value of a replace or an upsert, and at a compare's DONE with `expected`. If you would rather not wait there, begin a
+ * wait and ask later: citrus_begin, citrus_poll. What a caller owes for this, which nothing tests:
  *   - an object that was taken out is freed by whoever was told it, once, and not before a wait for its key is over that was begun after
  *     the call which told it. It isn't put in again;
  *   - an object stands under one key, or each of its keys is waited for;
@@ -335,30 +367,30 @@ CITRUS_STATUS_MATTERS int32_t citrus_tidy(citrus_handle *handle, uint64_t low, u
  *     replaced. */
 
 /* Finds the key's value, and stays in a section with the key: each wait for the key waits for it. A handle is in one section at a time, so a
- * program that needs two values at once takes two handles. Hold for as short as you would hold a lock: waits for the key wait for you, and in
- * the end removes and inserts of any key, some with the locks of a few nodes; no lookup and no list does. So a thread that holds makes no
- * update and no wait by another handle of the index: what it waits for may be itself, or wait for it.
- * It costs what a get costs, and comes to its end as one; it takes no memory, needs no ticket, and waits for nobody.
+ * program that needs two values at once takes two handles. Hold a value as briefly as you would hold a lock: waits for the key wait for you,
+ * and in the end so do removes and inserts of any key, some with the locks of a few nodes; no lookup and no list does. So a thread that holds
+ * a value makes no update and no wait by another handle of the index: it might wait for itself, or for something that waits for it.
+ * It costs what a get costs, and ends as a get does; it takes no memory, needs no ticket, and waits for nobody.
  * DONE, and *value; UNCHANGED where the key is absent, and then the handle is in no section; CLOSED; HOLDS; LOST where an earlier call gave
  * up. */
 CITRUS_STATUS_MATTERS int32_t citrus_hold(citrus_handle *handle, uint64_t key, uint64_t *value);
 
-/* Enters a section with the key without a search, for something else than the index: see prcu.h. A few steps, and no ticket.
+/* Enters a section with the key without a search, for something other than the index: see prcu.h. A few steps, and no ticket.
  * DONE; CLOSED; HOLDS; LOST. */
 CITRUS_STATUS_MATTERS int32_t citrus_enter(citrus_handle *handle, uint64_t key);
 
-/* Leaves the section. It costs a step. Whatever closes the handle does the same.
+/* Leaves the section, as does whatever closes the handle. It costs a step.
  * DONE; UNCHANGED where the handle is in none; CLOSED; LOST. */
 int32_t citrus_release(citrus_handle *handle);
 
-/* Waits until each section with a key from low to high, both among them, that any handle entered before has been left. To free many
- * objects after one wait take a range with all their keys, or 0 to UINT64_MAX: it waits for more readers then.
+/* Waits until every section with a key from low to high, both included, that any handle entered before has been left. To free many objects
+ * after one wait take a range with all their keys, or 0 to UINT64_MAX: it waits for more readers then.
  * It spins, and ends only when they have all left. It uses a ticket.
  * DONE; CLOSED; HOLDS; BAD_ARGUMENT where low is above high; SPENT; LOST. */
 CITRUS_STATUS_MATTERS int32_t citrus_wait(citrus_handle *handle, uint64_t low, uint64_t high);
 
-/* Begins such a wait, and tells a cookie by which to ask for its end. A handle has one wait under way: a later begin or wait takes its place,
- * and so does a remove or an insert that waits. So who begins many gives them a handle of their own. It uses a ticket.
+/* Begins such a wait, and tells a cookie by which to ask whether it is over. A handle has one wait under way: a later begin or wait takes its
+ * place, and so does a remove or an insert that waits. So give many waits handles of their own. It uses a ticket.
  * DONE, and *cookie; CLOSED; HOLDS; BAD_ARGUMENT where low is above high; SPENT; LOST. */
 CITRUS_STATUS_MATTERS int32_t citrus_begin(citrus_handle *handle, uint64_t low, uint64_t high, uint64_t *cookie);
 
@@ -370,8 +402,8 @@ CITRUS_STATUS_MATTERS int32_t citrus_poll(citrus_handle *handle, uint64_t cookie
 /* Many lookups at once.
  *
  * A lookup in a large index waits for one word of memory after another. Lanes are up to 8 places of an index by which one thread makes as many
- * lookups beside each other: while one waits for its word the others' come too. They only look up, and use no ticket. What a caller owes of
- * them is what it owes of a handle: closed or as the last call left them, moved and never copied, one call at a time.
+ * lookups side by side: while one waits for its word, the others' words come too. They only look up, and use no ticket. What a caller owes for
+ * them is what it owes for a handle: closed or as the last call left them, moved and never copied, one call at a time.
  *
  *     citrus_lanes lanes = CITRUS_CLOSED_LANES;
  *     citrus_open_lanes(&mine, &lanes, 8);            // `mine` has 8 unused handles or more

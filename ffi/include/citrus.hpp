@@ -30,7 +30,7 @@ namespace citrus {
 
 enum class waiter : uint32_t { eer = CITRUS_EER, domain = CITRUS_DOMAIN, deer = CITRUS_DEER };
 
-// Why a call was refused, as citrus.h says it.
+// Why a call was refused, as citrus.h says it, but for no_handle.
 enum class fault : int32_t {
     full = CITRUS_FULL,
     moved = CITRUS_MOVED,
@@ -39,7 +39,8 @@ enum class fault : int32_t {
     no_memory = CITRUS_NO_MEMORY,
     spent = CITRUS_SPENT,
     lost = CITRUS_LOST,
-    holds = CITRUS_HOLDS
+    holds = CITRUS_HOLDS,
+    no_handle = INT32_MIN // no status: of CITRUS_BAD_ARGUMENT the one cause that a larger number of handles at the open mends
 };
 
 inline const char *text_of(fault why) noexcept {
@@ -51,6 +52,7 @@ inline const char *text_of(fault why) noexcept {
     case fault::no_memory: return "citrus: there is no memory";
     case fault::spent: return "citrus: the handle has too few tickets";
     case fault::holds: return "citrus: the handle is in a section";
+    case fault::no_handle: return "citrus: no handle is left: open with more";
     default: return "citrus: the handle is lost, since a call gave up waiting";
     }
 }
@@ -185,18 +187,20 @@ public:
     bool is_open() const noexcept { return at_.at != nullptr; }
 
     // A second handle of the index, with so many of the handles left to this one (itself among them) and so many of its tickets. Throws
-    // bad_argument where there are fewer, closed, no_memory or lost.
+    // no_handle where none is left, bad_argument where there are fewer, closed, no_memory or lost.
     handle share(uint32_t handles, uint64_t tickets) {
         handle other;
-        refuse_unless_done(citrus_share(&at_, handles, tickets, &other.at_));
+        const int32_t status = citrus_share(&at_, handles, tickets, &other.at_);
+        if (status == CITRUS_BAD_ARGUMENT && handles && !left().handles) throw error(fault::no_handle);
+        refuse_unless_done(status);
         return other;
     }
 
-    // The same with one handle, and its even part of the tickets.
-    handle share() {
-        const supply has = left();
-        return share(1, has.tickets / (uint64_t{has.handles} + 1));
-    }
+    // The same with one handle, and its fair share of the tickets.
+    handle share() { return share(1, fair_share()); }
+
+    // The even part of the tickets for so many of the handles left to this one, where it keeps one itself. It is 0 where it is closed.
+    uint64_t fair_share(uint32_t handles = 1) noexcept { return citrus_fair_share(&at_, handles); }
 
     // A handle of the index with all that a handle had which was closed, if one left it. Throws closed, no_memory or lost.
     std::optional<handle> reopen() {
@@ -210,6 +214,14 @@ public:
         supply has{};
         refuse_unless_done(citrus_left(&at_, &has.handles, &has.tickets));
         return has;
+    }
+
+    // What the handle knows of itself and of its index: the numbers of citrus.h. Throws closed.
+    struct citrus_stats stats() {
+        struct citrus_stats told{};
+        told.size = sizeof told;
+        refuse_unless_done(citrus_stats(&at_, &told));
+        return told;
     }
 
     // The calls below throw closed, holds, spent or lost. `first` and `last` never throw spent, and what lists pages throws no_memory in

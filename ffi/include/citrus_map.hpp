@@ -39,13 +39,14 @@ public:
     const T *operator->() const noexcept { return get(); }
     const T *get() const noexcept { return within_ ? reinterpret_cast<const T *>(uintptr_t(within_.value())) : nullptr; }
 
-    void release() noexcept { within_.leave(); }
+    // Ends it early, of a constant too: from then on it leads to nothing.
+    void release() const noexcept { within_.leave(); }
 
 private:
     template <class> friend class map;
     explicit held(section &&within) noexcept : within_(std::move(within)) {}
 
-    section within_;
+    mutable section within_;
 };
 
 // One of the map objects of a map, for one thread at a time. The last of them drops all that is left. Calls throw as those of `handle`; a
@@ -81,7 +82,7 @@ public:
     ~map() { close(); }
 
     // A second map object: with what a closed one had, or else one of those that are left to this one, with an even part of its tickets. The
-    // first has all that are left. Throws bad_argument where there is none.
+    // first has all that are left. Throws no_handle where there is none.
     map share() {
         std::optional<handle> again = own_->at.reopen();
         return map(std::make_unique<own>(again ? std::move(*again) : own_->at.share(), own_->all));

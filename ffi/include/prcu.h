@@ -62,6 +62,9 @@ static inline int32_t prcu_share(prcu_place *place, uint32_t places, uint64_t ti
     return citrus_share(place, places, tickets, other);
 }
 
+/* The even part of the place's tickets for so many of the places that are left to it. */
+static inline uint64_t prcu_fair_share(prcu_place *place, uint32_t places) { return citrus_fair_share(place, places); }
+
 /* Makes `other`, which must be closed, a place of the domain with all that one had which was closed. */
 static inline int32_t prcu_reopen(prcu_place *place, prcu_place *other) { return citrus_reopen(place, other); }
 

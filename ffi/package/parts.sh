@@ -20,6 +20,15 @@ build_archive() {
     return "$status"
 }
 
+# Gives an object of proved code, which comes without, unwind tables, and leaves its code as it is. Where a function can't be followed, that is
+# told, and it has none.
+add_unwind_tables() {
+    local tables=$room/unwind
+    python3 "$here/package/unwind_tables.py" "$1" "$tables.s" "$tables.options" || say 'backtraces from these functions end there'
+    "${CC:-cc}" -c "$tables.s" -o "$tables.o" && objcopy "@$tables.options" "$1" && ld -r -o "$tables.joined" "$1" "$tables.o" &&
+        objcopy --rename-section unwind_tables=.eh_frame "$tables.joined" "$1"
+}
+
 # Of a libcitrus_c.a one whole archive, and a shared library, in the room: one object of all that is in it and in the toolchain's heap, and of
 # citrus_version. Only the functions of citrus.h can be seen from outside.
 make_libraries() {
@@ -29,8 +38,9 @@ make_libraries() {
         mkdir "$room/$number" || return
         (cd "$room/$number" && ar x "$one") || return
     done
+    for one in "$room"/1/*.o; do add_unwind_tables "$one" || return; done
     "${CC:-cc}" -std=c99 -O2 -fPIC -c "$here/package/version.c" -o "$room/version.o" && ld -r -o "$room/citrus.o" "$room"/[12]/*.o "$room/version.o" &&
-        objcopy --wildcard --keep-global-symbol='citrus_*' --strip-debug "$room/citrus.o" && rm -f "$room/libcitrus.a" &&
+        objcopy --wildcard --keep-global-symbol='citrus_*' --keep-global-symbol='!*::*' --strip-debug "$room/citrus.o" && rm -f "$room/libcitrus.a" &&
         ar rcsD "$room/libcitrus.a" "$room/citrus.o" || return
     printf 'CITRUS_%s { global: citrus_*; local: *; };\n' "${version%%.*}" >"$room/symbols"
     "${CC:-cc}" -shared -Wl,-soname,"$soname" -Wl,--version-script,"$room/symbols" -Wl,-z,defs,-z,relro,-z,now,-z,noexecstack -s \

@@ -307,6 +307,49 @@ static void handles_and_tickets_are_shared(uint32_t waiter) {
     citrus_close(&first);
 }
 
+static struct citrus_stats stats_of(citrus_handle *handle) {
+    struct citrus_stats stats = {.size = sizeof stats};
+    uint32_t unshared = 0;
+    uint64_t tickets = 0;
+    WANT(citrus_stats(handle, &stats), CITRUS_DONE);
+    WANT(citrus_left(handle, &unshared, &tickets), CITRUS_DONE);
+    WANT(stats.size, sizeof stats);
+    WANT(stats.unshared, unshared);
+    WANT(stats.tickets, tickets);
+    return stats;
+}
+
+static void what_a_handle_knows(uint32_t waiter) {
+    citrus_handle index = open_index(10, 3, waiter), other = CITRUS_CLOSED_HANDLE;
+    struct citrus_stats stats = {.size = sizeof stats - 8, .slots = UNTOUCHED};
+    uint64_t told = UNTOUCHED;
+    WANT(citrus_stats(&index, &stats), CITRUS_BAD_ARGUMENT);
+    WANT(stats.slots, UNTOUCHED);
+    stats = stats_of(&index);
+    WANT(stats.slots, 10 + 3 * 68);
+    WANT(stats.free, stats.slots);
+    WANT(stats.kept, 0);
+    WANT(stats.room, 64);
+    WANT(stats.handles, 3);
+    WANT(stats.waits, 0);
+    for (uint64_t key = 1; key <= 5; key++) WANT(citrus_insert(&index, key, 10 * key), CITRUS_DONE);
+    WANT(stats_of(&index).free, stats.slots - 5);
+    WANT(citrus_share(&index, 2, 1000, &other), CITRUS_DONE);
+    WANT(stats_of(&index).unshared, 0);
+    WANT(stats_of(&other).free, stats.slots);
+    WANT(citrus_remove(&index, 5, &told), CITRUS_DONE);
+    WANT(citrus_remove(&index, 4, &told), CITRUS_DONE);
+    WANT(stats_of(&index).kept, 2);
+    WANT(stats_of(&other).kept, 0);
+    WANT(citrus_wait(&index, 0, UINT64_MAX), CITRUS_DONE);
+    WANT(stats_of(&index).waits, 1);
+    WANT(citrus_hold(&index, 1, &told), CITRUS_DONE);
+    WANT(stats_of(&index).waits, 1);
+    WANT(citrus_release(&index), CITRUS_DONE);
+    citrus_close(&other);
+    citrus_close(&index);
+}
+
 static void a_closed_handle_is_opened_again(uint32_t waiter) {
     citrus_handle first = open_index(10, 3, waiter), second = CITRUS_CLOSED_HANDLE, third = CITRUS_CLOSED_HANDLE;
     uint32_t handles = 0;
@@ -332,6 +375,27 @@ static void a_closed_handle_is_opened_again(uint32_t waiter) {
 }
 
 /* What each of them had comes back once, that of the handle which opened the index too. */
+static void tickets_are_shared_fairly(uint32_t waiter) {
+    citrus_handle first = open_index(10, 4, waiter), second = CITRUS_CLOSED_HANDLE, third = CITRUS_CLOSED_HANDLE;
+    uint32_t handles = 0;
+    uint64_t tickets = 0;
+    WANT(citrus_fair_share(&second, 1), 0);
+    WANT(citrus_fair_share(&first, 1), CITRUS_ALL_TICKETS / 4);
+    WANT(citrus_fair_share(&first, 3), CITRUS_ALL_TICKETS / 4 * 3);
+    WANT(citrus_share(&first, 2, citrus_fair_share(&first, 2), &second), CITRUS_DONE);
+    WANT(citrus_share(&second, 1, citrus_fair_share(&second, 1), &third), CITRUS_DONE);
+    WANT(citrus_left(&third, &handles, &tickets), CITRUS_DONE);
+    WANT(tickets, CITRUS_ALL_TICKETS / 4);
+    WANT(citrus_fair_share(&second, 0), 0);
+    WANT(citrus_fair_share(&first, 1), CITRUS_ALL_TICKETS / 4);
+    citrus_close(&second);
+    WANT(citrus_share(&first, 1, 0, &second), CITRUS_DONE);
+    WANT(citrus_insert(&second, 1, 10), CITRUS_SPENT);
+    citrus_close(&first);
+    citrus_close(&second);
+    citrus_close(&third);
+}
+
 static void all_handles_but_one_are_opened_again(uint32_t waiter) {
     citrus_handle handles[4] = {open_index(10, 4, waiter), CITRUS_CLOSED_HANDLE, CITRUS_CLOSED_HANDLE, CITRUS_CLOSED_HANDLE};
     uint32_t more = 0;
@@ -488,9 +552,11 @@ static const struct waiter_case cases[] = {
     {"as many pairs fit as were asked for", as_many_pairs_fit_as_were_asked_for},
     {"keys in order make no path", keys_in_order_make_no_path},
     {"a deep insert with few tickets", a_deep_insert_with_few_tickets},
+    {"what a handle knows", what_a_handle_knows},
     {"a remove at each node", a_remove_at_each_node},
     {"lists", lists},
     {"handles and tickets are shared", handles_and_tickets_are_shared},
+    {"tickets are shared fairly", tickets_are_shared_fairly},
     {"a closed handle is opened again", a_closed_handle_is_opened_again},
     {"all handles but one are opened again", all_handles_but_one_are_opened_again},
     {"a handle that is made over is left", a_handle_that_is_made_over_is_left},

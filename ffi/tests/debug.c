@@ -1,5 +1,6 @@
-/* What citrus.h does where CITRUS_DEBUG is defined: an update or a wait of a thread that is in a section by another handle aborts the program, and
- * so does a call with a handle, or with lanes, with which another thread is in a call. With OTHER_FILE this is a second file of it, which holds. */
+/* What citrus.h does where CITRUS_DEBUG is defined: an update or a wait of a thread that is in a section by another handle aborts the program,
+ * and so does a call with a handle, or with lanes, with which another thread is in a call, or of which a copy made a call since. With OTHER_FILE
+ * this is a second file of it, which holds. */
 #define CITRUS_DEBUG
 #include "cases.h"
 
@@ -17,6 +18,7 @@ int32_t hold_in_other_file(citrus_handle *handle, uint64_t key) {
 #include <pthread.h>
 #include <signal.h>
 #include <stdlib.h>
+#include <string.h>
 #include <sys/wait.h>
 #include <unistd.h>
 
@@ -256,6 +258,124 @@ static void the_same_lanes_in_two_threads_abort(uint32_t waiter) {
     close_both();
 }
 
+/* Copies of the second handle, and of lanes. */
+static citrus_handle copied = CITRUS_CLOSED_HANDLE;
+static citrus_lanes copied_lanes = CITRUS_CLOSED_LANES;
+
+static void copy_second(void) { memcpy(&copied, &second, sizeof copied); }
+
+static void use_the_copy_last(void) {
+    copied = second;
+    citrus_get(&second, 5, &told);
+    citrus_get(&copied, 5, &told);
+}
+
+static void use_the_copy_first(void) {
+    copy_second();
+    citrus_insert(&copied, 100, 1);
+    citrus_insert(&second, 101, 1);
+}
+
+static void close_both_copies(void) {
+    copy_second();
+    citrus_close(&second);
+    citrus_close(&copied);
+}
+
+static void use_what_a_copy_closed(void) {
+    copy_second();
+    citrus_close(&second);
+    if (citrus_reopen(&first, &second) != CITRUS_DONE) _exit(3);
+    citrus_get(&copied, 5, &told);
+}
+
+static void share_over_a_copy(void) {
+    copy_second();
+    citrus_get(&second, 5, &told);
+    citrus_share(&first, 1, 10, &copied);
+}
+
+static void leave_by_a_copy(void) {
+    if (citrus_hold(&second, 5, &told) != CITRUS_DONE) _exit(3);
+    copy_second();
+    citrus_release(&second);
+    citrus_release(&copied);
+}
+
+static void use_copied_lanes(void) {
+    uint64_t key = 5;
+    citrus_answer answer;
+    if (citrus_open_lanes(&first, &lanes, 1) != CITRUS_DONE) _exit(3);
+    copied_lanes = lanes;
+    citrus_get_many(&lanes, &key, 1, &answer, 1);
+    citrus_get_many(&copied_lanes, &key, 1, &answer, 1);
+}
+
+static void *get_by_the_copy(void *unused) {
+    for (int i = 0; i < MANY_CALLS; i++) citrus_get(&copied, 5, &told);
+    return unused;
+}
+
+static void use_copies_in_two_threads(void) {
+    pthread_t id;
+    copy_second();
+    if (pthread_create(&id, NULL, get_by_the_copy, NULL)) _exit(3);
+    for (int i = 0; i < MANY_CALLS; i++) citrus_get(&second, 5, &told);
+    pthread_join(id, NULL);
+}
+
+static void copies_abort(uint32_t waiter) {
+    static void (*const uses[])(void) = {use_the_copy_last, use_the_copy_first, close_both_copies,  use_what_a_copy_closed,
+                                         share_over_a_copy, leave_by_a_copy,    use_copied_lanes, use_copies_in_two_threads};
+    open_both(waiter);
+    for (size_t i = 0; i < COUNT_OF(uses); i++) WANT(aborts(uses[i]), 1);
+    close_both();
+}
+
+static citrus_handle opened_elsewhere(uint32_t waiter) {
+    citrus_handle mine = CITRUS_CLOSED_HANDLE;
+    WANT(citrus_open(&mine, 10, 2, waiter), CITRUS_DONE);
+    return mine;
+}
+
+/* A handle may stand elsewhere after each call, also where the old one isn't set to a closed one, and nobody uses it. */
+static void moves_go_on(uint32_t waiter) {
+    citrus_handle here = opened_elsewhere(waiter), there;
+    uint32_t handles = 0;
+    for (uint64_t key = 0; key < 9; key++) {
+        there = here;
+        here = citrus_closed_handle();
+        WANT(citrus_insert(&there, key, key), CITRUS_DONE);
+        WANT(citrus_insert(&here, key, key), CITRUS_CLOSED);
+        here = there;
+        WANT(citrus_hold(&here, key, &told), CITRUS_DONE);
+        there = here;
+        WANT(citrus_release(&there), CITRUS_DONE);
+        here = there;
+    }
+    WANT(citrus_share(&here, 1, citrus_fair_share(&here, 1), &first), CITRUS_DONE);
+    WANT(citrus_open(&first, 0, 1, waiter), CITRUS_BAD_ARGUMENT);
+    WANT(citrus_reopen(&here, &first), CITRUS_BAD_ARGUMENT);
+    WANT(citrus_left(&first, &handles, &told), CITRUS_DONE);
+    citrus_close(&first);
+    citrus_close(&first);
+    citrus_close(&here);
+}
+
+/* More handles than there is room for numbers of. */
+static void very_many_handles_go_on(uint32_t waiter) {
+    enum { INDEXES = 6 };
+    static citrus_handle all[INDEXES][CITRUS_MAX_HANDLES];
+    for (int i = 0; i < INDEXES; i++) {
+        WANT(citrus_open(&all[i][0], 1, CITRUS_MAX_HANDLES, waiter), CITRUS_DONE);
+        for (uint32_t k = 1; k < CITRUS_MAX_HANDLES; k++) WANT(citrus_share(&all[i][0], 1, 100, &all[i][k]), CITRUS_DONE);
+    }
+    for (int i = 0; i < INDEXES; i++)
+        for (uint32_t k = 0; k < CITRUS_MAX_HANDLES; k++) WANT(citrus_get(&all[i][k], 5, &told), CITRUS_UNCHANGED);
+    for (int i = 0; i < INDEXES; i++)
+        for (uint32_t k = 0; k < CITRUS_MAX_HANDLES; k++) citrus_close(&all[i][k]);
+}
+
 static const struct waiter_case cases[] = {
     {"CITRUS_DEBUG: what may wait for its own thread aborts", what_may_wait_for_its_own_thread_aborts},
     {"CITRUS_DEBUG: what waits for nobody goes on", what_waits_for_nobody_goes_on},
@@ -264,6 +384,9 @@ static const struct waiter_case cases[] = {
     {"CITRUS_DEBUG: other threads have sections of their own", other_threads_have_sections_of_their_own},
     {"CITRUS_DEBUG: one handle in two threads aborts", one_handle_in_two_threads_aborts},
     {"CITRUS_DEBUG: the same lanes in two threads abort", the_same_lanes_in_two_threads_abort},
+    {"CITRUS_DEBUG: copies abort", copies_abort},
+    {"CITRUS_DEBUG: moves go on", moves_go_on},
+    {"CITRUS_DEBUG: very many handles go on", very_many_handles_go_on},
 };
 
 int main(void) {

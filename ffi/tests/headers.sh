@@ -34,10 +34,12 @@ int hand_on(uint64_t key) {
     citrus_close_lanes(&lanes);
     citrus_close(&mine);
     prcu_leave(&place);
+    if (citrus_fair_share(&mine, 1) || prcu_fair_share(&place, 1)) status = CITRUS_LOST;
     return citrus_status_name(status)[0] + citrus_version()[0] + CITRUS_VERSION[0] + CITRUS_VERSION_MINOR;
 }
 END
 cat >"$room/alone.cpp" <<'END'
+#include <citrus_index.hpp>
 #include <citrus_map.hpp>
 #include <prcu.h>
 template class citrus::map<int>;
@@ -46,7 +48,8 @@ bool is_kept();
 bool is_kept() {
     kept = citrus_closed_handle();
     citrus::handle mine(100, 2), fixed(citrus::options{100, 2, citrus::waiter::eer, 5});
-    return mine.insert(5, 50) && fixed.insert(5, 50) && mine.hold(5) && kept.at;
+    citrus::index index(100, 2);
+    return mine.insert(5, 50) && fixed.insert(5, 50) && mine.hold(5) && kept.at && index.insert(5, 50);
 }
 END
 printf '#include <citrus.h>\nvoid forget(citrus_handle *mine);\nvoid forget(citrus_handle *mine) { citrus_insert(mine, 5, 50); }\n' >"$room/forgotten.c"

@@ -58,6 +58,10 @@ static void answers(uint32_t waiter) {
     WANT(mine.insert(5, make(5)), true);
     WANT(mine.get(5)->is_of(5), true);
     WANT((*mine.get(5)).is_of(5), true);
+    const citrus::held<object> early = mine.get(5);
+    WANT(early->is_of(5), true);
+    early.release();
+    WANT(early.get() == nullptr, true);
     WANT(mine.replace(5, make(5))->is_of(5), true);
     WANT(mine.upsert(5, make(5))->is_of(5), true);
     WANT(mine.upsert(6, make(6)) == nullptr, true);
@@ -279,8 +283,8 @@ static void retired_values_are_dropped(uint32_t waiter) {
 static void map_objects_are_shared_and_moved() {
     {
         objects first(100, 3), second = first.share(), third = first.share();
-        WANT(is_refused(citrus::fault::bad_argument, [&] { first.share(); }), true);
-        WANT(is_refused(citrus::fault::bad_argument, [&] { third.share(); }), true);
+        WANT(is_refused(citrus::fault::no_handle, [&] { first.share(); }), true);
+        WANT(is_refused(citrus::fault::no_handle, [&] { third.share(); }), true);
         third.insert(1, make(1));
         WANT(first.get(1)->is_of(1), true);
         first = std::move(third);

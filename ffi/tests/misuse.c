@@ -9,9 +9,11 @@ static void a_closed_handle_at_each_call(void) {
     uint32_t handles = 77, made = 9;
     size_t count = 9;
     citrus_pair pair = {UNTOUCHED, UNTOUCHED};
+    struct citrus_stats stats = {.size = sizeof stats, .slots = UNTOUCHED};
     WANT(citrus_share(&closed, 1, 4, &other), CITRUS_CLOSED);
     WANT(citrus_reopen(&closed, &other), CITRUS_CLOSED);
     WANT(citrus_left(&closed, &handles, &told), CITRUS_CLOSED);
+    WANT(citrus_stats(&closed, &stats), CITRUS_CLOSED);
     WANT(citrus_get(&closed, 1, &told), CITRUS_CLOSED);
     WANT(citrus_insert(&closed, 1, 10), CITRUS_CLOSED);
     WANT(citrus_replace(&closed, 1, 10, &told), CITRUS_CLOSED);
@@ -34,6 +36,7 @@ static void a_closed_handle_at_each_call(void) {
     WANT(key, UNTOUCHED);
     WANT(pair.key, UNTOUCHED);
     WANT(handles, 77);
+    WANT(stats.slots, UNTOUCHED);
     WANT(count, 0);
     WANT(made, 0);
     WANT(closed.at == NULL && other.at == NULL, 1);

@@ -1,6 +1,6 @@
 #!/usr/bin/env bash
 # Tests the packages of package.sh as those meet them who have no toolchain: `package.sh FOLDER`, where the folder has both. Each is installed,
-# the programs of docs/EMBEDDING.md are built over it by pkg-config and by CMake, with the archive and with the shared library, and it is taken
+# the programs of README.md are built over it by pkg-config and by CMake, with the archive and with the shared library, and it is taken
 # away again without a trace. So is what install.sh installs, where the variable ARCHIVE names a libcitrus_c.a. Its last line is `N passed, M
 # failed`.
 #
@@ -99,7 +99,7 @@ in_rust() {
     local cargo
     cargo=$(command -v cargo)
     mkdir -p "$room/page/src"
-    awk '/^```/ { is_rust = $0 ~ /rust$/; next } is_rust' "$top/docs/EMBEDDING.md" >"$room/page/src/main.rs"
+    awk '/^```/ { is_rust = $0 ~ /rust$/; next } is_rust' "$top/README.md" >"$room/page/src/main.rs"
     printf '[package]\nname = "page"\nedition = "2021"\n[dependencies]\ncitrus_map = { path = "%s" }\n[workspace]\n' "$1" >"$room/page/Cargo.toml"
     [ "$(cd "$room/page" && bare env HOME="$HOME" PATH="$(dirname "$cargo"):$path" CARGO_TARGET_DIR="$room/rust" cargo run --offline --quiet)" = '5 has Some(50)' ]
 }
@@ -137,12 +137,20 @@ programs() {
 
 # --- a folder that may stand anywhere
 
+# What INSTALL.md says first, as it stands there, in a shell that is in the folder. Its program is as it was told.
+as_the_page_says() {
+    local words
+    words=$(awk '/^```/ { is_shell = $0 ~ /sh$/; next } is_shell' "$1/INSTALL.md")
+    [ "$(cd "$1" && bare env -u PKG_CONFIG_LIBDIR sh -ec "$words")" = '5 has 50' ] && rm "$1/first"
+}
+
 unpack() { mkdir -p "$room/a folder" && tar -xzf "$tarball" -C "$room/a folder"; }
 
 tarball_anywhere() {
     local root="$room/a folder/citrus-$version-x86_64-linux"
     pkg_config_folder=$root/lib/pkgconfig sysroot='' run_path=''
     case_is 'the folder is unpacked, in one with a space' unpack
+    case_is 'folder: the program of INSTALL.md, as it is written there' as_the_page_says "$root"
     programs folder "$root" "$root/lib" "$root/ffi/citrus_map"
 }
 

@@ -169,6 +169,12 @@ int32_t citrus_left(citrus_handle *handle, uint32_t *handles, uint64_t *tickets)
     return CITRUS_DONE;
 }
 
+int32_t citrus_stats(citrus_handle *handle, struct citrus_stats *stats) {
+    if (stats->size != sizeof *stats) return CITRUS_BAD_ARGUMENT;
+    *stats = {sizeof *stats, 0, 0, 0, CITRUS_ALL_TICKETS, 0, KEPT_BACK, 0, opened(handle)->left};
+    return CITRUS_DONE;
+}
+
 void citrus_close(citrus_handle *handle) {
     Opened *const mine = opened(handle);
     if (mine && mine->seat.key) mine->tree().leave(mine->seat);

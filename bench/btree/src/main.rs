@@ -1,5 +1,5 @@
 //! A `BTreeMap` under one lock: std's `Mutex` and `RwLock`, and with the feature `parking_lot` those of that crate.
-//! `btree [--operations N] [--seconds S] [--only SERIES] calls|keys|crowd|crowded` and `btree [--operations N] [--pairs N] [--threads N]
+//! `btree [--operations N] [--seconds S] [--only SERIES] calls|keys|crowded` and `btree [--operations N] [--pairs N] [--threads N]
 //! [--only SERIES] size` write the lines that the programs of bench/cpp write.
 
 mod maps;
@@ -13,7 +13,7 @@ use std::process::ExitCode;
 
 fn main() -> ExitCode {
     let Some(options) = Options::from_words(std::env::args().skip(1)) else {
-        eprintln!("usage: btree [--operations N] [--seconds S] [--only SERIES] calls|keys|crowd|crowded\n{}", measuring::SIZE_USAGE);
+        eprintln!("usage: btree [--operations N] [--seconds S] [--only SERIES] calls|keys|crowded\n{}", measuring::SIZE_USAGE);
         return ExitCode::from(2);
     };
     measure_all(&options, "BTreeMap under Mutex", |_| Locked::<std::sync::Mutex<Pairs>>::default());

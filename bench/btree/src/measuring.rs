@@ -33,7 +33,6 @@ pub struct Room {
 pub enum Subject {
     Calls,
     Keys,
-    Crowd,
     Crowded,
     Size,
 }
@@ -68,7 +67,6 @@ impl Options {
                 "--threads" => options.size.threads = words.next()?.parse().ok().filter(|threads| *threads > 0)?,
                 "calls" => options.subject = Subject::Calls,
                 "keys" => options.subject = Subject::Keys,
-                "crowd" => options.subject = Subject::Crowd,
                 "crowded" => options.subject = Subject::Crowded,
                 "size" => options.subject = Subject::Size,
                 _ => return None,
@@ -152,11 +150,6 @@ pub fn measure_all<M: Map>(options: &Options, name: &str, make: impl Fn(Room) ->
                 for threads in [1, 4] {
                     measure_crew(options, name, &make, MostlyGets { keys }, threads);
                 }
-            }
-        }
-        Subject::Crowd => {
-            for threads in [1, 2, 4, 8, 16, 32, 64] {
-                measure_crew(options, name, &make, Uniform::<90, 20_000>, threads);
             }
         }
         // More threads than processors.

@@ -1,5 +1,5 @@
 //! The crate `dashmap`, a hash map of shards under locks of their own: it has no order, so no ranges.
-//! `dashmap_bench [--operations N] [--seconds S] [--only SERIES] calls|keys|crowd|crowded` and `dashmap_bench [--operations N] [--pairs N]
+//! `dashmap_bench [--operations N] [--seconds S] [--only SERIES] calls|keys|crowded` and `dashmap_bench [--operations N] [--pairs N]
 //! [--threads N] [--only SERIES] size` write the lines that the programs of bench/cpp write.
 
 #[path = "../../btree/src/measuring.rs"]
@@ -46,7 +46,7 @@ fn main() -> ExitCode {
     let options = match Options::from_words(std::env::args().skip(1)) {
         Some(options) => options,
         None => {
-            eprintln!("usage: dashmap_bench [--operations N] [--seconds S] [--only SERIES] calls|keys|crowd|crowded\n{}", measuring::SIZE_USAGE);
+            eprintln!("usage: dashmap_bench [--operations N] [--seconds S] [--only SERIES] calls|keys|crowded\n{}", measuring::SIZE_USAGE);
             return ExitCode::from(2);
         }
     };

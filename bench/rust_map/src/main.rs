@@ -1,5 +1,5 @@
 //! The crate `citrus_map`, with each waiter.
-//! `rust_map [--operations N] [--seconds S] [--only SERIES] calls|keys|crowd|crowded` and `rust_map [--operations N] [--pairs N] [--threads N]
+//! `rust_map [--operations N] [--seconds S] [--only SERIES] calls|keys|crowded` and `rust_map [--operations N] [--pairs N] [--threads N]
 //! [--only SERIES] size` write the lines that the programs of bench/cpp write.
 
 #[path = "../../btree/src/measuring.rs"]
@@ -50,7 +50,7 @@ fn main() -> ExitCode {
     let options = match Options::from_words(std::env::args().skip(1)) {
         Some(options) => options,
         None => {
-            eprintln!("usage: rust_map [--operations N] [--seconds S] [--only SERIES] calls|keys|crowd|crowded\n{}", measuring::SIZE_USAGE);
+            eprintln!("usage: rust_map [--operations N] [--seconds S] [--only SERIES] calls|keys|crowded\n{}", measuring::SIZE_USAGE);
             return ExitCode::from(2);
         }
     };

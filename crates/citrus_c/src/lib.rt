@@ -13,12 +13,12 @@ ghost use Rattle.tree_handles.specs.Calls.{ComparesOut, Gets, Inserts, Replaces,
 ghost use Rattle.tree_handles.specs.Callers.{Makes};
 ghost use Rattle.tree_handles.specs.Lanes.{ManyGets, OpensLanes, lanes_in};
 ghost use Rattle.tree_handles.specs.Lists.{ListsOut, Firsts, Lasts};
-ghost use Rattle.tree_handles.specs.Opening.{Opens, Shares, Reopens, HasLeft, options_of};
+ghost use Rattle.tree_handles.specs.Opening.{Opens, Shares, Reopens, HasLeft, TellsStats, options_of};
 ghost use Rattle.tree_handles.specs.Tidying.{Tidies};
 ghost use Rattle.citrus_c.specs.Numbers.{Says};
 
 use std::alloc::Global;
-use tree_handles::{Answer, Handle, Lanes, Options, Pair};
+use tree_handles::{Answer, Handle, Lanes, Options, Pair, Stats};
 
 /// [`Handle::open`].
 #[unsafe(no_mangle)]
@@ -89,6 +89,16 @@ pub extern "C" fn citrus_left(
     ensures closed { handle.old.held ≡ None → (handles.new ≡ handles.old) × (tickets.new ≡ tickets.old) }
 {
     handle.left(alloc, handles, tickets).code()
+}
+
+/// [`Handle::stats`].
+#[unsafe(no_mangle)]
+pub extern "C" fn citrus_stats(alloc: Global, handle: &mut Handle, stats: &mut Stats) -> i32
+    ensures told { Says result (λ status. Makes (λ c d. TellsStats c stats.old status stats.new d)
+        handle.old.held status handle.new.held) }
+    ensures closed { handle.old.held ≡ None → stats.new ≡ stats.old }
+{
+    handle.stats(alloc, stats).code()
 }
 
 /// [`Handle::get`].

@@ -1,11 +1,13 @@
--- What is answered where handles are opened, shared, opened again and asked what they have left.
+-- What is answered where handles are opened, shared, opened again and asked what they have left, and what they know.
 -- Source: docs/EMBEDDING.md, "Statuses".
-use Rattle.std.specs.Prelude.{◌≡◌, ℕ, ◌+◌, ◌-◌, ◌*◌, ◌<◌, ◌≤◌, true, Option, Some, None}
+use Rattle.std.specs.Prelude.{◌≡◌, ◌≢◌, ℕ, ◌+◌, ◌-◌, ◌*◌, ◌<◌, ◌≤◌, true, Option, Some, None, length}
 use Rattle.core_state.specs.Memory.{most_slots, most_places}
+use Rattle.seat_table.specs.Seats.{IsLastFound}
 use Rattle.tree_handles.specs.Callers.{CallerAt, IsFresh, IsShared, IsReopened}
 use Rattle.tree_handles.specs.Calls.{StaysInside}
 use Rattle.tree_handles.specs.Lists.{IsLeft}
 use Rattle.tree_handles.specs.declared.opening.Options.{Options}
+use Rattle.tree_handles.specs.declared.stats.Stats.{Stats}
 use Rattle.tree_handles.specs.declared.status.Status.{Status}
 use Rattle.tree_handles.specs.declared.status.Status.TheVariants.{Done, Unchanged, BadArgument, NoMemory, Lost, Holds}
 
@@ -82,3 +84,25 @@ pub record HasLeft (c : CallerAt) (handles tickets : ℕ) (d : CallerAt) : Type 
   pub handles_are : handles + 1 ≡ c.seat.view.allowance.places
   pub tickets_are : tickets ≡ c.seat.view.allowance.tickets
   pub same : d ≡ c
+
+-- how many bytes what a handle tells takes. There is one form of it yet.
+abbrev pub stats_size : ℕ
+stats_size = 64
+
+-- The numbers are those of the caller: its table's slots, places and room; the free slots as its place last found or left them; the waits
+-- that it began; the retired slots that it lists; and the handles and tickets that can be shared from it.
+pub record HasStats (c : CallerAt) (stats : Stats) : Type 0 where
+  pub slots_are : stats.slots ≡ c.table.slots
+  pub free_are : IsLastFound c.table.slots stats.free c.seat.view.latest.free
+  pub waits_are : stats.waits ≡ c.seat.view.counts.waits
+  pub tickets_are : stats.tickets ≡ c.seat.view.allowance.tickets
+  pub kept_are : stats.kept ≡ length c.seat.listed
+  pub room_is : stats.room ≡ c.table.room
+  pub handles_are : stats.handles ≡ c.table.places
+  pub unshared_are : stats.unshared + 1 ≡ c.seat.view.allowance.places
+
+-- What a handle that is asked what it knows answers, of the caller, and of the record before and after.
+abbrev pub TellsStats : CallerAt → Stats → Status → Stats → CallerAt → Type 0
+TellsStats c was Done stats d = (was.size ≡ stats_size) × (stats.size ≡ stats_size) × HasStats c stats × (d ≡ c)
+TellsStats c was BadArgument stats d = (was.size ≢ stats_size) × (stats ≡ was) × (d ≡ c)
+TellsStats c was _ stats d = ⊥

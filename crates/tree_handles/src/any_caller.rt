@@ -7,12 +7,13 @@ ghost use Rattle.tree_handles.specs.Callers.{MayGoOn, IsFresh, IsShared, IsReope
 ghost use Rattle.tree_handles.specs.Calls.{IsCalled, IsCompared, IsLost, IsRemoved, IsWaitFree, CausedBy, IsHinderedBy, IsStoppedBy};
 ghost use Rattle.tree_handles.specs.Lanes.{HasLanes};
 ghost use Rattle.tree_handles.specs.Lists.{Lists, Seeks};
-ghost use Rattle.tree_handles.specs.Opening.{FailsToReopen, most_pairs};
+ghost use Rattle.tree_handles.specs.Opening.{FailsToReopen, HasStats, most_pairs};
 ghost use Rattle.tree_handles.specs.Tidying.{GivesBack, HasNoneBack, LiftsWay};
 
 use crate::any_lanes::{AnyLanes, LanesByWaiter};
 use crate::caller::Caller;
 use crate::spinning::GaveUp;
+use crate::stats::Stats;
 use crate::status::Status;
 use citrus_tree::Compared;
 use exact_list::{Exact, Nearest, Page};
@@ -93,6 +94,18 @@ impl AnyCaller {
             ByWaiter::Eer(caller) => caller.tickets(),
             ByWaiter::Domain(caller) => caller.tickets(),
             ByWaiter::Deer(caller) => caller.tickets(),
+        }
+    }
+
+    /// What it tells of itself and of its index, in a record of this size.
+    pub(crate) fn stats(&self, size: usize) -> Stats
+        ensures size { result.size ≡ size }
+        ensures has { HasStats self.now result }
+    {
+        match &self.caller {
+            ByWaiter::Eer(caller) => caller.stats(size),
+            ByWaiter::Domain(caller) => caller.stats(size),
+            ByWaiter::Deer(caller) => caller.stats(size),
         }
     }
 

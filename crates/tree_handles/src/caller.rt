@@ -8,7 +8,7 @@ ghost use Rattle.seat_table.specs.Gains.{IsInformed};
 ghost use Rattle.core_state.specs.Memory.{most_places};
 ghost use Rattle.tree_handles.specs.Holds.{HasStarted, Polls, EndsOutside, HasHeld, HasOutwaited, IsEntered, LeavesSection};
 ghost use Rattle.tree_handles.specs.Callers.{IsSameCaller, MayGoOn, IsFresh, IsShared, IsReopened};
-ghost use Rattle.tree_handles.specs.Opening.{FailsToReopen, most_pairs};
+ghost use Rattle.tree_handles.specs.Opening.{FailsToReopen, HasStats, most_pairs};
 ghost use Rattle.tree_handles.specs.Calls.{ComesBehind, IsCalled, IsCompared, IsLost, IsRemoved, IsWaitFree, CausedBy, IsHinderedBy, IsStoppedBy};
 ghost use Rattle.tree_handles.specs.Lanes.{HasLanes};
 ghost use Rattle.tree_handles.specs.Lists.{Lists, Seeks};
@@ -17,6 +17,7 @@ ghost use Rattle.tree_handles.specs.Tidying.{GivesBack, HasNoneBack, LiftsWay};
 use crate::lane_seats::LaneSeats;
 use crate::shared::Shared;
 use crate::spinning::{GaveUp, Spinning};
+use crate::stats::Stats;
 use crate::status::Status;
 use crate::tidying::attempts_for;
 use citrus_tree::patient::{compare, put, remove, set};
@@ -194,6 +195,24 @@ impl<W: WaitPart> Caller<W> {
         ensures { result ≡ self.now.seat.view.allowance.tickets }
     {
         self.seat.tickets()
+    }
+
+    /// What it tells of itself and of its index, in a record of this size.
+    pub(crate) fn stats(&self, size: usize) -> Stats
+        ensures size { result.size ≡ size }
+        ensures has { HasStats self.now result }
+    {
+        Stats {
+            size,
+            slots: self.shared.table().slots() as u64,
+            free: self.seat.free_seen(),
+            waits: self.seat.waits(),
+            tickets: self.seat.tickets(),
+            kept: self.seat.retired().len() as u64,
+            room: self.seat.room() as u64,
+            handles: self.shared.table().places(),
+            unshared: self.seat.unused(),
+        }
     }
 
     /// Why it can't make a call, where it can't: a call of it gave up, or it is in a section.

@@ -6,14 +6,15 @@ ghost use Rattle.tree_handles.specs.Calls.{ComparesOut, Gets, Inserts, Replaces,
 ghost use Rattle.tree_handles.specs.Callers.{Makes};
 ghost use Rattle.tree_handles.specs.Lanes.{OpensLanes, lanes_in};
 ghost use Rattle.tree_handles.specs.Lists.{ListsOut, Firsts, Lasts};
-ghost use Rattle.tree_handles.specs.Opening.{Shares, Reopens, HasLeft};
+ghost use Rattle.tree_handles.specs.Opening.{Shares, Reopens, HasLeft, TellsStats};
 ghost use Rattle.tree_handles.specs.Tidying.{Tidies};
 
 use crate::handle::Handle;
 use crate::lanes::Lanes;
 use crate::lists::Pair;
+use crate::stats::Stats;
 use crate::status::Status;
-use crate::{opening_lanes, reopening, sharing};
+use crate::{opening_lanes, reopening, sharing, stats};
 use prcu_marks::Side;
 use std::alloc::Global;
 
@@ -92,6 +93,21 @@ impl Handle {
         *tickets = caller.tickets();
         *self = Handle::of(caller);
         Status::Done
+    }
+
+    /// Tells what the handle knows of itself and of its index, without a step on the tree: also where it is lost, or in a section.
+    ///
+    /// `Done`; `Closed`; `BadArgument` where the record's size is another than 64. Only at `Done` the record is written.
+    pub fn stats(&mut self, alloc: Global, told: &mut Stats) -> Status
+        ensures told { Makes (λ c d. TellsStats c told.old result told.new d) self.old.held result self.new.held }
+        ensures closed { self.old.held ≡ None → told.new ≡ told.old }
+    {
+        let Some(caller) = self.take(alloc) else {
+            return Status::Closed;
+        };
+        let status = stats::tell(&caller, told);
+        *self = Handle::of(caller);
+        status
     }
 
     /// Tells the key's value.

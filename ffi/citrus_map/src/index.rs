@@ -1,61 +1,15 @@
 use crate::handle::Handle;
 use crate::lanes::{open_sets, Lanes, LANES};
-use crate::library::{citrus_open_with, citrus_share, status, RawHandle, RawLanes, RawOptions};
-use crate::sections::Sections;
+use crate::lent::Lent;
+use crate::library::{citrus_open_with, citrus_share, status, RawHandle, RawOptions};
+use crate::pool::Pool;
 use crate::turns::Turns;
 use crate::{Error, ALL_TICKETS, MAX_HANDLES, MAX_PAIRS};
 use std::collections::hash_map::RandomState;
 use std::fmt;
 use std::hash::{BuildHasher, Hasher};
-use std::sync::atomic::{AtomicU64, Ordering::Relaxed};
-use std::sync::{Arc, Mutex, MutexGuard, PoisonError};
-
-/// A handle of the library, and its place among those of the index, from 0 on.
-pub(crate) struct Placed {
-    pub(crate) raw: RawHandle,
-    pub(crate) place: usize,
-}
-
-/// What all handles of an index share beside the library's index.
-pub(crate) struct Pool {
-    /// The handles that nobody has.
-    free: Mutex<Vec<Placed>>,
-    /// The lanes that nobody has.
-    free_lanes: Mutex<Vec<RawLanes>>,
-    /// The threads that are in sections of the index.
-    pub(crate) sections: Sections,
-    /// The turns of updates, where they take turns.
-    pub(crate) turns: Option<Turns>,
-    /// No two indexes of the process have the same number.
-    pub(crate) number: u64,
-}
-
-impl Pool {
-    fn new(handles: Vec<RawHandle>, lanes: Vec<RawLanes>, turns: Option<Turns>) -> Pool {
-        static NEXT: AtomicU64 = AtomicU64::new(0);
-        let sections = Sections::new(handles.len());
-        let free = handles.into_iter().enumerate().map(|(place, raw)| Placed { raw, place }).collect();
-        Pool { free: Mutex::new(free), free_lanes: Mutex::new(lanes), sections, turns, number: NEXT.fetch_add(1, Relaxed) }
-    }
-
-    fn free(&self) -> MutexGuard<'_, Vec<Placed>> {
-        self.free.lock().unwrap_or_else(PoisonError::into_inner)
-    }
-
-    fn free_lanes(&self) -> MutexGuard<'_, Vec<RawLanes>> {
-        self.free_lanes.lock().unwrap_or_else(PoisonError::into_inner)
-    }
-
-    /// Takes lanes back, for which there is room as for handles.
-    pub(crate) fn put_lanes_back(&self, raw: RawLanes) {
-        self.free_lanes().push(raw);
-    }
-
-    /// Takes a handle back. There is room for it, since it was here before.
-    pub(crate) fn put_back(&self, placed: Placed) {
-        self.free().push(placed);
-    }
-}
+use std::ptr;
+use std::sync::Arc;
 
 /// How a removal waits until nobody reads what it took out. Lookups differ little; see [`Builder::waiter`].
 #[derive(Clone, Copy, Debug, Default, PartialEq, Eq, Hash)]
@@ -166,12 +120,17 @@ impl Builder {
         for _ in 1..handles {
             let mut other = RawHandle::CLOSED;
             // SAFETY: both handles are our own, `first` open as the last call left it and `other` closed.
-            done(unsafe { citrus_share(&mut first, 1, tickets / u64::from(handles), &mut other) })?;
+            done(unsafe { citrus_share(&mut first, 1, fair_share(tickets, handles), &mut other) })?;
             all.push(other);
         }
         all.push(first);
         Ok(Index { pairs, handles, pool: Arc::new(Pool::new(all, lanes, in_turn.then(Turns::default))) })
     }
+}
+
+/// The part of the tickets that each handle of an index has, where so many share them.
+pub(crate) fn fair_share(tickets: u64, handles: u32) -> u64 {
+    tickets / u64::from(handles)
 }
 
 /// A number that nobody can guess: the hash of nothing, by keys that the standard library drew from the system.
@@ -226,7 +185,7 @@ impl Index {
 
     /// A handle for a thread. It goes back to the index when it is dropped.
     ///
-    /// Take one for each thread and keep it: this call locks a mutex, and the calls of a handle don't.
+    /// Take one for each thread and keep it, or call by the index itself: see [`lend`](Index::lend).
     ///
     /// # Errors
     /// [`Error::NoHandle`] where all handles are out.
@@ -242,8 +201,17 @@ impl Index {
     /// # Ok::<(), Error>(())
     /// ```
     pub fn handle(&self) -> Result<Handle, Error> {
-        let placed = self.pool.free().pop().ok_or(Error::NoHandle)?;
+        let placed = self.pool.take().ok_or(Error::NoHandle)?;
         Ok(Handle::new(placed, Arc::clone(&self.pool)))
+    }
+
+    /// A handle for a call, if there is one that nobody has.
+    #[inline]
+    pub(crate) fn taken_for_a_call(&self) -> Option<Lent<'_>> {
+        let placed = self.pool.take_for_a_call()?;
+        // SAFETY: this second one of the index's reference is never dropped, since what is lent doesn't drop it; and the index, which has the
+        // first one, is borrowed for as long.
+        Some(unsafe { Lent::new(Handle::new(placed, ptr::read(&self.pool))) })
     }
 
     /// Eight lanes, by which a thread looks up many keys at once. They go back to the index when they are dropped.
@@ -251,7 +219,7 @@ impl Index {
     /// # Errors
     /// [`Error::NoHandle`] where all lanes are out: the index has those that [`Builder::lanes`] said.
     pub fn lanes(&self) -> Result<Lanes, Error> {
-        let raw = self.pool.free_lanes().pop().ok_or(Error::NoHandle)?;
+        let raw = self.pool.take_lanes().ok_or(Error::NoHandle)?;
         Ok(Lanes::new(raw, Arc::clone(&self.pool)))
     }
 
@@ -262,7 +230,7 @@ impl Index {
 
     /// How many handles could be taken at this moment.
     pub fn free_handles(&self) -> usize {
-        self.pool.free().len()
+        self.pool.free_handles()
     }
 }
 

@@ -1,5 +1,5 @@
-use crate::index::Pool;
 use crate::library::{citrus_get_many, citrus_open_lanes, status, RawAnswer, RawHandle, RawLanes};
+use crate::pool::Pool;
 use crate::Error;
 use std::fmt;
 use std::mem::replace;

@@ -38,7 +38,7 @@
 //! ```
 //!
 //! Each has a pool of up to 1,024 handles. Each thread takes a [`Handle`] or a [`MapHandle`] and makes its calls with that; the handle goes back
-//! to the pool when it is dropped.
+//! to the pool when it is dropped. Or it calls by the index itself, which lends it a handle for the call: see [`Index::lend`].
 //!
 //! # While a value is read
 //! A [`Guard`] of a map, and a [`Section`] or [`Held`] of an index, is for a moment, as the guard of a lock. Updates wait for the readers near
@@ -72,7 +72,8 @@
 //! An index for 1,073,672,192 pairs, 1,024 handles, and 2^53 updates divided by the number of handles. No call from a signal handler, or from the
 //! child of a `fork` of a program with threads.
 //!
-//! The crate needs Rust 1.63 and the library, which `build.rs` finds by pkg-config (`citrus.pc`) or in the folder `CITRUS_LIB_DIR`.
+//! The crate needs Rust 1.63 and, to be linked, the library, which `build.rs` finds by pkg-config (`citrus.pc`) or in the folder
+//! `CITRUS_LIB_DIR`.
 
 #![deny(missing_docs)]
 #![deny(unsafe_op_in_unsafe_fn)]
@@ -83,11 +84,13 @@ mod handle;
 mod hazards;
 mod index;
 mod lanes;
+mod lent;
 mod library;
 mod lists;
 mod map;
 mod map_lists;
 mod node;
+mod pool;
 mod sections;
 #[cfg(test)]
 mod spent;
@@ -96,9 +99,10 @@ mod waits;
 
 pub use error::Error;
 pub use guards::{Held, Section};
-pub use handle::Handle;
+pub use handle::{Handle, Stats};
 pub use index::{Builder, Index, Waiter};
 pub use lanes::{Lanes, LANES};
+pub use lent::Lent;
 pub use lists::{Page, Range};
 pub use map::{Guard, Map, MapHandle, Refused, MOST_RETIRED};
 pub use waits::{Cookie, GracePeriod, Tidied};

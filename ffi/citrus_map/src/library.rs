@@ -41,6 +41,27 @@ impl RawOptions {
     }
 }
 
+/// What C calls a `struct citrus_stats`, as the first version of its header has it.
+#[repr(C)]
+#[derive(Clone, Copy, Default)]
+pub(crate) struct RawStats {
+    size: usize,
+    pub(crate) slots: u64,
+    pub(crate) free: u64,
+    pub(crate) waits: u64,
+    pub(crate) tickets: u64,
+    pub(crate) kept: u64,
+    pub(crate) room: u64,
+    pub(crate) handles: u32,
+    pub(crate) unshared: u32,
+}
+
+impl RawStats {
+    pub(crate) fn new() -> RawStats {
+        RawStats { size: size_of::<RawStats>(), ..RawStats::default() }
+    }
+}
+
 /// What C calls a `citrus_pair`.
 #[repr(C)]
 #[derive(Clone, Copy)]
@@ -102,6 +123,7 @@ pub(crate) mod status {
 extern "C" {
     pub(crate) fn citrus_open_with(handle: *mut RawHandle, options: *const RawOptions) -> i32;
     pub(crate) fn citrus_share(handle: *mut RawHandle, handles: u32, tickets: u64, other: *mut RawHandle) -> i32;
+    pub(crate) fn citrus_stats(handle: *mut RawHandle, stats: *mut RawStats) -> i32;
     pub(crate) fn citrus_close(handle: *mut RawHandle);
     pub(crate) fn citrus_get(handle: *mut RawHandle, key: u64, value: *mut u64) -> i32;
     pub(crate) fn citrus_insert(handle: *mut RawHandle, key: u64, value: u64) -> i32;

@@ -14,7 +14,8 @@ thread_local! {
     static ENTERED: Cell<usize> = const { Cell::new(0) };
 }
 
-fn number_of_this_thread() -> u64 {
+/// No two threads of the process have the same number, and the first ones are small.
+pub(crate) fn number_of_this_thread() -> u64 {
     static NEXT: AtomicU64 = AtomicU64::new(NOBODY + 1);
     NUMBER.with(|number| {
         if number.get() == NOBODY {

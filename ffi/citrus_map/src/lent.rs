@@ -1,0 +1,149 @@
+//! Calls of an index without a handle in hand: each by a handle that is taken for it.
+
+use crate::{Error, Handle, Index};
+use std::fmt;
+use std::marker::PhantomData;
+use std::mem::ManuallyDrop;
+use std::ops::Deref;
+
+/// A handle that an [`Index`] lends for a call or a few: see [`Index::lend`]. It goes back when this is dropped.
+pub struct Lent<'i> {
+    /// Its reference to the pool isn't counted, and so never dropped: the index has one for as long as it is borrowed here.
+    handle: ManuallyDrop<Handle>,
+    index: PhantomData<&'i Index>,
+}
+
+impl Lent<'_> {
+    /// # Safety
+    /// The handle's reference to the pool isn't counted, and there is another one as long as this.
+    pub(crate) unsafe fn new(handle: Handle) -> Self {
+        Lent { handle: ManuallyDrop::new(handle), index: PhantomData }
+    }
+}
+
+// There is no `&mut Handle`, which could be exchanged with one that goes elsewhere.
+impl Deref for Lent<'_> {
+    type Target = Handle;
+
+    fn deref(&self) -> &Handle {
+        &self.handle
+    }
+}
+
+impl Drop for Lent<'_> {
+    fn drop(&mut self) {
+        // SAFETY: this is the handle's end, which isn't dropped.
+        unsafe { self.handle.give_back() };
+    }
+}
+
+impl fmt::Debug for Lent<'_> {
+    fn fmt(&self, text: &mut fmt::Formatter<'_>) -> fmt::Result {
+        text.debug_struct("Lent").finish_non_exhaustive()
+    }
+}
+
+/// Calls without a handle in hand.
+///
+/// Each takes a handle for the call by [`lend`](Index::lend), and answers as the call of [`Handle`] with its name, or [`Error::NoHandle`] as
+/// `lend` does.
+impl Index {
+    /// Lends a handle for a call or a few. A thread is lent the one that it had last, where nobody has it: so with as many handles as threads
+    /// each comes to have its own, and a call costs little more than by a handle that is kept. No thread keeps anything: threads may come and
+    /// go, and an index is freed when it is dropped, whoever called.
+    ///
+    /// # Errors
+    /// [`Error::NoHandle`] where all handles are out at this moment, in other threads' calls too.
+    ///
+    /// ```
+    /// let index = citrus_map::Index::new(100, 4)?;
+    /// index.insert(5, 50)?;
+    /// assert_eq!(index.get(5)?, Some(50));
+    /// assert_eq!(index.lend()?.list(..)?, [(5, 50)]);
+    /// # Ok::<(), citrus_map::Error>(())
+    /// ```
+    ///
+    /// What is lent goes back before the index is dropped:
+    ///
+    /// ```compile_fail,E0505
+    /// let index = citrus_map::Index::new(100, 1).unwrap();
+    /// let lent = index.lend().unwrap();
+    /// drop(index);
+    /// lent.get(5).unwrap();
+    /// ```
+    ///
+    /// For a section take a handle by [`handle`](Index::handle):
+    ///
+    /// ```compile_fail,E0596
+    /// let index = citrus_map::Index::new(100, 1).unwrap();
+    /// index.lend().unwrap().hold(5).unwrap();
+    /// ```
+    #[inline]
+    pub fn lend(&self) -> Result<Lent<'_>, Error> {
+        self.taken_for_a_call().ok_or(Error::NoHandle)
+    }
+
+    /// As [`Handle::get`].
+    ///
+    /// # Errors
+    /// As that, and [`Error::NoHandle`].
+    pub fn get(&self, key: u64) -> Result<Option<u64>, Error> {
+        self.lend()?.get(key)
+    }
+
+    /// As [`Handle::contains_key`].
+    ///
+    /// # Errors
+    /// As that, and [`Error::NoHandle`].
+    pub fn contains_key(&self, key: u64) -> Result<bool, Error> {
+        self.lend()?.contains_key(key)
+    }
+
+    /// As [`Handle::insert`].
+    ///
+    /// # Errors
+    /// As that, and [`Error::NoHandle`].
+    pub fn insert(&self, key: u64, value: u64) -> Result<bool, Error> {
+        self.lend()?.insert(key, value)
+    }
+
+    /// As [`Handle::replace`].
+    ///
+    /// # Errors
+    /// As that, and [`Error::NoHandle`].
+    pub fn replace(&self, key: u64, value: u64) -> Result<Option<u64>, Error> {
+        self.lend()?.replace(key, value)
+    }
+
+    /// As [`Handle::upsert`].
+    ///
+    /// # Errors
+    /// As that, and [`Error::NoHandle`].
+    pub fn upsert(&self, key: u64, value: u64) -> Result<Option<u64>, Error> {
+        self.lend()?.upsert(key, value)
+    }
+
+    /// As [`Handle::compare_exchange`].
+    ///
+    /// # Errors
+    /// As that, and [`Error::NoHandle`].
+    pub fn compare_exchange(&self, key: u64, current: u64, new: u64) -> Result<Result<u64, Option<u64>>, Error> {
+        self.lend()?.compare_exchange(key, current, new)
+    }
+
+    /// As [`Handle::update`].
+    ///
+    /// # Errors
+    /// As that, and [`Error::NoHandle`].
+    pub fn update(&self, key: u64, change: impl FnMut(u64) -> u64) -> Result<Option<u64>, Error> {
+        self.lend()?.update(key, change)
+    }
+
+    /// As [`Handle::remove`].
+    ///
+    /// # Errors
+    /// As that, and [`Error::NoHandle`].
+    pub fn remove(&self, key: u64) -> Result<Option<u64>, Error> {
+        self.lend()?.remove(key)
+    }
+}
