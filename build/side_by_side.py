@@ -437,6 +437,9 @@ def main(words):
     except Ended as end:
         say(end)
         return end.status
+    except OSError as error:
+        say(f"{error.filename or 'a file'}: {error.strerror}")
+        return NOT_PROVED
     return 0
 
 

@@ -1,5 +1,5 @@
-# What `citrus` does beside running the program that stands: it reads this in. `top`, `proved` and is_fresh are its own.
-# shellcheck shell=bash disable=SC2154
+# What `citrus` does beside running the program that stands: it reads this in. `top`, `proved`, `mistake`, say and is_fresh are its own.
+# shellcheck shell=bash disable=SC2034,SC2154
 # shellcheck source=build/turns.sh
 . "$top/build/turns.sh"
 # shellcheck source=build/unproved.sh
@@ -8,15 +8,18 @@
 # The status of this script's own failures, which no answer of the program has.
 no_answer=70
 
-say() {
-    printf 'citrus: %s\n' "$*" >&2
-}
-
 # Finds the toolchain's command, or says that it is missing.
 find_toolchain() {
     hash rt 2>/dev/null && return
     say "the Rattle toolchain's command rt is not on the path; README.md names the toolchain under 'Try it'"
     return $no_answer
+}
+
+# The answer to words that are no command.
+refuse() {
+    printf '%s\n' "$usage" >&2
+    say "./citrus --help has all commands and their options"
+    return 2
 }
 
 help() {
@@ -41,7 +44,7 @@ Words of this script alone, as the first word:
   --unproved                answer by a build without proofs, which the first such call makes in half a minute and keeps; without this
                             word the program is proved and built first
   --help, -h                this text
-  --version                 the commit and the toolchain
+  --version                 the version, the commit and the toolchain
 
 Example:
   ./citrus run < examples/first.txt
@@ -54,12 +57,18 @@ docs/FORMATS.md has the scripts, the accounts and each command in full.
 END
 }
 
-# Which sources these are, and the toolchain that is on the path.
+# Which version and commit these sources are of, and the toolchain that is on the path.
 version() {
-    local commit
-    commit=$(git -C "$top" rev-parse --short=12 HEAD 2>/dev/null) || commit='of no commit (there is no git here)'
-    [ -z "$(git -C "$top" status --porcelain --untracked-files=no 2>/dev/null)" ] || commit="$commit, and changes"
-    printf 'citrus %s\n' "$commit" || return
+    local version='of no known version' prefix commit
+    [ ! -r "$top/ffi/VERSION" ] || read -r version <"$top/ffi/VERSION"
+    # What stands in a folder of another repository is of no commit there.
+    if { read -r prefix && read -r commit; } < <(git -C "$top" rev-parse --show-prefix --short=12 HEAD 2>/dev/null) && [ -z "$prefix" ]; then
+        commit="commit $commit"
+        [ -z "$(git -C "$top" status --porcelain --untracked-files=no 2>/dev/null)" ] || commit="$commit and changes"
+    else
+        commit='of no known commit'
+    fi
+    printf 'citrus %s, %s\n' "$version" "$commit" || return
     if hash rt 2>/dev/null; then
         printf 'toolchain %s\n' "$(rt version)"
     else
@@ -76,11 +85,8 @@ unproved=$top/crates/citrus_cli/out/unproved
 unproved() {
     local status=0
     case ${1:-} in --help | -h) help && return ;; esac
-    if ! is_command "$@"; then
-        printf 'usage: citrus run|check|load\n' >&2
-        say "./citrus --help has all commands and their options"
-        return 2
-    fi
+    is_command "$@" || say "$mistake"
+    [ -z "$mistake" ] || refuse || return
     is_fresh "$unproved" || build_unproved || return
     [ "$1" != load ] || warn_of_load "${@:2}"
     # It was built to stop at what a proof excludes, by an abort.
@@ -102,10 +108,19 @@ warn_of_load() {
     fi
 }
 
+# Whether a program can be kept in this folder, which is made; or says that it can't.
+can_keep() {
+    mkdir -p "$1" 2>/dev/null && [ -w "$1" ] && return
+    say "no program can be built here, since the folder $1 cannot be written"
+    return $no_answer
+}
+
 # Builds the program without proofs, and keeps it.
 build_unproved() {
-    find_toolchain || return
+    find_toolchain && can_keep "$unproved" || return
     say "building the program without proofs, which takes half a minute; it is kept, so later calls with --unproved answer at once"
+    # What is loaded before a program can't stand in a folder with a space.
+    [[ ${TMPDIR:-} != *[\ :]* ]] || TMPDIR=/tmp
     room=$(mktemp -d) || return $no_answer
     trap 'rm -rf "$room"' EXIT
     touch "$room/since"
@@ -126,58 +141,18 @@ keep_program() {
         for part in src specs proofs; do [ ! -d "$top/crates/$name/$part" ] || parts+=("$name/$part"); done
     done
     printf '%s\n' "$(readlink -f "${BASH_CMDS[rt]}")" "${crates[*]}" "${parts[*]}" >"$room/built_from"
-    mkdir -p "$unproved" && rm -f "$unproved/built_from" && mv -f "$room/program" "$unproved/citrus_cli" &&
+    # Whoever may read the sources may run it.
+    chmod a+rx "$room/program" && chmod a+r "$room/built_from" && chmod a+rx "${unproved%/*}" "$unproved" &&
+        rm -f "$unproved/built_from" && mv -f "$room/program" "$unproved/citrus_cli" &&
         touch -r "$room/since" "$room/built_from" && cp -p "$room/built_from" "$unproved/built_from"
 }
-
-# Whether these words are a command, as docs/FORMATS.md has it. The program says so itself; here nothing is built to hear it.
-is_command() {
-    local word=${1:-} slots='' schedule='' waiter='' cookies='' numbers=() LC_ALL=C
-    read_arguments "${@:2}" || return
-    case $word in
-        run) [ ${#numbers[@]} = 0 ] && { [ -z "$schedule" ] || [ -z "$waiter$cookies" ]; } ;;
-        check) [ -z "${numbers[*]}$schedule$waiter$cookies" ] ;;
-        hash) [ -z "${numbers[*]}$slots$schedule$waiter$cookies" ] ;;
-        watch) [ ${#numbers[@]} = 2 ] && [ -z "$schedule$cookies" ] && at_most "${numbers[@]}" ;;
-        load) [ ${#numbers[@]} = 3 ] && [ -z "$slots$schedule$cookies" ] && is_load "${numbers[@]:1}" ;;
-        *) return 1 ;;
-    esac
-}
-
-# Options with their values, each at most once, and numbers.
-read_arguments() {
-    local option value
-    while [ $# -gt 0 ]; do
-        case $1 in
-            --cookies) [ -z "$cookies" ] && cookies=yes && shift && continue || return 1 ;;
-            --slots | --schedule | --waiter) [ $# -ge 2 ] && option=$1 value=$2 && shift 2 || return 1 ;;
-            --*=*) option=${1%%=*} value=${1#*=} && shift ;;
-            *) is_number "$1" && numbers+=("$1") && shift && continue || return 1 ;;
-        esac
-        case $option:$value in
-            --slots:*) [ -z "$slots" ] && is_number "$value" && at_most 1 "$value" && at_most "$value" 2095892 && slots=$value ;;
-            --schedule:*) [ -z "$schedule" ] && is_number "$value" && schedule=$value ;;
-            --waiter:eer | --waiter:d | --waiter:deer) [ -z "$waiter" ] && waiter=$value ;;
-            *) false ;;
-        esac || return 1
-    done
-}
-
-# A decimal number of 64 bits, without a zero before it.
-is_number() { [[ $1 =~ ^(0|[1-9][0-9]{0,19})$ ]] && at_most "$1" 18446744073709551615; }
-
-# Of two such numbers, or longer ones, whether the first isn't above the second.
-at_most() { [ ${#1} -lt ${#2} ] || { [ ${#1} = ${#2} ] && [[ ! $1 > $2 ]]; }; }
-
-# From 1 to 64 scripts, and a million operations in all.
-is_load() { at_most 1 "$1" && at_most "$1" 64 && at_most "$2" 1048576 && [ $(($1 * $2)) -le 1048576 ]; }
 
 # --- the proved program
 
 # Proves and builds the program, unless another call has done so meanwhile.
 bring_up_to_date() {
     local status
-    find_toolchain || return
+    find_toolchain && can_keep "$proved" || return
     take_turn "$top" "citrus: another build or gate runs here; waiting for it to end. ./citrus --unproved WORDS answers meanwhile" || return $no_answer
     if is_fresh "$proved"; then
         give_turn

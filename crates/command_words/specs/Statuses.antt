@@ -18,7 +18,7 @@ exit_status TooLong = 7
 abbrev pub status_line : Status → List ℕ
 status_line Done = []
 status_line Refused = codes "not an account\n"
-status_line Usage = codes "usage: citrus run|check|load\n"
+status_line Usage = codes "usage: citrus run|check|load|watch|hash\n"
 status_line BadScript = codes "bad script\n"
 status_line ReadFault = codes "cannot read the input\n"
 status_line WriteFault = codes "cannot write the output\n"

@@ -44,7 +44,7 @@ impl Status {
         match self {
             Status::Done => b"",
             Status::Refused => b"not an account\n",
-            Status::Usage => b"usage: citrus run|check|load\n",
+            Status::Usage => b"usage: citrus run|check|load|watch|hash\n",
             Status::BadScript => b"bad script\n",
             Status::ReadFault => b"cannot read the input\n",
             Status::WriteFault => b"cannot write the output\n",
