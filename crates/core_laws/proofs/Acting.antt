@@ -24,7 +24,7 @@ use Rattle.core_state.specs.Steps.{stepped, unknown_slot, NeedsLeaveByStamp, gat
 use Rattle.core_state.specs.declared.act.Part.{Part}
 use Rattle.core_state.specs.declared.act.Part.TheVariants as part
 use Rattle.core_state.specs.declared.act.Act.{Act}
-use Rattle.core_state.specs.declared.act.Act.TheVariants.{EnterByStamp, LeaveByStamp, BeginWait, LookKey, LookStamp, Reserve, Seize, RaiseToSpare, Lock, FreeInHand, FreeRetired, SearchLoad, ListLoad, OpenCommit, LinkLeaf, Bypass, LinkCopy, UnlinkLeft, UnlinkRight, LoadGate, EnterByCount, LeaveByCount, LookCount, EnterByRow, LeaveByRow, LookRow, ReplaceValue, LookAtFront, Rotate}
+use Rattle.core_state.specs.declared.act.Act.TheVariants.{EnterByStamp, LeaveByStamp, BeginWait, LookKey, LookStamp, Reserve, Seize, Lock, SearchLoad, ListLoad, OpenCommit, LinkLeaf, Bypass, LinkCopy, LoadGate, EnterByCount, LeaveByCount, LookCount, EnterByRow, LeaveByRow, LookRow, ReplaceValue, LookAtFront}
 use Rattle.core_state.specs.Acts.{in_slot, IsWord, clocked_of, some_section, section_of, some_wait, wait_of, commit_of, spare_of, after, marks_of, MayLook, listing_of}
 use Rattle.core_state.specs.Links.{after_reserve, reserving, with_free, after_seize, HasCommit}
 use Rattle.core_state.specs.Views.{IsLoadable}
@@ -43,13 +43,7 @@ has_word k (word.Gate c) is = and_from _ _ (ap (λ w. same_waiter w Domain) is.0
 has_word k (word.Count c side) is = and_from _ _ (ap (λ w. same_waiter w Domain) is.0)
     (and_from _ _ (lt-ltb c 64 is.1) (lt-ltb side 2 is.2))
 has_word k (word.Row p c) is = and_from _ _ (ap (λ w. same_waiter w Deer) is.0) (and_from _ _ (lt-ltb p k.places is.1) (lt-ltb c 64 is.2))
-has_word k (word.State s) is = lt-ltb s (slot_count k) is
-has_word k (word.Lock s) is = lt-ltb s (slot_count k) is
-has_word k (word.Life s) is = lt-ltb s (slot_count k) is
-has_word k (word.Key s) is = lt-ltb s (slot_count k) is
-has_word k (word.Value s) is = lt-ltb s (slot_count k) is
-has_word k (word.Link s b) is = lt-ltb s (slot_count k) is
-has_word k (word.Tag s b) is = lt-ltb s (slot_count k) is
+has_word k _ is = lt-ltb _ (slot_count k) is
 
 -- What a view has open, where it has it open.
 pub section_is : (v : View) (section : Section) → v.section ≡ Some section → section_of v ≡ section
@@ -75,10 +69,7 @@ may_update v {found} is ticket = subst (HasCommit v) (sym (commit_is v (record {
 
 pub part_loadable : (s : ℕ) (p : Part) → IsLoadable s (in_slot s p)
 part_loadable s part.Life = refl
-part_loadable s part.Key = refl
-part_loadable s part.Value = refl
-part_loadable s (part.Link b) = refl
-part_loadable s (part.Tag b) = refl
+part_loadable s _ = refl
 
 pub may_search : (v : View) {section : Section} (s : ℕ) (p : Part) → v.section ≡ Some section → section.listing ≡ None
     → IsIn section.reading.stood s → NeedsSearchLoad v (section_of v) s (in_slot s p)
@@ -112,10 +103,7 @@ may_look k v {wait} {field} {last} is going rest = subst (λ x. MayLook k v x fi
 -- the table has each part of its slots
 pub part_word : (k : Shape) (s : ℕ) (p : Part) → s < slot_count k → IsWord k (in_slot s p)
 part_word k s part.Life below = below
-part_word k s part.Key below = below
-part_word k s part.Value below = below
-part_word k s (part.Link b) below = below
-part_word k s (part.Tag b) below = below
+part_word k s _ below = below
 
 -- ---- what is left, where what it finds decides
 
@@ -256,11 +244,11 @@ module _ (v : View) (h : List Mark) (n : ℕ) where
   all_seen : {ms : List Mark} → ms ≡ [] → HasSeen v.seen h ms h
   all_seen none = inr (sym (append-nil h) ∙ ap (λ z. h ++ z) (sym none))
 
+  unmarked : {ms seen : List Mark} → ms ≡ [] → seen ≡ v.seen → HasSeen v.seen h ms seen
+  unmarked none same = inl (none, same)
+
   all_with : {ms ms' seen : List Mark} → ms ≡ ms' → seen ≡ h ++ ms' → HasSeen v.seen h ms seen
   all_with is e = inr (e ∙ ap (λ z. h ++ z) (sym is))
-
-  no_mark : {ms : List Mark} → ms ≡ [] → HasSeen v.seen h ms v.seen
-  no_mark none = inl (none, refl)
 
   given_seen : (slot : ℕ) (b : Bool) (x y : View) → x.seen ≡ h ++ Given slot ∷ [] → y.seen ≡ v.seen
       → HasSeen v.seen h (cond b (Given slot ∷ []) []) (cond b x y).seen
@@ -282,35 +270,19 @@ module _ (v : View) (h : List Mark) (n : ℕ) where
   gate_seen class (Some section) = refl
 
   seen_at : (a : Act) (ms seen : List Mark) → ms ≡ marks_of v a n → seen ≡ (after v a h n).seen → HasSeen v.seen h ms seen
-  seen_at (EnterByStamp key stamp) ms seen is e = all_with is e
-  seen_at LeaveByStamp ms seen is e = all_with is e
-  seen_at (BeginWait low high) ms seen is e = all_with is e
   seen_at (LookKey p last) ms seen is e = by_both is e (look_seen (wait_of v) (word.Announced p) last)
   seen_at (LookStamp p last) ms seen is e = by_both is e (look_seen (wait_of v) (word.Stamp p) last)
   seen_at (Reserve expected) ms seen is e = by_both refl e
-      (either_seen (n == expected) _ _ ms (no_mark is) (either_seen (n == 0) _ _ ms (all_seen is) (no_mark is)))
+      (either_seen (n == expected) _ _ ms (unmarked is refl) (either_seen (n == 0) _ _ ms (all_seen is) (unmarked is refl)))
   seen_at (Seize slot) ms seen is e = by_both is e (given_seen slot (n == 0) _ _ refl refl)
-  seen_at (RaiseToSpare slot number) ms seen is e = all_with is e
-  seen_at (Lock slot) ms seen is e = by_both refl e (either_seen (n == 0) _ _ ms (no_mark is) (no_mark is))
-  seen_at (FreeInHand slot) ms seen is e = all_with is e
-  seen_at (FreeRetired slot) ms seen is e = all_with is e
-  seen_at (OpenCommit expected) ms seen is e = by_both refl e (either_seen (n == expected) _ _ ms (no_mark is) (no_mark is))
-  seen_at (LinkLeaf slot b leaf key value) ms seen is e = all_with is e
-  seen_at (Bypass parent b node child key) ms seen is e = all_with is e
-  seen_at (LinkCopy parent b node copy old old_parent key next_key) ms seen is e = all_with is e
-  seen_at (UnlinkLeft parent old child) ms seen is e = all_with is e
-  seen_at (UnlinkRight copy old child) ms seen is e = all_with is e
-  seen_at (LoadGate class) ms seen is e = inl (is, e ∙ gate_seen class v.section)
-  seen_at (EnterByCount key side) ms seen is e = all_with is e
-  seen_at (LeaveByCount class side) ms seen is e = all_with is e
+  seen_at (Lock slot) ms seen is e = by_both refl e (either_seen (n == 0) _ _ ms (unmarked is refl) (unmarked is refl))
+  seen_at (OpenCommit expected) ms seen is e = by_both refl e (either_seen (n == expected) _ _ ms (unmarked is refl) (unmarked is refl))
+  seen_at (LoadGate class) ms seen is e = unmarked is (e ∙ gate_seen class v.section)
   seen_at (LookCount class side last) ms seen is e = by_both is e (look_seen (wait_of v) (word.Count class side) last)
-  seen_at (EnterByRow key stamp) ms seen is e = all_with is e
-  seen_at (LeaveByRow class) ms seen is e = all_with is e
   seen_at (LookRow p class last) ms seen is e = by_both is e (look_seen (wait_of v) (word.Row p class) last)
-  seen_at (ReplaceValue slot key value) ms seen is e = all_with is e
-  seen_at (Rotate parent b node child top) ms seen is e = all_with is e
   seen_at LookAtFront ms seen is e = subst (HasSeen v.seen h ms) (sym e) (all_seen is)
-  seen_at _ ms seen is e = inl (is, e)
+  -- the others leave no mark and let nothing be seen, or let all marks be seen with their own
+  seen_at _ ms seen is e = first_of (search unmarked, search all_with)
 
   pub has_seen : (a : Act) → HasSeen v.seen h (marks_of v a n) (after v a h n).seen
   has_seen a = seen_at a (marks_of v a n) (after v a h n).seen refl refl
@@ -331,26 +303,18 @@ module _ (v : View) (h : List Mark) (n : ℕ) where
   look_stays wait field last = either_is (excuses wait field n) _ _ v.section (either_is last _ _ v.section refl refl) refl
 
   stays_at : (a : Act) (section : Option Section) → moves_search a ≡ false → section ≡ (after v a h n).section → section ≡ v.section
-  stays_at (EnterByStamp key stamp) section quiet e = absurd (cc)
-  stays_at LeaveByStamp section quiet e = absurd (cc)
   stays_at (LookKey p last) section quiet e = e ∙ look_stays (wait_of v) (word.Announced p) last
   stays_at (LookStamp p last) section quiet e = e ∙ look_stays (wait_of v) (word.Stamp p) last
   stays_at (Reserve expected) section quiet e = e
       ∙ either_is (n == expected) _ _ v.section refl (either_is (n == 0) _ _ v.section refl refl)
   stays_at (Seize slot) section quiet e = e ∙ either_is (n == 0) _ _ v.section refl refl
   stays_at (Lock slot) section quiet e = e ∙ either_is (n == 0) _ _ v.section refl refl
-  stays_at (SearchLoad slot p) section quiet e = absurd (cc)
-  stays_at (ListLoad slot p) section quiet e = absurd (cc)
   stays_at (OpenCommit expected) section quiet e = e ∙ either_is (n == expected) _ _ v.section refl refl
   stays_at (LoadGate class) section quiet e = e ∙ gate_stays class v.section
-  stays_at (EnterByCount key side) section quiet e = absurd (cc)
-  stays_at (LeaveByCount class side) section quiet e = absurd (cc)
   stays_at (LookCount class side last) section quiet e = e ∙ look_stays (wait_of v) (word.Count class side) last
-  stays_at (EnterByRow key stamp) section quiet e = absurd (cc)
-  stays_at (LeaveByRow class) section quiet e = absurd (cc)
   stays_at (LookRow p class last) section quiet e = e ∙ look_stays (wait_of v) (word.Row p class) last
-  stays_at LookAtFront section quiet e = absurd (cc)
-  stays_at _ section quiet e = e
+  -- the others leave the section, or move the search
+  stays_at _ section quiet e = cc
 
   pub section_stays : (a : Act) → moves_search a ≡ false → (after v a h n).section ≡ v.section
   section_stays a quiet = stays_at a (after v a h n).section quiet refl

@@ -45,10 +45,9 @@ cases_side Left Right = inr (λ e. cc)
 cases_side Right Left = inr (λ e. cc)
 
 pub same_side-other : (a b : Side) → a ≢ b → same_side a b ≡ false
-same_side-other Left Left ne = absurd (ne refl)
-same_side-other Right Right ne = absurd (ne refl)
 same_side-other Left Right ne = refl
 same_side-other Right Left ne = refl
+same_side-other _ _ ne = absurd (ne refl)
 
 and_false : (x : Bool) → (x && false) ≡ false
 and_false true = refl

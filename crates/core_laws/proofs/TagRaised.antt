@@ -46,16 +46,14 @@ side_at _ = Left
 
 -- the side isn't emptied any more, the other as before
 pub emptied_back : (b a : Side) (l : HeldLock) → is_emptied (with_emptied b false l) a ≡ true → (is_emptied l a ≡ true) × (a ≢ b)
-emptied_back Left Left l e = absurd (cc)
 emptied_back Left Right l e = (e, λ q. absurd (cc))
 emptied_back Right Left l e = (e, λ q. absurd (cc))
-emptied_back Right Right l e = absurd (cc)
+emptied_back _ _ l e = absurd (cc)
 
 pub emptied_other : (b a : Side) (l : HeldLock) → a ≢ b → is_emptied (with_emptied b false l) a ≡ is_emptied l a
-emptied_other Left Left l ne = absurd (ne refl)
 emptied_other Left Right l ne = refl
 emptied_other Right Left l ne = refl
-emptied_other Right Right l ne = absurd (ne refl)
+emptied_other _ _ l ne = absurd (ne refl)
 
 pub emptied_flags : (b : Side) (l : HeldLock) → is_emptied l b ≡ true
     → flag (with_emptied b false l).left_emptied + flag (with_emptied b false l).right_emptied + 1
