@@ -27,9 +27,8 @@ module _ {C : Type 0} (made : C → Op → Told → C → Type 0) where
   pub chain_length : (ops : List Op) (tolds : List Told) (before after : C) → IsChain made before ops tolds after
       → length tolds ≡ length ops
   chain_length [] [] before after chain = refl
-  chain_length [] (told ∷ tolds) before after chain = absurd chain
-  chain_length (op ∷ ops) [] before after chain = absurd chain
   chain_length (op ∷ ops) (told ∷ tolds) before after chain = let rest = chain_length ops tolds chain.0 after chain.2 in omega arith
+  chain_length _ _ before after chain = absurd chain
 
   -- what holds of the calls so far and of the client that they leave, and is kept by each call, is kept by the chain
   pub chain_carries : (P : List Op → List Told → C → Type 0)
@@ -39,12 +38,11 @@ module _ {C : Type 0} (made : C → Op → Told → C → Type 0) where
       → P earlier_ops earlier_tolds before → IsChain made before ops tolds after → P (earlier_ops ++ ops) (earlier_tolds ++ tolds) after
   chain_carries P keeps earlier_ops earlier_tolds [] [] before after holds chain =
       simp append-nil (subst (λ (client : C). P earlier_ops earlier_tolds client) (sym chain) holds)
-  chain_carries P keeps earlier_ops earlier_tolds [] (told ∷ tolds) before after holds chain = absurd chain
-  chain_carries P keeps earlier_ops earlier_tolds (op ∷ ops) [] before after holds chain = absurd chain
   chain_carries P keeps earlier_ops earlier_tolds (op ∷ ops) (told ∷ tolds) before after holds chain =
       let rest = chain_carries P keeps (earlier_ops ++ op ∷ []) (earlier_tolds ++ told ∷ []) ops tolds chain.0 after
       (keeps earlier_ops earlier_tolds before op told chain.0 holds chain.1) chain.2 in
       simp append_assoc at rest
+  chain_carries P keeps earlier_ops earlier_tolds _ _ before after holds chain = absurd chain
 
   -- what each call keeps the chain keeps
   pub chain_keeps : (P : C → Type 0) → ((before : C) (op : Op) (told : Told) (after : C) → P before → made before op told after → P after)
@@ -56,11 +54,10 @@ module _ {C : Type 0} (made : C → Op → Told → C → Type 0) where
       → left before ≤ left after + 1)
       → (ops : List Op) (tolds : List Told) (before after : C) → IsChain made before ops tolds after → left before ≤ left after + length ops
   chain_leaves left lowers [] [] before after chain = let same = ap left chain in omega arith
-  chain_leaves left lowers [] (told ∷ tolds) before after chain = absurd chain
-  chain_leaves left lowers (op ∷ ops) [] before after chain = absurd chain
   chain_leaves left lowers (op ∷ ops) (told ∷ tolds) before after chain =
       let one = lowers before op told chain.0 chain.1 in
       let rest = chain_leaves left lowers ops tolds chain.0 after chain.2 in omega arith
+  chain_leaves left lowers _ _ before after chain = absurd chain
 
   -- a chain, and one from where it ends
   pub chain_append : (ops : List Op) (tolds : List Told) (more_ops : List Op) (more_tolds : List Told) (before middle after : C)
@@ -68,10 +65,9 @@ module _ {C : Type 0} (made : C → Op → Told → C → Type 0) where
       → IsChain made before (ops ++ more_ops) (tolds ++ more_tolds) after
   chain_append [] [] more_ops more_tolds before middle after first second =
       subst (λ (client : C). IsChain made client more_ops more_tolds after) first second
-  chain_append [] (told ∷ tolds) more_ops more_tolds before middle after first second = absurd first
-  chain_append (op ∷ ops) [] more_ops more_tolds before middle after first second = absurd first
   chain_append (op ∷ ops) (told ∷ tolds) more_ops more_tolds before middle after first second =
       (first.0, first.1, chain_append ops tolds more_ops more_tolds first.0 middle after first.2 second)
+  chain_append _ _ more_ops more_tolds before middle after first second = absurd first
 
   -- a chain, and one more call
   pub chain_push : (ops : List Op) (tolds : List Told) (op : Op) (told : Told) (before middle after : C)
@@ -119,10 +115,9 @@ module _ (explains : Dictionary → Op → Reply → Type 0) (us more : List Upd
   pub MayStandBesideBy-longer : (before : ℕ) (lines : List Line) (numbers : List ℕ) → MayStandBesideBy explains us before lines numbers
       → MayStandBesideBy explains (us ++ more) before lines numbers
   MayStandBesideBy-longer before [] [] beside = tt
-  MayStandBesideBy-longer before [] (number ∷ numbers) beside = absurd beside
-  MayStandBesideBy-longer before (line ∷ lines) [] beside = absurd beside
   MayStandBesideBy-longer before (line ∷ lines) (number ∷ numbers) beside =
       (MayStandBy-longer before line number beside.0, MayStandBesideBy-longer number lines numbers beside.1)
+  MayStandBesideBy-longer before _ _ beside = absurd beside
 
 -- An update that the line tells of is confirmed, and its number is one of the history.
 pub record IsSettled (history : List Update) (line : Line) : Type 0 where
