@@ -233,34 +233,21 @@ plain_trans place a b c x y = record {
 
 module _ (place : ℕ) (h : List Mark) where
   opens_one : (m : Mark) → IsPlain place m → (p : ℕ) → open_at p (h ++ m ∷ []) ≡ open_at p h
-  opens_one (Done u) is p = open_at-snoc p h (Done u)
-  opens_one (Given s) is p = open_at-snoc p h (Given s)
-  opens_one (Unlinked s) is p = open_at-snoc p h (Unlinked s)
-  opens_one (Freed s) is p = open_at-snoc p h (Freed s)
   opens_one (Entered q c x) is p = absurd is
   opens_one (Left q c) is p = absurd is
-  opens_one (Began q c a b) is p = absurd is
-  opens_one (Ended q c) is p = absurd is
+  opens_one m is p = open_at-snoc p h m
 
   entries_none : (m : Mark) → IsPlain place m → (p : ℕ) → (entered_at p (m ∷ []) ≡ 0) × (begun (m ∷ []) ≡ 0) × (begun_at p (m ∷ []) ≡ 0)
-  entries_none (Done u) is p = (refl, refl, refl)
-  entries_none (Given s) is p = (refl, refl, refl)
-  entries_none (Unlinked s) is p = (refl, refl, refl)
-  entries_none (Freed s) is p = (refl, refl, refl)
   entries_none (Entered q c x) is p = absurd is
-  entries_none (Left q c) is p = absurd is
   entries_none (Began q c a b) is p = absurd is
-  entries_none (Ended q c) is p = absurd is
+  entries_none _ is p = (refl, refl, refl)
 
   own_none : (m : Mark) → IsPlain place m → (p : ℕ) → p ≢ place → own_of p (m ∷ []) ≡ []
   own_none (Done u) is p ne = ap (λ b. cond b (Done u ∷ []) []) (ne_eqb u.caller p (λ e. ne (sym e ∙ is)))
   own_none (Given s) is p ne = refl
   own_none (Unlinked s) is p ne = refl
   own_none (Freed s) is p ne = refl
-  own_none (Entered q c x) is p ne = absurd is
-  own_none (Left q c) is p ne = absurd is
-  own_none (Began q c a b) is p ne = absurd is
-  own_none (Ended q c) is p ne = absurd is
+  own_none _ is p ne = absurd is
 
   pub plain_one : (m : Mark) → IsPlain place m → PlainMarks place h (h ++ m ∷ [])
   plain_one m is = record {
