@@ -81,12 +81,7 @@ own_content s _ c = absurd c
 
 own_beside : (s : ℕ) (field : Field) → IsOwnField s field → IsBesideSlots field → ⊥
 own_beside s (State t) o x = x
-own_beside s (Life t) o x = x
-own_beside s (Key t) o x = x
-own_beside s (Value t) o x = x
-own_beside s (Link t b) o x = x
-own_beside s (Tag t b) o x = x
-own_beside s _ o x = o
+own_beside s _ o x = assumption
 
 -- What a store in a field of a slot leaves: the words of the other slots, the locks, and the words of no slot.
 pub record StoresIn (m new : Memory) (p : ℕ) : Type 0 where

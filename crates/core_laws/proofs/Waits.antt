@@ -27,7 +27,7 @@ use Rattle.core_frames.proofs.PlainLaws.{clocked_before}
 use Rattle.std.proofs.lemmas.List.{take-append-drop, take_all, length-map}
 use Rattle.std.proofs.Math.Seq.{take-append_seam}
 use Rattle.atomic_table.proofs.Lists.{at_last, drop_at, at_set, at_map}
-use Rattle.prcu_marks.specs.declared.mark.Mark.TheVariants.{Began, Ended, Entered, Left, Done, Given, Unlinked, Freed}
+use Rattle.prcu_marks.specs.declared.mark.Mark.TheVariants.{Began, Ended, Entered, Left}
 use Rattle.prcu_marks.proofs.Marks.{open_at-snoc, entered_at-append}
 use Rattle.core_state.specs.Steps.{NeedsBegin, after_begin, new_wait, spot_of, keys_of, NeedsGateTurn, after_gate_turn, turned_gate, is_grace_for, is_move_grace, waited_retired, waited_move}
 use Rattle.list_laws.proofs.Lists.{at_end, times_here, times_other, at_below, each_set, somewhere_here, somewhere_set, somewhere_still}
@@ -338,12 +338,7 @@ module _ (places : ℕ) (h : List Mark) (t : AreMarks places h) (e q c x : ℕ) 
       let count : d ≡ c = sym r.2 ∙ ap (λ (o : Open). o.count) g in
       record { at = j; after = lt; before = omega arith; left = at ∙ (λ i. some (Left (same i) (count i))) }))
       (λ ne. inr (ap (λ b. cond b None (Some (entered_open c x e))) (ne_eqb p q ne)))
-  step j (Began p d a b) lt at now n = inr refl
-  step j (Ended p d) lt at now n = inr refl
-  step j (Done u) lt at now n = inr refl
-  step j (Given s) lt at now n = inr refl
-  step j (Unlinked s) lt at now n = inr refl
-  step j (Freed s) lt at now n = inr refl
+  step j _ lt at now n = inr refl
 
   upto : (d : ℕ) → e + 1 + d ≤ length h → WasLeft h q c e (e + 1 + d) ⊎ (open_at q (take (e + 1 + d) h) ≡ Some (entered_open c x e))
   upto zero le =
