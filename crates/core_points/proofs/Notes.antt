@@ -17,7 +17,7 @@ use Rattle.core_state.specs.Parts.{state_slot}
 use Rattle.prcu_marks.specs.declared.commit.Commit.{Commit}
 use Rattle.core_state.specs.declared.view.Retired.{Retired}
 use Rattle.core_state.specs.declared.view.View.{View}
-use Rattle.core_state.specs.Views.{known_in, LoadedGeneration, lock_of, change_lock, note_lock, note_held, note_option, note_moving, noting, IsLoadable}
+use Rattle.core_state.specs.Views.{known_in, LoadedGeneration, lock_of, change_lock, note_lock, note_held, note_option, note_moving, noting}
 use Rattle.core_state.specs.Steps.{leaving, new_lock, spare_slot, loaded, searched, walked, walking, after_search_load, NeedsSearchLoad}
 use Rattle.list_laws.specs.Counts.{IsIn, times, Each}
 use Rattle.core_points.specs.Programs.{Own, is_none_left, is_some, key_now, value_in, answer, begun_with, first_point, spare_first, go}
@@ -40,7 +40,6 @@ use Rattle.core_state.specs.declared.view.Walk.{Walk}
 use Rattle.core_state.specs.Acts.{section_of, in_slot}
 use Rattle.core_state.specs.declared.act.Part.{Part}
 use Rattle.core_laws.proofs.Acting.{section_is, may_search}
-use Rattle.core_state.specs.declared.act.Part.TheVariants as part
 use Rattle.core_points.specs.declared.stage.Stage.TheVariants as at
 
 -- What is known after one more load or store, of a view's groups.
