@@ -450,19 +450,20 @@ falls_once rank s x (q ∷ before) f = higher (falls_once rank q x before f.1)
 pub way_once : (g : Chart) (r : Reading) (x : ℕ) → IsWay g r → times x r.stood ≤ 1
 way_once g r x w = subst (λ l. times x l ≤ 1) (sym w.stood) (falls_once g.rank (last_stood r.walk (state_slot r.state)) x w.before w.falls)
 
--- a list of numbers below n, each once, isn't longer than n
+-- a number that is counted in a list stands in it
+pub in_times : (x : ℕ) (xs : List ℕ) → 1 ≤ times x xs → IsIn xs x
+in_times x [] one = absurd (omega (arith, one))
+in_times x (y ∷ ys) one = ⊎_elim (λ (same : y ≡ x). (0, ap some same)) (λ ne.
+    let rest = in_times x ys (let h = ap flag (ne_eqb y x ne) in omega (arith, one, h)) in (suc rest.0, rest.1)) (cases_eq y x)
+
 sum_few : (f : ℕ → ℕ) (n : ℕ) → ((s : ℕ) → f s ≤ 1) → sum_below f n ≤ n
 sum_few f zero few = omega arith
 sum_few f (suc n) few = let a = few n in let b = sum_few f n few in omega (arith, a, b)
 
-times_in : (x : ℕ) (xs : List ℕ) → 1 ≤ times x xs → IsIn xs x
-times_in x [] one = absurd (omega (arith, one))
-times_in x (y ∷ ys) one = ⊎_elim (λ (same : y ≡ x). (0, ap some same)) (λ ne.
-    let rest = times_in x ys (let h = ap flag (ne_eqb y x ne) in omega (arith, one, h)) in (suc rest.0, rest.1)) (cases_eq y x)
+-- numbers below another, each once, are at most as many
+pub few_below : (xs : List ℕ) (n : ℕ) → ((x : ℕ) → 1 ≤ times x xs → x < n) → ((x : ℕ) → times x xs ≤ 1) → length xs ≤ n
+few_below xs n below once = let a = times_sum xs n below in let b = sum_few (λ x. times x xs) n once in omega (arith, a, b)
 
 -- so a way is no longer than there are slots
 pub way_short : (g : Chart) (r : Reading) (n : ℕ) → IsWay g r → ((s : ℕ) → IsIn r.stood s → s < n) → length r.stood ≤ n
-way_short g r n w below =
-    let a = times_sum r.stood n (λ x one. below x (times_in x r.stood one)) in
-    let b = sum_few (λ s. times s r.stood) n (λ s. way_once g r s w) in
-    omega (arith, a, b)
+way_short g r n w below = few_below r.stood n (λ x one. below x (in_times x r.stood one)) (λ x. way_once g r x w)

@@ -135,7 +135,7 @@ module _ (k : Shape) (m : Memory) (vs : List View) (h : List Mark) (i : HoldsNow
 -- The last look ends a wait: all its readers have left, and what was waited for is noted.
 
 -- what holds of each element of a list that was mapped
-each_map : {A B : Type 0} (f : A → B) (P : A → Type 0) (Q : B → Type 0) (xs : List A) → ((a : A) → P a → Q (f a)) → Each xs P
+pub each_map : {A B : Type 0} (f : A → B) (P : A → Type 0) (Q : B → Type 0) (xs : List A) → ((a : A) → P a → Q (f a)) → Each xs P
     → Each (map f xs) Q
 each_map f P Q [] own all j b e = absurd (some-ne-none b (sym e))
 each_map f P Q (x ∷ xs) own all zero b e = subst Q (some-injective (f x) b e) (own x (all 0 x refl))

@@ -28,9 +28,9 @@ use Rattle.core_state.specs.Parts.{IsHeldKnown, AreHandsKnown, IsUnraised, IsLoc
 use Rattle.core_state.specs.Invariant.{HoldsNow}
 use Rattle.core_frames.specs.Laws.{KeepsPast}
 use Rattle.list_laws.proofs.Lists.{at_below, set_twice, in_first, in_second}
-use Rattle.core_laws.proofs.Locks.{lock_outside, lock_alone, emptied_change_same, emptied_slot, emptied_known, emptied_marked}
+use Rattle.core_laws.proofs.Locks.{lock_outside, lock_alone, emptied_change_same, emptied_slot, emptied_known, emptied_marked, note_side}
 use Rattle.core_laws.proofs.Stores.{cases_side, sum_more, StoresIn, stores_in, held_beside, hand_beside}
-use Rattle.core_laws.proofs.LockSteps.{note_side, emptied_after, OneLock, one_changed, noted_then, lock_stays, note_held-form, lock_noted, note_option-else, note_held-slot, held_noted}
+use Rattle.core_laws.proofs.LockSteps.{emptied_after, OneLock, one_changed, noted_then, lock_stays, note_held-form, lock_noted, note_option-else, note_held-slot, held_noted}
 use Rattle.core_frames.proofs.Roles.{linked_none, not_gone, held_there, spare_among, slots_count}
 use Rattle.core_laws.proofs.LockLoads.{law_copy, life_or_tag_stores, under_lock}
 use Rattle.core_frames.proofs.Views.{same_is, stored_here, stored_else}
