@@ -21,7 +21,8 @@ use Rattle.core_state.specs.declared.act.Part.TheVariants as part
 use Rattle.core_state.specs.declared.act.Act.{Act}
 use Rattle.core_state.specs.declared.act.Act.TheVariants.{LoadClock, AnnounceKey, EnterByStamp, LeaveByStamp, BeginWait, LookKey, LookStamp, LoadOwnLife, Reserve, Seize, Fill, Lock, Unlock, SearchLoad, ListLoad, LockedLoad, OpenCommit, RaiseTag, CloseCommit, LookAtFront, GiveFrontBack}
 use Rattle.core_state.specs.Acts.{clocked_of, field_of, Asks, MayLook, Needs, section_of, listing_of, wait_of}
-use Rattle.core_examples.proofs.Tests.{all_spots, lock_now, all_of, passed, test_at, is_some, some_is, none_is, false_is, not_same, is_empty, empty_is, is_number, number_is, has, has_in, has_been, been_at, is_word, loadable, is_holder, holder_is, is_no_end, no_end_is, is_closing, closing_is, is_unmade, unmade_is, is_content, content_is, State, AllAsked, after, reached, over, ◌⟫◌}
+use Rattle.core_laws.proofs.Acting.{part_loadable}
+use Rattle.core_examples.proofs.Tests.{all_spots, lock_now, all_of, passed, test_at, is_some, some_is, none_is, false_is, not_same, is_empty, empty_is, is_number, number_is, has, has_in, has_been, been_at, is_word, is_holder, holder_is, is_no_end, no_end_is, is_closing, closing_is, is_unmade, unmade_is, is_content, content_is, State, AllAsked, after, reached, over, ◌⟫◌}
 
 -- a table with five slots, one place and the first waiter
 abbrev pub small : Shape
@@ -121,7 +122,7 @@ search slot p = record {
     section_is = some_is _ v.section (t 0);
     searches = none_is (section_of v).listing (t 1);
     stood = has_in slot (section_of v).reading.stood (t 2);
-    loadable = loadable slot p;
+    loadable = part_loadable slot p;
   };
 }
 
@@ -176,7 +177,7 @@ abbrev pub look : ℕ → Part → Step
 look slot p = record {
   act = LockedLoad slot p;
   tests = λ v. is_some (lock_of v.locks slot) ∷ [];
-  met = λ v t. record { held = (lock_now v slot, some_is _ (lock_of v.locks slot) (t 0)); loadable = loadable slot p };
+  met = λ v t. record { held = (lock_now v slot, some_is _ (lock_of v.locks slot) (t 0)); loadable = part_loadable slot p };
 }
 
 abbrev pub unlock : ℕ → Step
@@ -287,7 +288,7 @@ list_part slot p = record {
     section_is = some_is _ v.section (t 0);
     lists = some_is _ (section_of v).listing (t 1);
     been = inr (been_at slot (listing_of (section_of v)).visits (t 2));
-    loadable = loadable slot p;
+    loadable = part_loadable slot p;
   };
 }
 

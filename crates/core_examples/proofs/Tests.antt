@@ -6,7 +6,7 @@ use Rattle.core_state.specs.declared.view.Move.{Move}
 use Rattle.core_state.specs.declared.view.Reading.{Reading}
 use Rattle.core_state.specs.declared.view.Retired.{Retired}
 use Rattle.core_state.specs.declared.view.View.{View}
-use Rattle.core_state.specs.Views.{lock_of, IsLoadable, known_in, loaded_in, known_under, LoadedGeneration}
+use Rattle.core_state.specs.Views.{lock_of, known_in, loaded_in, known_under, LoadedGeneration}
 use Rattle.core_state.specs.Steps.{fresh_reading, unknown_slot, new_lock, IsSpot, IsNoEnd}
 use Rattle.prcu_marks.specs.declared.mark.Mark.{Mark}
 use Rattle.core_state.specs.declared.shape.Shape.{Shape}
@@ -25,7 +25,7 @@ use Rattle.core_state.specs.declared.view.Visit.{Visit}
 use Rattle.core_state.specs.Links.{IsInHand, IsSpare, IsContent, NodeRecords, FewChildren, BothChildren, IsMarkedNode, LacksChild, SuccessorLink}
 use Rattle.prcu_marks.specs.declared.mark.Side.{Side}
 use Rattle.core_state.specs.declared.view.SearchState.{SearchState}
-use Rattle.core_state.specs.declared.view.SearchState.TheVariants.{At, Unread, Found, Missed}
+use Rattle.core_state.specs.declared.view.SearchState.TheVariants.{Found, Missed}
 use Rattle.core_state.specs.declared.shape.Waiter.{Waiter}
 use Rattle.core_state.specs.declared.shape.Waiter.TheVariants.{Eer, Domain, Deer}
 use Rattle.core_state.specs.declared.act.Part.{Part}
@@ -108,18 +108,7 @@ pub all_spots : {k : Shape} {wait : Waiting} {spots : List Field} → SpotsIn k 
 all_spots known (Stamp p) spot = known.stamps p spot
 all_spots known (Count c side) spot = known.counts c side spot
 all_spots known (Row p c) spot = known.rows p c spot
-all_spots known Clock spot = absurd spot
-all_spots known Front spot = absurd spot
-all_spots known Free spot = absurd spot
-all_spots known (Announced p) spot = absurd spot
-all_spots known (Gate c) spot = absurd spot
-all_spots known (StateWord s) spot = absurd spot
-all_spots known (Lock s) spot = absurd spot
-all_spots known (Life s) spot = absurd spot
-all_spots known (Key s) spot = absurd spot
-all_spots known (Value s) spot = absurd spot
-all_spots known (Link s b) spot = absurd spot
-all_spots known (Tag s b) spot = absurd spot
+all_spots known _ spot = absurd spot
 
 -- Tests by computing of what a step needs of a view, and what each of them says where it is true.
 
@@ -206,14 +195,6 @@ been_at slot (t ∷ ts) e =
     (λ (further : has_been slot ts ≡ true). (let b = been_at slot ts further in (b.0, (suc b.1.0, b.1.1), b.2)))
     (or_cases (t.slot == slot) (has_been slot ts) e)
 
--- each part of a slot may be loaded
-pub loadable : (s : ℕ) (p : Part) → IsLoadable s (in_slot s p)
-loadable s part.Life = refl
-loadable s part.Key = refl
-loadable s part.Value = refl
-loadable s (part.Link b) = refl
-loadable s (part.Tag b) = refl
-
 -- a part with which a slot is filled
 abbrev pub is_content : Part → Bool
 is_content part.Life = false
@@ -222,22 +203,15 @@ is_content _ = true
 
 pub content_is : (s : ℕ) (p : Part) → is_content p ≡ true → IsContent s (in_slot s p)
 content_is s part.Life e = cc
-content_is s part.Key e = refl
-content_is s part.Value e = refl
-content_is s (part.Link b) e = refl
 content_is s (part.Tag b) e = cc
+content_is s _ e = refl
 
 -- the word is one of the table's
 waiter_is : (a b : Waiter) → same_waiter a b ≡ true → a ≡ b
 waiter_is Eer Eer e = refl
-waiter_is Eer Domain e = cc
-waiter_is Eer Deer e = cc
-waiter_is Domain Eer e = cc
 waiter_is Domain Domain e = refl
-waiter_is Domain Deer e = cc
-waiter_is Deer Eer e = cc
-waiter_is Deer Domain e = cc
 waiter_is Deer Deer e = refl
+waiter_is _ _ e = cc
 
 pub is_word : (k : Shape) (field : Field) → is_field k field ≡ true → IsWord k field
 is_word k word.Clock e = tt
@@ -257,13 +231,7 @@ is_word k (word.Row p c) e =
     let a = and_parts (same_waiter k.waiter Deer) (nat_lt p k.places && nat_lt c 64) e in
     let b = and_parts (nat_lt p k.places) (nat_lt c 64) a.1 in
     (waiter_is k.waiter Deer a.0, ltb-true p k.places b.0, ltb-true c 64 b.1)
-is_word k (word.State s) e = ltb-true s (slot_count k) e
-is_word k (word.Lock s) e = ltb-true s (slot_count k) e
-is_word k (word.Life s) e = ltb-true s (slot_count k) e
-is_word k (word.Key s) e = ltb-true s (slot_count k) e
-is_word k (word.Value s) e = ltb-true s (slot_count k) e
-is_word k (word.Link s b) e = ltb-true s (slot_count k) e
-is_word k (word.Tag s b) e = ltb-true s (slot_count k) e
+is_word k _ e = ltb-true _ (slot_count k) e
 
 -- a slot in hand, or the spare
 abbrev pub is_slot : Option Held → ℕ → Bool
@@ -335,9 +303,7 @@ pub missed_is : (state : SearchState) (slot : ℕ) (b : Side) → is_missed stat
 missed_is (Missed t c) slot b e =
     let a = and_parts (t == slot) (same_side c b) e in
     (λ i. Missed (eqb-true t slot a.0 i) (side_is c b a.1 i))
-missed_is (At t c) slot b e = cc
-missed_is (Unread t p c) slot b e = cc
-missed_is (Found t p c value) slot b e = cc
+missed_is _ slot b e = cc
 
 -- Tests by computing of a delete's records: that what was loaded under locks is what the search found out, and that a node is marked.
 
@@ -374,9 +340,7 @@ found_is (Found s p c value) slot parent b e =
     let a = and_parts (s == slot) (p == parent && same_side c b) e in
     let d = and_parts (p == parent) (same_side c b) a.1 in
     (value, (λ i. Found (eqb-true s slot a.0 i) (eqb-true p parent d.0 i) (side_is c b d.1 i) value))
-found_is (At t c) slot parent b e = cc
-found_is (Unread t p c) slot parent b e = cc
-found_is (Missed t c) slot parent b e = cc
+found_is _ slot parent b e = cc
 
 abbrev pub node_tests : View → ℕ → Side → ℕ → ℕ → ℕ → List Bool
 node_tests v parent b node left right =

@@ -35,44 +35,22 @@ TurnsNoWait (Ended p c) = ⊥
 TurnsNoWait _ = Unit {0}
 
 unlinks_none : (m : Mark) → IsOutside m → UnlinksNone m
-unlinks_none (Entered q c x) o = tt
-unlinks_none (Left q c) o = tt
-unlinks_none (Began q c a b) o = tt
-unlinks_none (Ended q c) o = tt
-unlinks_none (Done u) o = absurd o
-unlinks_none (Given t) o = absurd o
 unlinks_none (Unlinked t) o = absurd o
-unlinks_none (Freed t) o = absurd o
+unlinks_none _ o = tt
 
 gone_same : (s i : ℕ) (g : Option ℕ) (m : Mark) → IsOutside m → next_gone s i g m ≡ g
-gone_same s i g (Entered q c x) n = refl
-gone_same s i g (Left q c) n = refl
-gone_same s i g (Began q c a b) n = refl
-gone_same s i g (Ended q c) n = refl
-gone_same s i g (Done u) n = absurd n
 gone_same s i g (Given t) n = absurd n
 gone_same s i g (Unlinked t) n = absurd n
 gone_same s i g (Freed t) n = absurd n
+gone_same s i g _ n = refl
 
 updates_same : (m : Mark) → IsOutside m → updates_of (m ∷ []) ≡ []
-updates_same (Entered q c x) n = refl
-updates_same (Left q c) n = refl
-updates_same (Began q c a b) n = refl
-updates_same (Ended q c) n = refl
 updates_same (Done u) n = absurd n
-updates_same (Given t) n = refl
-updates_same (Unlinked t) n = refl
-updates_same (Freed t) n = refl
+updates_same _ n = refl
 
 not_done : (m : Mark) (u : Update) → IsOutside m → m ≢ Done u
-not_done (Entered q c x) u o e = cc
-not_done (Left q c) u o e = cc
-not_done (Began q c a b) u o e = cc
-not_done (Ended q c) u o e = cc
 not_done (Done v) u o e = absurd o
-not_done (Given t) u o e = absurd o
-not_done (Unlinked t) u o e = absurd o
-not_done (Freed t) u o e = absurd o
+not_done _ u o e = cc
 
 -- The marks that came say nothing of updates and slots.
 pub record QuietMarks (h h' : List Mark) : Type 0 where
@@ -96,49 +74,27 @@ quiet_snoc h m o = record {
 
 -- how many waits were begun, after one more mark
 begun_same : (m : Mark) → TurnsNoWait m → begun (m ∷ []) ≡ 0
-begun_same (Entered q c x) n = refl
-begun_same (Left q c) n = refl
 begun_same (Began q c a b) n = absurd n
 begun_same (Ended q c) n = absurd n
-begun_same (Done u) n = refl
-begun_same (Given t) n = refl
-begun_same (Unlinked t) n = refl
-begun_same (Freed t) n = refl
+begun_same _ n = refl
 
 pub begun-append : (h ms : List Mark) → begun (h ++ ms) ≡ begun h + begun ms
 begun-append [] ms = omega arith
-begun-append (Entered q c x ∷ h) ms = begun-append h ms
-begun-append (Left q c ∷ h) ms = begun-append h ms
 begun-append (Began q c a b ∷ h) ms = let e = begun-append h ms in omega arith
-begun-append (Ended q c ∷ h) ms = begun-append h ms
-begun-append (Done u ∷ h) ms = begun-append h ms
-begun-append (Given t ∷ h) ms = begun-append h ms
-begun-append (Unlinked t ∷ h) ms = begun-append h ms
-begun-append (Freed t ∷ h) ms = begun-append h ms
+begun-append (_ ∷ h) ms = begun-append h ms
 
 pub begun-same : (h : List Mark) (m : Mark) → TurnsNoWait m → begun (h ++ m ∷ []) ≡ begun h
 begun-same h m n = let a = begun-append h (m ∷ []) in let b = begun_same m n in omega arith
 
 begun_at_same : (p : ℕ) (m : Mark) → TurnsNoWait m → begun_at p (m ∷ []) ≡ 0
-begun_at_same p (Entered q c x) n = refl
-begun_at_same p (Left q c) n = refl
 begun_at_same p (Began q c a b) n = absurd n
 begun_at_same p (Ended q c) n = absurd n
-begun_at_same p (Done u) n = refl
-begun_at_same p (Given t) n = refl
-begun_at_same p (Unlinked t) n = refl
-begun_at_same p (Freed t) n = refl
+begun_at_same p _ n = refl
 
 pub begun_at-append : (p : ℕ) (h ms : List Mark) → begun_at p (h ++ ms) ≡ begun_at p h + begun_at p ms
 begun_at-append p [] ms = omega arith
-begun_at-append p (Entered q c x ∷ h) ms = begun_at-append p h ms
-begun_at-append p (Left q c ∷ h) ms = begun_at-append p h ms
 begun_at-append p (Began q c a b ∷ h) ms = let e = begun_at-append p h ms in omega arith
-begun_at-append p (Ended q c ∷ h) ms = begun_at-append p h ms
-begun_at-append p (Done u ∷ h) ms = begun_at-append p h ms
-begun_at-append p (Given t ∷ h) ms = begun_at-append p h ms
-begun_at-append p (Unlinked t ∷ h) ms = begun_at-append p h ms
-begun_at-append p (Freed t ∷ h) ms = begun_at-append p h ms
+begun_at-append p (_ ∷ h) ms = begun_at-append p h ms
 
 pub begun_at-same : (p : ℕ) (h : List Mark) (m : Mark) → TurnsNoWait m → begun_at p (h ++ m ∷ []) ≡ begun_at p h
 begun_at-same p h m n = let a = begun_at-append p h (m ∷ []) in let b = begun_at_same p m n in omega arith
@@ -209,22 +165,12 @@ others_same place h = record {
 open_other : (p n : ℕ) (o : Option Open) (m : Mark) → is_of p m ≡ false → next_open p n o m ≡ o
 open_other p n o (Entered q c x) e = ap (λ b. cond b (Some (record { count = c; key = x; at = n })) o) e
 open_other p n o (Left q c) e = ap (λ b. cond b None o) e
-open_other p n o (Began q c a b) e = refl
-open_other p n o (Ended q c) e = refl
-open_other p n o (Done u) e = refl
-open_other p n o (Given t) e = refl
-open_other p n o (Unlinked t) e = refl
-open_other p n o (Freed t) e = refl
+open_other p n o _ e = refl
 
 counted_other : (p : ℕ) (m : Mark) → is_of p m ≡ false → (entered_at p (m ∷ []) ≡ 0) × (begun_at p (m ∷ []) ≡ 0)
 counted_other p (Entered q c x) e = (ap (λ b. cond b 1 0 + 0) e, refl)
-counted_other p (Left q c) e = (refl, refl)
 counted_other p (Began q c a b) e = (refl, ap (λ t. cond t 1 0 + 0) e)
-counted_other p (Ended q c) e = (refl, refl)
-counted_other p (Done u) e = (refl, refl)
-counted_other p (Given t) e = (refl, refl)
-counted_other p (Unlinked t) e = (refl, refl)
-counted_other p (Freed t) e = (refl, refl)
+counted_other p _ e = (refl, refl)
 
 -- a mark of the place itself
 pub others_snoc : (place : ℕ) (h : List Mark) (m : Mark) → ((p : ℕ) → p ≢ place → is_of p m ≡ false) → OtherMarks place h (h ++ m ∷ [])
@@ -287,34 +233,21 @@ plain_trans place a b c x y = record {
 
 module _ (place : ℕ) (h : List Mark) where
   opens_one : (m : Mark) → IsPlain place m → (p : ℕ) → open_at p (h ++ m ∷ []) ≡ open_at p h
-  opens_one (Done u) is p = open_at-snoc p h (Done u)
-  opens_one (Given s) is p = open_at-snoc p h (Given s)
-  opens_one (Unlinked s) is p = open_at-snoc p h (Unlinked s)
-  opens_one (Freed s) is p = open_at-snoc p h (Freed s)
   opens_one (Entered q c x) is p = absurd is
   opens_one (Left q c) is p = absurd is
-  opens_one (Began q c a b) is p = absurd is
-  opens_one (Ended q c) is p = absurd is
+  opens_one m is p = open_at-snoc p h m
 
   entries_none : (m : Mark) → IsPlain place m → (p : ℕ) → (entered_at p (m ∷ []) ≡ 0) × (begun (m ∷ []) ≡ 0) × (begun_at p (m ∷ []) ≡ 0)
-  entries_none (Done u) is p = (refl, refl, refl)
-  entries_none (Given s) is p = (refl, refl, refl)
-  entries_none (Unlinked s) is p = (refl, refl, refl)
-  entries_none (Freed s) is p = (refl, refl, refl)
   entries_none (Entered q c x) is p = absurd is
-  entries_none (Left q c) is p = absurd is
   entries_none (Began q c a b) is p = absurd is
-  entries_none (Ended q c) is p = absurd is
+  entries_none _ is p = (refl, refl, refl)
 
   own_none : (m : Mark) → IsPlain place m → (p : ℕ) → p ≢ place → own_of p (m ∷ []) ≡ []
   own_none (Done u) is p ne = ap (λ b. cond b (Done u ∷ []) []) (ne_eqb u.caller p (λ e. ne (sym e ∙ is)))
   own_none (Given s) is p ne = refl
   own_none (Unlinked s) is p ne = refl
   own_none (Freed s) is p ne = refl
-  own_none (Entered q c x) is p ne = absurd is
-  own_none (Left q c) is p ne = absurd is
-  own_none (Began q c a b) is p ne = absurd is
-  own_none (Ended q c) is p ne = absurd is
+  own_none _ is p ne = absurd is
 
   pub plain_one : (m : Mark) → IsPlain place m → PlainMarks place h (h ++ m ∷ [])
   plain_one m is = record {

@@ -381,15 +381,13 @@ reading_says k m vs h i id v r there has = ⊎_elim (λ (x : IsIn (open_reading 
     (λ (x : IsIn v.records r). i.readers.records id v there x.0 r x.1) (in_append (open_reading v.section) v.records r has)
   where
     open_case : (o : Option Section) → v.section ≡ o → IsIn (open_reading o) r → IsRecord m i.chart vs r
-    open_case None e (zero, is) = absurd (some-ne-none r (sym is))
-    open_case None e (suc j, is) = absurd (some-ne-none r (sym is))
     open_case (Some section) e (zero, is) =
         subst (IsRecord m i.chart vs) (some-injective section.reading r is)
         (record_of m (slot_count k) i.chart vs h section i.tree.shape
         (i.readers.readings id v there 0 section.reading (ap (λ o. get_elem? (open_reading o ++ v.records) 0) e))
         (i.seats.sections id v there section e).sought (i.seats.sections id v there section e).key_fits
         (i.readers.served id v there section e))
-    open_case (Some section) e (suc j, is) = absurd (some-ne-none r (sym is))
+    open_case _ e (_, is) = absurd (some-ne-none r (sym is))
 
 pub records_say : RecordsSay
 records_say k m vs h i id v r s tag b there has missed life known empty same settled =

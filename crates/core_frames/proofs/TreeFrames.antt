@@ -27,7 +27,7 @@ use Rattle.core_frames.proofs.Marks.{QuietMarks}
 use Rattle.prcu_marks.specs.Marks.{updates_of, gone_at}
 use Rattle.core_state.specs.declared.view.Section.{Section}
 use Rattle.core_state.specs.declared.view.SearchState.{SearchState}
-use Rattle.core_state.specs.declared.view.SearchState.TheVariants.{At, Unread, Found, Missed}
+use Rattle.core_state.specs.declared.view.SearchState.TheVariants.{Found, Missed}
 use Rattle.prcu_model.specs.declared.operation.Update.{Update}
 use Rattle.prcu_marks.proofs.Marks.{gone_at-below}
 use Rattle.core_state.specs.declared.view.Fact.{Fact}
@@ -331,11 +331,9 @@ said_same h h' key from o quiet i = subst (λ us. WasSaid us key from o) (sym qu
 pub answered_by : (us later : List Update) (section : Section)
     → ((o : Option ℕ) → WasSaid us section.key section.from o → WasSaid later section.key section.from o) → (state : SearchState)
     → Answered us section state → Answered later section state
-answered_by us later section said (At s b) i = tt
-answered_by us later section said (Unread s parent b) i = tt
-answered_by us later section said (Found s parent b None) i = tt
 answered_by us later section said (Found s parent b (Some value)) i = said (Some value) i
 answered_by us later section said (Missed s b) i = said None i
+answered_by us later section said _ i = tt
 
 -- A reader may pass an old successor still where its move is pending still; and a slot is old for a key.
 pub may_by : {vs us : List View} {key entered s : ℕ} (i : MayPass vs key entered s) → IsPending us i.move → MayPass us key entered s

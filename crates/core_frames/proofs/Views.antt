@@ -43,38 +43,19 @@ pub record SameSlots (m m' : Memory) : Type 0 where
 
 pub own_same : (m m' : Memory) → SameNodes m m' → ((s : ℕ) → m' (State s) ≡ m (State s)) → (s : ℕ) (field : Field) → IsOwnField s field
     → m' field ≡ m field
-own_same m m' e state s Clock o = absurd o
-own_same m m' e state s Front o = absurd o
-own_same m m' e state s Free o = absurd o
-own_same m m' e state s (Announced p) o = absurd o
-own_same m m' e state s (Stamp p) o = absurd o
-own_same m m' e state s (Gate c) o = absurd o
-own_same m m' e state s (Count c d) o = absurd o
-own_same m m' e state s (Row p c) o = absurd o
 own_same m m' e state s (State t) o = state t
-own_same m m' e state s (Lock t) o = absurd o
 own_same m m' e state s (Life t) o = e.life t
 own_same m m' e state s (Key t) o = e.key t
 own_same m m' e state s (Value t) o = e.value t
 own_same m m' e state s (Link t b) o = e.link t b
 own_same m m' e state s (Tag t b) o = e.tag t b
+own_same m m' e state s _ o = absurd o
 
 pub content_same : (m m' : Memory) → SameNodes m m' → (s : ℕ) (field : Field) → IsContent s field → m' field ≡ m field
 content_same m m' e s (Key t) o = e.key t
 content_same m m' e s (Value t) o = e.value t
 content_same m m' e s (Link t b) o = e.link t b
-content_same m m' e s Clock o = absurd o
-content_same m m' e s Front o = absurd o
-content_same m m' e s Free o = absurd o
-content_same m m' e s (Announced p) o = absurd o
-content_same m m' e s (Stamp p) o = absurd o
-content_same m m' e s (Gate c) o = absurd o
-content_same m m' e s (Count c d) o = absurd o
-content_same m m' e s (Row p c) o = absurd o
-content_same m m' e s (State t) o = absurd o
-content_same m m' e s (Lock t) o = absurd o
-content_same m m' e s (Life t) o = absurd o
-content_same m m' e s (Tag t b) o = absurd o
+content_same m m' e s _ o = absurd o
 
 -- The words of all slots, and those in which the readers of each waiter show. A step that stores elsewhere leaves all of them: one
 -- equation, which `refl` proves.
@@ -196,8 +177,7 @@ module _ {X : Type 0} (f : View → X) (vs : List View) (id : ℕ) (v w : View) 
 pub side_is : (a b : Side) → same_side a b ≡ true → a ≡ b
 side_is Left Left e = refl
 side_is Right Right e = refl
-side_is Left Right e = absurd (cc)
-side_is Right Left e = absurd (cc)
+side_is _ _ e = absurd (cc)
 
 pub side_self : (a : Side) → same_side a a ≡ true
 side_self Left = refl
@@ -226,18 +206,11 @@ pub same_self : (field : Field) → same_field field field ≡ true
 same_self Clock = refl
 same_self Front = refl
 same_self Free = refl
-same_self (Announced p) = eq-eqb p p refl
-same_self (Stamp p) = eq-eqb p p refl
-same_self (Gate c) = eq-eqb c c refl
 same_self (Count c a) = and_from (c == c) (a == a) (eq-eqb c c refl) (eq-eqb a a refl)
 same_self (Row p c) = and_from (p == p) (c == c) (eq-eqb p p refl) (eq-eqb c c refl)
-same_self (State s) = eq-eqb s s refl
-same_self (Lock s) = eq-eqb s s refl
-same_self (Life s) = eq-eqb s s refl
-same_self (Key s) = eq-eqb s s refl
-same_self (Value s) = eq-eqb s s refl
 same_self (Link s a) = and_from (s == s) (same_side a a) (eq-eqb s s refl) (side_self a)
 same_self (Tag s a) = and_from (s == s) (same_side a a) (eq-eqb s s refl) (side_self a)
+same_self _ = eq-eqb _ _ refl
 
 pub stored_here : (m : Memory) (field : Field) (n : ℕ) → stored m field n field ≡ n
 stored_here m field n = ap (λ b. cond b n (m field)) (same_self field)
@@ -268,15 +241,7 @@ own_one s t (Key u) a b = sym a ∙ b
 own_one s t (Value u) a b = sym a ∙ b
 own_one s t (Link u c) a b = sym a ∙ b
 own_one s t (Tag u c) a b = sym a ∙ b
-own_one s t Clock a b = absurd a
-own_one s t Front a b = absurd a
-own_one s t Free a b = absurd a
-own_one s t (Announced p) a b = absurd a
-own_one s t (Stamp p) a b = absurd a
-own_one s t (Gate c) a b = absurd a
-own_one s t (Count c d) a b = absurd a
-own_one s t (Row p c) a b = absurd a
-own_one s t (Lock u) a b = absurd a
+own_one s t _ a b = absurd a
 
 pub loadable_own : (s : ℕ) (field : Field) → IsLoadable s field → IsOwnField s field
 loadable_own s (Life u) a = a
@@ -284,16 +249,7 @@ loadable_own s (Key u) a = a
 loadable_own s (Value u) a = a
 loadable_own s (Link u c) a = a
 loadable_own s (Tag u c) a = a
-loadable_own s (State u) a = absurd a
-loadable_own s Clock a = absurd a
-loadable_own s Front a = absurd a
-loadable_own s Free a = absurd a
-loadable_own s (Announced p) a = absurd a
-loadable_own s (Stamp p) a = absurd a
-loadable_own s (Gate c) a = absurd a
-loadable_own s (Count c d) a = absurd a
-loadable_own s (Row p c) a = absurd a
-loadable_own s (Lock u) a = absurd a
+loadable_own s _ a = absurd a
 
 -- What a load makes of a reading, by where its search stands: it goes on, or it only has one load more.
 
@@ -494,19 +450,20 @@ falls_once rank s x (q ∷ before) f = higher (falls_once rank q x before f.1)
 pub way_once : (g : Chart) (r : Reading) (x : ℕ) → IsWay g r → times x r.stood ≤ 1
 way_once g r x w = subst (λ l. times x l ≤ 1) (sym w.stood) (falls_once g.rank (last_stood r.walk (state_slot r.state)) x w.before w.falls)
 
--- a list of numbers below n, each once, isn't longer than n
+-- a number that is counted in a list stands in it
+pub in_times : (x : ℕ) (xs : List ℕ) → 1 ≤ times x xs → IsIn xs x
+in_times x [] one = absurd (omega (arith, one))
+in_times x (y ∷ ys) one = ⊎_elim (λ (same : y ≡ x). (0, ap some same)) (λ ne.
+    let rest = in_times x ys (let h = ap flag (ne_eqb y x ne) in omega (arith, one, h)) in (suc rest.0, rest.1)) (cases_eq y x)
+
 sum_few : (f : ℕ → ℕ) (n : ℕ) → ((s : ℕ) → f s ≤ 1) → sum_below f n ≤ n
 sum_few f zero few = omega arith
 sum_few f (suc n) few = let a = few n in let b = sum_few f n few in omega (arith, a, b)
 
-times_in : (x : ℕ) (xs : List ℕ) → 1 ≤ times x xs → IsIn xs x
-times_in x [] one = absurd (omega (arith, one))
-times_in x (y ∷ ys) one = ⊎_elim (λ (same : y ≡ x). (0, ap some same)) (λ ne.
-    let rest = times_in x ys (let h = ap flag (ne_eqb y x ne) in omega (arith, one, h)) in (suc rest.0, rest.1)) (cases_eq y x)
+-- numbers below another, each once, are at most as many
+pub few_below : (xs : List ℕ) (n : ℕ) → ((x : ℕ) → 1 ≤ times x xs → x < n) → ((x : ℕ) → times x xs ≤ 1) → length xs ≤ n
+few_below xs n below once = let a = times_sum xs n below in let b = sum_few (λ x. times x xs) n once in omega (arith, a, b)
 
 -- so a way is no longer than there are slots
 pub way_short : (g : Chart) (r : Reading) (n : ℕ) → IsWay g r → ((s : ℕ) → IsIn r.stood s → s < n) → length r.stood ≤ n
-way_short g r n w below =
-    let a = times_sum r.stood n (λ x one. below x (times_in x r.stood one)) in
-    let b = sum_few (λ s. times s r.stood) n (λ s. way_once g r s w) in
-    omega (arith, a, b)
+way_short g r n w below = few_below r.stood n (λ x one. below x (in_times x r.stood one)) (λ x. way_once g r x w)

@@ -24,7 +24,7 @@ use Rattle.core_state.specs.Steps.{stepped, unknown_slot, NeedsLeaveByStamp, gat
 use Rattle.core_state.specs.declared.act.Part.{Part}
 use Rattle.core_state.specs.declared.act.Part.TheVariants as part
 use Rattle.core_state.specs.declared.act.Act.{Act}
-use Rattle.core_state.specs.declared.act.Act.TheVariants.{EnterByStamp, LeaveByStamp, BeginWait, LookKey, LookStamp, Reserve, Seize, RaiseToSpare, Lock, FreeInHand, FreeRetired, SearchLoad, ListLoad, OpenCommit, LinkLeaf, Bypass, LinkCopy, UnlinkLeft, UnlinkRight, LoadGate, EnterByCount, LeaveByCount, LookCount, EnterByRow, LeaveByRow, LookRow, ReplaceValue, LookAtFront, Rotate}
+use Rattle.core_state.specs.declared.act.Act.TheVariants.{EnterByStamp, LeaveByStamp, BeginWait, LookKey, LookStamp, Reserve, Seize, Lock, SearchLoad, ListLoad, OpenCommit, LinkLeaf, Bypass, LinkCopy, LoadGate, EnterByCount, LeaveByCount, LookCount, EnterByRow, LeaveByRow, LookRow, ReplaceValue, LookAtFront}
 use Rattle.core_state.specs.Acts.{in_slot, IsWord, clocked_of, some_section, section_of, some_wait, wait_of, commit_of, spare_of, after, marks_of, MayLook, listing_of}
 use Rattle.core_state.specs.Links.{after_reserve, reserving, with_free, after_seize, HasCommit}
 use Rattle.core_state.specs.Views.{IsLoadable}
@@ -43,13 +43,7 @@ has_word k (word.Gate c) is = and_from _ _ (ap (λ w. same_waiter w Domain) is.0
 has_word k (word.Count c side) is = and_from _ _ (ap (λ w. same_waiter w Domain) is.0)
     (and_from _ _ (lt-ltb c 64 is.1) (lt-ltb side 2 is.2))
 has_word k (word.Row p c) is = and_from _ _ (ap (λ w. same_waiter w Deer) is.0) (and_from _ _ (lt-ltb p k.places is.1) (lt-ltb c 64 is.2))
-has_word k (word.State s) is = lt-ltb s (slot_count k) is
-has_word k (word.Lock s) is = lt-ltb s (slot_count k) is
-has_word k (word.Life s) is = lt-ltb s (slot_count k) is
-has_word k (word.Key s) is = lt-ltb s (slot_count k) is
-has_word k (word.Value s) is = lt-ltb s (slot_count k) is
-has_word k (word.Link s b) is = lt-ltb s (slot_count k) is
-has_word k (word.Tag s b) is = lt-ltb s (slot_count k) is
+has_word k _ is = lt-ltb _ (slot_count k) is
 
 -- What a view has open, where it has it open.
 pub section_is : (v : View) (section : Section) → v.section ≡ Some section → section_of v ≡ section
@@ -75,10 +69,7 @@ may_update v {found} is ticket = subst (HasCommit v) (sym (commit_is v (record {
 
 pub part_loadable : (s : ℕ) (p : Part) → IsLoadable s (in_slot s p)
 part_loadable s part.Life = refl
-part_loadable s part.Key = refl
-part_loadable s part.Value = refl
-part_loadable s (part.Link b) = refl
-part_loadable s (part.Tag b) = refl
+part_loadable s _ = refl
 
 pub may_search : (v : View) {section : Section} (s : ℕ) (p : Part) → v.section ≡ Some section → section.listing ≡ None
     → IsIn section.reading.stood s → NeedsSearchLoad v (section_of v) s (in_slot s p)
@@ -112,10 +103,7 @@ may_look k v {wait} {field} {last} is going rest = subst (λ x. MayLook k v x fi
 -- the table has each part of its slots
 pub part_word : (k : Shape) (s : ℕ) (p : Part) → s < slot_count k → IsWord k (in_slot s p)
 part_word k s part.Life below = below
-part_word k s part.Key below = below
-part_word k s part.Value below = below
-part_word k s (part.Link b) below = below
-part_word k s (part.Tag b) below = below
+part_word k s _ below = below
 
 -- ---- what is left, where what it finds decides
 
@@ -150,18 +138,14 @@ abbrev pub updates_by : ℕ → Option Op → List Update
 updates_by place None = []
 updates_by place (Some op) = record { caller = place; op = op } ∷ []
 
-updates_at : (v : View) (n : ℕ) (a : Act) (ms : List Mark) (us : List Update) → ms ≡ marks_of v a n
-    → us ≡ updates_by v.allowance.place (op_of a) → updates_of ms ≡ us
-updates_at v n (LookKey p last) ms us is e = ap updates_of is ∙ look_updates v n (wait_of v) (word.Announced p) last ∙ sym e
-updates_at v n (LookStamp p last) ms us is e = ap updates_of is ∙ look_updates v n (wait_of v) (word.Stamp p) last ∙ sym e
-updates_at v n (LookCount class side last) ms us is e = ap updates_of is ∙ look_updates v n (wait_of v) (word.Count class side) last ∙ sym e
-updates_at v n (LookRow p class last) ms us is e = ap updates_of is ∙ look_updates v n (wait_of v) (word.Row p class) last ∙ sym e
-updates_at v n (Seize slot) ms us is e = ap updates_of is ∙ seize_updates v n slot (n == 0) ∙ sym e
-updates_at v n _ ms us is e = ap updates_of is ∙ sym e
-
 -- it leaves this update, and no other
 pub updates_made : (v : View) (n : ℕ) (a : Act) → updates_of (marks_of v a n) ≡ updates_by v.allowance.place (op_of a)
-updates_made v n a = updates_at v n a (marks_of v a n) (updates_by v.allowance.place (op_of a)) refl refl
+updates_made v n (LookKey p last) = look_updates v n (wait_of v) (word.Announced p) last
+updates_made v n (LookStamp p last) = look_updates v n (wait_of v) (word.Stamp p) last
+updates_made v n (LookCount class side last) = look_updates v n (wait_of v) (word.Count class side) last
+updates_made v n (LookRow p class last) = look_updates v n (wait_of v) (word.Row p class) last
+updates_made v n (Seize slot) = seize_updates v n slot (n == 0)
+updates_made v n _ = refl
 
 -- ---- the marks of an act are of the place that makes it, or of none
 
@@ -185,27 +169,24 @@ module _ (v : View) (n p : ℕ) (other : v.allowance.place ≢ p) where
   done_none : (op : Op) (rest : List Mark) → own_of p rest ≡ [] → own_of p (done_by v op ∷ rest) ≡ []
   done_none op rest none = one_none (done_by v op) rest refl none
 
-  none_at : (a : Act) (ms : List Mark) → ms ≡ marks_of v a n → own_of p ms ≡ []
-  none_at (EnterByStamp key stamp) ms is = ap (own_of p) is ∙ entered_none key
-  none_at LeaveByStamp ms is = ap (own_of p) is ∙ left_none
-  none_at (BeginWait low high) ms is = ap (own_of p) is ∙ one_none (Began v.allowance.place v.counts.waits low high) [] refl refl
-  none_at (LookKey q last) ms is = ap (own_of p) is ∙ look_none (wait_of v) (word.Announced q) last
-  none_at (LookStamp q last) ms is = ap (own_of p) is ∙ look_none (wait_of v) (word.Stamp q) last
-  none_at (Seize slot) ms is = ap (own_of p) is ∙ seized_none slot p (n == 0)
-  none_at (LinkLeaf slot b leaf key value) ms is = ap (own_of p) is ∙ done_none (Put key value) [] refl
-  none_at (Bypass parent b node child key) ms is = ap (own_of p) is ∙ done_none (Del key) (Unlinked node ∷ []) refl
-  none_at (LinkCopy parent b node copy old old_parent key next_key) ms is = ap (own_of p) is ∙ done_none (Del key) (Unlinked node ∷ []) refl
-  none_at (EnterByCount key side) ms is = ap (own_of p) is ∙ entered_none key
-  none_at (LeaveByCount class side) ms is = ap (own_of p) is ∙ left_none
-  none_at (LookCount class side last) ms is = ap (own_of p) is ∙ look_none (wait_of v) (word.Count class side) last
-  none_at (EnterByRow key stamp) ms is = ap (own_of p) is ∙ entered_none key
-  none_at (LeaveByRow class) ms is = ap (own_of p) is ∙ left_none
-  none_at (LookRow q class last) ms is = ap (own_of p) is ∙ look_none (wait_of v) (word.Row q class) last
-  none_at (ReplaceValue slot key value) ms is = ap (own_of p) is ∙ done_none (Set key value) [] refl
-  none_at _ ms is = ap (own_of p) is
-
   pub others_none : (a : Act) → own_of p (marks_of v a n) ≡ []
-  others_none a = none_at a (marks_of v a n) refl
+  others_none (EnterByStamp key stamp) = entered_none key
+  others_none LeaveByStamp = left_none
+  others_none (BeginWait low high) = one_none (Began v.allowance.place v.counts.waits low high) [] refl refl
+  others_none (LookKey q last) = look_none (wait_of v) (word.Announced q) last
+  others_none (LookStamp q last) = look_none (wait_of v) (word.Stamp q) last
+  others_none (Seize slot) = seized_none slot p (n == 0)
+  others_none (LinkLeaf slot b leaf key value) = done_none (Put key value) [] refl
+  others_none (Bypass parent b node child key) = done_none (Del key) (Unlinked node ∷ []) refl
+  others_none (LinkCopy parent b node copy old old_parent key next_key) = done_none (Del key) (Unlinked node ∷ []) refl
+  others_none (EnterByCount key side) = entered_none key
+  others_none (LeaveByCount class side) = left_none
+  others_none (LookCount class side last) = look_none (wait_of v) (word.Count class side) last
+  others_none (EnterByRow key stamp) = entered_none key
+  others_none (LeaveByRow class) = left_none
+  others_none (LookRow q class last) = look_none (wait_of v) (word.Row q class) last
+  others_none (ReplaceValue slot key value) = done_none (Set key value) [] refl
+  others_none _ = refl
 
 -- ---- the place, and what the view has seen after it
 
@@ -245,22 +226,19 @@ module _ (v : View) (h : List Mark) (n : ℕ) where
   either_works true x y kx ky = kx
   either_works false x y kx ky = ky
 
-  by_both : {ms ms' seen seen' : List Mark} → ms ≡ ms' → seen ≡ seen' → HasSeen v.seen h ms' seen' → HasSeen v.seen h ms seen
-  by_both is e has = subst (λ (z : List Mark × List Mark). HasSeen v.seen h z.0 z.1) (λ i. (sym is i, sym e i)) has
-
   either_seen : (b : Bool) (x y : View) (ms : List Mark) → HasSeen v.seen h ms x.seen → HasSeen v.seen h ms y.seen
       → HasSeen v.seen h ms (cond b x y).seen
   either_seen true x y ms sx sy = sx
   either_seen false x y ms sx sy = sy
 
-  all_seen : {ms : List Mark} → ms ≡ [] → HasSeen v.seen h ms h
-  all_seen none = inr (sym (append-nil h) ∙ ap (λ z. h ++ z) (sym none))
+  unmarked : HasSeen v.seen h [] v.seen
+  unmarked = inl (refl, refl)
 
-  all_with : {ms ms' seen : List Mark} → ms ≡ ms' → seen ≡ h ++ ms' → HasSeen v.seen h ms seen
-  all_with is e = inr (e ∙ ap (λ z. h ++ z) (sym is))
+  all_seen : HasSeen v.seen h [] h
+  all_seen = inr (sym (append-nil h))
 
-  no_mark : {ms : List Mark} → ms ≡ [] → HasSeen v.seen h ms v.seen
-  no_mark none = inl (none, refl)
+  all_with : {ms : List Mark} → HasSeen v.seen h ms (h ++ ms)
+  all_with = inr refl
 
   given_seen : (slot : ℕ) (b : Bool) (x y : View) → x.seen ≡ h ++ Given slot ∷ [] → y.seen ≡ v.seen
       → HasSeen v.seen h (cond b (Given slot ∷ []) []) (cond b x y).seen
@@ -281,39 +259,19 @@ module _ (v : View) (h : List Mark) (n : ℕ) where
   gate_seen class None = refl
   gate_seen class (Some section) = refl
 
-  seen_at : (a : Act) (ms seen : List Mark) → ms ≡ marks_of v a n → seen ≡ (after v a h n).seen → HasSeen v.seen h ms seen
-  seen_at (EnterByStamp key stamp) ms seen is e = all_with is e
-  seen_at LeaveByStamp ms seen is e = all_with is e
-  seen_at (BeginWait low high) ms seen is e = all_with is e
-  seen_at (LookKey p last) ms seen is e = by_both is e (look_seen (wait_of v) (word.Announced p) last)
-  seen_at (LookStamp p last) ms seen is e = by_both is e (look_seen (wait_of v) (word.Stamp p) last)
-  seen_at (Reserve expected) ms seen is e = by_both refl e
-      (either_seen (n == expected) _ _ ms (no_mark is) (either_seen (n == 0) _ _ ms (all_seen is) (no_mark is)))
-  seen_at (Seize slot) ms seen is e = by_both is e (given_seen slot (n == 0) _ _ refl refl)
-  seen_at (RaiseToSpare slot number) ms seen is e = all_with is e
-  seen_at (Lock slot) ms seen is e = by_both refl e (either_seen (n == 0) _ _ ms (no_mark is) (no_mark is))
-  seen_at (FreeInHand slot) ms seen is e = all_with is e
-  seen_at (FreeRetired slot) ms seen is e = all_with is e
-  seen_at (OpenCommit expected) ms seen is e = by_both refl e (either_seen (n == expected) _ _ ms (no_mark is) (no_mark is))
-  seen_at (LinkLeaf slot b leaf key value) ms seen is e = all_with is e
-  seen_at (Bypass parent b node child key) ms seen is e = all_with is e
-  seen_at (LinkCopy parent b node copy old old_parent key next_key) ms seen is e = all_with is e
-  seen_at (UnlinkLeft parent old child) ms seen is e = all_with is e
-  seen_at (UnlinkRight copy old child) ms seen is e = all_with is e
-  seen_at (LoadGate class) ms seen is e = inl (is, e ∙ gate_seen class v.section)
-  seen_at (EnterByCount key side) ms seen is e = all_with is e
-  seen_at (LeaveByCount class side) ms seen is e = all_with is e
-  seen_at (LookCount class side last) ms seen is e = by_both is e (look_seen (wait_of v) (word.Count class side) last)
-  seen_at (EnterByRow key stamp) ms seen is e = all_with is e
-  seen_at (LeaveByRow class) ms seen is e = all_with is e
-  seen_at (LookRow p class last) ms seen is e = by_both is e (look_seen (wait_of v) (word.Row p class) last)
-  seen_at (ReplaceValue slot key value) ms seen is e = all_with is e
-  seen_at (Rotate parent b node child top) ms seen is e = all_with is e
-  seen_at LookAtFront ms seen is e = subst (HasSeen v.seen h ms) (sym e) (all_seen is)
-  seen_at _ ms seen is e = inl (is, e)
-
   pub has_seen : (a : Act) → HasSeen v.seen h (marks_of v a n) (after v a h n).seen
-  has_seen a = seen_at a (marks_of v a n) (after v a h n).seen refl refl
+  has_seen (LookKey p last) = look_seen (wait_of v) (word.Announced p) last
+  has_seen (LookStamp p last) = look_seen (wait_of v) (word.Stamp p) last
+  has_seen (Reserve expected) = either_seen (n == expected) _ _ [] unmarked (either_seen (n == 0) _ _ [] all_seen unmarked)
+  has_seen (Seize slot) = given_seen slot (n == 0) _ _ refl refl
+  has_seen (Lock slot) = either_seen (n == 0) _ _ [] unmarked unmarked
+  has_seen (OpenCommit expected) = either_seen (n == expected) _ _ [] unmarked unmarked
+  has_seen (LoadGate class) = inl (refl, gate_seen class v.section)
+  has_seen (LookCount class side last) = look_seen (wait_of v) (word.Count class side) last
+  has_seen (LookRow p class last) = look_seen (wait_of v) (word.Row p class) last
+  has_seen LookAtFront = all_seen
+  -- the others leave no mark and let nothing be seen, or let all marks be seen with their own
+  has_seen _ = first_of (search unmarked, search all_with)
 
   gate_stays : (class : ℕ) (section : Option Section) → (gated v class n section).section ≡ v.section
   gate_stays class None = refl
@@ -330,48 +288,32 @@ module _ (v : View) (h : List Mark) (n : ℕ) where
   look_stays : (wait : Waiting) (field : Field) (last : Bool) → (after_look v wait field last n h).section ≡ v.section
   look_stays wait field last = either_is (excuses wait field n) _ _ v.section (either_is last _ _ v.section refl refl) refl
 
-  stays_at : (a : Act) (section : Option Section) → moves_search a ≡ false → section ≡ (after v a h n).section → section ≡ v.section
-  stays_at (EnterByStamp key stamp) section quiet e = absurd (cc)
-  stays_at LeaveByStamp section quiet e = absurd (cc)
-  stays_at (LookKey p last) section quiet e = e ∙ look_stays (wait_of v) (word.Announced p) last
-  stays_at (LookStamp p last) section quiet e = e ∙ look_stays (wait_of v) (word.Stamp p) last
-  stays_at (Reserve expected) section quiet e = e
-      ∙ either_is (n == expected) _ _ v.section refl (either_is (n == 0) _ _ v.section refl refl)
-  stays_at (Seize slot) section quiet e = e ∙ either_is (n == 0) _ _ v.section refl refl
-  stays_at (Lock slot) section quiet e = e ∙ either_is (n == 0) _ _ v.section refl refl
-  stays_at (SearchLoad slot p) section quiet e = absurd (cc)
-  stays_at (ListLoad slot p) section quiet e = absurd (cc)
-  stays_at (OpenCommit expected) section quiet e = e ∙ either_is (n == expected) _ _ v.section refl refl
-  stays_at (LoadGate class) section quiet e = e ∙ gate_stays class v.section
-  stays_at (EnterByCount key side) section quiet e = absurd (cc)
-  stays_at (LeaveByCount class side) section quiet e = absurd (cc)
-  stays_at (LookCount class side last) section quiet e = e ∙ look_stays (wait_of v) (word.Count class side) last
-  stays_at (EnterByRow key stamp) section quiet e = absurd (cc)
-  stays_at (LeaveByRow class) section quiet e = absurd (cc)
-  stays_at (LookRow p class last) section quiet e = e ∙ look_stays (wait_of v) (word.Row p class) last
-  stays_at LookAtFront section quiet e = absurd (cc)
-  stays_at _ section quiet e = e
-
   pub section_stays : (a : Act) → moves_search a ≡ false → (after v a h n).section ≡ v.section
-  section_stays a quiet = stays_at a (after v a h n).section quiet refl
+  section_stays (LookKey p last) quiet = look_stays (wait_of v) (word.Announced p) last
+  section_stays (LookStamp p last) quiet = look_stays (wait_of v) (word.Stamp p) last
+  section_stays (Reserve expected) quiet = either_is (n == expected) _ _ v.section refl (either_is (n == 0) _ _ v.section refl refl)
+  section_stays (Seize slot) quiet = either_is (n == 0) _ _ v.section refl refl
+  section_stays (Lock slot) quiet = either_is (n == 0) _ _ v.section refl refl
+  section_stays (OpenCommit expected) quiet = either_is (n == expected) _ _ v.section refl refl
+  section_stays (LoadGate class) quiet = gate_stays class v.section
+  section_stays (LookCount class side last) quiet = look_stays (wait_of v) (word.Count class side) last
+  section_stays (LookRow p class last) quiet = look_stays (wait_of v) (word.Row p class) last
+  -- the others leave the section, or move the search
+  section_stays _ quiet = cc
 
   -- who makes it stays where it is, with all but its tickets
-  placed_at : (a : Act) (w : View) → w ≡ after v a h n → StaysAtWork v w
-  placed_at (LookKey p last) w e = subst (StaysAtWork v) (sym e) (look_works (wait_of v) (word.Announced p) last)
-  placed_at (LookStamp p last) w e = subst (StaysAtWork v) (sym e) (look_works (wait_of v) (word.Stamp p) last)
-  placed_at (Reserve expected) w e = subst (StaysAtWork v) (sym e) (either_works (n == expected) _ _ (works_on refl refl)
-      (either_works (n == 0) _ _ (works_on refl refl) (works_on refl refl)))
-  placed_at (Seize slot) w e = subst (StaysAtWork v) (sym e) (either_works (n == 0) _ _ (works_on refl refl) (works_on refl refl))
-  placed_at (Lock slot) w e = subst (StaysAtWork v) (sym e) (either_works (n == 0) _ _ (works_on refl refl) (works_on refl refl))
-  placed_at (OpenCommit expected) w e = subst (StaysAtWork v) (sym e)
-      (either_works (n == expected) _ _ (works_on refl refl) (works_on refl refl))
-  placed_at (LoadGate class) w e = subst (StaysAtWork v) (sym e) (gate_works class v.section)
-  placed_at (LookCount class side last) w e = subst (StaysAtWork v) (sym e) (look_works (wait_of v) (word.Count class side) last)
-  placed_at (LookRow p class last) w e = subst (StaysAtWork v) (sym e) (look_works (wait_of v) (word.Row p class) last)
-  placed_at _ w e = subst (StaysAtWork v) (sym e) (works_on refl refl)
-
   pub stays_at_work : (a : Act) → StaysAtWork v (after v a h n)
-  stays_at_work a = placed_at a (after v a h n) refl
+  stays_at_work (LookKey p last) = look_works (wait_of v) (word.Announced p) last
+  stays_at_work (LookStamp p last) = look_works (wait_of v) (word.Stamp p) last
+  stays_at_work (Reserve expected) = either_works (n == expected) _ _ (works_on refl refl)
+      (either_works (n == 0) _ _ (works_on refl refl) (works_on refl refl))
+  stays_at_work (Seize slot) = either_works (n == 0) _ _ (works_on refl refl) (works_on refl refl)
+  stays_at_work (Lock slot) = either_works (n == 0) _ _ (works_on refl refl) (works_on refl refl)
+  stays_at_work (OpenCommit expected) = either_works (n == expected) _ _ (works_on refl refl) (works_on refl refl)
+  stays_at_work (LoadGate class) = gate_works class v.section
+  stays_at_work (LookCount class side last) = look_works (wait_of v) (word.Count class side) last
+  stays_at_work (LookRow p class last) = look_works (wait_of v) (word.Row p class) last
+  stays_at_work _ = works_on refl refl
 
 -- ---- noted before it or after it
 
@@ -385,11 +327,8 @@ module _ (v : View) (kind : Kind) (on : Field) (number : ℕ) where
   either_noted false x y = refl
 
   -- no trail is read
-  marks_at : (a : Act) (n : ℕ) (ms : List Mark) → ms ≡ marks_of v a n → marks_of (note v) a n ≡ ms
-  marks_at _ n ms is = sym is
-
   pub marks_noted : (a : Act) (n : ℕ) → marks_of (note v) a n ≡ marks_of v a n
-  marks_noted a n = marks_at a n (marks_of v a n) refl
+  marks_noted a n = refl
 
   gate_noted : (class n : ℕ) (section : Option Section) → gated (note v) class n section ≡ note (gated v class n section)
   gate_noted class n None = refl
@@ -417,19 +356,15 @@ module _ (v : View) (kind : Kind) (on : Field) (number : ℕ) where
         by false true = refl
         by false false = refl
 
-    noted_at : (a : Act) (w : View) → w ≡ after v a h n → after (note v) a h n ≡ note w
-    noted_at (LookKey p last) w e = look_noted (wait_of v) (word.Announced p) last ∙ ap note (sym e)
-    noted_at (LookStamp p last) w e = look_noted (wait_of v) (word.Stamp p) last ∙ ap note (sym e)
-    noted_at (Reserve expected) w e = reserve_noted expected ∙ ap note (sym e)
-    noted_at (Seize slot) w e = either_noted (n == 0) (after_seize v slot 0 h) v ∙ ap note (sym e)
-    noted_at (Lock slot) w e = either_noted (n == 0) (after_lock v slot 0) v ∙ ap note (sym e)
-    noted_at (OpenCommit expected) w e = either_noted (n == expected)
-        (record (with_front v (expected + 1)) { commit = Some (record { found = expected; stored = false }) }) (with_front v n)
-        ∙ ap note (sym e)
-    noted_at (LoadGate class) w e = gate_noted class n v.section ∙ ap note (sym e)
-    noted_at (LookCount class side last) w e = look_noted (wait_of v) (word.Count class side) last ∙ ap note (sym e)
-    noted_at (LookRow p class last) w e = look_noted (wait_of v) (word.Row p class) last ∙ ap note (sym e)
-    noted_at _ w e = ap note (sym e)
-
     pub noted_after : (a : Act) → after (note v) a h n ≡ note (after v a h n)
-    noted_after a = noted_at a (after v a h n) refl
+    noted_after (LookKey p last) = look_noted (wait_of v) (word.Announced p) last
+    noted_after (LookStamp p last) = look_noted (wait_of v) (word.Stamp p) last
+    noted_after (Reserve expected) = reserve_noted expected
+    noted_after (Seize slot) = either_noted (n == 0) (after_seize v slot 0 h) v
+    noted_after (Lock slot) = either_noted (n == 0) (after_lock v slot 0) v
+    noted_after (OpenCommit expected) = either_noted (n == expected)
+        (record (with_front v (expected + 1)) { commit = Some (record { found = expected; stored = false }) }) (with_front v n)
+    noted_after (LoadGate class) = gate_noted class n v.section
+    noted_after (LookCount class side last) = look_noted (wait_of v) (word.Count class side) last
+    noted_after (LookRow p class last) = look_noted (wait_of v) (word.Row p class) last
+    noted_after _ = refl

@@ -83,10 +83,9 @@ spliced g p b d c lower upper = record {
 side_cases : (e f a : Side) → e ≢ f → (a ≡ e) ⊎ (a ≡ f)
 side_cases Left f Left ne = inl refl
 side_cases Right f Right ne = inl refl
-side_cases Left Left Right ne = absurd (ne refl)
 side_cases Left Right Right ne = inr refl
 side_cases Right Left Left ne = inr refl
-side_cases Right Right Left ne = absurd (ne refl)
+side_cases _ _ _ ne = absurd (ne refl)
 
 module _ (m new : Memory) (n : ℕ) (g : Chart) (p : ℕ) (b : Side) (d c : ℕ) (lower upper : ℕ → ℕ) (h : IsShaped m n g)
     (k : Splices m new n g p b d c lower upper) where

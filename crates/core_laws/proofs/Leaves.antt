@@ -35,13 +35,13 @@ use Rattle.list_laws.specs.Counts.{times, IsIn}
 use Rattle.core_state.specs.Views.{known_in, lock_of, HasLock, is_emptied, note_lock, change_lock, readings_of, open_reading, held_list, slots_of, IsOwnField, spares_of, retired_of, unraised_hand, unraised_among, unraised_of}
 use Rattle.core_state.specs.Links.{NeedsLeafLink, after_leaf_link}
 use Rattle.list_laws.proofs.Lists.{in_second, each_set}
-use Rattle.core_laws.proofs.Locks.{lock_outside, lock_alone, linked_spare, holds_alone, change_here, change_other, slots_change, length_change, emptied_change_same}
+use Rattle.core_laws.proofs.Locks.{lock_outside, lock_alone, linked_spare, holds_alone, change_here, change_other, slots_change, length_change, emptied_change_same, note_side}
 use Rattle.core_frames.proofs.WholeFrames.{same_for_more, Stepper, StepKeeps, grace_same}
 use Rattle.core_frames.proofs.Charts.{absent}
 use Rattle.core_frames.proofs.Roles.{own_off, own_below, hand_own, not_gone, held_there}
 use Rattle.core_laws.proofs.LinkSteps.{LinkStep, listings_past, range_stays, side_stays, empty_stays, LinkReads, link_kept}
 use Rattle.core_state.specs.declared.view.Retired.{Retired}
-use Rattle.core_laws.proofs.LockSteps.{OneLock, lock_step, lock_noted, note_side, emptied_after, note_option-else, note_moving-else}
+use Rattle.core_laws.proofs.LockSteps.{OneLock, lock_step, lock_noted, emptied_after, note_option-else, note_moving-else}
 use Rattle.core_frames.proofs.Views.{stored_else, was}
 use Rattle.core_laws.proofs.LinkParts.{SlotsGo, slots_after}
 use Rattle.atomic_table.proofs.Lists.{at_longer}

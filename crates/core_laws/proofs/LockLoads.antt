@@ -25,7 +25,7 @@ use Rattle.core_frames.proofs.Roles.{own_off, retired_own}
 use Rattle.core_laws.proofs.Stores.{IsBesideSlots, stores_in}
 use Rattle.core_laws.proofs.ChartStays.{ChartStep, same_but, outer_same, chart_stays, grace_same, law_hands}
 use Rattle.core_frames.proofs.Views.{stored_else, same_slots, loadable_own}
-use Rattle.core_laws.proofs.LockSteps.{OneLock, known_still, note_side, emptied_after, one_changed, lock_stays, note_held-form, lock_noted, note_held-slot, note_option-slots, held_noted, hands_noted, note_option-unraised, note_option-none, note_option-still_none}
+use Rattle.core_laws.proofs.LockSteps.{OneLock, known_still, emptied_after, one_changed, lock_stays, note_held-form, lock_noted, note_held-slot, note_option-slots, held_noted, hands_noted, note_option-unraised, note_option-none, note_option-still_none}
 use native.Mathlib.Decide.{ℕ_discrete}
 use Rattle.core_frames.proofs.PlaceFrames.{free_slots, generations_in, tags_raised, counts_by, retired_of_by, seat_frame, lock_frame, counts_kept, retired_of_still, slots_by, front_frame, retired_by}
 use Rattle.atomic_table.proofs.Lists.{set_here, set_again}
@@ -36,7 +36,7 @@ use Rattle.core_frames.proofs.WaitFrames.{mark_frame, waiter_frame, grace_frame_
 use Rattle.core_frames.proofs.TreeFrames.{emptied_still, readers_stay, see_by, same_form, HadMove, IsForm, tree_by, moving_by, SameMoves, listing_frame, listing_same}
 use Rattle.std.proofs.lemmas.Bool.{cases_eq}
 use Rattle.core_state.specs.Steps.{after_locked_load, NeedsLockedLoad}
-use Rattle.core_laws.proofs.Locks.{lock_outside, lock_alone, emptied_change_same}
+use Rattle.core_laws.proofs.Locks.{lock_outside, lock_alone, emptied_change_same, note_side}
 use Rattle.core_frames.proofs.WholeFrames.{Stepper, StepKeeps, by_load}
 
 -- A step that stores a life or a tag under a lock, and changes nothing else of its view but that lock: what it leaves of all parts but

@@ -6,7 +6,6 @@ use mathlib.Core.Option.{some}
 use native.Mathlib.Decide.{ℕ_discrete}
 use lib.ListN.{get_elem?}
 use Rattle.prcu_marks.specs.declared.mark.Side.{Side}
-use Rattle.prcu_marks.specs.declared.mark.Side.TheVariants.{Left, Right}
 use Rattle.core_state.specs.declared.words.Field.{Field}
 use Rattle.core_state.specs.declared.words.Field.TheVariants.{Lock, Life, Link, Tag}
 use Rattle.core_state.specs.declared.view.HeldLock.{HeldLock}
@@ -162,11 +161,6 @@ noted_then v slot lock entry f keep held outside =
     let first = one_changed v slot lock (note_lock entry) (λ l. refl) held outside in
     one_then v noted (record v { locks = change_lock slot f (change_lock slot (note_lock entry) v.locks) }) slot lock (note_lock entry lock)
     (f (note_lock entry lock)) first (one_changed noted slot (note_lock entry lock) f keep first.now outside)
-
--- a number that is noted says nothing of the sides
-pub note_side : (entry : Known) (a : Side) (l : HeldLock) → is_emptied (note_lock entry l) a ≡ is_emptied l a
-note_side entry Left l = refl
-note_side entry Right l = refl
 
 -- Who emptied a side still did, where the changed lock still says so.
 pub emptied_after : (vs : List View) (id : ℕ) (v w : View) (slot : ℕ) (lock new : HeldLock) → get_elem? vs id ≡ some v

@@ -314,9 +314,10 @@ mark_emptied : (x : Bool) (a : Side) (l : HeldLock) → is_emptied (with_mark x 
 mark_emptied x Left l = refl
 mark_emptied x Right l = refl
 
-note_emptied : (known : Known) (a : Side) (l : HeldLock) → is_emptied (note_lock known l) a ≡ is_emptied l a
-note_emptied known Left l = refl
-note_emptied known Right l = refl
+-- a number that is noted says nothing of the sides
+pub note_side : (known : Known) (a : Side) (l : HeldLock) → is_emptied (note_lock known l) a ≡ is_emptied l a
+note_side known Left l = refl
+note_side known Right l = refl
 
 emptied_flags : (b : Side) (l : HeldLock) → flag (with_emptied b true l).left_emptied + flag (with_emptied b true l).right_emptied
     ≤ flag l.left_emptied + flag l.right_emptied + 1
@@ -380,8 +381,8 @@ module _ (p : ℕ) (b : Side) (d : ℕ) (known : Known) where
   middle true true l = record {
     known_is = emptied_known b true (note_lock known l);
     marked = emptied_marked b true (note_lock known l);
-    still = λ a e. emptied_still b a (note_lock known l) (note_emptied known a l ∙ e);
-    back = λ a e. ⊎_elim (λ (o : is_emptied (note_lock known l) a ≡ true). inl (sym (note_emptied known a l) ∙ o))
+    still = λ a e. emptied_still b a (note_lock known l) (note_side known a l ∙ e);
+    back = λ a e. ⊎_elim (λ (o : is_emptied (note_lock known l) a ≡ true). inl (sym (note_side known a l) ∙ o))
         (λ (o : a ≡ b). inr (refl, o, refl)) (emptied_back b a (note_lock known l) e);
     now = λ x y. emptied_now b (note_lock known l);
   }
@@ -389,8 +390,8 @@ module _ (p : ℕ) (b : Side) (d : ℕ) (known : Known) where
   middle false true l = record {
     known_is = refl;
     marked = refl;
-    still = λ a e. note_emptied known a l ∙ e;
-    back = λ a e. inl (sym (note_emptied known a l) ∙ e);
+    still = λ a e. note_side known a l ∙ e;
+    back = λ a e. inl (sym (note_side known a l) ∙ e);
     now = λ x y. absurd (cc);
   }
   middle false false l = record { known_is = refl; marked = refl; still = λ a e. e; back = λ a e. inl e; now = λ x y. absurd (cc) }
@@ -500,7 +501,7 @@ module _ (p : ℕ) (known : Known) where
       same_mark false = refl
 
       same_emptied : (a : Side) (z : Bool) → is_emptied (cond z (note_lock known l) l) a ≡ is_emptied l a
-      same_emptied a true = note_emptied known a l
+      same_emptied a true = note_side known a l
       same_emptied a false = refl
 
   pub noted_forth : (ls : List HeldLock) (t : ℕ) (l : HeldLock) → lock_of ls t ≡ Some l

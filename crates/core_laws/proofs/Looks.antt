@@ -135,7 +135,7 @@ module _ (k : Shape) (m : Memory) (vs : List View) (h : List Mark) (i : HoldsNow
 -- The last look ends a wait: all its readers have left, and what was waited for is noted.
 
 -- what holds of each element of a list that was mapped
-each_map : {A B : Type 0} (f : A → B) (P : A → Type 0) (Q : B → Type 0) (xs : List A) → ((a : A) → P a → Q (f a)) → Each xs P
+pub each_map : {A B : Type 0} (f : A → B) (P : A → Type 0) (Q : B → Type 0) (xs : List A) → ((a : A) → P a → Q (f a)) → Each xs P
     → Each (map f xs) Q
 each_map f P Q [] own all j b e = absurd (some-ne-none b (sym e))
 each_map f P Q (x ∷ xs) own all zero b e = subst Q (some-injective (f x) b e) (own x (all 0 x refl))
@@ -479,9 +479,7 @@ module _ (k : Shape) (m : Memory) (vs : List View) (h : List Mark) (id : ℕ) (v
       end_law k m vs h id v i there works wait needs.wait_is (spot_seen field)
       (cleared k m vs h i id v there wait needs.wait_is field (none shows) needs.going (λ other spot. needs.rest ends other spot))
   cases true false shows ends = subst (HoldsNow k m (set vs id view_excusing)) (sym (append-nil h)) (excused_law shows)
-  cases false true shows ends = subst (λ us. HoldsNow k m us (h ++ [])) (sym (set_again vs id v there))
-      (subst (HoldsNow k m vs) (sym (append-nil h)) i)
-  cases false false shows ends = subst (λ us. HoldsNow k m us (h ++ [])) (sym (set_again vs id v there))
+  cases false is_last shows ends = subst (λ us. HoldsNow k m us (h ++ [])) (sym (set_again vs id v there))
       (subst (HoldsNow k m vs) (sym (append-nil h)) i)
 
   look_law : HoldsNow k m (set vs id (after_look v wait field last (m field) h)) (h ++ look_marks v wait field last (m field))

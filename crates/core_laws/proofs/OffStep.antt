@@ -461,14 +461,8 @@ module _ (given : Bool) (s : ℕ) (h : List Mark) where
   -- where a slot was unlinked last is as before
   last_from : (t i : ℕ) (g : Option ℕ) (l : List Mark) → unlinked_from t i g (l ++ used_mark given s ∷ []) ≡ unlinked_from t i g l
   last_from t i g [] = elim given as (λ b. unlinked_from t i g (used_mark b s ∷ []) ≡ g) [ true ↦ refl | false ↦ refl ]
-  last_from t i g (Entered q c x ∷ l) = last_from t (i + 1) g l
-  last_from t i g (Left q c ∷ l) = last_from t (i + 1) g l
-  last_from t i g (Began q c a b ∷ l) = last_from t (i + 1) g l
-  last_from t i g (Ended q c ∷ l) = last_from t (i + 1) g l
-  last_from t i g (Done u ∷ l) = last_from t (i + 1) g l
-  last_from t i g (Given q ∷ l) = last_from t (i + 1) g l
-  last_from t i g (Freed q ∷ l) = last_from t (i + 1) g l
   last_from t i g (Unlinked q ∷ l) = last_from t (i + 1) (cond (q == t) (Some i) g) l
+  last_from t i g (_ ∷ l) = last_from t (i + 1) g l
 
   pub used_last : (t : ℕ) → last_unlinked t more_marks ≡ last_unlinked t h
   used_last t = last_from t 0 None h

@@ -2,6 +2,8 @@
 use Rattle.std.proofs.Common.{◌≡◌, ◌≢◌, ℕ, ◌+◌, ◌*◌, ◌<◌, ◌≤◌, ◌⊎◌, inl, inr, true, refl, sym, ap, ◌∙◌, arith, eq-eqb}
 use Rattle.std.proofs.lemmas.Bool.{ltb-true, and_parts, and_from}
 use Rattle.core_frames.proofs.Views.{same_is}
+use Rattle.prcu_marks.specs.declared.access.Access.{Access}
+use Rattle.prcu_marks.specs.declared.access.Access.TheVariants.{Load}
 use Rattle.prcu_marks.specs.declared.mark.Side.{Side}
 use Rattle.prcu_marks.specs.declared.mark.Side.TheVariants.{Left, Right}
 use Rattle.core_state.specs.declared.shape.Shape.{Shape}
@@ -98,20 +100,7 @@ one_field k _ _ p q e = absurd (omega arith)
 
 inside_case : (k : Shape) (f : Field) → Lies k f → word_of k f < word_count k
 inside_case k Clock p = omega arith
-inside_case k Front p = omega arith
-inside_case k Free p = omega arith
-inside_case k (Announced a) p = omega arith
-inside_case k (Stamp a) p = omega arith
-inside_case k (Gate c) p = omega arith
-inside_case k (Count c s) p = omega arith
-inside_case k (Row a c) p = omega arith
-inside_case k (State s) p = omega arith
-inside_case k (Lock s) p = omega arith
-inside_case k (Life s) p = omega arith
-inside_case k (Key s) p = omega arith
-inside_case k (Value s) p = omega arith
-inside_case k (Link s b) p = omega arith
-inside_case k (Tag s b) p = omega arith
+inside_case k _ p = omega arith
 
 -- no two fields stand at one place of the row
 pub one_place : NoPlaceIsShared
@@ -137,13 +126,7 @@ stands k (Stamp a) p = inr (inr (omega arith))
 stands k (Gate c) p = inr (inr (omega arith))
 stands k (Count c s) p = inr (inr (omega arith))
 stands k (Row a c) p = inr (inr (omega arith))
-stands k (State s) p = inr (inl (refl, omega arith, omega arith))
-stands k (Lock s) p = inr (inl (refl, omega arith, omega arith))
-stands k (Life s) p = inr (inl (refl, omega arith, omega arith))
-stands k (Key s) p = inr (inl (refl, omega arith, omega arith))
-stands k (Value s) p = inr (inl (refl, omega arith, omega arith))
-stands k (Link s b) p = inr (inl (refl, omega arith, omega arith))
-stands k (Tag s b) p = inr (inl (refl, omega arith, omega arith))
+stands k _ p = inr (inl (refl, omega arith, omega arith))
 
 -- two words before the slots'
 before_slots : (k : Shape) (f g : Field) → Lies k f → Lies k g → word_of k f < word_of k g → word_of k f + apart ≤ slot_base
@@ -179,28 +162,15 @@ groups_are_apart k f g is has ne below = by_regions (stands k f (lies k f is)) (
 
 -- ---- who writes a place's words
 
+loads : {P : Type 0} {a : Access} → a ≡ Load → P ⊎ (a ≡ Load)
+loads is = inr is
+
 pub places_write_their_own : PlacesWriteTheirOwn
 places_write_their_own place p (act.AnnounceKey key) e = inl (cc)
 places_write_their_own place p (act.EnterByStamp key stamp) e = inl (cc)
 places_write_their_own place p act.LeaveByStamp e = inl (cc)
 places_write_their_own place p (act.EnterByRow key stamp) e = inl (cc)
 places_write_their_own place p (act.LeaveByRow c) e = inl (cc)
-places_write_their_own place p act.LoadClock e = inr refl
-places_write_their_own place p (act.LookKey q last) e = inr refl
-places_write_their_own place p (act.LookStamp q last) e = inr refl
-places_write_their_own place p (act.LoadOwnLife slot) e = inr refl
-places_write_their_own place p (act.KeepAsSpare slot) e = inr refl
-places_write_their_own place p (act.LoadRetiredLife slot) e = inr refl
-places_write_their_own place p (act.SearchLoad slot of) e = inr refl
-places_write_their_own place p (act.ListLoad slot of) e = inr refl
-places_write_their_own place p (act.LockedLoad slot of) e = inr refl
-places_write_their_own place p (act.LoadGate c) e = inr refl
-places_write_their_own place p (act.LookCount c side last) e = inr refl
-places_write_their_own place p (act.LookRow q c last) e = inr refl
-places_write_their_own place p act.LookAtFront e = inr refl
 places_write_their_own place p (act.Fill slot part.Life number) e = absurd (cc)
-places_write_their_own place p (act.Fill slot part.Key number) e = absurd (cc)
-places_write_their_own place p (act.Fill slot part.Value number) e = absurd (cc)
-places_write_their_own place p (act.Fill slot (part.Link b) number) e = absurd (cc)
-places_write_their_own place p (act.Fill slot (part.Tag b) number) e = absurd (cc)
-places_write_their_own place p _ e = absurd (cc)
+-- the others are loads, or on words of no place
+places_write_their_own place p _ e = first_of (search loads, cc)

@@ -45,7 +45,7 @@ use Rattle.core_frames.proofs.First.{each_none, each_one, each_append}
 use Rattle.prcu_model.specs.Dictionary.{WasSaid}
 use Rattle.core_frames.proofs.PlainLaws.{told_now, updates_before}
 use Rattle.core_laws.proofs.LockSteps.{known_more}
-use Rattle.core_laws.proofs.Searches.{noted, Outcome, stays, ended, hopped, turned, found, valued, began, went_on, outcome, reading_more, keys_now, apart, served_more}
+use Rattle.core_laws.proofs.Searches.{noted, Outcome, stays, outcome, reading_more, keys_now, apart, served_more}
 use Rattle.core_frames.proofs.WholeFrames.{all_seen, Stepper, StepKeeps, by_load}
 
 -- A step that changes no more than what the open section of a view has found out, or what its listing has, keeps the invariant where
@@ -486,13 +486,7 @@ module _ (k : Shape) (m : Memory) (vs : List View) (h : List Mark) (i : HoldsNow
 outcome_loads : (m : Memory) (r : Reading) (field : Field) (to : Reading) → Outcome m r field to
     → (to.loads ≡ (noted m r field).loads) × (to.key ≡ r.key)
 outcome_loads m r field to stays = (refl, refl)
-outcome_loads m r field to (ended e empty) = (refl, refl)
-outcome_loads m r field to (hopped e link nz) = (refl, refl)
-outcome_loads m r field to (turned e is_key goes) = (refl, refl)
-outcome_loads m r field to (found e is_key is) = (refl, refl)
-outcome_loads m r field to (valued e is) = (refl, refl)
-outcome_loads m r field to (began e none link nz) = (refl, refl)
-outcome_loads m r field to (went_on e on link nz) = (refl, refl)
+outcome_loads m r field to _ = (refl, refl)
 
 module _ (k : Shape) (m : Memory) (vs : List View) (h : List Mark) (id : ℕ) (v : View) (i : HoldsNow k m vs h)
     (there : get_elem? vs id ≡ some v) (works : Works v)

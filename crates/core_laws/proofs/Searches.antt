@@ -391,11 +391,8 @@ module _ (m : Memory) (n : ℕ) (g : Chart) (h : List Mark) (vs : List View) (se
   -- what a section has answered, in the words of the section afterwards
   answered_more : (to : Reading) (state : SearchState) → Answered (updates_of h) section state
       → Answered (updates_of h) (record section { reading = to }) state
-  answered_more to (At s b) a = tt
-  answered_more to (Unread s parent b) a = tt
-  answered_more to (Found s parent b None) a = tt
-  answered_more to (Found s parent b (Some value)) a = a
-  answered_more to (Missed s b) a = a
+  answered_more to (At s b) a = a
+  answered_more to _ a = a
 
   stood_more : (to : Reading) → to.loads ≡ (noted m r field).loads → (s : ℕ) → (g.linked s ≡ true) ⊎ (live s × IsOdd (m (Life s)))
       → HasStood m g h (record section { reading = to }) s

@@ -1,13 +1,13 @@
 -- K1: a seat is split in two.
-use Rattle.std.proofs.Common.{◌≡◌, ◌≢◌, ℕ, zero, suc, ◌+◌, ◌-◌, ◌<◌, ◌≤◌, ◌⊎◌, ◌==◌, true, false, cond, List, [], ◌∷◌, ◌++◌, length, map, set, Some, None, refl, sym, ap, subst, ◌∙◌, ⊎_elim, inl, inr, arith}
+use Rattle.std.proofs.Common.{◌≡◌, ◌≢◌, ℕ, zero, suc, ◌+◌, ◌-◌, ◌<◌, ◌≤◌, ◌⊎◌, ◌==◌, true, false, cond, List, [], ◌∷◌, ◌++◌, length, map, set, Some, None, refl, sym, ap, subst, ◌∙◌, ⊎_elim, inl, inr, arith, Bool}
 use mathlib.Core.Logic.{dite}
 use mathlib.Core.Option.{some, some-ne-none}
 use native.Mathlib.Decide.{ℕ_discrete}
 use lib.ListN.{get_elem?}
 use Rattle.atomic_table.proofs.Lists.{at_set, at_longer, set_else}
 use Rattle.prcu_marks.specs.declared.mark.Mark.{Mark}
-use Rattle.prcu_marks.specs.declared.mark.Mark.TheVariants.{Entered, Left, Began, Ended, Done, Given, Unlinked, Freed}
-use Rattle.prcu_marks.specs.Marks.{own_of, entered_at}
+use Rattle.prcu_marks.specs.declared.mark.Mark.TheVariants.{Entered, Began}
+use Rattle.prcu_marks.specs.Marks.{own_of, entered_at, is_of}
 use Rattle.core_state.specs.Parts.{HasSeenAll, IsOwned, IsCounted, inside_count, HasFewSlots, IsRetiredOf, AreHandsKnown, turns_to_come}
 use Rattle.core_state.specs.declared.shape.Shape.{Shape}
 use Rattle.core_state.specs.declared.view.Held.{Held}
@@ -55,6 +55,10 @@ pub places_count : (u : View) (p : ℕ) → times p (places_of u)
     ≡ times p (numbers_from u.allowance.place u.allowance.places) + times p (map (λ (s : Spent). s.place) u.allowance.joined)
 places_count u p = times_append p (numbers_from u.allowance.place u.allowance.places) (map (λ (s : Spent). s.place) u.allowance.joined)
 
+none_later : (b : Bool) (m : Mark) (ms : List Mark) → cond b (m ∷ ms) ms ≡ [] → ms ≡ []
+none_later true m ms none = absurd (cc)
+none_later false m ms none = none
+
 -- a place that left no marks entered no section and began no wait
 no_marks : (p : ℕ) (h : List Mark) → own_of p h ≡ [] → (entered_at p h ≡ 0) × (begun_at p h ≡ 0)
 no_marks p [] none = (refl, refl)
@@ -63,20 +67,12 @@ no_marks p (Entered q c x ∷ h) none =
       | true ↦ λ e. absurd (cc)
       | false ↦ λ e. let r = no_marks p h e in let a = r.0 in (omega arith, r.1)
     ] none
-no_marks p (Left q c ∷ h) none = elim (q == p) as (λ b. cond b (Left q c ∷ own_of p h) (own_of p h) ≡ []
-    → (entered_at p h ≡ 0) × (begun_at p h ≡ 0)) [ true ↦ λ e. absurd (cc) | false ↦ λ e. no_marks p h e ] none
 no_marks p (Began q c x y ∷ h) none =
     elim (q == p) as (λ b. cond b (Began q c x y ∷ own_of p h) (own_of p h) ≡ [] → (entered_at p h ≡ 0) × (cond b 1 0 + begun_at p h ≡ 0)) [
       | true ↦ λ e. absurd (cc)
       | false ↦ λ e. let r = no_marks p h e in let a = r.1 in (r.0, omega arith)
     ] none
-no_marks p (Ended q c ∷ h) none = elim (q == p) as (λ b. cond b (Ended q c ∷ own_of p h) (own_of p h) ≡ []
-    → (entered_at p h ≡ 0) × (begun_at p h ≡ 0)) [ true ↦ λ e. absurd (cc) | false ↦ λ e. no_marks p h e ] none
-no_marks p (Done u ∷ h) none = elim (u.caller == p) as (λ b. cond b (Done u ∷ own_of p h) (own_of p h) ≡ []
-    → (entered_at p h ≡ 0) × (begun_at p h ≡ 0)) [ true ↦ λ e. absurd (cc) | false ↦ λ e. no_marks p h e ] none
-no_marks p (Given s ∷ h) none = no_marks p h none
-no_marks p (Unlinked s ∷ h) none = no_marks p h none
-no_marks p (Freed s ∷ h) none = no_marks p h none
+no_marks p (m ∷ h) none = no_marks p h (none_later (is_of p m) m (own_of p h) none)
 
 module _ (k : Shape) (m : Memory) (vs : List View) (h : List Mark) (i : HoldsNow k m vs h) (id : ℕ) (v : View)
     (there : get_elem? vs id ≡ some v) (n t : ℕ) (needs : NeedsSplit v n t) where

@@ -45,10 +45,9 @@ cases_side Left Right = inr (λ e. cc)
 cases_side Right Left = inr (λ e. cc)
 
 pub same_side-other : (a b : Side) → a ≢ b → same_side a b ≡ false
-same_side-other Left Left ne = absurd (ne refl)
-same_side-other Right Right ne = absurd (ne refl)
 same_side-other Left Right ne = refl
 same_side-other Right Left ne = refl
+same_side-other _ _ ne = absurd (ne refl)
 
 and_false : (x : Bool) → (x && false) ≡ false
 and_false true = refl
@@ -82,12 +81,7 @@ own_content s _ c = absurd c
 
 own_beside : (s : ℕ) (field : Field) → IsOwnField s field → IsBesideSlots field → ⊥
 own_beside s (State t) o x = x
-own_beside s (Life t) o x = x
-own_beside s (Key t) o x = x
-own_beside s (Value t) o x = x
-own_beside s (Link t b) o x = x
-own_beside s (Tag t b) o x = x
-own_beside s _ o x = o
+own_beside s _ o x = assumption
 
 -- What a store in a field of a slot leaves: the words of the other slots, the locks, and the words of no slot.
 pub record StoresIn (m new : Memory) (p : ℕ) : Type 0 where

@@ -28,9 +28,9 @@ use Rattle.core_state.specs.Parts.{IsHeldKnown, AreHandsKnown, IsUnraised, IsLoc
 use Rattle.core_state.specs.Invariant.{HoldsNow}
 use Rattle.core_frames.specs.Laws.{KeepsPast}
 use Rattle.list_laws.proofs.Lists.{at_below, set_twice, in_first, in_second}
-use Rattle.core_laws.proofs.Locks.{lock_outside, lock_alone, emptied_change_same, emptied_slot, emptied_known, emptied_marked}
+use Rattle.core_laws.proofs.Locks.{lock_outside, lock_alone, emptied_change_same, emptied_slot, emptied_known, emptied_marked, note_side}
 use Rattle.core_laws.proofs.Stores.{cases_side, sum_more, StoresIn, stores_in, held_beside, hand_beside}
-use Rattle.core_laws.proofs.LockSteps.{note_side, emptied_after, OneLock, one_changed, noted_then, lock_stays, note_held-form, lock_noted, note_option-else, note_held-slot, held_noted}
+use Rattle.core_laws.proofs.LockSteps.{emptied_after, OneLock, one_changed, noted_then, lock_stays, note_held-form, lock_noted, note_option-else, note_held-slot, held_noted}
 use Rattle.core_frames.proofs.Roles.{linked_none, not_gone, held_there, spare_among, slots_count}
 use Rattle.core_laws.proofs.LockLoads.{law_copy, life_or_tag_stores, under_lock}
 use Rattle.core_frames.proofs.Views.{same_is, stored_here, stored_else}
@@ -46,16 +46,14 @@ side_at _ = Left
 
 -- the side isn't emptied any more, the other as before
 pub emptied_back : (b a : Side) (l : HeldLock) → is_emptied (with_emptied b false l) a ≡ true → (is_emptied l a ≡ true) × (a ≢ b)
-emptied_back Left Left l e = absurd (cc)
 emptied_back Left Right l e = (e, λ q. absurd (cc))
 emptied_back Right Left l e = (e, λ q. absurd (cc))
-emptied_back Right Right l e = absurd (cc)
+emptied_back _ _ l e = absurd (cc)
 
 pub emptied_other : (b a : Side) (l : HeldLock) → a ≢ b → is_emptied (with_emptied b false l) a ≡ is_emptied l a
-emptied_other Left Left l ne = absurd (ne refl)
 emptied_other Left Right l ne = refl
 emptied_other Right Left l ne = refl
-emptied_other Right Right l ne = absurd (ne refl)
+emptied_other _ _ l ne = absurd (ne refl)
 
 pub emptied_flags : (b : Side) (l : HeldLock) → is_emptied l b ≡ true
     → flag (with_emptied b false l).left_emptied + flag (with_emptied b false l).right_emptied + 1

@@ -19,10 +19,9 @@ across_not Left e = cc
 across_not Right e = cc
 
 pub side_else : (t a : Side) → a ≢ t → a ≡ across t
-side_else Left Left ne = absurd (ne refl)
 side_else Left Right ne = refl
 side_else Right Left ne = refl
-side_else Right Right ne = absurd (ne refl)
+side_else _ _ ne = absurd (ne refl)
 
 -- one of two numbers, by whether two sides are the same
 abbrev pub by_side : Side → Side → ℕ → ℕ → ℕ
@@ -33,14 +32,12 @@ by_side _ _ a c = c
 by_side-same : (s t : Side) (a c : ℕ) → s ≡ t → by_side s t a c ≡ a
 by_side-same Left Left a c e = refl
 by_side-same Right Right a c e = refl
-by_side-same Left Right a c e = absurd (cc)
-by_side-same Right Left a c e = absurd (cc)
+by_side-same _ _ a c e = absurd (cc)
 
 by_side-other : (s t : Side) (a c : ℕ) → s ≢ t → by_side s t a c ≡ c
-by_side-other Left Left a c ne = absurd (ne refl)
-by_side-other Right Right a c ne = absurd (ne refl)
 by_side-other Left Right a c ne = refl
 by_side-other Right Left a c ne = refl
+by_side-other _ _ a c ne = absurd (ne refl)
 
 -- who led to whom, and the two new slots
 pub record Turn : Type 0 where

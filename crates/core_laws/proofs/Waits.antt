@@ -9,12 +9,12 @@ use Rattle.core_state.specs.declared.words.Field.TheVariants.{Clock, Front, Free
 use Rattle.core_state.specs.declared.view.Section.{Section}
 use Rattle.core_state.specs.declared.view.Waiting.{Waiting}
 use Rattle.core_state.specs.declared.view.View.{View}
-use Rattle.core_state.specs.Memory.{has, Memory, slot_count, stored, sum_below}
+use Rattle.core_state.specs.Memory.{has, Memory, slot_count, stored}
 use Rattle.core_state.specs.Views.{Works, slots_of, spares_of, held_list, joined_retired, unraised_hand, unraised_among, unraised_of}
 use Rattle.core_state.specs.Parts.{WaitStands, IsTurnedOnce, WaiterParts, turns_to_come, HasEnded, HasFewSlots, IsRetired, IsRetiredOf, AreHandsKnown, IsMoving, HasRetired, IsHandKnown}
 use Rattle.core_state.specs.Invariant.{HoldsNow}
 use Rattle.core_frames.proofs.Marks.{quiet_same, QuietMarks, quiet_snoc, begun-append, begun_at-append, QuietWaits, others_snoc, prefix_snoc, at_some}
-use Rattle.core_frames.proofs.Views.{reader_words, slots_stay, quiet_words, times_sum, same_slots}
+use Rattle.core_frames.proofs.Views.{reader_words, slots_stay, quiet_words, same_slots, in_times, few_below}
 use Rattle.core_frames.proofs.PlaceFrames.{front_frame, counts_still, sums_same, seat_frame_still, lock_frame, slots_by}
 use Rattle.core_frames.proofs.TreeFrames.{listing_frame_still, emptied_still, readers_stay, see_by, IsForm, tree_by, moving_by, SameMoves, HadMove, same_form}
 use Rattle.core_frames.proofs.WaitFrames.{AreLoaded, StandsExcused, clocked_same, excused_wait, turned_frame, waiters_by, wait_same, marks_snoc, mark_frame_by, reuse_snoc, grace_frame, grace_longer}
@@ -27,7 +27,7 @@ use Rattle.core_frames.proofs.PlainLaws.{clocked_before}
 use Rattle.std.proofs.lemmas.List.{take-append-drop, take_all, length-map}
 use Rattle.std.proofs.Math.Seq.{take-append_seam}
 use Rattle.atomic_table.proofs.Lists.{at_last, drop_at, at_set, at_map}
-use Rattle.prcu_marks.specs.declared.mark.Mark.TheVariants.{Began, Ended, Entered, Left, Done, Given, Unlinked, Freed}
+use Rattle.prcu_marks.specs.declared.mark.Mark.TheVariants.{Began, Ended, Entered, Left}
 use Rattle.prcu_marks.proofs.Marks.{open_at-snoc, entered_at-append}
 use Rattle.core_state.specs.Steps.{NeedsBegin, after_begin, new_wait, spot_of, keys_of, NeedsGateTurn, after_gate_turn, turned_gate, is_grace_for, is_move_grace, waited_retired, waited_move}
 use Rattle.list_laws.proofs.Lists.{at_end, times_here, times_other, at_below, each_set, somewhere_here, somewhere_set, somewhere_still}
@@ -239,24 +239,6 @@ module _ (z : Stepper) where
 
 -- K32, the turn of a gate, keeps the invariant.
 
--- a number that stands in a list
-pub in_times : (c : ℕ) (xs : List ℕ) → 1 ≤ times c xs → IsIn xs c
-in_times c [] there = absurd (omega arith)
-in_times c (y ∷ ys) there = dite (ℕ_discrete y c) (λ e. (0, ap some e))
-    (λ ne. let t = times_other c y ys ne in let r = in_times c ys (omega arith) in (suc r.0, r.1))
-
--- sums below a number
-sum_one : (f : ℕ → ℕ) (n : ℕ) → ((s : ℕ) → s < n → f s ≤ 1) → sum_below f n ≤ n
-sum_one f zero one = omega arith
-sum_one f (suc n) one = let a = one n (omega arith) in let b = sum_one f n (λ s lt. one s (omega arith)) in omega arith
-
--- numbers below another, each once, are at most as many
-pub few_below : (xs : List ℕ) (n : ℕ) → ((x : ℕ) → 1 ≤ times x xs → x < n) → ((x : ℕ) → times x xs ≤ 1) → length xs ≤ n
-few_below xs n below once =
-    let a = times_sum xs n below in
-    let b = sum_one (λ x. times x xs) n (λ x lt. once x) in
-    omega arith
-
 module _ (k : Shape) (m : Memory) (vs : List View) (h : List Mark) (id : ℕ) (v : View) (i : HoldsNow k m vs h)
     (there : get_elem? vs id ≡ some v) (works : Works v) (wait : Waiting) (class left : ℕ) (needs : NeedsGateTurn v wait class) where
   abbrev turning : Waiting
@@ -338,12 +320,7 @@ module _ (places : ℕ) (h : List Mark) (t : AreMarks places h) (e q c x : ℕ) 
       let count : d ≡ c = sym r.2 ∙ ap (λ (o : Open). o.count) g in
       record { at = j; after = lt; before = omega arith; left = at ∙ (λ i. some (Left (same i) (count i))) }))
       (λ ne. inr (ap (λ b. cond b None (Some (entered_open c x e))) (ne_eqb p q ne)))
-  step j (Began p d a b) lt at now n = inr refl
-  step j (Ended p d) lt at now n = inr refl
-  step j (Done u) lt at now n = inr refl
-  step j (Given s) lt at now n = inr refl
-  step j (Unlinked s) lt at now n = inr refl
-  step j (Freed s) lt at now n = inr refl
+  step j _ lt at now n = inr refl
 
   upto : (d : ℕ) → e + 1 + d ≤ length h → WasLeft h q c e (e + 1 + d) ⊎ (open_at q (take (e + 1 + d) h) ≡ Some (entered_open c x e))
   upto zero le =

@@ -21,7 +21,7 @@ use Rattle.prcu_marks.specs.Marks.{left_by, said_by, most_tickets, StaysWord}
 use Rattle.core_state.specs.Acts.{access_of, noted, Asks, IsWord, section_of}
 use Rattle.core_points.specs.Fits.{Fits}
 use Rattle.core_points.specs.Laws.{is_finished, IsFree, IsTold}
-use Rattle.core_points.proofs.Calls.{OfTable, keeps_call}
+use Rattle.core_points.proofs.Calls.{OfTable, keeps_table}
 use Rattle.core_points.proofs.AllPoints.{points_keep, needs_are_given, rule_tells, acts_are_within}
 use Rattle.core_machine.specs.Runs.{Core, told_in, moved, moved_by, step, steps, core, made_owns, new_own, shape_of, tickets_of}
 use Rattle.std.specs.List.{AllByRecursion}
@@ -123,7 +123,7 @@ module _ (k : Shape) (c : Core) (i : ℕ) (o : Own) (v : View) (run : IsRun k c)
       IsCaller k i (after o n o.stage) (view_after (noted v a n) c.marks n a)
   caller_after =
       let n : ℕ = told_in c o in
-      let same = (keeps_call o n o.stage).0 in record {
+      let same = keeps_table o n o.stage in record {
         place = ap (λ (t : OfTable). t.place) same ∙ caller.place;
         slots = caller.slots ∙ sym (ap (λ (t : OfTable). t.slots) same);
         places = caller.places ∙ sym (ap (λ (t : OfTable). t.places) same);

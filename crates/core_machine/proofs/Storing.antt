@@ -27,7 +27,7 @@ use Rattle.core_points.specs.Laws.{IsTold, is_finished}
 use Rattle.core_points.specs.Fits.{Fits}
 use Rattle.seat_table.specs.Gains.{WordFits}
 use Rattle.core_machine.specs.Stored.{IsAble, MayStore}
-use Rattle.core_points.proofs.Calls.{OfTable, keeps_call}
+use Rattle.core_points.proofs.Calls.{OfTable, keeps_table}
 use Rattle.core_machine.proofs.Running.{IsRun, moves, core_runs, step_is, is_told, has_its_word, needs_met, stays_word}
 use mathlib.Core.Option.{some}
 use lib.ListN.{get_elem?}
@@ -96,7 +96,7 @@ module _ (k : Shape) (shape : IsShape k) (o : Own) (v w : View) (h h' : List Mar
   -- a slot of the next caller's table is a number of 32 bits
   small : (n : ℕ) (stage : Stage) (s : ℕ) → s < table_of (after o n stage) → s < 2 ^ 32
   small n stage s below =
-      let same = (keeps_call o n stage).0 in
+      let same = keeps_table o n stage in
       let a : (after o n stage).slots ≡ o.slots = ap (λ (t : OfTable). t.slots) same in
       let b : (after o n stage).places ≡ o.places = ap (λ (t : OfTable). t.places) same in
       let few_slots = shape.few_slots in

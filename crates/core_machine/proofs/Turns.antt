@@ -480,10 +480,9 @@ module _ (k : Shape) (m : Memory) (vs : List View) (h : List Mark) (i : ℕ) (o 
         let a : Act = act_at o (at.Store (update.Copy d u next_key copy) front) in
         let n : ℕ = said_by (access_of o.place a) (m (field_of o.place a)) in
         let section : Option Section = (view_after (noted v a n) h n a).section in
-        let needs = needs_are_given k h o v m n (at.Store (update.Copy d u next_key copy) front) (λ _. eer) places room_is told f in
         let next : IsNextKey (map_of (updates_of h)) (key_now o) next_key =
         copy_next k m vs h i v inv there works (commit_of v) (spare_of v) d.parent d.side d.node copy u.slot u.parent (key_now o) next_key
-        needs in
+        (needs_are_given k h o v m n (at.Store (update.Copy d u next_key copy) front) (λ _. eer) places room_is told f) in
         subst (λ op. Tells (record { scripts = k.places; slots = k.slots }) i script
         (after o n (at.Store (update.Copy d u next_key copy) front)) section
         (h ++ Done (record { caller = v.allowance.place; op = op }) ∷ (Unlinked d.node ∷ []))) (sym (del_is o.op del))

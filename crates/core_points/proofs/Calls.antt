@@ -37,16 +37,23 @@ abbrev pub of_call : Own → OfCall
 of_call o = record { table = of_table o; op = o.op; rest = o.rest }
 
 -- The table is the same; and the call, where no operation follows.
-abbrev pub KeepsCall : Own → Own → Type 0
-KeepsCall o o' = (of_table o' ≡ of_table o) × (o.rest ≡ [] → of_call o' ≡ of_call o)
+record IsKept (c c' : OfCall) : Type 0 where
+  table : c'.table ≡ c.table
+  call : c.rest ≡ [] → c' ≡ c
+
+abbrev KeepsCall : Own → Own → Type 0
+KeepsCall o o' = IsKept (of_call o) (of_call o')
+
+unchanged : {c : OfCall} → IsKept c c
+unchanged = record { table = refl; call = λ none. refl }
 
 either : (o x y : Own) (b : Bool) → KeepsCall o x → KeepsCall o y → KeepsCall o (cond b x y)
 either o x y true p q = p
 either o x y false p q = q
 
 begun : (o : Own) (ops : List Op) → ops ≡ o.rest → KeepsCall o (begun_with o ops)
-begun o [] is = (refl, λ none i. record { table = of_table o; op = o.op; rest = is i })
-begun o (op ∷ ops) is = (refl, λ none. absurd (let e : op ∷ ops ≡ [] = is ∙ none in cc))
+begun o [] is = record { table = refl; call = λ none i. record { table = of_table o; op = o.op; rest = is i } }
+begun o (op ∷ ops) is = record { table = refl; call = λ none. absurd (let e : op ∷ ops ≡ [] = is ∙ none in cc) }
 
 answered : (o : Own) → KeepsCall o (begun_with o o.rest)
 answered o = begun o o.rest refl
@@ -54,46 +61,54 @@ answered o = begun o o.rest refl
 section_left : (o : Own) (next : Then) → KeepsCall o (left_section o next)
 section_left o then.Absent = answered (record o { told = _ })
 section_left o (then.Value value) = answered (record o { told = _ })
-section_left o then.Old = either o _ _ (is_some o.hand) (refl, λ none. refl) (answered (record o { told = _ }))
-section_left o _ = (refl, λ none. refl)
+section_left o then.Old = either o _ _ (is_some o.hand) unchanged (answered (record o { told = _ }))
+section_left o _ = unchanged
 
 none_found : (o : Own) (aim : Aim) → KeepsCall o (none_free o aim)
-none_found o (Leaf spot) = either o _ _ (is_none_left o.retired) (answered (record o { told = _ })) (refl, λ none. refl)
-none_found o _ = (refl, λ none. refl)
+none_found o (Leaf spot) = either o _ _ (is_none_left o.retired) (answered (record o { told = _ })) unchanged
+none_found o _ = unchanged
 
 waited : (o : Own) (waits : Waits) → KeepsCall o (wait_over o waits)
-waited o (Reuse aim) = (refl, λ none. refl)
-waited o _ = (refl, λ none. refl)
+waited o (Reuse aim) = unchanged
+waited o _ = unchanged
 
 place_excused : (o : Own) (waits : Waits) (clock p : ℕ) → KeepsCall o (excused o waits clock p)
-place_excused o waits clock p = either o _ _ (p + 1 == o.places) (waited o waits) (refl, λ none. refl)
+place_excused o waits clock p = either o _ _ (p + 1 == o.places) (waited o waits) unchanged
 
 tried : (o : Own) (s n : ℕ) (next : Stage) → KeepsCall o (past_lock o s n next)
-tried o s n next = either o _ _ (n == 0) (refl, λ none. refl) (refl, λ none. refl)
+tried o s n next = either o _ _ (n == 0) unchanged unchanged
 
 stored : (o : Own) (u : Update) → KeepsCall o (past_store o u)
-stored o (update.Leaf spot) = (refl, λ none. refl)
-stored o _ = (refl, λ none. refl)
+stored o (update.Leaf spot) = unchanged
+stored o _ = unchanged
 
 all_unlocked : (o : Own) (l : Last) → KeepsCall o (unlocked o l)
-all_unlocked o last.Again = (refl, λ none. refl)
+all_unlocked o last.Again = unchanged
 all_unlocked o _ = answered (record o { told = _ })
 
-pub keeps_call : (o : Own) (n : ℕ) (stage : Stage) → KeepsCall o (after o n stage)
-keeps_call o n (at.Leave next) = section_left o next
-keeps_call o n (at.LeafLock spot) = tried o _ n _
-keeps_call o n (at.SetLock s generation) = tried o _ n _
-keeps_call o n (at.TargetLock t i) = tried o _ n _
-keeps_call o n (at.CopyLock d u next_key) = tried o _ n _
-keeps_call o n (at.Reserve aim expected) = either o _ _ (n == expected) (refl, λ none. refl)
-    (either o _ _ (n == 0) (none_found (record o { free = 0 }) aim) (refl, λ none. refl))
-keeps_call o n (at.Seize aim) = either o _ _ (n == 0) (refl, λ none. refl) (refl, λ none. refl)
-keeps_call o n at.Count = answered (record o { free = n + 1; told = _ })
-keeps_call o n (at.LookKey waits clock p) = either o _ _ (is_reader o waits n) (refl, λ none. refl) (place_excused o waits clock p)
-keeps_call o n (at.LookStamp waits clock p key) = either o _ _ ((n == idle) || nat_lt clock n) (place_excused o waits clock p) (refl, λ none. refl)
-keeps_call o n (at.OldRaise aim life) = either o _ _ (is_some o.spare) (refl, λ none. refl) (refl, λ none. refl)
-keeps_call o n (at.Commit u expected) = either o _ _ (n == expected) (refl, λ none. refl) (refl, λ none. refl)
-keeps_call o n (at.Store u front) = stored o u
-keeps_call o n (at.Unlock l) = either o _ _ (is_none_left (but_first o.locks)) (all_unlocked (record o { locks = but_first o.locks }) l)
-    (refl, λ none. refl)
-keeps_call o n _ = (refl, λ none. refl)
+stays : (o : Own) (n : ℕ) (stage : Stage) → KeepsCall o (after o n stage)
+stays o n (at.Leave next) = section_left o next
+stays o n (at.LeafLock spot) = tried o _ n _
+stays o n (at.SetLock s generation) = tried o _ n _
+stays o n (at.TargetLock t i) = tried o _ n _
+stays o n (at.CopyLock d u next_key) = tried o _ n _
+stays o n (at.Reserve aim expected) = either o _ _ (n == expected) unchanged
+    (either o _ _ (n == 0) (none_found (record o { free = 0 }) aim) unchanged)
+stays o n (at.Seize aim) = either o _ _ (n == 0) unchanged unchanged
+stays o n at.Count = answered (record o { free = n + 1; told = _ })
+stays o n (at.LookKey waits clock p) = either o _ _ (is_reader o waits n) unchanged (place_excused o waits clock p)
+stays o n (at.LookStamp waits clock p key) = either o _ _ ((n == idle) || nat_lt clock n) (place_excused o waits clock p) unchanged
+stays o n (at.OldRaise aim life) = either o _ _ (is_some o.spare) unchanged unchanged
+stays o n (at.Commit u expected) = either o _ _ (n == expected) unchanged unchanged
+stays o n (at.Store u front) = stored o u
+stays o n (at.Unlock l) = either o _ _ (is_none_left (but_first o.locks)) (all_unlocked (record o { locks = but_first o.locks }) l)
+    unchanged
+stays o n _ = unchanged
+
+-- No step changes the table of a caller.
+pub keeps_table : (o : Own) (n : ℕ) (stage : Stage) → of_table (after o n stage) ≡ of_table o
+keeps_table o n stage = (stays o n stage).table
+
+-- Where no operation follows, no step changes its call.
+pub keeps_call : (o : Own) (n : ℕ) (stage : Stage) → o.rest ≡ [] → of_call (after o n stage) ≡ of_call o
+keeps_call o n stage none = (stays o n stage).call none

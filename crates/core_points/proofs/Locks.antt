@@ -8,7 +8,7 @@ use Rattle.core_state.specs.Views.{known_in, known_of, loaded_in, lock_of, chang
 use Rattle.core_points.specs.Facts.{read_at, AreClear, Owns, SameLocks, one_lock, Bare, Unlocking, Quiet, Ready}
 use Rattle.core_points.specs.DeleteFacts.{Holds, under, ClearButMark, AreApart, HasLoaded, HoldsAll, HoldsSuccessorLocks, IsLoadedNow, IsSkipped, found_number, target_words, two_children}
 use Rattle.core_frames.proofs.Views.{same_self}
-use Rattle.core_laws.proofs.Locks.{lock_of-change, changed, change_here, change_other, slots_change}
+use Rattle.core_laws.proofs.Locks.{lock_of-change, changed, change_here, change_other, slots_change, emptied_slot}
 use mathlib.Core.Logic.{dite}
 use mathlib.Core.Option.{some, some-injective}
 use native.Mathlib.Decide.{ℕ_discrete, dec_le}
@@ -16,7 +16,6 @@ use Rattle.core_state.specs.declared.view.View.{View}
 use Rattle.list_laws.specs.Counts.{IsIn, Each, times}
 use Rattle.list_laws.proofs.Lists.{times_here, times_other}
 use Rattle.core_points.specs.Programs.{Own, go, Needs, but_first, first_or_root, is_none_left, answer, unlocked, successor_slot, target_word, target_slot, with_found, past_lock}
-use Rattle.core_points.proofs.Waits.{each_map}
 use Rattle.core_laws.proofs.LockWords.{no_lock_times, without_here}
 use Rattle.prcu_marks.specs.declared.mark.Side.{Side}
 use Rattle.prcu_marks.specs.declared.mark.Side.TheVariants.{Left, Right}
@@ -42,6 +41,7 @@ use Rattle.core_points.specs.declared.stage.Stage.{Stage}
 use Rattle.core_points.specs.declared.stage.Last.TheVariants as last
 use Rattle.core_points.specs.declared.stage.Stage.TheVariants as at
 use Rattle.core_state.specs.declared.act.Part.TheVariants as part
+use Rattle.core_laws.proofs.Looks.{each_map}
 
 -- What is known under locks after one more load or store under one of them.
 
@@ -236,10 +236,6 @@ goes_locking {o} {v} next s n f still none paid again point start = got (n == 0)
 
 -- Locks after a mark, after a link was stored and a slot was unlinked, and after a tag was raised: but for what the step left, they are
 -- clear.
-
-pub emptied_slot : (b : Side) (e : Bool) (l : HeldLock) → (with_emptied b e l).slot ≡ l.slot
-emptied_slot Left e l = refl
-emptied_slot Right e l = refl
 
 -- a lock with a change where a test holds has its slot
 slot_is : (f : HeldLock → HeldLock) → ((l : HeldLock) → (f l).slot ≡ l.slot) → (z : Bool) (l : HeldLock) → (cond z (f l) l).slot ≡ l.slot

@@ -17,7 +17,7 @@ use Rattle.core_state.specs.Parts.{state_slot}
 use Rattle.prcu_marks.specs.declared.commit.Commit.{Commit}
 use Rattle.core_state.specs.declared.view.Retired.{Retired}
 use Rattle.core_state.specs.declared.view.View.{View}
-use Rattle.core_state.specs.Views.{known_in, LoadedGeneration, lock_of, change_lock, note_lock, note_held, note_option, note_moving, noting, IsLoadable}
+use Rattle.core_state.specs.Views.{known_in, LoadedGeneration, lock_of, change_lock, note_lock, note_held, note_option, note_moving, noting}
 use Rattle.core_state.specs.Steps.{leaving, new_lock, spare_slot, loaded, searched, walked, walking, after_search_load, NeedsSearchLoad}
 use Rattle.list_laws.specs.Counts.{IsIn, times, Each}
 use Rattle.core_points.specs.Programs.{Own, is_none_left, is_some, key_now, value_in, answer, begun_with, first_point, spare_first, go}
@@ -40,8 +40,8 @@ use Rattle.core_state.specs.declared.view.Walk.{Walk}
 use Rattle.core_state.specs.Acts.{section_of, in_slot}
 use Rattle.core_state.specs.declared.act.Part.{Part}
 use Rattle.core_laws.proofs.Acting.{section_is, may_search}
-use Rattle.core_state.specs.declared.act.Part.TheVariants as part
 use Rattle.core_points.specs.declared.stage.Stage.TheVariants as at
+use Rattle.core_laws.proofs.Searches.{in_more}
 
 -- What is known after one more load or store, of a view's groups.
 
@@ -513,9 +513,6 @@ pub link_loaded : (r : Reading) (s p : ℕ) (b : Side) (t : ℕ) (c : Side) (n :
     → loaded r (Link t c) n ≡ walked (with_load r (Link t c) n) s r.walk t c n
 link_loaded r s p b t c n e = ap (λ z. searched (with_load r (Link t c) n) z (Link t c) n) e
 
-deeper : (xs : List ℕ) (x s : ℕ) → IsIn xs s → IsIn (x ∷ xs) s
-deeper xs x s (i, e) = (suc i, e)
-
 loaded_only : (r : Reading) (field : Field) (n : ℕ) → StillFound r (with_load r field n) field n
 loaded_only r field n = record { state = refl; key = refl; loads = refl; stood = λ s i. i }
 
@@ -539,7 +536,7 @@ life_here r r' t n still = (n, here_loaded r r' (Life t) n still, refl)
 
 walk_on : (r : Reading) (d : ℕ) (t : ℕ) (c : Side) (n : ℕ) (parent : ℕ) (z : Bool)
     → StillFound r (cond z (walking (with_load r (Link t c) n) parent n) (with_load r (Link t c) n)) (Link t c) n
-walk_on r d t c n parent true = record { state = refl; key = refl; loads = refl; stood = λ s i. deeper r.stood n s i }
+walk_on r d t c n parent true = record { state = refl; key = refl; loads = refl; stood = λ s i. in_more r.stood n s i }
 walk_on r d t c n parent false = loaded_only r (Link t c) n
 
 walked_still : (r : Reading) (d : ℕ) (walk : Option Walk) (t : ℕ) (c : Side) (n : ℕ)

@@ -40,11 +40,9 @@ use Rattle.core_laws.proofs.LockSteps.{known_here}
 use Rattle.core_state.specs.declared.act.Part.TheVariants as part
 use Rattle.core_points.specs.declared.stage.Then.TheVariants as then
 use Rattle.core_points.specs.declared.stage.Stage.TheVariants as at
+use Rattle.core_laws.proofs.Searches.{in_more}
 
 -- The points of a search and of a get: what the step needs is known, and what the next point needs is known after it.
-
-deeper : {A : Type 0} (xs : List A) (x a : A) → IsIn xs a → IsIn (x ∷ xs) a
-deeper xs x a (i, e) = (suc i, e)
 
 first_in : {A : Type 0} (xs : List A) (a : A) → IsIn (a ∷ xs) a
 first_in xs a = (0, refl)
@@ -140,7 +138,7 @@ module _ (k : Shape) (h : List Mark) (o : Own) (v : View) (n : ℕ) where
           section = _;
           is = refl;
           stands = stands_on _ refl refl (first_in section.reading.stood n) stands;
-          known = (deeper section.reading.stood n s stands.here, none);
+          known = (in_more section.reading.stood n s stands.here, none);
         },
       )
 

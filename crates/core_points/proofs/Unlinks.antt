@@ -15,7 +15,7 @@ use Rattle.core_state.specs.declared.view.Retired.{Retired}
 use Rattle.core_state.specs.declared.view.View.{View}
 use Rattle.list_laws.specs.Counts.{Each, times}
 use Rattle.list_laws.proofs.Lists.{at_end}
-use Rattle.core_state.specs.Views.{known_in, loaded_in, lock_of, change_lock, is_emptied, note_lock, noting, with_emptied, note_held, note_moving, note_option}
+use Rattle.core_state.specs.Views.{known_in, loaded_in, lock_of, change_lock, note_lock, noting, with_emptied, note_held, note_moving, note_option}
 use Rattle.core_state.specs.Links.{FewChildren, IsMarkedNode, NodeRecords, after_bypass, newly_retired, relinked, with_mark, NeedsUnlinkOld, after_unlink_old, IsEndOf}
 use Rattle.core_laws.proofs.Acting.{commit_is, may_update}
 use Rattle.core_points.specs.declared.stage.Node.{Node}
@@ -23,13 +23,12 @@ use Rattle.core_points.specs.Programs.{Needs, view_after, Own, key_now, act_at, 
 use Rattle.core_points.specs.Facts.{stored_at, read_at, Owns, Quiet}
 use Rattle.core_points.specs.DeleteFacts.{ClearButMark, Holds, HoldsFew, HoldsNode, IsMarked, IsUnmarked, Relinked, under, IsMove, Shifting, first_locks, move_parent, two_children}
 use Rattle.core_points.specs.Fits.{IsGiven, GoesOn, Fits}
-use Rattle.core_points.proofs.Locks.{clear_marked, clear_stored, clear_emptied, clear_noted, emptied_lock, emptied_slot, relinked_slots, under_flag, loaded_more, under_other, held_still, known_now}
+use Rattle.core_points.proofs.Locks.{clear_marked, clear_stored, clear_emptied, clear_noted, emptied_lock, relinked_slots, under_flag, loaded_more, under_other, held_still, known_now}
 use Rattle.core_points.proofs.Notes.{fits, quiet_noted, owns_relocked, owns_noted, owns_retired, quiet_turned, quiet_unlocking, owns_locked}
 use Rattle.core_points.proofs.Links.{made_even}
 use Rattle.core_points.proofs.DeleteSearches.{delete_owed}
-use Rattle.core_laws.proofs.Locks.{loaded_known, lock_under, change_here, slots_change, under_lock}
-use Rattle.core_laws.proofs.LockSteps.{known_here}
-use Rattle.core_state.specs.declared.view.Held.{Held}
+use Rattle.core_laws.proofs.Locks.{loaded_known, lock_under, change_here, slots_change, under_lock, note_side, emptied_slot}
+use Rattle.core_laws.proofs.LockSteps.{known_here, note_held-slot}
 use Rattle.core_state.specs.Acts.{said}
 use Rattle.core_points.specs.declared.stage.Moving.{Moving}
 use Rattle.core_points.specs.declared.stage.Stage.{Stage}
@@ -251,10 +250,6 @@ module _ (k : Shape) (h : List Mark) (o : Own) (v : View) (n : ℕ) where
   pub needs_empty_tag : (number s : ℕ) (b : Side) → IsGiven k o v n (at.EmptyTag number s b)
   needs_empty_tag number s b f = let e = (f.point).2 in record { held = (e.lock, e.locked); loadable = refl }
 
-  still_emptied : (kn : Known) (b : Side) (l : HeldLock) → is_emptied (note_lock kn l) b ≡ is_emptied l b
-  still_emptied kn Left l = refl
-  still_emptied kn Right l = refl
-
   pub next_empty_tag : (number s : ℕ) (b : Side) → GoesOn h o v n (at.EmptyTag number s b)
   next_empty_tag number s b f =
       let p = f.point in
@@ -265,7 +260,7 @@ module _ (k : Shape) (h : List Mark) (o : Own) (v : View) (n : ℕ) where
         record {
           lock = note_lock kn e.lock;
           locked = change_here s (note_lock kn) (λ l. refl) v.locks e.lock e.locked;
-          emptied = still_emptied kn b e.lock ∙ e.emptied;
+          emptied = note_side kn b e.lock ∙ e.emptied;
           clear = clear_noted kn s b v.locks e.clear;
           known = known_here (e.lock).known (Tag s b) n false;
         },
@@ -289,13 +284,6 @@ module _ (k : Shape) (h : List Mark) (o : Own) (v : View) (n : ℕ) where
 
 -- The points at the end of a move: what each step needs is known, and what the next point needs is known after it.
 
-held_slot : (s : ℕ) (kn : Known) (held : Held) → (note_held s kn held).slot ≡ held.slot
-held_slot s kn held = by (held.slot == s)
-  where
-    by : (b : Bool) → (cond b (record held { known = kn ∷ held.known }) held).slot ≡ held.slot
-    by true = refl
-    by false = refl
-
 -- a note leaves the move
 move_noted : (s : ℕ) (kn : Known) (moving : Option moves.Move) (key : ℕ) (m : Moving) (waited : Bool) → IsMove moving key m waited
     → IsMove (note_moving s kn moving) key m waited
@@ -306,7 +294,7 @@ move_noted s kn moving key m waited is =
       is = ap (note_moving s kn) is.is;
       key_is = is.key_is;
       next_is = is.next_is;
-      copy_is = held_slot s kn move.copy ∙ is.copy_is;
+      copy_is = note_held-slot s kn move.copy ∙ is.copy_is;
       old_is = is.old_is;
       parent_is = is.parent_is;
       waited_is = is.waited_is;

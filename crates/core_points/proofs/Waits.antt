@@ -1,5 +1,5 @@
 -- The points of the waits, for everybody and of a move, and of the retired slots that are given back.
-use Rattle.std.proofs.Common.{◌≡◌, ℕ, zero, suc, ◌+◌, nat_le, nat_lt, ◌||◌, not, ◌*◌, ◌==◌, ◌<◌, ◌≤◌, ◌&&◌, cond, Bool, true, false, List, [], ◌∷◌, length, map, Option, Some, None, refl, sym, ap, subst, ◌∙◌, arith, eq-eqb, ◌-◌, ◌/◌, ne_eqb, ◌^◌}
+use Rattle.std.proofs.Common.{◌≡◌, ℕ, suc, ◌+◌, nat_le, nat_lt, ◌||◌, not, ◌*◌, ◌==◌, ◌<◌, ◌≤◌, ◌&&◌, cond, Bool, true, false, List, [], ◌∷◌, length, map, Option, Some, None, refl, sym, ap, subst, ◌∙◌, arith, eq-eqb, ◌-◌, ◌/◌, ne_eqb, ◌^◌}
 use Rattle.std.proofs.lemmas.Bool.{eqb-true, lt-ltb, le-leb}
 use mathlib.Core.Logic.{dite}
 use native.Mathlib.Decide.{ℕ_discrete}
@@ -15,7 +15,7 @@ use Rattle.core_state.specs.declared.view.Retired.{Retired}
 use Rattle.core_state.specs.declared.shape.Shape.{Shape}
 use Rattle.core_state.specs.declared.shape.Waiter.TheVariants.{Eer, Domain, Deer}
 use Rattle.core_state.specs.Memory.{idle}
-use mathlib.Core.Option.{some, some-injective}
+use mathlib.Core.Option.{some}
 use Rattle.core_laws.proofs.Acting.{wait_is, may_look}
 use Rattle.core_points.specs.declared.stage.Spot.{Spot}
 use Rattle.core_points.specs.declared.stage.Aim.{Aim}
@@ -42,6 +42,7 @@ use Rattle.core_points.specs.declared.stage.Moving.{Moving}
 use Rattle.core_points.specs.DeleteFacts.{HoldsOld, IsMove, OutlastsMove, Shifting, ShiftingParts}
 use Rattle.core_points.specs.declared.stage.Stage.TheVariants as at
 use Rattle.core_state.specs.declared.view.Move as moves
+use Rattle.core_laws.proofs.Looks.{each_map}
 
 -- The points of a wait for everybody, and of giving back the retired slots: what each step needs is known, and what the next point needs is
 -- known after it.
@@ -58,12 +59,6 @@ graced wait r low high later =
     or_true : (b : Bool) → (b || true) ≡ true
     or_true true = refl
     or_true false = refl
-
-pub each_map : {A B : Type 0} (f : A → B) (P : A → Type 0) (Q : B → Type 0) (xs : List A) → ((a : A) → P a → Q (f a)) → Each xs P
-    → Each (map f xs) Q
-each_map f P Q [] go each i b e = cc
-each_map f P Q (x ∷ xs) go each zero b e = subst Q (some-injective (f x) b e) (go x (each 0 x refl))
-each_map f P Q (x ∷ xs) go each (suc i) b e = each_map f P Q xs go (λ j a at. each (suc j) a at) i b e
 
 pub same_slots : (f : Retired → Retired) → ((r : Retired) → (f r).slot ≡ r.slot) → (rs : List Retired)
     → map (λ (r : Retired). r.slot) (map f rs) ≡ map (λ (r : Retired). r.slot) rs

@@ -9,7 +9,7 @@ use Rattle.std.proofs.lemmas.List.{append_cancel_left, take-append-le, get_or_pa
 use Rattle.std.proofs.lemmas.Option.{slice_get_within}
 use mathlib.Core.List.{IsPrefix}
 use Rattle.prcu_marks.specs.declared.mark.Mark.{Mark}
-use Rattle.prcu_marks.specs.declared.mark.Mark.TheVariants.{Entered, Left, Began, Ended, Done, Given, Unlinked, Freed}
+use Rattle.prcu_marks.specs.declared.mark.Mark.TheVariants.{Entered, Began}
 use Rattle.prcu_model.specs.declared.operation.Reply.{Reply}
 use Rattle.prcu_model.specs.declared.operation.Line.{Line}
 use Rattle.prcu_model.specs.declared.operation.Update.{Update}
@@ -27,9 +27,8 @@ module _ {C : Type 0} (made : C → Op → Told → C → Type 0) where
   pub chain_length : (ops : List Op) (tolds : List Told) (before after : C) → IsChain made before ops tolds after
       → length tolds ≡ length ops
   chain_length [] [] before after chain = refl
-  chain_length [] (told ∷ tolds) before after chain = absurd chain
-  chain_length (op ∷ ops) [] before after chain = absurd chain
   chain_length (op ∷ ops) (told ∷ tolds) before after chain = let rest = chain_length ops tolds chain.0 after chain.2 in omega arith
+  chain_length _ _ before after chain = absurd chain
 
   -- what holds of the calls so far and of the client that they leave, and is kept by each call, is kept by the chain
   pub chain_carries : (P : List Op → List Told → C → Type 0)
@@ -39,12 +38,11 @@ module _ {C : Type 0} (made : C → Op → Told → C → Type 0) where
       → P earlier_ops earlier_tolds before → IsChain made before ops tolds after → P (earlier_ops ++ ops) (earlier_tolds ++ tolds) after
   chain_carries P keeps earlier_ops earlier_tolds [] [] before after holds chain =
       simp append-nil (subst (λ (client : C). P earlier_ops earlier_tolds client) (sym chain) holds)
-  chain_carries P keeps earlier_ops earlier_tolds [] (told ∷ tolds) before after holds chain = absurd chain
-  chain_carries P keeps earlier_ops earlier_tolds (op ∷ ops) [] before after holds chain = absurd chain
   chain_carries P keeps earlier_ops earlier_tolds (op ∷ ops) (told ∷ tolds) before after holds chain =
       let rest = chain_carries P keeps (earlier_ops ++ op ∷ []) (earlier_tolds ++ told ∷ []) ops tolds chain.0 after
       (keeps earlier_ops earlier_tolds before op told chain.0 holds chain.1) chain.2 in
       simp append_assoc at rest
+  chain_carries P keeps earlier_ops earlier_tolds _ _ before after holds chain = absurd chain
 
   -- what each call keeps the chain keeps
   pub chain_keeps : (P : C → Type 0) → ((before : C) (op : Op) (told : Told) (after : C) → P before → made before op told after → P after)
@@ -56,11 +54,10 @@ module _ {C : Type 0} (made : C → Op → Told → C → Type 0) where
       → left before ≤ left after + 1)
       → (ops : List Op) (tolds : List Told) (before after : C) → IsChain made before ops tolds after → left before ≤ left after + length ops
   chain_leaves left lowers [] [] before after chain = let same = ap left chain in omega arith
-  chain_leaves left lowers [] (told ∷ tolds) before after chain = absurd chain
-  chain_leaves left lowers (op ∷ ops) [] before after chain = absurd chain
   chain_leaves left lowers (op ∷ ops) (told ∷ tolds) before after chain =
       let one = lowers before op told chain.0 chain.1 in
       let rest = chain_leaves left lowers ops tolds chain.0 after chain.2 in omega arith
+  chain_leaves left lowers _ _ before after chain = absurd chain
 
   -- a chain, and one from where it ends
   pub chain_append : (ops : List Op) (tolds : List Told) (more_ops : List Op) (more_tolds : List Told) (before middle after : C)
@@ -68,10 +65,9 @@ module _ {C : Type 0} (made : C → Op → Told → C → Type 0) where
       → IsChain made before (ops ++ more_ops) (tolds ++ more_tolds) after
   chain_append [] [] more_ops more_tolds before middle after first second =
       subst (λ (client : C). IsChain made client more_ops more_tolds after) first second
-  chain_append [] (told ∷ tolds) more_ops more_tolds before middle after first second = absurd first
-  chain_append (op ∷ ops) [] more_ops more_tolds before middle after first second = absurd first
   chain_append (op ∷ ops) (told ∷ tolds) more_ops more_tolds before middle after first second =
       (first.0, first.1, chain_append ops tolds more_ops more_tolds first.0 middle after first.2 second)
+  chain_append _ _ more_ops more_tolds before middle after first second = absurd first
 
   -- a chain, and one more call
   pub chain_push : (ops : List Op) (tolds : List Told) (op : Op) (told : Told) (before middle after : C)
@@ -119,10 +115,9 @@ module _ (explains : Dictionary → Op → Reply → Type 0) (us more : List Upd
   pub MayStandBesideBy-longer : (before : ℕ) (lines : List Line) (numbers : List ℕ) → MayStandBesideBy explains us before lines numbers
       → MayStandBesideBy explains (us ++ more) before lines numbers
   MayStandBesideBy-longer before [] [] beside = tt
-  MayStandBesideBy-longer before [] (number ∷ numbers) beside = absurd beside
-  MayStandBesideBy-longer before (line ∷ lines) [] beside = absurd beside
   MayStandBesideBy-longer before (line ∷ lines) (number ∷ numbers) beside =
       (MayStandBy-longer before line number beside.0, MayStandBesideBy-longer number lines numbers beside.1)
+  MayStandBesideBy-longer before _ _ beside = absurd beside
 
 -- An update that the line tells of is confirmed, and its number is one of the history.
 pub record IsSettled (history : List Update) (line : Line) : Type 0 where
@@ -152,13 +147,7 @@ waits_longer us more (Began p c low high) (inr move) = inr (record {
         least = λ other more_key has. move.next.least other more_key (subst (λ d. finite.contains_key d other ≡ true) same has);
       };
 })
-waits_longer us more (Entered p c x) w = tt
-waits_longer us more (Left p c) w = tt
-waits_longer us more (Ended p c) w = tt
-waits_longer us more (Done u) w = tt
-waits_longer us more (Given s) w = tt
-waits_longer us more (Unlinked s) w = tt
-waits_longer us more (Freed s) w = tt
+waits_longer us more _ w = tt
 
 -- ---- one more line
 
@@ -166,10 +155,9 @@ told_lines-snoc : (ops : List Op) (tolds : List Told) (op : Op) (told : Told) �
     → told_lines (ops ++ op ∷ []) (tolds ++ told ∷ []) ≡ told_lines ops tolds
     ++ record { op = op; reply = told.reply; number = told.number } ∷ []
 told_lines-snoc [] [] op told same = refl
-told_lines-snoc [] (t ∷ tolds) op told same = absurd (omega (arith, same))
-told_lines-snoc (o ∷ ops) [] op told same = absurd (omega (arith, same))
 told_lines-snoc (o ∷ ops) (t ∷ tolds) op told same =
     ap (λ xs. record { op = o; reply = t.reply; number = t.number } ∷ xs) (told_lines-snoc ops tolds op told (omega (arith, same)))
+told_lines-snoc _ _ op told same = absurd (omega (arith, same))
 
 told_updates-snoc : (lines : List Line) (line : Line)
     → told_updates (lines ++ line ∷ []) ≡ told_updates lines
@@ -198,10 +186,9 @@ MayStandBesideBy-snoc : (explains : Dictionary → Op → Reply → Type 0) (us 
     → MayStandBesideBy explains us before lines numbers → MayStandBy explains us (last_number before numbers) line number
     → MayStandBesideBy explains us before (lines ++ line ∷ []) (numbers ++ number ∷ [])
 MayStandBesideBy-snoc explains us before [] [] line number beside may = (may, tt)
-MayStandBesideBy-snoc explains us before [] (n ∷ numbers) line number beside may = absurd beside
-MayStandBesideBy-snoc explains us before (l ∷ lines) [] line number beside may = absurd beside
 MayStandBesideBy-snoc explains us before (l ∷ lines) (n ∷ numbers) line number beside may =
     (beside.0, MayStandBesideBy-snoc explains us n lines numbers line number beside.1 may)
+MayStandBesideBy-snoc explains us before _ _ line number beside may = absurd beside
 
 asking-snoc : (key : ℕ) (ops : List Op) (op : Op) → asking key (ops ++ op ∷ []) ≡ asking key ops + cond (key_of op == key) 1 0
 asking-snoc key [] op = omega arith
@@ -214,26 +201,14 @@ IsAskedBy ops _ = Unit {0}
 
 asked_more : (ops : List Op) (op : Op) (m : Mark) → IsAskedBy ops m → IsAskedBy (ops ++ op ∷ []) m
 asked_more ops op (Entered p c x) a = omega (arith, asking-snoc x ops op)
-asked_more ops op (Left p c) a = tt
-asked_more ops op (Began p c low high) a = tt
-asked_more ops op (Ended p c) a = tt
-asked_more ops op (Done u) a = tt
-asked_more ops op (Given s) a = tt
-asked_more ops op (Unlinked s) a = tt
-asked_more ops op (Freed s) a = tt
+asked_more ops op _ a = tt
 
 asked_last : (place : ℕ) (ops : List Op) (op : Op) (m : Mark) → IsLeftBy place (key_of op) m → IsAskedBy (ops ++ op ∷ []) m
 asked_last place ops op (Entered p c x) left =
     let here : asking x (ops ++ op ∷ []) ≡ asking x ops + 1 =
     asking-snoc x ops op ∙ ap (λ b. asking x ops + cond b 1 0) (eq-eqb (key_of op) x (sym left.1)) in
     omega (arith, here)
-asked_last place ops op (Left p c) left = tt
-asked_last place ops op (Began p c low high) left = tt
-asked_last place ops op (Ended p c) left = tt
-asked_last place ops op (Done u) left = tt
-asked_last place ops op (Given s) left = tt
-asked_last place ops op (Unlinked s) left = tt
-asked_last place ops op (Freed s) left = tt
+asked_last place ops op _ left = tt
 
 -- ---- the chain
 
@@ -502,17 +477,15 @@ lines_at (s ∷ ss) (t ∷ ts) (suc i) same below = lines_at ss ts i (omega (ari
 lines_count : (scripts : List (List Op)) (tolds : List (List Told)) → length tolds ≡ length scripts
     → length (all_told_lines scripts tolds) ≡ length scripts
 lines_count [] [] same = refl
-lines_count [] (t ∷ ts) same = absurd (omega (arith, same))
-lines_count (s ∷ ss) [] same = absurd (omega (arith, same))
 lines_count (s ∷ ss) (t ∷ ts) same = ap suc (lines_count ss ts (omega (arith, same)))
+lines_count _ _ same = absurd (omega (arith, same))
 
 same_lengths : (scripts : List (List Op)) (tolds : List (List Told)) → length tolds ≡ length scripts
     → ((i : ℕ) → i < length scripts → length (get_or tolds i []) ≡ length (get_or scripts i [])) → map length tolds ≡ map length scripts
 same_lengths [] [] same each = refl
-same_lengths [] (t ∷ ts) same each = absurd (omega (arith, same))
-same_lengths (s ∷ ss) [] same each = absurd (omega (arith, same))
 same_lengths (s ∷ ss) (t ∷ ts) same each = let first = each zero (omega arith) in
     let others = same_lengths ss ts (omega (arith, same)) (λ i below. each (suc i) (omega arith)) in λ j. first j ∷ others j
+same_lengths _ _ same each = absurd (omega (arith, same))
 
 -- a fact of all lists from that of each by its number
 by_number : (P : List Line → Type 0) (lists : List (List Line)) → ((i : ℕ) → i < length lists → P (get_or lists i []))
@@ -547,13 +520,7 @@ entered_for-own p x (Entered q c y ∷ h) =
   where
     entered_none : (p x q y : ℕ) → (q == p) ≡ false → cond (q == p) (cond {A = ℕ} (y == x) 1 0) 0 ≡ 0
     entered_none p x q y e = ap (λ b. cond b (cond {A = ℕ} (y == x) 1 0) 0) e
-entered_for-own p x (Left q c ∷ h) = entered_either p x (q == p) (Left q c) h refl (entered_for-own p x h)
-entered_for-own p x (Began q c low high ∷ h) = entered_either p x (q == p) (Began q c low high) h refl (entered_for-own p x h)
-entered_for-own p x (Ended q c ∷ h) = entered_either p x (q == p) (Ended q c) h refl (entered_for-own p x h)
-entered_for-own p x (Done u ∷ h) = entered_either p x (u.caller == p) (Done u) h refl (entered_for-own p x h)
-entered_for-own p x (Given s ∷ h) = entered_for-own p x h
-entered_for-own p x (Unlinked s ∷ h) = entered_for-own p x h
-entered_for-own p x (Freed s ∷ h) = entered_for-own p x h
+entered_for-own p x (m ∷ h) = entered_either p x (is_of p m) m h refl (entered_for-own p x h)
 
 -- what fits among each place's own marks fits among all
 fits_all : (scripts : List (List Op)) (done : List Update) (h : List Mark)
@@ -571,12 +538,7 @@ fits_all scripts done (m ∷ h) each = (
         → FitsScript scripts done n
     here (Entered q c x) all = λ below. first q (Entered q c x) (eq-eqb q q refl) (all q below) below
     here (Began q c low high) all = λ below. first q (Began q c low high) (eq-eqb q q refl) (all q below) below
-    here (Left q c) all = tt
-    here (Ended q c) all = tt
-    here (Done u) all = tt
-    here (Given s) all = tt
-    here (Unlinked s) all = tt
-    here (Freed s) all = tt
+    here _ all = tt
 
 -- a mark of the place fits where its key is asked for and its wait is right
 fits_own : (scripts : List (List Op)) (done : List Update) (p : ℕ) (m : Mark)
@@ -584,12 +546,7 @@ fits_own : (scripts : List (List Op)) (done : List Update) (p : ℕ) (m : Mark)
 fits_own scripts done p (Entered q c x) f = λ below. let same : q ≡ p = eqb-true q p f.0 in
     subst (λ z. 1 ≤ asking x (get_or scripts z [])) (sym same) f.1.0
 fits_own scripts done p (Began q c low high) f = λ below. f.1.1
-fits_own scripts done p (Left q c) f = tt
-fits_own scripts done p (Ended q c) f = tt
-fits_own scripts done p (Done u) f = tt
-fits_own scripts done p (Given s) f = tt
-fits_own scripts done p (Unlinked s) f = tt
-fits_own scripts done p (Freed s) f = tt
+fits_own scripts done p _ f = tt
 
 -- ---- the run
 

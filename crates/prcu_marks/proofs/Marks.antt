@@ -18,14 +18,8 @@ use Rattle.prcu_model.proofs.ListFacts.{prefix_self, prefix_of_longer}
 
 pub updates_of-append : (h ms : List Mark) → updates_of (h ++ ms) ≡ updates_of h ++ updates_of ms
 updates_of-append [] ms = refl
-updates_of-append (Entered p c x ∷ h) ms = updates_of-append h ms
-updates_of-append (Left p c ∷ h) ms = updates_of-append h ms
-updates_of-append (Began p c a b ∷ h) ms = updates_of-append h ms
-updates_of-append (Ended p c ∷ h) ms = updates_of-append h ms
 updates_of-append (Done u ∷ h) ms = ap (λ us. u ∷ us) (updates_of-append h ms)
-updates_of-append (Given s ∷ h) ms = updates_of-append h ms
-updates_of-append (Unlinked s ∷ h) ms = updates_of-append h ms
-updates_of-append (Freed s ∷ h) ms = updates_of-append h ms
+updates_of-append (_ ∷ h) ms = updates_of-append h ms
 
 -- who has seen more has seen no fewer updates
 pub updates_below : (a b : List Mark) → IsPrefix a b → length (updates_of a) ≤ length (updates_of b)
@@ -84,13 +78,7 @@ own_of-between p a b c first second same =
 pub entered_at-append : (p : ℕ) (h ms : List Mark) → entered_at p (h ++ ms) ≡ entered_at p h + entered_at p ms
 entered_at-append p [] ms = omega arith
 entered_at-append p (Entered q c x ∷ h) ms = let e = entered_at-append p h ms in omega arith
-entered_at-append p (Left q c ∷ h) ms = entered_at-append p h ms
-entered_at-append p (Began q c a b ∷ h) ms = entered_at-append p h ms
-entered_at-append p (Ended q c ∷ h) ms = entered_at-append p h ms
-entered_at-append p (Done u ∷ h) ms = entered_at-append p h ms
-entered_at-append p (Given t ∷ h) ms = entered_at-append p h ms
-entered_at-append p (Unlinked t ∷ h) ms = entered_at-append p h ms
-entered_at-append p (Freed t ∷ h) ms = entered_at-append p h ms
+entered_at-append p (_ ∷ h) ms = entered_at-append p h ms
 
 -- Where in a list of marks the things stand that it says.
 
@@ -98,11 +86,6 @@ entered_at-append p (Freed t ∷ h) ms = entered_at-append p h ms
 gone_below : (s i : ℕ) (g : Option ℕ) (h : List Mark) (p : ℕ) → ((q : ℕ) → g ≡ Some q → q < i) → gone_from s i g h ≡ Some p
     → p < i + length h
 gone_below s i g [] p old e = let l = old p e in omega arith
-gone_below s i g (Entered q c x ∷ h) p old e = let l = gone_below s (i + 1) g h p (λ q f. let z = old q f in omega arith) e in omega arith
-gone_below s i g (Left q c ∷ h) p old e = let l = gone_below s (i + 1) g h p (λ q f. let z = old q f in omega arith) e in omega arith
-gone_below s i g (Began q c a b ∷ h) p old e = let l = gone_below s (i + 1) g h p (λ q f. let z = old q f in omega arith) e in omega arith
-gone_below s i g (Ended q c ∷ h) p old e = let l = gone_below s (i + 1) g h p (λ q f. let z = old q f in omega arith) e in omega arith
-gone_below s i g (Done u ∷ h) p old e = let l = gone_below s (i + 1) g h p (λ q f. let z = old q f in omega arith) e in omega arith
 gone_below s i g (Given t ∷ h) p old e =
     let new : (q : ℕ) → cond (t == s) None g ≡ Some q → q < i + 1 = λ q. elim (t == s) as (λ b. cond b None g ≡ Some q → q < i + 1) [
       | true ↦ λ f. absurd (cc)
@@ -122,6 +105,7 @@ gone_below s i g (Unlinked t ∷ h) p old e =
       | false ↦ λ f. let z = old q f in omega arith
     ] in
     let l = gone_below s (i + 1) (cond (t == s) (Some i) g) h p new e in omega arith
+gone_below s i g (_ ∷ h) p old e = let l = gone_below s (i + 1) g h p (λ q f. let z = old q f in omega arith) e in omega arith
 
 pub gone_at-below : (s : ℕ) (h : List Mark) (p : ℕ) → gone_at s h ≡ Some p → p < length h
 gone_at-below s h p e = let l = gone_below s 0 None h p (λ q f. absurd (cc)) e in omega arith
@@ -129,12 +113,6 @@ gone_at-below s h p e = let l = gone_below s 0 None h p (λ q f. absurd (cc)) e 
 open_below : (p i : ℕ) (s : Option Open) (h : List Mark) (o : Open) → ((q : Open) → s ≡ Some q → q.at < i) → open_from p i s h ≡ Some o
     → o.at < i + length h
 open_below p i s [] o old e = let l = old o e in omega arith
-open_below p i s (Began q c a b ∷ h) o old e = let l = open_below p (i + 1) s h o (λ q f. let z = old q f in omega arith) e in omega arith
-open_below p i s (Ended q c ∷ h) o old e = let l = open_below p (i + 1) s h o (λ q f. let z = old q f in omega arith) e in omega arith
-open_below p i s (Done u ∷ h) o old e = let l = open_below p (i + 1) s h o (λ q f. let z = old q f in omega arith) e in omega arith
-open_below p i s (Freed t ∷ h) o old e = let l = open_below p (i + 1) s h o (λ q f. let z = old q f in omega arith) e in omega arith
-open_below p i s (Given t ∷ h) o old e = let l = open_below p (i + 1) s h o (λ q f. let z = old q f in omega arith) e in omega arith
-open_below p i s (Unlinked t ∷ h) o old e = let l = open_below p (i + 1) s h o (λ q f. let z = old q f in omega arith) e in omega arith
 open_below p i s (Entered q c x ∷ h) o old e =
     let new : (z : Open) → cond (q == p) (Some (record { count = c; key = x; at = i })) s ≡ Some z → z.at < i + 1 =
     λ z. elim (q == p) as (λ b. cond b (Some (record { count = c; key = x; at = i })) s ≡ Some z → z.at < i + 1) [
@@ -153,6 +131,7 @@ open_below p i s (Left q c ∷ h) o old e =
       | false ↦ λ f. let k = old z f in omega arith
     ] in
     let l = open_below p (i + 1) (cond (q == p) None s) h o new e in omega arith
+open_below p i s (_ ∷ h) o old e = let l = open_below p (i + 1) s h o (λ q f. let z = old q f in omega arith) e in omega arith
 
 -- an open section was entered in the list
 pub open_at-below : (p : ℕ) (h : List Mark) (o : Open) → open_at p h ≡ Some o → o.at < length h
@@ -201,13 +180,7 @@ module _ (p : ℕ) where
         | true ↦ λ e. absurd (cc)
         | false ↦ λ e. no_own_update (n + 1) h e
       ] none
-  no_own_update n (Entered q c x ∷ h) none = no_own_update n h (skipped (q == p) (Entered q c x) (own_of p h) [] refl none)
-  no_own_update n (Left q c ∷ h) none = no_own_update n h (skipped (q == p) (Left q c) (own_of p h) [] refl none)
-  no_own_update n (Began q c low high ∷ h) none = no_own_update n h (skipped (q == p) (Began q c low high) (own_of p h) [] refl none)
-  no_own_update n (Ended q c ∷ h) none = no_own_update n h (skipped (q == p) (Ended q c) (own_of p h) [] refl none)
-  no_own_update n (Given s ∷ h) none = no_own_update n h none
-  no_own_update n (Unlinked s ∷ h) none = no_own_update n h none
-  no_own_update n (Freed s ∷ h) none = no_own_update n h none
+  no_own_update n (m ∷ h) none = no_own_update n h (skipped (is_of p m) m (own_of p h) [] refl none)
 
   -- a place that left one update has it where it stands
   pub one_own_update : (n i : ℕ) (h : List Mark) (u v : Update) → updates_of (own_of p h) ≡ u ∷ [] → slice_get (updates_of h) i ≡ Some v
@@ -251,17 +224,7 @@ module _ (p : ℕ) where
             | true ↦ λ e. absurd (cc)
             | false ↦ λ e. stands_own ys k x at mine (m + 1) e
           ] none
-  one_own_update n i (Entered q c x ∷ h) u v one there is =
-      one_own_update n i h u v (skipped (q == p) (Entered q c x) (own_of p h) (u ∷ []) refl one) there is
-  one_own_update n i (Left q c ∷ h) u v one there is =
-      one_own_update n i h u v (skipped (q == p) (Left q c) (own_of p h) (u ∷ []) refl one) there is
-  one_own_update n i (Began q c low high ∷ h) u v one there is =
-      one_own_update n i h u v (skipped (q == p) (Began q c low high) (own_of p h) (u ∷ []) refl one) there is
-  one_own_update n i (Ended q c ∷ h) u v one there is =
-      one_own_update n i h u v (skipped (q == p) (Ended q c) (own_of p h) (u ∷ []) refl one) there is
-  one_own_update n i (Given s ∷ h) u v one there is = one_own_update n i h u v one there is
-  one_own_update n i (Unlinked s ∷ h) u v one there is = one_own_update n i h u v one there is
-  one_own_update n i (Freed s ∷ h) u v one there is = one_own_update n i h u v one there is
+  one_own_update n i (m ∷ h) u v one there is = one_own_update n i h u v (skipped (is_of p m) m (own_of p h) (u ∷ []) refl one) there is
 
   -- a mark that a call left at the place is its own
   pub left_is_of : (key : ℕ) (m : Mark) → IsLeftBy p key m → is_of p m ≡ true
@@ -270,9 +233,7 @@ module _ (p : ℕ) where
   left_is_of key (Began q c low high) is = eq-eqb q p is
   left_is_of key (Ended q c) is = eq-eqb q p is
   left_is_of key (Done u) is = eq-eqb u.caller p is
-  left_is_of key (Given s) is = absurd is
-  left_is_of key (Unlinked s) is = absurd is
-  left_is_of key (Freed s) is = absurd is
+  left_is_of key _ is = absurd is
 
   pub own_of-all : (ms : List Mark) → AllByRecursion (λ m. is_of p m ≡ true) ms → own_of p ms ≡ ms
   own_of-all [] all = refl
@@ -281,13 +242,7 @@ module _ (p : ℕ) where
 pub entered_for-append : (p x : ℕ) (h ms : List Mark) → entered_for p x (h ++ ms) ≡ entered_for p x h + entered_for p x ms
 entered_for-append p x [] ms = omega arith
 entered_for-append p x (Entered q c y ∷ h) ms = let rest = entered_for-append p x h ms in omega arith
-entered_for-append p x (Left q c ∷ h) ms = entered_for-append p x h ms
-entered_for-append p x (Began q c low high ∷ h) ms = entered_for-append p x h ms
-entered_for-append p x (Ended q c ∷ h) ms = entered_for-append p x h ms
-entered_for-append p x (Done u ∷ h) ms = entered_for-append p x h ms
-entered_for-append p x (Given s ∷ h) ms = entered_for-append p x h ms
-entered_for-append p x (Unlinked s ∷ h) ms = entered_for-append p x h ms
-entered_for-append p x (Freed s ∷ h) ms = entered_for-append p x h ms
+entered_for-append p x (_ ∷ h) ms = entered_for-append p x h ms
 
 -- Where a slot was unlinked last.
 
@@ -299,13 +254,6 @@ UnlinksNone _ = Unit {0}
 last_below : (s i : ℕ) (g : Option ℕ) (h : List Mark) (p : ℕ) → ((q : ℕ) → g ≡ Some q → q < i) → unlinked_from s i g h ≡ Some p
     → p < i + length h
 last_below s i g [] p old e = let l = old p e in omega arith
-last_below s i g (Entered q c x ∷ h) p old e = let l = last_below s (i + 1) g h p (λ q f. let z = old q f in omega arith) e in omega arith
-last_below s i g (Left q c ∷ h) p old e = let l = last_below s (i + 1) g h p (λ q f. let z = old q f in omega arith) e in omega arith
-last_below s i g (Began q c a b ∷ h) p old e = let l = last_below s (i + 1) g h p (λ q f. let z = old q f in omega arith) e in omega arith
-last_below s i g (Ended q c ∷ h) p old e = let l = last_below s (i + 1) g h p (λ q f. let z = old q f in omega arith) e in omega arith
-last_below s i g (Done u ∷ h) p old e = let l = last_below s (i + 1) g h p (λ q f. let z = old q f in omega arith) e in omega arith
-last_below s i g (Given t ∷ h) p old e = let l = last_below s (i + 1) g h p (λ q f. let z = old q f in omega arith) e in omega arith
-last_below s i g (Freed t ∷ h) p old e = let l = last_below s (i + 1) g h p (λ q f. let z = old q f in omega arith) e in omega arith
 last_below s i g (Unlinked t ∷ h) p old e =
     let new : (q : ℕ) → cond (t == s) (Some i) g ≡ Some q → q < i + 1 =
     λ q. elim (t == s) as (λ b. cond b (Some i) g ≡ Some q → q < i + 1) [
@@ -313,6 +261,7 @@ last_below s i g (Unlinked t ∷ h) p old e =
       | false ↦ λ f. let z = old q f in omega arith
     ] in
     let l = last_below s (i + 1) (cond (t == s) (Some i) g) h p new e in omega arith
+last_below s i g (_ ∷ h) p old e = let l = last_below s (i + 1) g h p (λ q f. let z = old q f in omega arith) e in omega arith
 
 -- the last unlinking stands in the list
 pub last_unlinked-below : (s : ℕ) (h : List Mark) (p : ℕ) → last_unlinked s h ≡ Some p → p < length h
@@ -324,40 +273,22 @@ next_last s i last (Unlinked t) = cond (t == s) (Some i) last
 next_last s i last _ = last
 
 last_one : (s i : ℕ) (g : Option ℕ) (m : Mark) → unlinked_from s i g (m ∷ []) ≡ next_last s i g m
-last_one s i g (Entered q c x) = refl
-last_one s i g (Left q c) = refl
-last_one s i g (Began q c a b) = refl
-last_one s i g (Ended q c) = refl
-last_one s i g (Done u) = refl
-last_one s i g (Given t) = refl
 last_one s i g (Unlinked t) = refl
-last_one s i g (Freed t) = refl
+last_one s i g _ = refl
 
 last_later : (s i : ℕ) (g : Option ℕ) (h : List Mark) (m : Mark) (n : ℕ) → n ≡ i + length h
     → unlinked_from s i g (h ++ m ∷ []) ≡ next_last s n (unlinked_from s i g h) m
 last_later s i g [] m n e = last_one s i g m ∙ ap (λ k. next_last s k g m) (let z : i ≡ n = omega arith in z)
-last_later s i g (Entered q c x ∷ h) m n e = last_later s (i + 1) g h m n (omega arith)
-last_later s i g (Left q c ∷ h) m n e = last_later s (i + 1) g h m n (omega arith)
-last_later s i g (Began q c a b ∷ h) m n e = last_later s (i + 1) g h m n (omega arith)
-last_later s i g (Ended q c ∷ h) m n e = last_later s (i + 1) g h m n (omega arith)
-last_later s i g (Done u ∷ h) m n e = last_later s (i + 1) g h m n (omega arith)
-last_later s i g (Given t ∷ h) m n e = last_later s (i + 1) g h m n (omega arith)
-last_later s i g (Freed t ∷ h) m n e = last_later s (i + 1) g h m n (omega arith)
 last_later s i g (Unlinked t ∷ h) m n e = last_later s (i + 1) (cond (t == s) (Some i) g) h m n (omega arith)
+last_later s i g (_ ∷ h) m n e = last_later s (i + 1) g h m n (omega arith)
 
 -- the last unlinking, after one more mark
 pub last_unlinked-snoc : (s : ℕ) (h : List Mark) (m : Mark) → last_unlinked s (h ++ m ∷ []) ≡ next_last s (length h) (last_unlinked s h) m
 last_unlinked-snoc s h m = last_later s 0 None h m (length h) (omega arith)
 
 next_last-same : (s i : ℕ) (g : Option ℕ) (m : Mark) → UnlinksNone m → next_last s i g m ≡ g
-next_last-same s i g (Entered q c x) n = refl
-next_last-same s i g (Left q c) n = refl
-next_last-same s i g (Began q c a b) n = refl
-next_last-same s i g (Ended q c) n = refl
-next_last-same s i g (Done u) n = refl
-next_last-same s i g (Given t) n = refl
 next_last-same s i g (Unlinked t) n = absurd n
-next_last-same s i g (Freed t) n = refl
+next_last-same s i g _ n = refl
 
 pub last_unlinked-same : (h : List Mark) (m : Mark) → UnlinksNone m → (s : ℕ) → last_unlinked s (h ++ m ∷ []) ≡ last_unlinked s h
 last_unlinked-same h m n s = last_unlinked-snoc s h m ∙ next_last-same s (length h) (last_unlinked s h) m n
@@ -372,11 +303,6 @@ kept false g p o = o
 gone_last : (s i : ℕ) (g l : Option ℕ) (h : List Mark) (p : ℕ) → (g ≡ Some p → l ≡ Some p) → gone_from s i g h ≡ Some p
     → unlinked_from s i l h ≡ Some p
 gone_last s i g l [] p f e = f e
-gone_last s i g l (Entered q c x ∷ h) p f e = gone_last s (i + 1) g l h p f e
-gone_last s i g l (Left q c ∷ h) p f e = gone_last s (i + 1) g l h p f e
-gone_last s i g l (Began q c a b ∷ h) p f e = gone_last s (i + 1) g l h p f e
-gone_last s i g l (Ended q c ∷ h) p f e = gone_last s (i + 1) g l h p f e
-gone_last s i g l (Done u ∷ h) p f e = gone_last s (i + 1) g l h p f e
 gone_last s i g l (Given t ∷ h) p f e = gone_last s (i + 1) (cond (t == s) None g) l h p (λ o. f (kept (t == s) g p o)) e
 gone_last s i g l (Freed t ∷ h) p f e = gone_last s (i + 1) (cond (t == s) None g) l h p (λ o. f (kept (t == s) g p o)) e
 gone_last s i g l (Unlinked t ∷ h) p f e = gone_last s (i + 1) (cond (t == s) (Some i) g) (cond (t == s) (Some i) l) h p (both (t == s)) e
@@ -384,6 +310,7 @@ gone_last s i g l (Unlinked t ∷ h) p f e = gone_last s (i + 1) (cond (t == s) 
     both : (b : Bool) → cond b (Some i) g ≡ Some p → cond b (Some i) l ≡ Some p
     both true o = o
     both false o = f o
+gone_last s i g l (_ ∷ h) p f e = gone_last s (i + 1) g l h p f e
 
 -- where a slot is unlinked and neither given nor freed since, that was its last unlinking
 pub last_gone : (s : ℕ) (h : List Mark) (p : ℕ) → gone_at s h ≡ Some p → last_unlinked s h ≡ Some p

@@ -1,5 +1,5 @@
 -- What steps come to that are made one after another: sections, how many they were, notes, and a slot that is seized.
-use Rattle.std.proofs.Common.{◌≡◌, ℕ, ap, ◌∙◌, Bool, true, cond, append_assoc, append-nil, eq-eqb, ◌%◌, ◌^◌, ◌<◌, List, [], ◌∷◌, ◌++◌, length, Some, None, refl, sym, subst, ◌+◌, ◌≤◌, arith, length-append, ◌≢◌, ◌==◌, Option, ⊎_elim, ne_eqb, ◌*◌, ◌/◌, false, inl}
+use Rattle.std.proofs.Common.{◌≡◌, ℕ, ap, ◌∙◌, Bool, true, cond, append_assoc, append-nil, eq-eqb, ◌%◌, ◌^◌, ◌<◌, List, [], ◌∷◌, ◌++◌, length, Some, None, refl, sym, subst, ◌+◌, ◌≤◌, arith, length-append, ◌≢◌, Option, ⊎_elim, ne_eqb, ◌*◌, ◌/◌, false, inl}
 use Rattle.core_state.specs.declared.shape.Shape.{Shape}
 use Rattle.core_state.specs.declared.view.View.{View}
 use Rattle.core_state.specs.declared.act.Act.{Act}
@@ -36,7 +36,7 @@ use Rattle.core_state.specs.declared.view.HeldLock.{HeldLock}
 use Rattle.core_state.specs.declared.view.Known.{Known}
 use Rattle.core_state.specs.declared.view.Move.{Move}
 use Rattle.core_state.specs.declared.view.Retired.{Retired}
-use Rattle.core_state.specs.Views.{note_lock, note_option, note_moving, change_lock, noting, held_list, known_in}
+use Rattle.core_state.specs.Views.{note_lock, note_option, note_moving, change_lock, noting, known_in}
 use Rattle.core_state.specs.Links.{change_retired, without_retired, IsInHand, NeedsFreeInHand, NeedsOwnLife, NeedsRaiseInHand, seized, after_seize, raise_held}
 use Rattle.core_state.specs.declared.words.Field.TheVariants.{Life}
 use Rattle.core_state.specs.declared.shape.Waiter.TheVariants as waiters
@@ -382,22 +382,6 @@ poll_steps {W} {k} {v} {w} {why} {grace} stopped =
     omega (arith, e, some)
 
 -- What is noted of slots, for the calls that are made of several steps.
-
--- what is noted of a slot that is held leaves which slot it is
-pub noted_slot : (slot : ℕ) (known : Known) (o : Option Held) → held_list (note_option slot known o) ≡ held_list o
-noted_slot slot known None = refl
-noted_slot slot known (Some held) = ⊎_elim
-    (λ (e : held.slot ≡ slot). ap (λ b. (cond b (record held { known = known ∷ held.known }) held).slot ∷ []) (eq-eqb held.slot slot e))
-    (λ (ne : held.slot ≢ slot). ap (λ b. (cond b (record held { known = known ∷ held.known }) held).slot ∷ []) (ne_eqb held.slot slot ne))
-    (cases_eq held.slot slot)
-
--- what is noted of a spare makes no spare and takes none away
-pub noted_none : (slot : ℕ) (known : Known) (o : Option Held) → note_option slot known o ≡ None → o ≡ None
-noted_none slot known None e = refl
-noted_none slot known (Some held) e = absurd (some_none (cond (held.slot == slot) (record held { known = known ∷ held.known }) held) e)
-  where
-    some_none : (h : Held) → Some h ≡ None → ⊥
-    some_none h e = cc
 
 -- without a lock and without a move, it is noted of the slot in hand and of the spare alone
 pub noting_hands : (v : View) (slot : ℕ) (field : Field) (number : ℕ) (stored : Bool) → v.locks ≡ [] → v.moving ≡ None

@@ -80,7 +80,7 @@ needs {k} {op} {kept} {v} {stage} a is now =
 -- the call at the next point, which the view fits
 pub goes_to : {k : Shape} {op : Op} {kept : ℕ} {v w : View} {stage : Stage} (a : IsAt k op kept stage v) (n : ℕ)
     → Fits (after a.own n stage) (after a.own n stage).stage w → IsAt k op kept (after a.own n stage).stage w
-goes_to {stage = stage} a n fits = moves_on a (after a.own n stage) ((keeps_call a.own n stage).1 a.last) fits
+goes_to {stage = stage} a n fits = moves_on a (after a.own n stage) (keeps_call a.own n stage a.last) fits
 
 pub fits_next : {k : Shape} {op : Op} {kept n : ℕ} {v w : View} {stage : Stage} (a : IsAt k op kept stage v)
     → is_step (act_at a.own stage) ≡ true

@@ -23,7 +23,7 @@ use Rattle.core_points.specs.declared.stage.Waits.TheVariants.{Move, Reuse}
 use Rattle.core_state.specs.declared.view.Retired.{Retired}
 use Rattle.core_state.specs.declared.view.Waiting.{Waiting}
 use Rattle.core_points.specs.DeleteFacts.{OutlastsMove}
-use Rattle.core_points.proofs.Waits.{graced_move, shifting_waited, each_map, same_slots}
+use Rattle.core_points.proofs.Waits.{graced_move, shifting_waited, same_slots}
 use Rattle.seat_table.specs.Waits.{HasWaited, IsOver}
 use Rattle.core_points.proofs.Notes.{owns_retired}
 use Rattle.prcu_model.specs.declared.operation.Op.TheVariants.{Del}
@@ -37,6 +37,7 @@ use Rattle.core_state.specs.declared.view.Reading.{Reading}
 use Rattle.core_points.proofs.Locks.{slots_in}
 use Rattle.core_points.specs.declared.stage.Then.TheVariants as then
 use Rattle.core_points.specs.declared.stage.Stage.TheVariants as at
+use Rattle.core_laws.proofs.Looks.{each_map}
 
 -- Sections over the points: one is left, with the node of a delete.
 

@@ -23,8 +23,7 @@ use Rattle.list_laws.specs.Counts.{times, IsIn}
 use Rattle.list_laws.proofs.Lists.{times_here, times_other}
 use Rattle.core_state.specs.Acts.{MayLook, noted, wait_of}
 use Rattle.core_laws.proofs.Acting.{wait_is, may_look as looks}
-use Rattle.core_laws.proofs.Waits.{in_times}
-use Rattle.core_frames.proofs.Views.{times_sum, sum_times, sum_equal}
+use Rattle.core_frames.proofs.Views.{times_sum, sum_times, sum_equal, in_times}
 use Rattle.core_state.specs.declared.words.Kind.TheVariants as kinds
 
 -- The looks of a poll of the second waiter go on from class to class.
