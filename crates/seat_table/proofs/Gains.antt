@@ -24,7 +24,6 @@ use mathlib.Core.Logic.{dite}
 use native.Mathlib.Decide.{ℕ_discrete}
 use Rattle.prcu_marks.specs.declared.mark.Mark.TheVariants.{Left as LeftMark, Began}
 use Rattle.prcu_marks.specs.Marks.{updates_of, gone_at, left_by, said_by}
-use Rattle.prcu_marks.specs.Callers.{IsNextKey}
 use Rattle.core_laws.proofs.CopyNeeds.{copy_next}
 use Rattle.prcu_model.specs.Dictionary.{map_of, WasSaid}
 use Rattle.prcu_marks.proofs.Marks.{updates_of-append, gone_at-below}

@@ -24,7 +24,7 @@ use Rattle.core_state.specs.declared.act.Act.TheVariants.{LoadClock, AnnounceKey
 use Rattle.core_laws.proofs.Acting.{section_is, stays_at_work}
 use Rattle.seat_table.specs.Sections.{Leaves, Makes, EndBy, is_entry, shows_reader, is_exit, HasEntered, EntersBy, HasLeft, HasBegun, HasMadeAtMost, HasStepped, AreOfEntry}
 use Rattle.prcu_marks.specs.declared.mark.Why.{Why}
-use Rattle.prcu_marks.specs.declared.mark.Why.TheVariants.{Reader, Counter, Row as RowOf, Lock, Front}
+use Rattle.prcu_marks.specs.declared.mark.Why.TheVariants.{Reader, Counter, Row as RowOf}
 use Rattle.core_state.specs.declared.shape.Waiter.{Waiter}
 use Rattle.core_state.specs.declared.shape.Waiter.TheVariants.{Eer, Domain, Deer}
 use Rattle.core_state.specs.declared.view.Waiting.{Waiting}
@@ -372,8 +372,7 @@ shows_some : (wait : Waiting) (steps : List StepMade) (why : Why) → Shows wait
 shows_some wait steps (Reader place key stamp) shows = let some = ends_some steps _ shows.0 in omega (arith, some)
 shows_some wait steps (Counter class side count) shows = ends_some steps _ shows.0
 shows_some wait steps (RowOf place class stamp) shows = ends_some steps _ shows.0
-shows_some wait steps (Lock slot) shows = absurd shows
-shows_some wait steps (Front value) shows = absurd shows
+shows_some wait steps _ shows = absurd shows
 
 pub poll_steps : {W : Type 0} {k : Shape} {v w : View} {why : Why} {grace : Grace W} → HasStopped k v why grace w → HasStepped v w
 poll_steps {W} {k} {v} {w} {why} {grace} stopped =
