@@ -82,11 +82,9 @@ first_among (suc n) (x ∷ xs) P each = (
 )
 
 spare_first : (spare : List ℕ) (n : ℕ) (xs : List ℕ) → length xs ≤ n → first_spare spare (first_slots n xs) ≡ first_spare spare xs
-spare_first [] zero [] few = refl
 spare_first [] zero (x ∷ xs) few = absurd (omega arith)
-spare_first [] (suc n) [] few = refl
 spare_first [] (suc n) (x ∷ xs) few = refl
-spare_first (s ∷ ss) n xs few = refl
+spare_first spare n xs few = refl
 
 -- The wait.
 module _ (k : Shape) (v w : View) (waits : HasWaited k v 0 18446744073709551615 w) (settled : v.moving ≡ None) where

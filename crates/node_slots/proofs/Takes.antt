@@ -30,7 +30,6 @@ use Rattle.node_slots.specs.Taking.{exchange, look, own_life, MakesSteps, AreLos
 use Rattle.core_state.specs.declared.view.Held.{Held}
 use Rattle.core_state.specs.Memory.{slot_count}
 use Rattle.core_frames.proofs.Views.{same_self}
-use Rattle.core_state.specs.declared.view.HeldLock.{HeldLock}
 use Rattle.core_state.specs.Steps.{new_lock, IsNoEnd, NeedsUnlock}
 
 -- Marks that are left one after another.
