@@ -282,14 +282,8 @@ module _ {k : Shape} {key kept value s g : ℕ} {v : View} (a : IsAt k (Set key 
 
 pub waits_in-append : (a b : List Mark) → waits_in (a ++ b) ≡ waits_in a + waits_in b
 waits_in-append [] b = omega arith
-waits_in-append (Entered p c x ∷ a) b = waits_in-append a b
-waits_in-append (LeftMark p c ∷ a) b = waits_in-append a b
 waits_in-append (Began p c low high ∷ a) b = (let e = waits_in-append a b in omega arith)
-waits_in-append (Ended p c ∷ a) b = waits_in-append a b
-waits_in-append (Done u ∷ a) b = waits_in-append a b
-waits_in-append (Given s ∷ a) b = waits_in-append a b
-waits_in-append (Unlinked s ∷ a) b = waits_in-append a b
-waits_in-append (Freed s ∷ a) b = waits_in-append a b
+waits_in-append (_ ∷ a) b = waits_in-append a b
 
 -- A call that stands at its first point may begin.
 pub may_begin : {k : Shape} {op : Op} {kept : ℕ} {v : View} → IsAt k op kept at.EnterClock v → MayBegin k op kept v
