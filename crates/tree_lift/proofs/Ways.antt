@@ -97,9 +97,7 @@ stood_below r s b n by some = subst (λ (z : Reading). IsIn z.stood n) (sym (lin
 -- a load of a life moves no search
 life_moves_none : (r : Reading) (state : SearchState) (s n : ℕ) → searched r state (Life s) n ≡ r
 life_moves_none r (At t b) s n = refl
-life_moves_none r (Unread t p b) s n = refl
-life_moves_none r (Found t p b value) s n = refl
-life_moves_none r (Missed t b) s n = refl
+life_moves_none r _ s n = refl
 
 pub aged_is : (r : Reading) (s n : ℕ) → loaded r (Life s) n ≡ noted_load r (Life s) n
 aged_is r s n = life_moves_none (noted_load r (Life s) n) r.state s n
