@@ -600,12 +600,11 @@ total_few : {A : Type 0} (f : A → ℕ) (most : ℕ) (before after : List A) �
     → ((i : ℕ) (s t : A) → get_elem? before i ≡ some s → get_elem? after i ≡ some t → f t ≤ f s + most)
     → total f after ≤ total f before + length before * most
 total_few f most [] [] same each = omega arith
-total_few f most [] (t ∷ after) same each = absurd (omega (arith, same))
-total_few f most (s ∷ before) [] same each = absurd (omega (arith, same))
 total_few f most (s ∷ before) (t ∷ after) same each =
     let here = each 0 s t refl refl in
     let rest = total_few f most before after (omega (arith, same)) (λ i x y at_x at_y. each (suc i) x y at_x at_y) in
     omega (arith, here, rest)
+total_few f most _ _ same each = absurd (omega (arith, same))
 
 -- All lanes together make no more than their budgets.
 pub lanes_few : (way : ℕ) (table : TableAt) (keys : List ℕ) (answers : List (Option ℕ)) (before : List SeatAt) (lanes : List Lane)
