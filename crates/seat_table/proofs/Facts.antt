@@ -33,7 +33,7 @@ use Rattle.core_state.specs.Parts.{ArePlaced, turns_to_come, inside_count, IsOdd
 use Rattle.core_state.specs.Steps.{spent_view}
 use Rattle.core_state.specs.Invariant.{HoldsNow, first_view, IsFresh, IsShape, Rule}
 use Rattle.core_frames.proofs.Roles.{works_there, place_within, slots_count, spares_count, held_there, own_below, own_once, retired_count}
-use Rattle.std.proofs.lemmas.List.{take-append-le, get_or_append_left, get_or-append-add, get_or-replicate, length-replicate, replicate_more}
+use Rattle.std.proofs.lemmas.List.{take-append-le, get_or_append_left, get_or-append-add, get_or-replicate, length-replicate}
 use Rattle.core_frames.proofs.PlainLaws.{gone_within}
 use Rattle.core_frames.proofs.Counting.{total_le, places_length, all_places}
 use Rattle.key_interval.specs.Keys.{class_of}
@@ -341,12 +341,6 @@ word_below way t v a word words at is asks = subst (λ (z : ℕ × ℕ). z.0 < z
     (word_inside (shape_of way t) (field_of v.allowance.place a) (has_word (shape_of way t) (field_of v.allowance.place a) asks.0))
 
 -- The first words of a table.
-
--- one more of each
-pub many_more : (old new newer : List ℕ) (i word : ℕ) → new ≡ old ++ replicate i word → newer ≡ new ++ word ∷ []
-    → newer ≡ old ++ replicate (i + 1) word
-many_more old new newer i word was is = is ∙ ap (λ l. l ++ word ∷ []) was ∙ append_assoc old (replicate i word) (word ∷ [])
-    ∙ ap (λ l. old ++ l) (replicate_more i word)
 
 stamps_end : (n : ℕ) → key_stamps n ++ key_stamps 1 ≡ key_stamps (suc n)
 stamps_end zero = refl

@@ -138,11 +138,6 @@ module _ (such : Field → Type 0) where
       → w ≡ after_look (stepped v kind field found) (wait_of v) field last found h → such (spot_seen field) → LooksAt such v w
   look_at v w kind field found last h goes is = step_at v w kind field found (look_trail v w kind field found last h goes) is
 
-  -- a load of a gate
-  pub gate_at : (v w : View) (kind : Kind) (field : Field) (class found : ℕ) → w ≡ gated (stepped v kind field found) class found v.section
-      → such (spot_seen field) → LooksAt such v w
-  gate_at v w kind field class found goes is = step_at v w kind field found (gate_trail v w kind field found class goes) is
-
 -- A grace within the classes of its keys isn't beyond the last one.
 pub within_last : (keys : Interval) (class last : ℕ) → IsWithin keys class → IsLastClass keys last → class ≤ last
 within_last keys class last within is = dite (dec_le class last) (λ most. most)
