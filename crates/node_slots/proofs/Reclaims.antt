@@ -29,9 +29,6 @@ use Rattle.node_slots.proofs.Takes.{each_begins, each_own, returned_nobodys}
 use Rattle.seat_table.proofs.Seats.{unlisted_none, unlisted_else}
 use Rattle.node_slots.proofs.Returns.{unlisted_length}
 
-abbrev everyone : ℕ
-everyone = 18446744073709551615
-
 -- All that is listed.
 pub all_gone : (n : ℕ) (xs : List ℕ) → length xs ≤ n → without_slots (first_slots n xs) xs ≡ []
 all_gone zero [] few = refl
