@@ -17,7 +17,7 @@ use Rattle.prcu_model.specs.Dictionary.{Dictionary, key_of, map_of, map_at, Expl
 use Rattle.prcu_model.specs.Fronts.{own_updates}
 use Rattle.prcu_model.proofs.ListFacts.{prefix_trans, all_map, all_append}
 use Rattle.prcu_marks.specs.declared.mark.Mark.{Mark}
-use Rattle.prcu_marks.specs.declared.mark.Mark.TheVariants.{Entered, Left, Began, Ended, Done, Given, Unlinked, Freed}
+use Rattle.prcu_marks.specs.declared.mark.Mark.TheVariants.{Entered, Left, Began, Ended, Done}
 use Rattle.prcu_marks.specs.Callers.{IsChain, Caller, HasSeenItsOwn, IsLeftBy, entered_for, IsMoveWait, WaitsFor, HasMadeUpdate, WasExplained, HasAnswered}
 use Rattle.prcu_marks.specs.Callers as callers
 use Rattle.prcu_marks.specs.Marks.{updates_of, own_of}
