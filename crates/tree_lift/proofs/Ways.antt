@@ -15,7 +15,7 @@ use Rattle.core_state.specs.declared.view.Known.{Known}
 use Rattle.core_state.specs.declared.view.Reading.{Reading}
 use Rattle.core_state.specs.declared.view.Section.{Section}
 use Rattle.core_state.specs.declared.view.SearchState.{SearchState}
-use Rattle.core_state.specs.declared.view.SearchState.TheVariants.{At, Unread, Found, Missed}
+use Rattle.core_state.specs.declared.view.SearchState.TheVariants.{At, Unread, Missed}
 use Rattle.core_state.specs.declared.view.View.{View}
 use Rattle.core_state.specs.Memory.{step_side, same_side}
 use Rattle.core_state.specs.Steps.{key_stand, linked_on, searched, loaded, after_search_load, fresh_reading}
@@ -429,9 +429,6 @@ module _ (k : Shape) (key salt : ℕ) where
 
 -- What a section leaves.
 module _ {v w : View} {key : ℕ} {r : Reading} (l : HasRead v key r w) where
-  abbrev pub read_marks : List Mark
-  read_marks = Entered v.allowance.place v.counts.sections key ∷ (LeftMark v.allowance.place v.counts.sections ∷ [])
-
   to_end : IsPrefix l.before w.seen
   to_end = subst (IsPrefix l.before) (sym l.seen)
       (prefix_trans l.before (l.before ++ Entered v.allowance.place v.counts.sections key
