@@ -126,9 +126,6 @@ module _ (keys : List ℕ) (index : ℕ) (s : SeatAt) where
       abbrev key : ℕ
       key = slice_index keys index
 
-      pub inside_found : (section : Section) × (t.view.section ≡ Some section)
-      inside_found = in_section k s.view key (at.Found holder p.search.2.0 p.search.2.1 None) t.view p.search.2.2
-
       pub may_load : IsAsked k t.view (SearchLoad holder part.Value)
       may_load = needs_value k s.view key holder p.search.2.0 p.search.2.1 t.view p.search.2.2 p.search.0
 
