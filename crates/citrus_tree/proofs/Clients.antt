@@ -17,7 +17,7 @@ use Rattle.prcu_model.specs.Dictionary.{Dictionary, key_of, map_of, map_at, Expl
 use Rattle.prcu_model.specs.Fronts.{own_updates}
 use Rattle.prcu_model.proofs.ListFacts.{prefix_trans, all_map, all_append}
 use Rattle.prcu_marks.specs.declared.mark.Mark.{Mark}
-use Rattle.prcu_marks.specs.declared.mark.Mark.TheVariants.{Entered, Left, Began, Ended, Done, Given, Unlinked, Freed}
+use Rattle.prcu_marks.specs.declared.mark.Mark.TheVariants.{Entered, Left, Began, Ended, Done}
 use Rattle.prcu_marks.specs.Callers.{IsChain, Caller, HasSeenItsOwn, IsLeftBy, entered_for, IsMoveWait, WaitsFor, HasMadeUpdate, WasExplained, HasAnswered}
 use Rattle.prcu_marks.specs.Callers as callers
 use Rattle.prcu_marks.specs.Marks.{updates_of, own_of}
@@ -35,35 +35,21 @@ use Rattle.citrus_tree.proofs.Leavings.{goes_looked, was_answered}
 -- ---- marks of a call before its update
 
 pub try_left : (place key : ℕ) (m : Mark) → IsOfTry place key m → IsLeftBy place key m
+try_left place key (Began p c low high) is = is.0
 try_left place key (Entered p c x) is = is
 try_left place key (Left p c) is = is
-try_left place key (Began p c low high) is = is.0
 try_left place key (Ended p c) is = is
-try_left place key (Done u) is = absurd is
-try_left place key (Given s) is = absurd is
-try_left place key (Unlinked s) is = absurd is
-try_left place key (Freed s) is = absurd is
+try_left place key _ is = absurd is
 
 pub try_waits : (us : List Update) (place key : ℕ) (m : Mark) → IsOfTry place key m → WaitsFor us m
-try_waits us place key (Entered p c x) is = tt
-try_waits us place key (Left p c) is = tt
 try_waits us place key (Began p c low high) is = inl (is.1, (let top = is.2 in omega arith))
-try_waits us place key (Ended p c) is = tt
 try_waits us place key (Done u) is = absurd is
-try_waits us place key (Given s) is = absurd is
-try_waits us place key (Unlinked s) is = absurd is
-try_waits us place key (Freed s) is = absurd is
+try_waits us place key _ is = tt
 
 pub no_updates : (place key : ℕ) (ms : List Mark) → AllByRecursion (IsOfTry place key) ms → updates_of ms ≡ []
 no_updates place key [] all = refl
-no_updates place key (Entered p c x ∷ ms) all = no_updates place key ms all.1
-no_updates place key (Left p c ∷ ms) all = no_updates place key ms all.1
-no_updates place key (Began p c low high ∷ ms) all = no_updates place key ms all.1
-no_updates place key (Ended p c ∷ ms) all = no_updates place key ms all.1
 no_updates place key (Done u ∷ ms) all = absurd all.0
-no_updates place key (Given s ∷ ms) all = absurd all.0
-no_updates place key (Unlinked s ∷ ms) all = absurd all.0
-no_updates place key (Freed s ∷ ms) all = absurd all.0
+no_updates place key (_ ∷ ms) all = no_updates place key ms all.1
 
 -- who has seen more has seen no fewer updates, and as many maps more
 updates_more : (a b : List Mark) → IsPrefix a b → (more : List Update) × (updates_of b ≡ updates_of a ++ more)
@@ -264,10 +250,7 @@ module _ (k : Shape) (v w : View) where
       (length (updates_of w.seen)) (updates_below v.seen w.seen p.1.own.begins) (omega arith)
       (subst (λ d. Explains (room_of k) d (Put key value) Full) (sym now)
       (kept_apart k.slots (finite.len (map_of (updates_of w.seen))) k.room (k.places - 1) p.3.fills))
-  was_put key value tries (Val x) number p = absurd p
-  was_put key value tries Absent number p = absurd p
-  was_put key value tries Gone number p = absurd p
-  was_put key value tries (Was x) number p = absurd p
+  was_put key value tries _ number p = absurd p
 
   was_set : (key value : ℕ) (tries : List Mark) (reply : Reply) (number : ℕ) → SetsBy v key value tries reply number w
       → HasAnswered (Explains (room_of k)) (of_view v) (Set key value) (record { reply = reply; number = number }) (of_view w)
@@ -330,6 +313,5 @@ chain_told {C} made on_tree answers k ops tolds before after same none chain =
 
     with_shape : (os : List Op) (ts : List Told) (c : C) → (on_tree c).shape ≡ k → IsChain made c os ts after → IsChain kept c os ts after
     with_shape [] [] c is done = done
-    with_shape [] (t ∷ ts) c is done = absurd done
-    with_shape (o ∷ os) [] c is done = absurd done
     with_shape (o ∷ os) (t ∷ ts) c is done = (done.0, (done.1, is), with_shape os ts done.0 ((answers c o t done.0 done.1).0 ∙ is) done.2)
+    with_shape _ _ c is done = absurd done

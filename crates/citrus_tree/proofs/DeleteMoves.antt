@@ -44,7 +44,6 @@ use Rattle.core_laws.proofs.Locks.{loaded_known}
 use Rattle.core_points.specs.declared.stage.Successor.{Successor}
 use Rattle.core_frames.proofs.Roles.{map_append}
 use Rattle.core_state.specs.declared.view.Held.{Held}
-use Rattle.core_points.specs.declared.stage.Waits.TheVariants as waits
 use Rattle.core_points.specs.declared.stage.Stage.TheVariants as at
 use Rattle.core_points.specs.declared.stage.Last.TheVariants as last
 use Rattle.core_points.specs.declared.stage.Update.TheVariants as update
@@ -162,13 +161,6 @@ few_listed s d a roomy listed =
 
 -- The wait of a move, and what is retired after it.
 
-pub move_outside : {k : Shape} {kept key : ℕ} {v : View} (m : Moving) → IsAt k (Del key) kept (at.Begin (waits.Move m)) v → v.section ≡ None
-move_outside m a = ((a.fits.point).0).outside
-
-pub move_paid : {k : Shape} {kept key : ℕ} {v : View} (m : Moving) → IsAt k (Del key) kept (at.Begin (waits.Move m)) v
-    → 1 ≤ v.allowance.tickets
-move_paid m a = let t = a.fits.tickets in omega (arith, t)
-
 pub waited_for : {k : Shape} {v w : View} {keys : Interval} (low high : ℕ) → keys ≡ record { low = low; high = high }
     → HasWaited k v keys.low keys.high w → HasWaited k v low high w
 waited_for {k} {v} {w} low high e waited = subst (λ (x : Interval). HasWaited k v x.low x.high w) e waited
@@ -254,10 +246,6 @@ module _ {k : Shape} {op : Op} {kept : ℕ} (d : Node) (child : ℕ) (is : child
 pub bypass_paid : {k : Shape} {op : Op} {kept child e : ℕ} {v : View} (d : Node) → IsAt k op kept (at.Commit (update.Bypass d child) e) v
     → (v.moving ≡ None) × (v.commit ≡ None)
 bypass_paid d a = let q = ((a.fits.point).0).quiet in (q.settled, q.turn_is)
-
-pub bypass_odd : {k : Shape} {op : Op} {kept child front : ℕ} {v : View} (d : Node)
-    → IsAt k op kept (at.Even (update.Bypass d child) front) v → v.commit ≡ Some (record { found = front; stored = true })
-bypass_odd d a = ((a.fits.point).0).turn_is
 
 pub settled : {k : Shape} {op : Op} {kept number child : ℕ} {v : View} (slot : ℕ) (b : Side) → child ≢ 0
     → IsAt k op kept (relinked_at number slot b child) v → IsAt k op kept (at.Unlock (last.Gone number)) v
@@ -372,10 +360,6 @@ module _ {k : Shape} {op : Op} {kept : ℕ} {d : Node} {u : Successor} {v : View
 pub copy_paid : {k : Shape} {op : Op} {kept next_key copy e : ℕ} {v : View} (d : Node) (u : Successor)
     → IsAt k op kept (at.Commit (update.Copy d u next_key copy) e) v → (v.moving ≡ None) × (v.commit ≡ None)
 copy_paid d u a = let q = (((a.fits.point).0).copying).quiet in (q.settled, q.turn_is)
-
-pub copy_odd : {k : Shape} {op : Op} {kept next_key copy front : ℕ} {v : View} (d : Node) (u : Successor)
-    → IsAt k op kept (at.Even (update.Copy d u next_key copy) front) v → v.commit ≡ Some (record { found = front; stored = true })
-copy_odd d u a = ((a.fits.point).0).turn_is
 
 -- the right of the old successor is a slot, or there is none: its number fits 32 bits
 right_fits : {k : Shape} {op : Op} {kept child : ℕ} {v : View} {h : List Mark} {word : Field → ℕ} (m : Moving)

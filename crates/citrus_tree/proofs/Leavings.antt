@@ -19,7 +19,7 @@ use Rattle.seat_table.specs.Sections.{Makes, HasStepped}
 use Rattle.tree_points.specs.Points.{HasGone, IsAt, KeepsAllowance}
 use Rattle.tree_points.proofs.Locks.{allowed, further_by, gone_none, gone_on, gone_stays, gone_same, stays, further, no_further, allowed_on}
 use Rattle.citrus_tree.specs.Going.{Goes, Opened, Closed, KeepsSlots, retired_marks, HasBegunFirst, HasBegunNone, KeepsWait, MakesRoom, Reused, KeepsSeat}
-use Rattle.citrus_tree.specs.Lookups.{Looked, Gets, IsSearching}
+use Rattle.citrus_tree.specs.Lookups.{Looked, IsSearching}
 use Rattle.citrus_tree.specs.Replies.{WasAnswered}
 use Rattle.prcu_model.specs.declared.operation.Op.{Op}
 use Rattle.core_state.specs.Steps.{with_front, new_wait}
@@ -33,7 +33,6 @@ use Rattle.seat_table.specs.Seats.{SeatAt, AreListed, IsQuietSeat}
 use Rattle.seat_table.specs.Waits.{HasWaited}
 use Rattle.node_slots.specs.Reclaiming.{HasReclaimed}
 use Rattle.citrus_tree.specs.Deletes.{HasSearched, KeepsRest, BeginsByLookup}
-use Rattle.prcu_model.specs.declared.operation.Told.{Told as Reply}
 use Rattle.core_state.specs.declared.view.Waiting.{Waiting}
 use Rattle.seat_table.proofs.SeveralSteps.{seen_more, enters_steps, makes_steps, prefix_steps, told_steps}
 use Rattle.node_slots.proofs.Takes.{each_begins}
@@ -250,9 +249,6 @@ pub any_begins : (k : Shape) (v : View) (expected : ℕ) → expected % 2 ≡ 0 
 any_begins k v expected even op kept e u a = commits_any a expected even
 
 module _ (k : Shape) (v w : View) (front : ℕ) where
-  pub may_close : v.commit ≡ Some (record { found = front; stored = true }) → IsAsked k v (acts.CloseCommit (front + 2))
-  may_close odd = λ now. (tt, (front, odd, refl))
-
   pub closes : Told k v (acts.CloseCommit (front + 2)) (front + 2) w → Closed v w
   closes told = let latest = ap (λ (z : View). z.latest) told.goes in let trail = ap (λ (z : View). z.trail) told.goes in
       record {
@@ -408,10 +404,6 @@ first_stays {u} {v} {w} first seen same = record {
 pub reclaimed_first : {k : Shape} {v w : View} {listed : List ℕ} → HasReclaimed k v listed w → HasBegunFirst v w
 reclaimed_first {k} {v} {w} back = first_stays (waited_first back.waits) (each_begins back.waited w _ back.gives.marks)
     (ap (λ (z : View). z.wait) back.gives.rest)
-
--- a lookup begins none
-pub gets_wait : {v w : View} {key : ℕ} {told : Reply} → Gets v key told w → KeepsWait v w
-gets_wait gets = let goes = goes_looked gets.2 in inl (none_begun goes.gone goes.waits goes.wait)
 
 -- one wait, and then another
 first_twice : {u v w : View} → HasBegunFirst u v → u.counts.waits ≤ v.counts.waits → HasBegunFirst v w → HasBegunFirst u w

@@ -12,7 +12,7 @@ use Rattle.tree_points.specs.Points.{IsAt, IsDone, HasLocks, HasGone}
 use Rattle.tree_points.proofs.Passing.{moves_on, begins_set, has_kept, is_quiet, outside_enter, unlocked_enter, needs, at_true, at_false, commits_any, passes}
 use Rattle.prcu_marks.specs.declared.commit.Commit.{Commit}
 use Rattle.prcu_marks.specs.declared.mark.Mark.{Mark}
-use Rattle.prcu_marks.specs.declared.mark.Mark.TheVariants.{Done, Entered, Left as LeftMark, Began, Ended, Given, Unlinked, Freed}
+use Rattle.prcu_marks.specs.declared.mark.Mark.TheVariants.{Done, Entered, Left as LeftMark, Began}
 use Rattle.prcu_marks.specs.declared.mark.Side.{Side}
 use Rattle.prcu_marks.specs.Marks.{updates_of}
 use Rattle.prcu_marks.proofs.Marks.{updates_of-append, entered_for-append}
@@ -62,9 +62,6 @@ gives_up_value {k} {op} {kept} {e} {v} {s} {old} a =
 -- the life found is that of the record, unmarked
 pub life_is : (life generation : ℕ) → life % 2 ≢ 1 → life / 2 ≡ generation → life ≡ 2 * generation
 life_is life generation unmarked half = omega arith
-
-pub life_other : (life generation : ℕ) → life ≡ 2 * generation → (life % 2 ≢ 1) × (life / 2 ≡ generation)
-life_other life generation e = (omega arith, omega arith)
 
 -- the same, by a test for it
 pub is_alive : (life generation : ℕ) {alive : Bool} → alive ≡ (life == 2 * generation) → alive ≡ true → life ≡ 2 * generation
@@ -282,14 +279,8 @@ module _ {k : Shape} {key kept value s g : ℕ} {v : View} (a : IsAt k (Set key 
 
 pub waits_in-append : (a b : List Mark) → waits_in (a ++ b) ≡ waits_in a + waits_in b
 waits_in-append [] b = omega arith
-waits_in-append (Entered p c x ∷ a) b = waits_in-append a b
-waits_in-append (LeftMark p c ∷ a) b = waits_in-append a b
 waits_in-append (Began p c low high ∷ a) b = (let e = waits_in-append a b in omega arith)
-waits_in-append (Ended p c ∷ a) b = waits_in-append a b
-waits_in-append (Done u ∷ a) b = waits_in-append a b
-waits_in-append (Given s ∷ a) b = waits_in-append a b
-waits_in-append (Unlinked s ∷ a) b = waits_in-append a b
-waits_in-append (Freed s ∷ a) b = waits_in-append a b
+waits_in-append (_ ∷ a) b = waits_in-append a b
 
 -- A call that stands at its first point may begin.
 pub may_begin : {k : Shape} {op : Op} {kept : ℕ} {v : View} → IsAt k op kept at.EnterClock v → MayBegin k op kept v

@@ -361,10 +361,6 @@ module _ (k : Shape) (v : View) (key : ℕ) where
       × (j.reading ≡ noting_load i.reading (Life s) life)
   found_aged s p b value life w x i t = stays (Found s p b value) s part.Life life w x i t (λ r. refl)
 
-  pub needs_found_life : (s p : ℕ) (b : Side) (w : View) → IsSearching v key (Found s p b None) w → IsSlot k s
-      → IsAsked k w (SearchLoad s part.Life)
-  needs_found_life s p b w i slot = asks (Found s p b None) part.Life w i slot
-
   -- The life was loaded last, and the section left: the slot that has the key, with its generation then.
   abbrev aged_holder : (s p : ℕ) (b : Side) (value : Option ℕ) (old life generation : ℕ) (r : Reading) (x y : View) → IsSlot k s
       → (j : IsSearching v key (Found s p b value) x) → j.reading ≡ noting_load r (Life s) life → (l : Looked v key (Some old) y)
@@ -459,9 +455,6 @@ module _ (k : Shape) (key : ℕ) (last : Hop) (s : ℕ) (b : Side) (w : View) (i
   pub link_slot : (v : View) × Stands k v key last s b w → IsSlot k s
   link_slot stands = (stands_at_link stands.0 stands.1).0
 
-  pub link_searching : (v : View) × Stands k v key last s b w → (v : View) × IsSearching v key (at.At s b) w
-  link_searching stands = (stands.0, (stands_at_link stands.0 stands.1).1)
-
   module _ (x : View) where
     pub hop_moved : (c : ℕ) (d : Side) → IsSlot k c → ((v : View) → IsSearching v key (at.At s b) w → IsSearching v key (at.At c d) x)
         → (v : View) → Stands k v key last s b w → Stands k v key last c d x
@@ -483,9 +476,6 @@ module _ (k : Shape) (key : ℕ) (last : Hop) (s : ℕ) (b : Side) (w : View) (c
 
   with_value : IsSearching v key (at.Found c at_found.2.0 at_found.2.1 (Some value)) x
   with_value = valued k v key c at_found.2.0 at_found.2.1 value w x at_found.2.2 t
-
-  pub found_inside : (section : Section) × (x.section ≡ Some section)
-  found_inside = in_section k v key (at.Found c at_found.2.0 at_found.2.1 (Some value)) x with_value
 
   pub found_finished : (y : View) → HasLeft x y → Looked v key (Some value) y
   found_finished y left = looked_found k v key c at_found.2.0 value at_found.2.1 x y with_value left

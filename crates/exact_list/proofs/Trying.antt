@@ -536,13 +536,6 @@ ends_later (Moved f n) first last most ts us given ends =
       (ts ++ e.0, e.1, ap (λ l. ts ++ l) e.2 ∙ sym (append_assoc ts e.0 (e.1 ∷ [])), e.3, e.4),
     )
 
--- where tries are left
-pub ends_early : (r : Listed) (most more : ℕ) (ts : List Try) → most ≤ more → ((first last : ℕ) → r ≡ Moved first last → ⊥)
-    → EndAs r most ts → EndAs r more ts
-ends_early (Whole front) most more ts less counted ends = (omega (arith, less, ends.0), ends.1)
-ends_early (Part front next) most more ts less counted ends = (omega (arith, less, ends.0), ends.1)
-ends_early (Moved first last) most more ts less counted ends = absurd (counted first last refl)
-
 pub recent_later : (r : Listed) (a b h : List Mark) → IsPrefix a b → IsRecent r b h → IsRecent r a h
 recent_later (Whole front) a b h p is = (let e = updates_below a b p in omega (arith, e, is.0), is.1)
 recent_later (Part front next) a b h p is = (let e = updates_below a b p in omega (arith, e, is.0), is.1)

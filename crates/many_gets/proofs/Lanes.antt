@@ -126,9 +126,6 @@ module _ (keys : List ℕ) (index : ℕ) (s : SeatAt) where
       abbrev key : ℕ
       key = slice_index keys index
 
-      pub inside_found : (section : Section) × (t.view.section ≡ Some section)
-      inside_found = in_section k s.view key (at.Found holder p.search.2.0 p.search.2.1 None) t.view p.search.2.2
-
       pub may_load : IsAsked k t.view (SearchLoad holder part.Value)
       may_load = needs_value k s.view key holder p.search.2.0 p.search.2.1 t.view p.search.2.2 p.search.0
 
@@ -600,12 +597,11 @@ total_few : {A : Type 0} (f : A → ℕ) (most : ℕ) (before after : List A) �
     → ((i : ℕ) (s t : A) → get_elem? before i ≡ some s → get_elem? after i ≡ some t → f t ≤ f s + most)
     → total f after ≤ total f before + length before * most
 total_few f most [] [] same each = omega arith
-total_few f most [] (t ∷ after) same each = absurd (omega (arith, same))
-total_few f most (s ∷ before) [] same each = absurd (omega (arith, same))
 total_few f most (s ∷ before) (t ∷ after) same each =
     let here = each 0 s t refl refl in
     let rest = total_few f most before after (omega (arith, same)) (λ i x y at_x at_y. each (suc i) x y at_x at_y) in
     omega (arith, here, rest)
+total_few f most _ _ same each = absurd (omega (arith, same))
 
 -- All lanes together make no more than their budgets.
 pub lanes_few : (way : ℕ) (table : TableAt) (keys : List ℕ) (answers : List (Option ℕ)) (before : List SeatAt) (lanes : List Lane)

@@ -1,6 +1,6 @@
 -- The calls on slots over the points of a call of the tree: where one begins its conditions are met, and where it ends the next point
 -- stands.
-use Rattle.std.proofs.Common.{◌≡◌, ◌≢◌, ℕ, ◌+◌, ◌-◌, ◌≤◌, true, false, List, [], ◌∷◌, ◌++◌, map, Option, Some, None, refl, sym, ap, subst, ◌∙◌, arith}
+use Rattle.std.proofs.Common.{◌≡◌, ◌≢◌, ℕ, ◌+◌, ◌-◌, ◌*◌, ◌≤◌, length, true, false, List, [], ◌∷◌, ◌++◌, map, Option, Some, None, refl, sym, ap, subst, ◌∙◌, arith}
 use Rattle.node_slots.specs.declared.answers.Taken.TheVariants.{Slot, Empty}
 use Rattle.node_slots.specs.declared.answers.Taken.{Taken}
 use mathlib.Core.List.{IsPrefix}
@@ -18,13 +18,15 @@ use Rattle.list_laws.specs.Counts.{times, Each}
 use Rattle.list_laws.proofs.Lists.{times_here}
 use Rattle.core_points.specs.declared.stage.Spot.{Spot}
 use Rattle.core_points.specs.declared.stage.Aim.{Aim}
-use Rattle.core_points.specs.declared.stage.Aim.TheVariants.{Leaf, Spare, Room}
+use Rattle.core_points.specs.declared.stage.Aim.TheVariants.{Leaf, Spare}
 use Rattle.core_points.specs.declared.stage.Waits.TheVariants.{Reuse}
+use Rattle.core_points.specs.declared.stage.Stage.{Stage}
 use Rattle.core_points.specs.declared.stage.Stage.TheVariants as at
 use Rattle.core_points.specs.Programs.{Own, go, is_none_left, is_some, key_now, value_in}
-use Rattle.core_points.specs.Facts.{HandFits}
-use Rattle.core_points.specs.Fits.{Fits, owed_reserve}
-use Rattle.core_points.proofs.Notes.{owns_noted, bare_noted}
+use Rattle.core_points.specs.Facts.{HandFits, Owns}
+use Rattle.core_points.specs.Fits.{Fits, Point, plain, owed, owed_reserve}
+use Rattle.core_points.proofs.Calls.{of_call}
+use Rattle.core_points.proofs.Notes.{fits, owns_noted, bare_noted}
 use Rattle.seat_table.specs.Gains.{IsFull}
 use Rattle.seat_table.specs.Seats.{IsSlotOf}
 use Rattle.tree_points.specs.Points.{IsAt, IsDone, HasGone, HasGivenAll}
@@ -36,13 +38,18 @@ use Rattle.node_slots.specs.Reclaiming.{first_spare, HasReclaimed}
 
 least_two : (aim : Aim) (retired : List ℕ) → 2 ≤ owed_reserve aim retired
 least_two (Leaf spot) [] = omega arith
-least_two (Leaf spot) (s ∷ ss) = omega arith
-least_two Spare retired = omega arith
-least_two Room retired = omega arith
+least_two aim retired = omega arith
 
 three_left : (retired : List ℕ) (spot : Spot) → is_none_left retired ≡ false → owed_reserve (Leaf spot) retired ≡ 3
 three_left [] spot e = cc
 three_left (s ∷ ss) spot e = refl
+
+-- The call goes on to a point where no retired slot is raised, with a view that is told whole.
+comes_to : {k : Shape} {op : Op} {kept : ℕ} {from to : Stage} {v w told : View} (a : IsAt k op kept from v) (o : Own)
+    → of_call o ≡ of_call a.own → w ≡ told → Owns o told → Each told.hands.retired (λ (r : Retired). r.raised ≡ false)
+    → owed o to + 4 * length o.rest + o.kept ≤ told.allowance.tickets → Point o to (plain told) → IsAt k op kept to w
+comes_to {to = to} a o same is owns unraised paid point =
+    moves_on a o same (subst (Fits o to) (sym is) (fits owns unraised paid point))
 
 -- What take asks.
 pub record MayTake (v : View) : Type 0 where
@@ -69,18 +76,6 @@ module _ {slot generation : ℕ} {v w : View} (taken : HasTaken v slot generatio
   abbrev life : ℕ
   life = taken.life
 
-  abbrev u : View
-  u = noting v slot (Life slot) life false
-
-  abbrev after_taking : View
-  after_taking = record u {
-    allowance = record v.allowance { tickets = v.allowance.tickets - 1 };
-    hands = record u.hands { hand = Some (aged slot life) };
-    latest = record v.latest { free = w.latest.free };
-    trail = w.trail;
-    seen = w.seen;
-  }
-
   pub taken_in_hand : w.hands.hand ≡ Some (aged slot taken.life)
   taken_in_hand = ap (λ (z : View). z.hands.hand) taken.rest
 
@@ -100,44 +95,33 @@ module _ {slot generation : ℕ} {v w : View} (taken : HasTaken v slot generatio
       let f = a.fits in
       let p = f.point in
       let i = p.idle in
-      let o' : Own = go (record o { hand = Some slot; hand_life = life }) (at.LeafField spot 0) in
-      let fits : Fits o' (at.LeafField spot 0) after_taking = record {
-        owns = owns_noted o v slot (Life slot) life false f.owns;
-        tickets = (let t = f.tickets in let two = least_two (Leaf spot) o.retired in omega arith);
-        unraised = λ z. f.unraised refl;
-        point = record {
-          outside = i.outside;
-          bare = bare_noted v slot (Life slot) life false [] [] None false i.bare refl;
-          slot = slot;
-          taken = refl;
-          in_hand = refl;
-          has_spot = (p.takes).0;
-          puts = (p.takes).1;
-          small = omega arith;
-        };
-      } in
-      moves_on a o' refl (subst (Fits o' (at.LeafField spot 0)) (sym taken.rest) fits)
+      comes_to a (go (record o { hand = Some slot; hand_life = life }) (at.LeafField spot 0)) refl taken.rest
+      (owns_noted o v slot (Life slot) life false f.owns) (f.unraised refl)
+      (let t = f.tickets in let two = least_two (Leaf spot) o.retired in omega arith) (record {
+        outside = i.outside;
+        bare = bare_noted v slot (Life slot) life false [] [] None false i.bare refl;
+        slot = slot;
+        taken = refl;
+        in_hand = refl;
+        has_spot = (p.takes).0;
+        puts = (p.takes).1;
+        small = omega arith;
+      })
 
   pub takes_spare : {k : Shape} {op : Op} {kept e : ℕ} → IsAt k op kept (at.Reserve Spare e) v → IsAt k op kept (at.Keep slot) w
   takes_spare a =
       let o : Own = a.own in
       let f = a.fits in
       let i = (f.point).idle in
-      let o' : Own = go (record o { hand = Some slot; hand_life = life }) (at.Keep slot) in
-      let fits : Fits o' (at.Keep slot) after_taking = record {
-        owns = owns_noted o v slot (Life slot) life false f.owns;
-        tickets = (let t = f.tickets in omega arith);
-        unraised = λ z. f.unraised refl;
-        point = record {
-          outside = i.outside;
-          bare = bare_noted v slot (Life slot) life false [] [] None false i.bare refl;
-          held = aged slot life;
-          in_hand = refl;
-          slot_is = refl;
-          lacks = (f.point).takes;
-        };
-      } in
-      moves_on a o' refl (subst (Fits o' (at.Keep slot)) (sym taken.rest) fits)
+      comes_to a (go (record o { hand = Some slot; hand_life = life }) (at.Keep slot)) refl taken.rest
+      (owns_noted o v slot (Life slot) life false f.owns) (f.unraised refl) (let t = f.tickets in omega arith) (record {
+        outside = i.outside;
+        bare = bare_noted v slot (Life slot) life false [] [] None false i.bare refl;
+        held = aged slot life;
+        in_hand = refl;
+        slot_is = refl;
+        lacks = (f.point).takes;
+      })
 
 -- No slot was free.
 none_retired : (rs : List Retired) (os : List ℕ) → map (λ (r : Retired). r.slot) rs ≡ os → rs ≢ [] → is_none_left os ≡ false
@@ -145,9 +129,6 @@ none_retired [] os e some = absurd (some refl)
 none_retired (r ∷ rs) os e some = ap is_none_left (sym e)
 
 module _ {k : Shape} {v w : View} (none : FoundNone k v w) where
-  abbrev after_none : View
-  after_none = record v { latest = record v.latest { free = Some 0 }; trail = w.trail; seen = w.seen }
-
   pub none_gone : IsPrefix v.trail.steps w.trail.steps → HasGone v w []
   none_gone steps = gone_all w.seen steps none.sees (allowed none.rest refl) refl
 
@@ -159,18 +140,11 @@ module _ {k : Shape} {v w : View} (none : FoundNone k v w) where
   none_is_full a = let b = a.fits.point.idle.bare in none.full b.settled b.paid
 
   pub none_ends : {op : Op} {kept e : ℕ} {spot : Spot} → IsAt k op kept (at.Reserve (Leaf spot) e) v → IsDone k op kept w
-  none_ends {spot = spot} a =
-      let o : Own = a.own in
+  none_ends a =
       let f = a.fits in
       let i = (f.point).idle in
-      let o' : Own = go o at.Finished in
-      let fits : Fits o' at.Finished after_none = record {
-        owns = f.owns;
-        tickets = (let t = f.tickets in omega arith);
-        unraised = λ z. f.unraised refl;
-        point = (i.outside, i.bare, i.empty);
-      } in
-      moves_on a o' refl (subst (Fits o' at.Finished) (sym none.rest) fits)
+      comes_to a (go a.own at.Finished) refl none.rest f.owns (f.unraised refl) (let t = f.tickets in omega arith)
+      (i.outside, i.bare, i.empty)
 
   -- Where something is retired it is given back first.
   pub none_begins : {op : Op} {kept e : ℕ} {spot : Spot} → v.hands.retired ≢ [] → IsAt k op kept (at.Reserve (Leaf spot) e) v
@@ -179,29 +153,16 @@ module _ {k : Shape} {v w : View} (none : FoundNone k v w) where
       let o : Own = a.own in
       let f = a.fits in
       let p = f.point in
-      let o' : Own = go o (at.Begin (Reuse (Leaf spot))) in
-      let fits : Fits o' (at.Begin (Reuse (Leaf spot))) after_none = record {
-        owns = f.owns;
-        tickets = (let t = f.tickets in let three = three_left o.retired spot
-            (none_retired v.hands.retired o.retired f.owns.retired_are some) in omega arith);
-        unraised = λ z. f.unraised refl;
-        point = (p.idle, p.takes);
-      } in
-      moves_on a o' refl (subst (Fits o' (at.Begin (Reuse (Leaf spot)))) (sym none.rest) fits)
+      comes_to a (go o (at.Begin (Reuse (Leaf spot)))) refl none.rest f.owns (f.unraised refl)
+      (let t = f.tickets in let three = three_left o.retired spot
+      (none_retired v.hands.retired o.retired f.owns.retired_are some) in omega arith)
+      (p.idle, p.takes)
 
   pub none_begins_spare : {op : Op} {kept e : ℕ} → IsAt k op kept (at.Reserve Spare e) v → IsAt k op kept (at.Begin (Reuse Spare)) w
   none_begins_spare a =
-      let o : Own = a.own in
       let f = a.fits in
       let p = f.point in
-      let o' : Own = go o (at.Begin (Reuse Spare)) in
-      let fits : Fits o' (at.Begin (Reuse Spare)) after_none = record {
-        owns = f.owns;
-        tickets = f.tickets;
-        unraised = λ z. f.unraised refl;
-        point = (p.idle, (p.takes).deletes);
-      } in
-      moves_on a o' refl (subst (Fits o' (at.Begin (Reuse Spare))) (sym none.rest) fits)
+      comes_to a (go a.own (at.Begin (Reuse Spare))) refl none.rest f.owns (f.unraised refl) f.tickets (p.idle, (p.takes).deletes)
 
 -- What put_back asks.
 pub record MayPutBack (v : View) : Type 0 where
@@ -251,16 +212,11 @@ module _ {slot : ℕ} {v w : View} (back : PutsBack v slot w) where
         trail = sym e i;
         seen = w.seen;
       }) in
-      let o' : Own = go (record o { hand = None }) at.Finished in
       let b1 = bare_noted v slot (Life slot) life false [] [] None false (p.2).bare refl in
       let b2 = bare_noted first slot (Life slot) (next_life life) true [] [] None false b1 refl in
-      let fits : Fits o' at.Finished last = record {
-        owns = owns_noted o first slot (Life slot) (next_life life) true (owns_noted o v slot (Life slot) life false f.owns);
-        tickets = f.tickets;
-        unraised = λ z. f.unraised refl;
-        point = (p.0, b2, refl);
-      } in
-      moves_on a o' refl (subst (Fits o' at.Finished) (sym is) fits)
+      comes_to a (go (record o { hand = None }) at.Finished) refl is
+      (owns_noted o first slot (Life slot) (next_life life) true (owns_noted o v slot (Life slot) life false f.owns))
+      (f.unraised refl) f.tickets (p.0, b2, refl)
 
 -- What reclaim asks.
 pub record MayReclaim (v : View) : Type 0 where

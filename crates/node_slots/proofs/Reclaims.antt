@@ -29,9 +29,6 @@ use Rattle.node_slots.proofs.Takes.{each_begins, each_own, returned_nobodys}
 use Rattle.seat_table.proofs.Seats.{unlisted_none, unlisted_else}
 use Rattle.node_slots.proofs.Returns.{unlisted_length}
 
-abbrev everyone : ℕ
-everyone = 18446744073709551615
-
 -- All that is listed.
 pub all_gone : (n : ℕ) (xs : List ℕ) → length xs ≤ n → without_slots (first_slots n xs) xs ≡ []
 all_gone zero [] few = refl
@@ -82,11 +79,9 @@ first_among (suc n) (x ∷ xs) P each = (
 )
 
 spare_first : (spare : List ℕ) (n : ℕ) (xs : List ℕ) → length xs ≤ n → first_spare spare (first_slots n xs) ≡ first_spare spare xs
-spare_first [] zero [] few = refl
 spare_first [] zero (x ∷ xs) few = absurd (omega arith)
-spare_first [] (suc n) [] few = refl
 spare_first [] (suc n) (x ∷ xs) few = refl
-spare_first (s ∷ ss) n xs few = refl
+spare_first spare n xs few = refl
 
 -- The wait.
 module _ (k : Shape) (v w : View) (waits : HasWaited k v 0 18446744073709551615 w) (settled : v.moving ≡ None) where

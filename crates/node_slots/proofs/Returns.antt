@@ -1,5 +1,5 @@
 -- Retired slots go back, each by its steps and one after another, and the seat's list of them with them.
-use Rattle.std.proofs.Common.{◌≡◌, ◌≢◌, ℕ, suc, ◌≤◌, ◌==◌, cond, List, [], ◌∷◌, length, map, refl, sym, ap, subst, ◌∙◌, ⊎_elim, arith, eq-eqb, ne_eqb, zero, ◌-◌, not, ◌++◌, Option, Some, None, inl, inr, append_assoc, append-nil, ◌+◌, ◌<◌, true, false, ◌⊎◌}
+use Rattle.std.proofs.Common.{◌≡◌, ◌≢◌, ℕ, suc, ◌≤◌, ◌==◌, cond, List, [], ◌∷◌, length, map, refl, sym, ap, subst, ◌∙◌, ⊎_elim, arith, eq-eqb, ne_eqb, zero, ◌-◌, ◌++◌, Option, Some, None, inl, inr, append_assoc, append-nil, ◌+◌, ◌<◌, true, false, ◌⊎◌}
 use Rattle.std.proofs.lemmas.Bool.{cases_eq}
 use Rattle.core_state.specs.declared.view.Retired.{Retired}
 use Rattle.list_laws.specs.Counts.{times, IsIn}

@@ -25,12 +25,11 @@ use Rattle.node_slots.specs.Slots.{aged, HasSeized, Reserved, FoundEmpty, FoundO
 use Rattle.core_state.specs.declared.view.StepMade.{StepMade}
 use Rattle.core_state.specs.declared.view.Trail.{Trail}
 use Rattle.seat_table.specs.declared.notes.TheConstants.{MOST_NOTED}
-use Rattle.seat_table.specs.Seats.{next_slot, after_look, IsLastFound, TableAt, shape_of, IsSlotOf}
+use Rattle.seat_table.specs.Seats.{next_slot, after_look, IsLastFound, IsSlotOf}
 use Rattle.node_slots.specs.Taking.{exchange, look, own_life, MakesSteps, AreLost, IsMiss, after_field, come_to, GoRound, TriesFor, TriesInVain, LosesTries, ReservesAtLast, Misses, MissesNoted, MissesInRound, Finds, FindsNoted, FindsInRound, HasTried, HasReserved, FoundNone, HasScanned, HasGot, HasTaken}
 use Rattle.core_state.specs.declared.view.Held.{Held}
 use Rattle.core_state.specs.Memory.{slot_count}
 use Rattle.core_frames.proofs.Views.{same_self}
-use Rattle.core_state.specs.declared.view.HeldLock.{HeldLock}
 use Rattle.core_state.specs.Steps.{new_lock, IsNoEnd, NeedsUnlock}
 
 -- Marks that are left one after another.
@@ -360,19 +359,11 @@ module _ (v u w : View) (tried : HasTried v u) where
       }
 
 -- A scan.
-pub scanned_none : (v : View) → HasScanned v v
-scanned_none v = record { rest = refl }
 
 pub tried_none : (v : View) → HasTried v v
 tried_none v = record { rest = refl }
 
 module _ (v u w : View) (slot : ℕ) (scanned : HasScanned v u) where
-  pub scanned_more : (found : ℕ) → FoundTaken u slot found w → HasScanned v w
-  scanned_more found taken =
-      let e = ap (λ (z : View). z.trail) taken.rest in record {
-        rest = taken.rest ∙ (λ i. record u { trail = sym e i }) ∙ ap (λ (z : View). record z { trail = w.trail }) scanned.rest;
-      }
-
   -- who scanned may still work so
   still_leaves : Leaves u (Given slot) w → Leaves v (Given slot) w
   still_leaves = leaves_same v u w (Given slot) (ap (λ (z : View). z.allowance) scanned.rest) (ap (λ (z : View). z.seen) scanned.rest)
@@ -427,10 +418,6 @@ pub may_put_back : (v w : View) (slot generation : ℕ) → HasTaken v slot gene
 may_put_back v w slot generation had = (aged slot had.life, ap (λ (z : View). z.hands.hand) had.rest, refl)
 
 -- What the steps of a slot that is put back told, one after another.
-
--- what the rule tells of a seat of this table
-pub told_of_table : (way : ℕ) (of here : TableAt) (v : View) → of ≡ here → TellsNow (shape_of way of) v → TellsNow (shape_of way here) v
-told_of_table way of here v same told = subst (λ t. TellsNow (shape_of way t) v) same told
 
 -- the slot in hand
 pub slot_is : (o : Option Held) (held : Held) (slot : ℕ) → o ≡ Some held → IsSlotOf (Some slot) o → slot ≡ held.slot

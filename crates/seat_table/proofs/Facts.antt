@@ -9,7 +9,7 @@ use Rattle.atomic_table.proofs.Lists.{at_longer}
 use Rattle.list_laws.specs.Counts.{IsIn, times, total}
 use Rattle.list_laws.proofs.Lists.{at_below, in_first, times_in, total_part, total_set}
 use Rattle.prcu_marks.specs.declared.mark.Mark.{Mark}
-use Rattle.prcu_marks.specs.declared.mark.Mark.TheVariants.{Entered, Left as LeftMark, Began, Ended, Done, Given, Unlinked, Freed}
+use Rattle.prcu_marks.specs.declared.mark.Mark.TheVariants.{Began}
 use Rattle.prcu_marks.specs.declared.mark.Side.{Side}
 use Rattle.prcu_marks.specs.declared.mark.Side.TheVariants.{Left, Right}
 use Rattle.prcu_marks.specs.Marks.{updates_of, open_at, last_unlinked, own_of, most_front, most_life, most_tickets, most_turns, left_by, said_by, StaysWord}
@@ -33,7 +33,7 @@ use Rattle.core_state.specs.Parts.{ArePlaced, turns_to_come, inside_count, IsOdd
 use Rattle.core_state.specs.Steps.{spent_view}
 use Rattle.core_state.specs.Invariant.{HoldsNow, first_view, IsFresh, IsShape, Rule}
 use Rattle.core_frames.proofs.Roles.{works_there, place_within, slots_count, spares_count, held_there, own_below, own_once, retired_count}
-use Rattle.std.proofs.lemmas.List.{take-append-le, get_or_append_left, get_or-append-add, get_or-replicate, length-replicate, replicate_more}
+use Rattle.std.proofs.lemmas.List.{take-append-le, get_or_append_left, get_or-append-add, get_or-replicate, length-replicate}
 use Rattle.core_frames.proofs.PlainLaws.{gone_within}
 use Rattle.core_frames.proofs.Counting.{total_le, places_length, all_places}
 use Rattle.key_interval.specs.Keys.{class_of}
@@ -41,7 +41,7 @@ use Rattle.seat_table.specs.Seats.{TableAt, shape_of, way_of, with_way, HasPlace
 use Rattle.core_state.specs.declared.act.Act.{Act}
 use Rattle.core_state.specs.declared.act.Act.TheVariants.{BeginWait, CountFree, EnterByCount, LeaveByCount}
 use Rattle.prcu_marks.specs.declared.access.Access.{Access}
-use Rattle.prcu_marks.specs.declared.access.Access.TheVariants.{Load, Store, Exchange, Add, Subtract, Flip}
+use Rattle.prcu_marks.specs.declared.access.Access.TheVariants.{Store}
 use Rattle.core_state.specs.Acts.{field_of, access_of, Asks, section_of}
 use Rattle.core_laws.proofs.Acting.{has_word}
 use Rattle.core_frames.proofs.Views.{way_short}
@@ -100,13 +100,7 @@ begun_part p (Began q n low high ∷ ms) = let rest = begun_part p ms in let one
     at_most : (b : Bool) → cond b 1 0 ≤ 1
     at_most true = omega arith
     at_most false = omega arith
-begun_part p (Entered q c x ∷ ms) = begun_part p ms
-begun_part p (LeftMark q c ∷ ms) = begun_part p ms
-begun_part p (Ended q c ∷ ms) = begun_part p ms
-begun_part p (Done u ∷ ms) = begun_part p ms
-begun_part p (Given s ∷ ms) = begun_part p ms
-begun_part p (Unlinked s ∷ ms) = begun_part p ms
-begun_part p (Freed s ∷ ms) = begun_part p ms
+begun_part p (_ ∷ ms) = begun_part p ms
 
 sum_most : (test : ℕ → Bool) (n : ℕ) → sum_below (λ s. flag (test s)) n ≤ n
 sum_most test zero = omega arith
@@ -123,12 +117,8 @@ sum_part f (suc n) s below = dite (ℕ_discrete s n) (λ e. let same : f s ≡ f
 
 pub said_fits : (k : Shape) (field : Field) (a : Access) (n : ℕ) → WordFits k field n → WordFits k field (left_by a n)
     → WordFits k field (said_by a n)
-said_fits k field Load n found left = found
 said_fits k field (Store x) n found left = left
-said_fits k field (Exchange old new) n found left = found
-said_fits k field (Add x) n found left = found
-said_fits k field (Subtract x) n found left = found
-said_fits k field Flip n found left = found
+said_fits k field _ n found left = found
 
 -- a view that worked at a place still does: nobody else answers for its places
 pub still_works : (places : ℕ) (vs : List View) (id : ℕ) (v w : View) → get_elem? vs id ≡ some v → ArePlaced places vs
@@ -351,12 +341,6 @@ word_below way t v a word words at is asks = subst (λ (z : ℕ × ℕ). z.0 < z
     (word_inside (shape_of way t) (field_of v.allowance.place a) (has_word (shape_of way t) (field_of v.allowance.place a) asks.0))
 
 -- The first words of a table.
-
--- one more of each
-pub many_more : (old new newer : List ℕ) (i word : ℕ) → new ≡ old ++ replicate i word → newer ≡ new ++ word ∷ []
-    → newer ≡ old ++ replicate (i + 1) word
-many_more old new newer i word was is = is ∙ ap (λ l. l ++ word ∷ []) was ∙ append_assoc old (replicate i word) (word ∷ [])
-    ∙ ap (λ l. old ++ l) (replicate_more i word)
 
 stamps_end : (n : ℕ) → key_stamps n ++ key_stamps 1 ≡ key_stamps (suc n)
 stamps_end zero = refl

@@ -10,10 +10,10 @@ use Rattle.core_state.specs.declared.view.View.{View}
 use Rattle.prcu_marks.specs.declared.mark.Mark.{Mark}
 use Rattle.list_laws.specs.Counts.{times, numbers_from, IsIn}
 use Rattle.core_state.specs.Views.{Works, places_of, IsQuiet, unraised_among}
-use Rattle.core_state.specs.Steps.{new_view, unknown_slot, NeedsSplit, first_of, second_of, NeedsJoin, both_of, spent_view, meeting_of, spent_places, waited_retired, waited_move}
+use Rattle.core_state.specs.Steps.{unknown_slot, NeedsSplit, first_of, second_of, NeedsJoin, both_of, spent_view, meeting_of, spent_places, waited_retired, waited_move}
 use Rattle.core_state.specs.Invariant.{Rule}
 use Rattle.seat_table.specs.declared.rule.Nothing.{Nothing}
-use Rattle.core_frames.proofs.Roles.{new_view_quiet, quiet_as, slots_in}
+use Rattle.core_frames.proofs.Roles.{quiet_as, slots_in}
 use Rattle.core_state.specs.declared.act.Act.TheVariants.{LoadClock}
 use Rattle.seat_table.specs.Seats.{SeatAt, IsQuietSeat, KeepsOwn, AreApart, unlisted}
 use Rattle.seat_table.specs.Gains.{Sees, TellsNow, Told}
@@ -24,8 +24,8 @@ use mathlib.Core.List.{IsPrefix}
 use Rattle.std.proofs.Math.Seq.{take-append_seam}
 use Rattle.core_state.specs.declared.view.StepMade.{StepMade}
 use Rattle.core_state.specs.declared.view.Waiting.{Waiting}
-use Rattle.seat_table.specs.Sections.{IsQuietReader, HasEntered, HasLeft, HasBegun}
-use Rattle.seat_table.specs.Waits.{HasLooked, IsOver, HasWaited}
+use Rattle.seat_table.specs.Sections.{IsQuietReader, HasEntered, HasBegun}
+use Rattle.seat_table.specs.Waits.{HasLooked, IsOver}
 use Rattle.std.proofs.lemmas.Bool.{cases_eq}
 use Rattle.std.proofs.lemmas.List.{drop_more, drop-append-le, length-append}
 use mathlib.Core.Option.{some}
@@ -159,27 +159,6 @@ still_quiet s t section locks hands moving commit listed q = record {
   };
 }
 
-pub first_quiet : (s t : SeatAt) (places tickets : ℕ) → t.view ≡ first_of places tickets s.view → t.listed ≡ s.listed → IsQuietSeat s
-    → IsQuietSeat t
-first_quiet s t places tickets is listed q = still_quiet s t (ap (λ (z : View). z.section) is) (ap (λ (z : View). z.locks) is)
-    (ap (λ (z : View). z.hands) is) (ap (λ (z : View). z.moving) is) (ap (λ (z : View). z.commit) is) listed q
-
--- a view that works at a place for the first time is quiet
-pub new_quiet : (t : SeatAt) (place places tickets : ℕ) (seen : List Mark) → t.view ≡ new_view place places tickets seen → t.listed ≡ []
-    → IsQuietSeat t
-new_quiet t place places tickets seen is listed =
-    subst (λ (z : List ℕ × View). IsQuietSeat (record { table = t.table; view = z.1; listed = z.0; looked = t.looked }))
-    (λ i. (sym listed i, sym is i))
-    (record { view = new_view_quiet place places tickets seen; listed = record { each = λ slot. refl } })
-
--- after a join, and the load of the clock that follows
-pub joined_quiet : (k : Shape) (s o t : SeatAt) (clock : ℕ) → Told k (both_of s.view o.view) LoadClock clock t.view → t.listed ≡ s.listed
-    → IsQuietSeat s → IsQuietSeat t
-joined_quiet k s o t clock told listed q =
-    let is = told.goes in
-    still_quiet s t (ap (λ (z : View). z.section) is) (ap (λ (z : View). z.locks) is) (ap (λ (z : View). z.hands) is)
-    (ap (λ (z : View). z.moving) is) (ap (λ (z : View). z.commit) is) listed q
-
 pub joined_own : (k : Shape) (v other w : View) (clock : ℕ) → Works other → Told k (both_of v other) LoadClock clock w → KeepsOwn v other w
 joined_own k v other w clock works told =
     let both : List Mark = longer v.seen other.seen in
@@ -259,13 +238,6 @@ over_quiet {k} {s} {t} over listed quiet =
       };
     }
 
--- after a whole wait
-pub waited_quiet : {k : Shape} {s t : SeatAt} {low high : ℕ} → HasWaited k s.view low high t.view → t.listed ≡ s.listed → IsQuietSeat s
-    → IsQuietSeat t
-waited_quiet {k} {s} {t} waited listed quiet =
-    let mid : SeatAt = record s { view = waited.0 } in
-    over_quiet {s = mid} waited.2 listed (begun_quiet {t = mid} waited.1 refl quiet)
-
 -- in a section, and when it was left
 abbrev outside : SeatAt → SeatAt
 outside s = record s { view = record s.view { section = None } }
@@ -277,12 +249,6 @@ entered_quiet {s} {t} entered listed quiet =
       quiet = still_quiet s (outside t) (sym quiet.view.section) (ap (λ (z : View). z.locks) e) (ap (λ (z : View). z.hands) e)
           (ap (λ (z : View). z.moving) e) (ap (λ (z : View). z.commit) e) listed quiet;
     }
-
-pub left_quiet : {s t : SeatAt} → HasLeft s.view t.view → t.listed ≡ s.listed → IsQuietReader s → IsQuietSeat t
-left_quiet {s} {t} left listed quiet =
-    let e = left.others in
-    still_quiet (outside s) t left.outside (ap (λ (z : View). z.locks) e) (ap (λ (z : View). z.hands) e) (ap (λ (z : View). z.moving) e)
-    (ap (λ (z : View). z.commit) e) listed quiet.quiet
 
 -- A list of slots that stand apart, one of which leaves.
 
@@ -319,9 +285,6 @@ unlisted_absent s (x ∷ xs) none = ⊎_elim
     (cases_eq x s)
 
 -- All of a list that stands apart.
-pub apart_none : AreApart []
-apart_none = record { once = λ slot. omega arith }
-
 pub apart_rest : (x : ℕ) (xs : List ℕ) → AreApart (x ∷ xs) → AreApart xs
 apart_rest x xs apart = record {
   once = λ slot. ⊎_elim

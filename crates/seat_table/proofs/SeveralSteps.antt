@@ -7,9 +7,8 @@ use Rattle.core_state.specs.Acts.{noted, after, clocked_at, section_of, field_of
 use Rattle.seat_table.specs.Gains.{Told, Sees, IsInformed, GivesAnswer, LeavesAnswer}
 use Rattle.std.specs.List.{AllByRecursion}
 use mathlib.Core.List.{IsPrefix}
-use Rattle.prcu_model.proofs.ListFacts.{all_append, prefix_trans}
+use Rattle.prcu_model.proofs.ListFacts.{all_append}
 use Rattle.prcu_marks.specs.declared.mark.Mark.{Mark}
-use Rattle.prcu_marks.specs.declared.mark.Mark.TheVariants.{Entered, Left}
 use Rattle.prcu_marks.specs.Marks.{is_of, own_of}
 use Rattle.prcu_marks.proofs.Marks.{own_of-append}
 use Rattle.core_frames.proofs.Roles.{works_there}
@@ -24,7 +23,7 @@ use Rattle.core_state.specs.declared.act.Act.TheVariants.{LoadClock, AnnounceKey
 use Rattle.core_laws.proofs.Acting.{section_is, stays_at_work}
 use Rattle.seat_table.specs.Sections.{Leaves, Makes, EndBy, is_entry, shows_reader, is_exit, HasEntered, EntersBy, HasLeft, HasBegun, HasMadeAtMost, HasStepped, AreOfEntry}
 use Rattle.prcu_marks.specs.declared.mark.Why.{Why}
-use Rattle.prcu_marks.specs.declared.mark.Why.TheVariants.{Reader, Counter, Row as RowOf, Lock, Front}
+use Rattle.prcu_marks.specs.declared.mark.Why.TheVariants.{Reader, Counter, Row as RowOf}
 use Rattle.core_state.specs.declared.shape.Waiter.{Waiter}
 use Rattle.core_state.specs.declared.shape.Waiter.TheVariants.{Eer, Domain, Deer}
 use Rattle.core_state.specs.declared.view.Waiting.{Waiting}
@@ -32,11 +31,9 @@ use Rattle.seat_table.specs.declared.wait.Grace.{Grace}
 use Rattle.seat_table.specs.Waits.{EndWith, HasStopped, Shows}
 use Rattle.std.proofs.lemmas.Bool.{cases_eq}
 use Rattle.core_state.specs.declared.view.Held.{Held}
-use Rattle.core_state.specs.declared.view.HeldLock.{HeldLock}
 use Rattle.core_state.specs.declared.view.Known.{Known}
-use Rattle.core_state.specs.declared.view.Move.{Move}
 use Rattle.core_state.specs.declared.view.Retired.{Retired}
-use Rattle.core_state.specs.Views.{note_lock, note_option, note_moving, change_lock, noting, known_in}
+use Rattle.core_state.specs.Views.{note_option, known_in}
 use Rattle.core_state.specs.Links.{change_retired, without_retired, IsInHand, NeedsFreeInHand, NeedsOwnLife, NeedsRaiseInHand, seized, after_seize, raise_held}
 use Rattle.core_state.specs.declared.words.Field.TheVariants.{Life}
 use Rattle.core_state.specs.declared.shape.Waiter.TheVariants as waiters
@@ -279,26 +276,6 @@ module _ (k : Shape) (v w : View) (section : Section) (was : v.section ≡ Some 
   pub left_row : (class : ℕ) → Told k v (LeaveByRow class) found w → HasLeft v w
   left_row class told = left_by v w kinds.K34 _ found section told.marks refl was told.sees told.goes told.gains told.informed
 
--- A section is entered and left.
-module _ (v mid w : View) (key : ℕ) (first : HasEntered v key mid) (second : HasLeft mid w) where
-  pub visit_seen : IsPrefix v.seen w.seen
-  visit_seen = prefix_trans v.seen mid.seen w.seen (seen_more v mid _ first.leaves) (seen_more mid w _ second.leaves)
-
-  pub visit_own : own_of v.allowance.place w.seen ≡ own_of v.allowance.place v.seen
-      ++ Entered v.allowance.place v.counts.sections key ∷ Left v.allowance.place v.counts.sections ∷ []
-  visit_own =
-      let place : mid.allowance.place ≡ v.allowance.place = ap (λ (z : View). z.allowance.place) first.others in
-      let one : Some first.section ≡ Some second.section = sym first.inside ∙ second.was in
-      let same : first.section ≡ second.section = cc in
-      let count : second.section.count ≡ v.counts.sections = ap (λ (z : Section). z.count) (sym same) ∙ first.count_is in
-      let a = own_more v mid _ (eq-eqb v.allowance.place v.allowance.place refl) first.leaves in
-      let b = own_more mid w _ (eq-eqb mid.allowance.place mid.allowance.place refl) second.leaves in
-      let c : own_of v.allowance.place w.seen ≡ own_of v.allowance.place mid.seen ++ Left v.allowance.place v.counts.sections ∷ [] =
-      subst (λ (z : ℕ × ℕ). own_of z.0 w.seen ≡ own_of z.0 mid.seen ++ Left z.0 z.1 ∷ []) (λ i. (place i, count i)) b in
-      c ∙ ap (λ l. l ++ Left v.allowance.place v.counts.sections ∷ []) a
-      ∙ append_assoc (own_of v.allowance.place v.seen) (Entered v.allowance.place v.counts.sections key ∷ [])
-      (Left v.allowance.place v.counts.sections ∷ [])
-
 pub begun : (k : Shape) (v w : View) (low high found : ℕ) → Told k v (BeginWait low high) found w → HasBegun v low high w
 begun k v w low high found told =
     let h : List Mark = told.marks in
@@ -372,8 +349,7 @@ shows_some : (wait : Waiting) (steps : List StepMade) (why : Why) → Shows wait
 shows_some wait steps (Reader place key stamp) shows = let some = ends_some steps _ shows.0 in omega (arith, some)
 shows_some wait steps (Counter class side count) shows = ends_some steps _ shows.0
 shows_some wait steps (RowOf place class stamp) shows = ends_some steps _ shows.0
-shows_some wait steps (Lock slot) shows = absurd shows
-shows_some wait steps (Front value) shows = absurd shows
+shows_some wait steps _ shows = absurd shows
 
 pub poll_steps : {W : Type 0} {k : Shape} {v w : View} {why : Why} {grace : Grace W} → HasStopped k v why grace w → HasStepped v w
 poll_steps {W} {k} {v} {w} {why} {grace} stopped =
@@ -382,25 +358,6 @@ poll_steps {W} {k} {v} {w} {why} {grace} stopped =
     omega (arith, e, some)
 
 -- What is noted of slots, for the calls that are made of several steps.
-
--- without a lock and without a move, it is noted of the slot in hand and of the spare alone
-pub noting_hands : (v : View) (slot : ℕ) (field : Field) (number : ℕ) (stored : Bool) → v.locks ≡ [] → v.moving ≡ None
-    → noting v slot field number stored ≡ record v {
-      hands = record v.hands {
-        hand = note_option slot (record { field = field; number = number; stored = stored }) v.hands.hand;
-        spare = note_option slot (record { field = field; number = number; stored = stored }) v.hands.spare;
-      };
-    }
-noting_hands v slot field number stored free settled =
-    let known : Known = record { field = field; number = number; stored = stored } in
-    let locks : change_lock slot (note_lock known) v.locks ≡ v.locks =
-    ap (λ (ls : List HeldLock). change_lock slot (note_lock known) ls) free ∙ sym free in
-    let moving : note_moving slot known v.moving ≡ v.moving = ap (λ (m : Option Move). note_moving slot known m) settled ∙ sym settled in
-    λ i. record v {
-      locks = locks i;
-      hands = record v.hands { hand = note_option slot known v.hands.hand; spare = note_option slot known v.hands.spare };
-      moving = moving i;
-    }
 
 -- a retired slot that was changed and is taken out was taken out
 pub without_changed : (s : ℕ) (f : Retired → Retired) → ((r : Retired) → (f r).slot ≡ r.slot) → (rs : List Retired)

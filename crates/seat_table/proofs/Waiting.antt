@@ -22,7 +22,7 @@ use mathlib.Core.Option.{some}
 use lib.ListN.{get_elem?}
 use Rattle.atomic_table.proofs.Lists.{at_last}
 use Rattle.prcu_marks.specs.declared.mark.Mark.TheVariants.{Ended}
-use Rattle.prcu_marks.specs.declared.mark.Why.TheVariants.{Reader, Counter, Row as RowOf, Lock as LockOf, Front as FrontOf}
+use Rattle.prcu_marks.specs.declared.mark.Why.TheVariants.{Reader, Counter, Row as RowOf}
 use Rattle.core_state.specs.declared.shape.Shape.{Shape}
 use Rattle.core_state.specs.declared.words.Field.TheVariants.{Announced, Stamp, Count, Row}
 use Rattle.core_state.specs.declared.view.Waiting.{Waiting}
@@ -138,11 +138,6 @@ module _ (such : Field → Type 0) where
       → w ≡ after_look (stepped v kind field found) (wait_of v) field last found h → such (spot_seen field) → LooksAt such v w
   look_at v w kind field found last h goes is = step_at v w kind field found (look_trail v w kind field found last h goes) is
 
-  -- a load of a gate
-  pub gate_at : (v w : View) (kind : Kind) (field : Field) (class found : ℕ) → w ≡ gated (stepped v kind field found) class found v.section
-      → such (spot_seen field) → LooksAt such v w
-  gate_at v w kind field class found goes is = step_at v w kind field found (gate_trail v w kind field found class goes) is
-
 -- A grace within the classes of its keys isn't beyond the last one.
 pub within_last : (keys : Interval) (class last : ℕ) → IsWithin keys class → IsLastClass keys last → class ≤ last
 within_last keys class last within is = dite (dec_le class last) (λ most. most)
@@ -192,9 +187,6 @@ module _ (v w : View) (kind : Kind) (field : Field) (wait : Waiting) (found : �
 excused_same : (wait : Waiting) (es : List Field) (ts : List ℕ) (over : Bool) (field : Field) (n : ℕ)
     → excuses (record wait { excused = es; turned = ts; ended = over }) field n ≡ excuses wait field n
 excused_same wait es ts over (Announced p) n = refl
-excused_same wait es ts over (Stamp p) n = refl
-excused_same wait es ts over (Count c side) n = refl
-excused_same wait es ts over (Row p c) n = refl
 excused_same wait es ts over _ n = refl
 
 -- one after another
@@ -346,18 +338,14 @@ pub shows_later : (s t : List StepMade) (wait : Waiting) (why : Why) → Shows w
 shows_later s t wait (Reader place key stamp) is = (end_later s t _ is.0, is.1, is.2, is.3)
 shows_later s t wait (Counter class side count) is = (end_later s t _ is.0, is.1, is.2)
 shows_later s t wait (RowOf place class stamp) is = (end_later s t _ is.0, is.1, is.2, is.3)
-shows_later s t wait (LockOf slot) is = absurd is
-shows_later s t wait (FrontOf value) is = absurd is
+shows_later s t wait _ is = absurd is
 
 abbrev again : Waiting → Waiting → Waiting
 again wait new = record wait { excused = new.excused; turned = new.turned; ended = new.ended }
 
 shows_same : (wait new : Waiting) (steps : List StepMade) (why : Why) → Shows (again wait new) steps why → Shows wait steps why
 shows_same wait new steps (Reader place key stamp) is = is
-shows_same wait new steps (Counter class side count) is = is
-shows_same wait new steps (RowOf place class stamp) is = is
-shows_same wait new steps (LockOf slot) is = absurd is
-shows_same wait new steps (FrontOf value) is = absurd is
+shows_same wait new steps _ is = is
 
 pub shows_by : (wait new : Waiting) → IsSameWait wait new → (steps : List StepMade) (why : Why) → Shows new steps why → Shows wait steps why
 shows_by wait new same steps why is = shows_same wait new steps why (subst (λ z. Shows z steps why) same is)

@@ -261,17 +261,7 @@ stays_inside c o kept seat quiet inside e = record {
 pub stops_call : (needed : ℕ) (status : Status) (c d : CallerAt) → IsStoppedBy status c d → IsHinderedBy needed status c d
 stops_call needed Lost c d s = s
 stops_call needed Holds c d s = s
-stops_call needed Done c d s = absurd s
-stops_call needed Unchanged c d s = absurd s
-stops_call needed Full c d s = absurd s
-stops_call needed More c d s = absurd s
-stops_call needed Moved c d s = absurd s
-stops_call needed New c d s = absurd s
-stops_call needed Different c d s = absurd s
-stops_call needed Closed c d s = absurd s
-stops_call needed BadArgument c d s = absurd s
-stops_call needed NoMemory c d s = absurd s
-stops_call needed Spent c d s = absurd s
+stops_call needed _ c d s = absurd s
 
 -- where the keys are some, what hinders a call with one ticket is what a wait answers
 pub hinders_wait : (keys : Interval) (status : Status) (c d : CallerAt) → keys.low ≤ keys.high → IsHinderedBy 1 status c d
@@ -279,16 +269,7 @@ pub hinders_wait : (keys : Interval) (status : Status) (c d : CallerAt) → keys
 hinders_wait keys Spent c d some h = (some, h)
 hinders_wait keys Lost c d some h = h
 hinders_wait keys Holds c d some h = h
-hinders_wait keys Done c d some h = absurd h
-hinders_wait keys Unchanged c d some h = absurd h
-hinders_wait keys Full c d some h = absurd h
-hinders_wait keys More c d some h = absurd h
-hinders_wait keys Moved c d some h = absurd h
-hinders_wait keys New c d some h = absurd h
-hinders_wait keys Different c d some h = absurd h
-hinders_wait keys Closed c d some h = absurd h
-hinders_wait keys BadArgument c d some h = absurd h
-hinders_wait keys NoMemory c d some h = absurd h
+hinders_wait keys _ c d some h = absurd h
 
 -- a caller that may go on is in no section
 may_outside : (c : CallerAt) → MayGoOn c → IsInside c → ⊥
@@ -360,32 +341,14 @@ tidies_listed c keys turns was Full out d page after front b may capacity listed
     record { may = may; page = page; capacity = capacity; after = after; front = front; before = b; listed = listed; finished = finished }
 tidies_listed c keys turns was Lost out d page after front b may capacity listed finished =
     (listed_on c keys page (record { front = front; next = after }) b d listed finished.0, finished.1)
-tidies_listed c keys turns was Unchanged out d page after front b may capacity listed finished = absurd finished
-tidies_listed c keys turns was Moved out d page after front b may capacity listed finished = absurd finished
-tidies_listed c keys turns was New out d page after front b may capacity listed finished = absurd finished
-tidies_listed c keys turns was Different out d page after front b may capacity listed finished = absurd finished
-tidies_listed c keys turns was Closed out d page after front b may capacity listed finished = absurd finished
-tidies_listed c keys turns was BadArgument out d page after front b may capacity listed finished = absurd finished
-tidies_listed c keys turns was NoMemory out d page after front b may capacity listed finished = absurd finished
-tidies_listed c keys turns was Spent out d page after front b may capacity listed finished = absurd finished
-tidies_listed c keys turns was Holds out d page after front b may capacity listed finished = absurd finished
+tidies_listed c keys turns was _ out d page after front b may capacity listed finished = absurd finished
 
 -- what stops a call is what a tidy answers
 pub tidies_stopped : (c : CallerAt) (keys : Interval) (turns was : ℕ) (status : Status) (out : Output) (d : CallerAt) → IsStoppedBy status c d
     → IsUnwritten was out → Tidies c keys turns was status out d
 tidies_stopped c keys turns was Lost out d stops unwritten = (stops, unwritten)
 tidies_stopped c keys turns was Holds out d stops unwritten = (stops, unwritten)
-tidies_stopped c keys turns was Done out d stops unwritten = absurd stops
-tidies_stopped c keys turns was Unchanged out d stops unwritten = absurd stops
-tidies_stopped c keys turns was Full out d stops unwritten = absurd stops
-tidies_stopped c keys turns was More out d stops unwritten = absurd stops
-tidies_stopped c keys turns was Moved out d stops unwritten = absurd stops
-tidies_stopped c keys turns was New out d stops unwritten = absurd stops
-tidies_stopped c keys turns was Different out d stops unwritten = absurd stops
-tidies_stopped c keys turns was Closed out d stops unwritten = absurd stops
-tidies_stopped c keys turns was BadArgument out d stops unwritten = absurd stops
-tidies_stopped c keys turns was NoMemory out d stops unwritten = absurd stops
-tidies_stopped c keys turns was Spent out d stops unwritten = absurd stops
+tidies_stopped c keys turns was _ out d stops unwritten = absurd stops
 
 -- A tidy leaves no mark of an update.
 
@@ -499,15 +462,7 @@ plain_finished pairs turns after c was More out d kept (n, made, inl (some, leve
 plain_finished pairs turns after c was More out d kept (n, made, inr levels) = plain_short pairs turns c out.next n d levels
 plain_finished pairs turns after c was Full out d kept (n, made, levels) = plain_stops pairs turns c out.next stop.NoSlot n d levels.0
 plain_finished pairs turns after c was Lost out d kept finished = absurd (let e : true ≡ false = sym finished.0.lost ∙ kept in cc)
-plain_finished pairs turns after c was Unchanged out d kept finished = absurd finished
-plain_finished pairs turns after c was Moved out d kept finished = absurd finished
-plain_finished pairs turns after c was New out d kept finished = absurd finished
-plain_finished pairs turns after c was Different out d kept finished = absurd finished
-plain_finished pairs turns after c was Closed out d kept finished = absurd finished
-plain_finished pairs turns after c was BadArgument out d kept finished = absurd finished
-plain_finished pairs turns after c was NoMemory out d kept finished = absurd finished
-plain_finished pairs turns after c was Spent out d kept finished = absurd finished
-plain_finished pairs turns after c was Holds out d kept finished = absurd finished
+plain_finished pairs turns after c was _ out d kept finished = absurd finished
 
 pub tidies_plain : TidiesMakeNoUpdate
 tidies_plain c keys turns was status out d kept tidied = plain_on c.seat.view tidied.before.seat.view d.seat.view

@@ -141,13 +141,10 @@ by_after : (is : Bool) (op : Op) (its was : Option ℕ) (value : ℕ) → value_
     → (was ≡ Some value) ⊎ Puts op (key_of op) value
 by_after is (Put key v) (Some x) was value e = inl e
 by_after true (Put key v) None was value e = inr (inl (let same : v ≡ value = cc in ap (λ z. Put key z) same))
-by_after false (Put key v) None was value e = inl e
-by_after is (Get key) its was value e = inl e
-by_after true (Del key) its was value e = absurd (cc)
-by_after false (Del key) its was value e = inl e
 by_after is (Set key v) None was value e = inl e
 by_after true (Set key v) (Some x) was value e = inr (inr (let same : v ≡ value = cc in ap (λ z. Set key z) same))
-by_after false (Set key v) (Some x) was value e = inl e
+by_after true (Del key) its was value e = absurd (cc)
+by_after _ _ _ was value e = inl e
 
 put_by : (m : Dictionary) (op : Op) (key value : ℕ) → finite.get (updated m op) key ≡ Some value
     → (finite.get m key ≡ Some value) ⊎ Puts op key value

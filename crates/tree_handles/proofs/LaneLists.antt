@@ -87,19 +87,15 @@ split_one_more v (t ∷ seats) w s split is = (split.0, split_one_more (first_of
 there_too : {A B : Type 0} (xs : List A) (ys : List B) (i : ℕ) (y : B) → length xs ≡ length ys → get_elem? ys i ≡ some y
     → (x : A) × (get_elem? xs i ≡ some x)
 there_too [] [] i y same at = absurd (cc)
-there_too [] (z ∷ ys) i y same at = absurd (omega (arith, same))
-there_too (x ∷ xs) [] i y same at = absurd (omega (arith, same))
 there_too (x ∷ xs) (z ∷ ys) zero y same at = (x, refl)
 there_too (x ∷ xs) (z ∷ ys) (suc i) y same at = there_too xs ys i y (omega (arith, same)) at
+there_too _ _ i y same at = absurd (omega (arith, same))
 
 -- a list that was lent whole comes back as the new one
 pub refilled : {A : Type 0} (old new : List A) (n : ℕ) → length old ≡ n → length new ≡ length old → take n (new ++ drop (length new) old) ≡ new
 refilled [] [] zero is same = refl
-refilled [] [] (suc n) is same = absurd (omega (arith, is))
-refilled [] (y ∷ ys) n is same = absurd (omega (arith, same))
-refilled (x ∷ xs) [] n is same = absurd (omega (arith, same))
-refilled (x ∷ xs) (y ∷ ys) zero is same = absurd (omega (arith, is))
 refilled (x ∷ xs) (y ∷ ys) (suc n) is same = ap (λ zs. y ∷ zs) (refilled xs ys n (omega (arith, is)) (omega (arith, same)))
+refilled _ _ _ is same = absurd (omega (arith, is, same))
 
 -- seats that were kept are of the table still
 pub kept_tables : (table : TableAt) (before after : List SeatAt) → length before ≡ length after → AreKept before after

@@ -48,9 +48,6 @@ left_on {u} {v} {w} {key} a b = record {
   each = all_append (IsOfTry u.allowance.place key) a.marks b.marks a.each (same_place key a.gone.same b.marks b.each);
 }
 
-pub left_read : {v w : View} {key : ℕ} {r : Reading} → HasRead v key r w → LeavesNoUpdate v key w
-left_read read = record { marks = _; gone = (goes_read read).gone; each = ((refl, refl), (refl, tt)) }
-
 pub left_reclaimed : {k : Shape} {v w : View} {listed : List ℕ} (key : ℕ) → HasReclaimed k v listed w → LeavesNoUpdate v key w
 left_reclaimed key back = record { marks = _; gone = reclaim_gone back; each = ((refl, refl, refl), (refl, tt)) }
 

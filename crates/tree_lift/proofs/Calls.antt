@@ -179,9 +179,7 @@ told_alone k v (Put key value) told w puts = record {
   puts = puts;
   lift = record { marks = []; gone = gone_same; each = tt };
 }
-told_alone k v (Get key) told w is = is
-told_alone k v (Del key) told w is = is
-told_alone k v (Set key value) told w is = is
+told_alone k v _ told w is = is
 
 pub told_lifted : (k : Shape) (v : View) (op : Op) (key value : ℕ) (told : Told) (u w : View) → op ≡ Put key value → IsTold k v op told u
     → LeavesNoUpdate u key w → IsToldThenLifts k v op told w

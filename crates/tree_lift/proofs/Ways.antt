@@ -15,7 +15,7 @@ use Rattle.core_state.specs.declared.view.Known.{Known}
 use Rattle.core_state.specs.declared.view.Reading.{Reading}
 use Rattle.core_state.specs.declared.view.Section.{Section}
 use Rattle.core_state.specs.declared.view.SearchState.{SearchState}
-use Rattle.core_state.specs.declared.view.SearchState.TheVariants.{At, Unread, Found, Missed}
+use Rattle.core_state.specs.declared.view.SearchState.TheVariants.{At, Unread, Missed}
 use Rattle.core_state.specs.declared.view.View.{View}
 use Rattle.core_state.specs.Memory.{step_side, same_side}
 use Rattle.core_state.specs.Steps.{key_stand, linked_on, searched, loaded, after_search_load, fresh_reading}
@@ -97,9 +97,7 @@ stood_below r s b n by some = subst (λ (z : Reading). IsIn z.stood n) (sym (lin
 -- a load of a life moves no search
 life_moves_none : (r : Reading) (state : SearchState) (s n : ℕ) → searched r state (Life s) n ≡ r
 life_moves_none r (At t b) s n = refl
-life_moves_none r (Unread t p b) s n = refl
-life_moves_none r (Found t p b value) s n = refl
-life_moves_none r (Missed t b) s n = refl
+life_moves_none r _ s n = refl
 
 pub aged_is : (r : Reading) (s n : ℕ) → loaded r (Life s) n ≡ noted_load r (Life s) n
 aged_is r s n = life_moves_none (noted_load r (Life s) n) r.state s n
@@ -431,9 +429,6 @@ module _ (k : Shape) (key salt : ℕ) where
 
 -- What a section leaves.
 module _ {v w : View} {key : ℕ} {r : Reading} (l : HasRead v key r w) where
-  abbrev pub read_marks : List Mark
-  read_marks = Entered v.allowance.place v.counts.sections key ∷ (LeftMark v.allowance.place v.counts.sections ∷ [])
-
   to_end : IsPrefix l.before w.seen
   to_end = subst (IsPrefix l.before) (sym l.seen)
       (prefix_trans l.before (l.before ++ Entered v.allowance.place v.counts.sections key

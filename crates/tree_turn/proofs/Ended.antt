@@ -91,10 +91,6 @@ pub same_slot : (o : Option Held) (held : Held) (slot : ℕ) → o ≡ Some held
 same_slot None held slot e is = absurd is
 same_slot (Some other) held slot e is = let same : other ≡ held = cc in is ∙ ap (λ (h : Held). h.slot) same
 
-pub some_held : (o : Option Held) (held : Held) → o ≡ Some held → IsSlotOf None o → ⊥
-some_held None held e is = absurd (cc)
-some_held (Some other) held e is = is
-
 module _ {k : Shape} {v : View} {t : Turn} (recorded : HasRecorded k v t) (ready : IsReadyToTurn k.room v) {bottom top : ℕ}
     (hand : bottom ≡ ready.hand.slot) (spare : top ≡ ready.spare.slot) where
   -- a stale record

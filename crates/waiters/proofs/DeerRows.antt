@@ -13,7 +13,7 @@ use Rattle.seat_table.specs.Looks.{LooksAt, IsOnward, IsWithin, one_step, HasPas
 use Rattle.seat_table.specs.Gains.{Told}
 use Rattle.seat_table.specs.declared.wait.Grace.{Grace}
 use Rattle.seat_table.specs.Waits.{Reached, reached, Made, IsBefore, HasReached, IsLatestOf, IsGoingOn}
-use Rattle.seat_table.proofs.Waiting.{look_trail, looks_then, looks_as, look_at, within_last, goes_on}
+use Rattle.seat_table.proofs.Waiting.{look_trail, looks_then, looks_as, within_last, goes_on}
 use mathlib.Core.Logic.{dite}
 use native.Mathlib.Decide.{ℕ_discrete}
 use Rattle.core_state.specs.declared.shape.Waiter.TheVariants.{Eer, Domain, Deer}
@@ -81,11 +81,6 @@ two_runs keys ordered few falling = record {
 }
 
 -- The looks of a poll of the third waiter go on from row to row.
-
-pub row_looked : {k : Shape} {v w : View} {place class found : ℕ} {last : Bool} → Told k v (LookRow place class last) found w
-    → LooksAt (λ field. field ≡ Row place class) v w
-row_looked {k} {v} {w} {place} {class} {found} {last} told =
-    look_at (λ field. field ≡ Row place class) v w K35 (Row place class) found last told.marks told.goes refl
 
 pub row_made : {k : Shape} {v w : View} {place class found : ℕ} {last : Bool} → Told k v (LookRow place class last) found w
     → Made v (one_step K35 (Row place class) found) w

@@ -1,5 +1,5 @@
 -- Polls of the second waiter: where their looks go on, what each look and each turn of a gate comes to, and how many gates are turned.
-use Rattle.std.proofs.Common.{◌≡◌, ◌≢◌, ℕ, ◌%◌, ◌<◌, inl, inr, ⊎_elim, Bool, true, false, refl, sym, ap, subst, ◌∙◌, arith, zero, suc, ◌+◌, ◌-◌, ◌≤◌, ◌⊎◌, List, ◌∷◌, ◌++◌, Option, Some, None, eq-eqb, ne_eqb, length}
+use Rattle.std.proofs.Common.{◌≡◌, ◌≢◌, ℕ, ◌%◌, ◌<◌, inl, inr, ⊎_elim, Bool, true, false, refl, sym, ap, subst, ◌∙◌, arith, zero, suc, ◌+◌, ◌-◌, ◌≤◌, ◌⊎◌, List, ◌∷◌, ◌++◌, Some, eq-eqb, ne_eqb, length}
 use Rattle.core_state.specs.declared.shape.Shape.{Shape}
 use Rattle.core_state.specs.declared.words.Field.TheVariants.{Stamp, Gate, Count, Row}
 use Rattle.core_state.specs.declared.view.View.{View}
@@ -8,16 +8,15 @@ use Rattle.seat_table.specs.declared.wait.Grace.{Grace}
 use Rattle.seat_table.specs.Looks.{LooksAt, IsOnward, IsLater, one_step, HasPassed}
 use Rattle.seat_table.specs.Gains.{Told}
 use Rattle.seat_table.specs.Waits.{Reached, reached, Made, IsBefore, IsTurnedBefore, HasReached, HasLooked, HasEnded, ended_by, IsLatestOf, IsGoingOn, IsOver}
-use Rattle.seat_table.proofs.Waiting.{look_trail, gate_trail, looks_then, looks_as, step_at, look_at, gate_at, step_of, look_passes, look_stays, looks_on, begins_on, have_left, one_wait}
+use Rattle.seat_table.proofs.Waiting.{look_trail, gate_trail, looks_then, looks_as, step_at, step_of, look_passes, look_stays, looks_on, begins_on, have_left, one_wait}
 use Rattle.waiters.specs.Classes.{at_next, IsBack, AreClassesOf, EndTurnsRest, WaitTurnsEach}
 use mathlib.Core.Logic.{dite}
 use mathlib.Core.Option.{some}
 use native.Mathlib.Decide.{ℕ_discrete, dec_le}
 use Rattle.core_state.specs.declared.shape.Waiter.TheVariants.{Eer, Domain, Deer}
 use Rattle.core_state.specs.declared.words.Field.{Field}
-use Rattle.core_state.specs.declared.view.Section.{Section}
 use Rattle.core_state.specs.declared.view.Waiting.{Waiting}
-use Rattle.core_state.specs.Steps.{gated, IsSpot, keys_of, with_excused, after_look, NeedsGateTurn, after_gate_turn, new_wait}
+use Rattle.core_state.specs.Steps.{IsSpot, keys_of, with_excused, after_look, NeedsGateTurn, after_gate_turn, new_wait}
 use Rattle.key_interval.specs.Keys.{Interval, MeetsClass, IsLastClass}
 use Rattle.list_laws.specs.Counts.{times, IsIn}
 use Rattle.list_laws.proofs.Lists.{times_here, times_other}
@@ -30,11 +29,6 @@ use Rattle.core_state.specs.declared.words.Kind.TheVariants as kinds
 
 -- a step of a wait, by where it looks
 module _ {k : Shape} {v w : View} where
-  pub count_looked : {class side found : ℕ} {last : Bool} → Told k v (LookCount class side last) found w
-      → LooksAt (λ field. field ≡ Count class side) v w
-  count_looked {class} {side} {found} {last} told =
-      look_at (λ field. field ≡ Count class side) v w kinds.K31 (Count class side) found last told.marks told.goes refl
-
   pub count_made : {class side found : ℕ} {last : Bool} → Told k v (LookCount class side last) found w
       → Made v (one_step kinds.K31 (Count class side) found) w
   count_made {class} {side} {found} {last} told = look_trail v w kinds.K31 (Count class side) found last told.marks told.goes
@@ -44,10 +38,6 @@ module _ {k : Shape} {v w : View} where
 
   pub turn_made : {class found : ℕ} → Told k v (TurnGate class) found w → Made v (one_step kinds.K32 (Gate class) found) w
   turn_made told = ap (λ (z : View). z.trail) told.goes
-
-  -- a gate is no spot
-  pub gate_looked : {class found : ℕ} (r : Reached) → Told k v (LoadGate class) found w → LooksAt (IsOnward r) v w
-  gate_looked {class} {found} r told = gate_at (IsOnward r) v w kinds.K28 (Gate class) class found told.goes (λ none. none)
 
   pub gate_turned : {class found : ℕ} (r : Reached) → Told k v (TurnGate class) found w → LooksAt (IsOnward r) v w
   gate_turned {class} {found} r told = step_at (IsOnward r) v w kinds.K32 (Gate class) found (ap (λ (z : View). z.trail) told.goes)
@@ -171,46 +161,6 @@ module _ {W : Type 0} (k : Shape) (domain : k.waiter ≡ Domain) (grace : Grace 
       → MayLook k v (wait_of v) (Count grace.class side) last
   may_look v side last end latest = looks k v latest.1 latest.2.going
       (λ is. let e = end is in rest latest.0 side latest.2 e.0 e.1 e.2)
-
-  abbrev with_gate : ℕ → Grace W
-  with_gate gate = record grace { gate = gate }
-
-  -- A gate that is loaded before it is turned leaves the wait where it is.
-  gate_free : (wait : Waiting) (gate : ℕ) → grace.turned ≡ false → HasReached k grace.keys grace.clock (reached grace) wait
-      → HasReached k grace.keys grace.clock (reached (with_gate gate)) wait
-  gate_free wait gate unturned r = record {
-    going = r.going;
-    low_is = r.low_is;
-    high_is = r.high_is;
-    clock_is = r.clock_is;
-    inside = r.inside;
-    small = r.small;
-    excused = excused_by wait (reached (with_gate gate)) wait.excused (λ c side spot before. r.excused (Count c side) spot
-        (⊎_elim (λ (less : c < grace.class). inl less)
-        (λ (on : (c ≡ grace.class) × (grace.turned ≡ true) × (side ≢ gate % 2)). absurd
-        (let e : false ≡ true = sym unturned ∙ on.1 in cc)) before));
-    met = r.met;
-    turned = r.turned;
-    once = r.once;
-  }
-
-  loaded_by : (v : View) (wait : Waiting) (found : ℕ) (there : Option Section) → v.wait ≡ Some wait
-      → HasLooked v wait (step_of kinds.K28 (Gate grace.class) found) wait
-      (gated (noted v (LoadGate grace.class) found) grace.class found there)
-  loaded_by v wait found None was = record { wait_is = was; same = refl; turns = refl; makes = refl; others = refl }
-  loaded_by v wait found (Some section) was = record { wait_is = was; same = refl; turns = refl; makes = refl; others = refl }
-
-  pub gate_loaded : (v w : View) (found : ℕ) → grace.turned ≡ false → IsLatestOf k grace v → Told k v (LoadGate grace.class) found w
-      → IsGoingOn k v (with_gate found) w
-  gate_loaded v w found unturned latest told = record {
-    wait = latest.0;
-    steps = step_of kinds.K28 (Gate grace.class) found;
-    new = latest.0;
-    was = latest.1;
-    looked = subst (λ z. HasLooked v latest.0 (step_of kinds.K28 (Gate grace.class) found) latest.0 z) (sym told.goes)
-        (loaded_by v latest.0 found v.section latest.1);
-    reaches = gate_free latest.0 found unturned latest.2;
-  }
 
   -- After a look that passed the side that the gate doesn't name, the gate may be turned.
   module _ (v u : View) (latest : IsLatestOf k grace v) (unturned : grace.turned ≡ false) (side : ℕ)

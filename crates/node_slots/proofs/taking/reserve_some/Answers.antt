@@ -1,6 +1,6 @@
-use Rattle.std.proofs.Common.{◌∙◌, ap, refl, rules, arith}
+use Rattle.std.proofs.Common.{◌∙◌, ap, rules, arith}
 use Rattle.core_state.specs.declared.view.View.{View}
-use Rattle.node_slots.proofs.Takes.{then_none, then_reserved, tried_again, tried_none, loses_more, loses_none, reserves_at_last, tries_in_vain}
+use Rattle.node_slots.proofs.Takes.{then_none, then_reserved, tried_again, loses_more, reserves_at_last, tries_in_vain}
 use Rattle.seat_table.proofs.SeveralSteps.{step_more}
 use Rattle.node_slots.proofs.taking.reserve_some.Goals as goal
 

@@ -8,7 +8,7 @@ use Rattle.tree_points.proofs.Passing.{needs}
 use Rattle.tree_points.specs.Points.{IsAt}
 use Rattle.tree_points.proofs.Updates.{needs_store_bypass, passes_store_bypass}
 use Rattle.citrus_tree.specs.Deletes.{HasDone, TakesValue}
-use Rattle.citrus_tree.proofs.DeleteMoves.{bypass_odd, bypass_paid, child_is, marked, opened_keeps, closed_keeps, half_two}
+use Rattle.citrus_tree.proofs.DeleteMoves.{bypass_paid, child_is, marked, opened_keeps, closed_keeps, half_two}
 use Rattle.citrus_tree.proofs.DeleteUpdates.{keeps_on, keeps_mark, bypass_stay, bypass_done, bypass_locked, bypass_retired, bypass_takes, bypass_waits, done_later, done_still, takes_more, takes_since, value_mark, value_on, value_opened}
 use Rattle.citrus_tree.proofs.DeleteTries.{waits_on}
 use Rattle.citrus_tree.proofs.delete.bypass.link_past.Goals as goal
@@ -30,8 +30,9 @@ pub close_commit-number-requires-clause-odd : goal.close_commit-number-requires-
 close_commit-number-requires-clause-odd g c =
     let child = child_is c.args.node c.slot_of-child.ensures c.only_child.ensures (c.requires.at).1 c.mark.ensures.told in
     let u = update.Bypass c.args.node c.slot_of-child.result in
-    bypass_odd c.args.node (passes_store_bypass (c.in_ok-front.ensures.at _ _ 0 u
-    (marked c.args.node c.slot_of-child.result child (c.requires.at).1 c.mark.ensures.told)) c.bypass.ensures.told)
+    let a = passes_store_bypass (c.in_ok-front.ensures.at _ _ 0 u
+        (marked c.args.node c.slot_of-child.result child (c.requires.at).1 c.mark.ensures.told)) c.bypass.ensures.told in
+    ((a.fits.point).0).turn_is
 
 pub returns-clause-retired : goal.returns-clause-retired
 returns-clause-retired g c =

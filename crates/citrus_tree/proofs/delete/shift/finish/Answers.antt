@@ -11,7 +11,7 @@ use Rattle.tree_points.proofs.Locks.{gone_on, gone_waited}
 use Rattle.tree_points.proofs.Waits.{waits_move}
 use Rattle.citrus_tree.specs.Deletes.{retired_slots}
 use Rattle.citrus_tree.proofs.DeleteUpdates.{no_lock}
-use Rattle.citrus_tree.proofs.DeleteMoves.{in_slots, move_outside, move_paid, waited_for, waited_keeps, node_retired, old_retired, node_unlisted, old_unlisted, two_listed, length_more, unlinked_on}
+use Rattle.citrus_tree.proofs.DeleteMoves.{in_slots, waited_for, waited_keeps, node_retired, old_retired, node_unlisted, old_unlisted, two_listed, length_more, unlinked_on}
 use Rattle.citrus_tree.proofs.Leavings.{waited_later, first_stays, waited_first}
 use Rattle.citrus_tree.specs.Replies.{IsUnlinkedSince}
 use Rattle.citrus_tree.proofs.DeleteTries.{same_room}
@@ -21,10 +21,10 @@ pub between-requires : goal.between-requires
 between-requires g c = c.requires.above
 
 pub wait_in_grace-requires-clause-outside : goal.wait_in_grace-requires-clause-outside
-wait_in_grace-requires-clause-outside g c = move_outside c.args.moving (c.requires.at).1
+wait_in_grace-requires-clause-outside g c = let a = (c.requires.at).1 in ((a.fits.point).0).outside
 
 pub wait_in_grace-requires-clause-ticket : goal.wait_in_grace-requires-clause-ticket
-wait_in_grace-requires-clause-ticket g c = move_paid c.args.moving (c.requires.at).1
+wait_in_grace-requires-clause-ticket g c = let a = (c.requires.at).1 in let t = a.fits.tickets in omega (arith, t)
 
 pub unlink_old-requires-clause-at : goal.unlink_old-requires-clause-at
 unlink_old-requires-clause-at g c = let a = c.requires.at in (

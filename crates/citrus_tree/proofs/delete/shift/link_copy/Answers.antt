@@ -8,7 +8,7 @@ use Rattle.tree_points.proofs.Passing.{needs}
 use Rattle.tree_points.specs.Points.{IsAt}
 use Rattle.tree_points.proofs.Updates.{passes_copy_mark, needs_store_copy, passes_store_copy}
 use Rattle.citrus_tree.specs.Deletes.{HasCopied, TakesValue}
-use Rattle.citrus_tree.proofs.DeleteMoves.{opened_keeps, closed_keeps, half_two, copy_paid, copy_odd}
+use Rattle.citrus_tree.proofs.DeleteMoves.{opened_keeps, closed_keeps, half_two, copy_paid}
 use Rattle.citrus_tree.proofs.DeleteUpdates.{keeps_on, keeps_mark, copy_made, copy_locked, copy_retired, copy_takes, copy_waits, copied_later, copied_still, takes_more, takes_since, value_mark, value_on, value_opened}
 use Rattle.citrus_tree.proofs.DeleteTries.{waits_on}
 use Rattle.citrus_tree.proofs.delete.shift.link_copy.Goals as goal
@@ -31,9 +31,10 @@ link_copy-requires-clause-asks g c =
 
 pub close_commit-requires-clause-odd : goal.close_commit-requires-clause-odd
 close_commit-requires-clause-odd g c =
-    copy_odd c.args.node c.args.successor (passes_store_copy
-    (c.in_ok-front.ensures.at _ _ 0 (update.Copy c.args.node c.args.successor c.args.next_key c.args.copy)
-    (passes_copy_mark c.requires.spare (c.requires.at).1 c.mark.ensures.told 0 refl)) c.link_copy.ensures.told)
+    let a = passes_store_copy
+        (c.in_ok-front.ensures.at _ _ 0 (update.Copy c.args.node c.args.successor c.args.next_key c.args.copy)
+        (passes_copy_mark c.requires.spare (c.requires.at).1 c.mark.ensures.told 0 refl)) c.link_copy.ensures.told in
+    ((a.fits.point).0).turn_is
 
 pub returns-clause-at : goal.returns-clause-at
 returns-clause-at g c = λ kept a.
