@@ -45,7 +45,7 @@ use Rattle.core_points.specs.declared.stage.Stage.{Stage}
 use Rattle.core_points.specs.declared.stage.Stage.TheVariants as at
 use Rattle.prcu_marks.specs.declared.mark.Side.{Side}
 use Rattle.prcu_marks.specs.declared.mark.Side.TheVariants.{Left, Right}
-use Rattle.core_state.specs.Acts.{in_slot, access_of, noted, section_of, wait_of}
+use Rattle.core_state.specs.Acts.{in_slot, access_of, noted, section_of, wait_of, commit_of, spare_of}
 use Rattle.core_state.specs.declared.act.Act.TheVariants.{LeaveByStamp}
 use Rattle.core_laws.proofs.Acting.{section_is}
 use Rattle.core_points.specs.Programs.{Act, field_of, marks_of, view_after, Own, but_first, first_or_root, go, high_key, low_key, or_root, is_none_left, is_some as has_slot, key_now, act_at, after, answer, committing, ended, past_left, past_right, found, is_reader, key_read, none_free, past_reserve, past_unlock, taking, unlocked, move_locks, nothing_found, target_lock, target_locks, target_part, target_slot, with_found}
@@ -480,12 +480,10 @@ module _ (k : Shape) (m : Memory) (vs : List View) (h : List Mark) (i : ℕ) (o 
         let a : Act = act_at o (at.Store (update.Copy d u next_key copy) front) in
         let n : ℕ = said_by (access_of o.place a) (m (field_of o.place a)) in
         let section : Option Section = (view_after (noted v a n) h n a).section in
-        let (commit, r, held, left, right, value, links, same) =
-        needs_are_given k h o v m n (at.Store (update.Copy d u next_key copy) front) (λ _. eer) places room_is told f in
+        let needs = needs_are_given k h o v m n (at.Store (update.Copy d u next_key copy) front) (λ _. eer) places room_is told f in
         let next : IsNextKey (map_of (updates_of h)) (key_now o) next_key =
-        subst (λ key. IsNextKey (map_of (updates_of h)) key next_key) same
-        (copy_next k m vs h i v inv there works commit r held d.parent d.side d.node copy u.slot u.parent left right next_key value
-        links) in
+        copy_next k m vs h i v inv there works (commit_of v) (spare_of v) d.parent d.side d.node copy u.slot u.parent (key_now o) next_key
+        needs in
         subst (λ op. Tells (record { scripts = k.places; slots = k.slots }) i script
         (after o n (at.Store (update.Copy d u next_key copy) front)) section
         (h ++ Done (record { caller = v.allowance.place; op = op }) ∷ (Unlinked d.node ∷ []))) (sym (del_is o.op del))
