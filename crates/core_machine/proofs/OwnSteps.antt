@@ -86,15 +86,11 @@ module _ (o : Own) (v : View) where
 
   made : (u : Update) (commit : Option Commit) → Made o u (plain v) commit → Has commit
   made (update.Leaf spot) commit p = record { outside = (p.0).outside; turn_is = (p.0).turn_is }
-  made (update.Value s old) commit p = record { outside = (p.0).outside; turn_is = (p.0).turn_is }
-  made (update.Bypass d child) commit p = record { outside = (p.0).outside; turn_is = (p.0).turn_is }
-  made (update.Copy d u next_key copy) commit p = record { outside = (p.0).outside; turn_is = (p.0).turn_is }
+  made _ commit p = record { outside = (p.0).outside; turn_is = (p.0).turn_is }
 
   unlocking : (end : Last) → PointUnlock o (plain v) end → Has None
   unlocking last.Again p = record { outside = (p.0).outside; turn_is = (p.0).no_turn }
-  unlocking (last.New number) p = record { outside = (p.0).outside; turn_is = (p.0).no_turn }
-  unlocking (last.Gone number) p = record { outside = (p.0).outside; turn_is = (p.0).no_turn }
-  unlocking (last.Was value number) p = record { outside = (p.0).outside; turn_is = (p.0).no_turn }
+  unlocking _ p = record { outside = (p.0).outside; turn_is = (p.0).no_turn }
 
   -- before the front is made even it is this view's
   pub even_commit : (u : Update) (front : ℕ) → Fits o (at.Even u front) v → v.commit ≡ Some (record { found = front; stored = true })
