@@ -657,10 +657,9 @@ chain_has_told capacities ops tolds before after same met none chain =
         → IsChain (λ (x : ClientAt) (op : Op) (told : Told) (y : ClientAt). HasCalled x op told y
         × (x.table.capacities ≡ capacities)) c os ts after
     with_capacities [] [] c is done = done
-    with_capacities [] (t ∷ ts) c is done = absurd done
-    with_capacities (o ∷ os) [] c is done = absurd done
     with_capacities (o ∷ os) (t ∷ ts) c is done =
         (done.0, (done.1, is), with_capacities os ts done.0 (ap (λ (z : TableAt). z.capacities) done.1.table ∙ is) done.2)
+    with_capacities _ _ c is done = absurd done
 
 pub chains_meet : ChainsMeetFronts
 chains_meet ops tolds before after informed none chain =
@@ -668,35 +667,34 @@ chains_meet ops tolds before after informed none chain =
     (chain_has_told before.table.capacities ops tolds before after refl
     (informed.met before.view.place (inl (omega arith, (let works = informed.works in omega arith)))) none chain)
 
--- a call leaves the seat at its places
+-- a search after others leaves the seat at its places
+looked_stays : (v u w : View) (key : ℕ) (answer : Option ℕ) → HasTried v key u → Looked u key answer w
+    → (w.place ≡ v.place) × (w.places ≡ v.places)
+looked_stays v u w key answer tried looked = (
+  ap (λ (z : View). z.place) looked.view ∙ ap (λ (z : View). z.place) tried.view,
+  ap (λ (z : View). z.places) looked.view ∙ ap (λ (z : View). z.places) tried.view,
+)
+
+-- so does a call
 pub calls_stay : (capacities : List ℕ) (v w : View) (op : Op) (told : Told) → Makes capacities v op told w
     → (w.place ≡ v.place) × (w.places ≡ v.places)
 calls_stay capacities v w (Get key) told g = (ap (λ (z : View). z.place) g.2.view, ap (λ (z : View). z.places) g.2.view)
 calls_stay capacities v w (Put key value) told p = by told.reply told.number p
   where
     by : (reply : Reply) (number : ℕ) → PutsBy capacities v key value reply number w → (w.place ≡ v.place) × (w.places ≡ v.places)
-    by Old number q = (
-      ap (λ (z : View). z.place) q.looked.view ∙ ap (λ (z : View). z.place) q.tried.view,
-      ap (λ (z : View). z.places) q.looked.view ∙ ap (λ (z : View). z.places) q.tried.view,
-    )
+    by Old number q = looked_stays v q.before w key (Some q.old) q.tried q.looked
     by New number q = (ap (λ (z : View). z.place) q.updated.view, ap (λ (z : View). z.places) q.updated.view)
     by Full number q = (ap (λ (z : View). z.place) q.tried.view, ap (λ (z : View). z.places) q.tried.view)
     by _ number q = absurd q
 calls_stay capacities v w (Set key value) told p = by told.reply told.number p
   where
     by : (reply : Reply) (number : ℕ) → SetsBy v key value reply number w → (w.place ≡ v.place) × (w.places ≡ v.places)
-    by Absent number q = (
-      ap (λ (z : View). z.place) q.looked.view ∙ ap (λ (z : View). z.place) q.tried.view,
-      ap (λ (z : View). z.places) q.looked.view ∙ ap (λ (z : View). z.places) q.tried.view,
-    )
+    by Absent number q = looked_stays v q.before w key None q.tried q.looked
     by (Was old) number q = (ap (λ (z : View). z.place) q.updated.view, ap (λ (z : View). z.places) q.updated.view)
     by _ number q = absurd q
 calls_stay capacities v w (Del key) told p = by told.reply told.number p
   where
     by : (reply : Reply) (number : ℕ) → DelsBy v key reply number w → (w.place ≡ v.place) × (w.places ≡ v.places)
-    by Absent number q = (
-      ap (λ (z : View). z.place) q.looked.view ∙ ap (λ (z : View). z.place) q.tried.view,
-      ap (λ (z : View). z.places) q.looked.view ∙ ap (λ (z : View). z.places) q.tried.view,
-    )
+    by Absent number q = looked_stays v q.before w key None q.tried q.looked
     by Gone number q = (ap (λ (z : View). z.place) q.updated.view, ap (λ (z : View). z.places) q.updated.view)
     by _ number q = absurd q
