@@ -210,9 +210,6 @@ update_at m [] front u legal below = absurd (omega (arith, below))
 update_at m (v ∷ us) zero u legal below = legal.0
 update_at m (v ∷ us) (suc front) u legal below = update_at (updated m v.op) us front u legal.1 (omega (arith, below))
 
-placed_of : Line → Placed
-placed_of line = record { position = line.number; op = line.op }
-
 -- what the lines tell of comes after the number before them
 told_past : (room : Room) (history : List Update) (before : ℕ) (lines : List Line) (numbers : List ℕ)
     → MayStandBeside room history before lines numbers → ArePast before (told_updates lines)
