@@ -266,10 +266,7 @@ same_word k l slots places (fields.Life s) = λ i. slot_base + half * (slots i +
 same_word k l slots places (fields.Tag s b) = λ i. slot_base + half * (slots i + places i + 1) + half * s + side_number b
 same_word k l slots places _ = refl
 
--- the shape of a caller's table, but for the tickets
-untold_tickets : Shape → Shape
-untold_tickets k = record { waiter = k.waiter; slots = k.slots; places = k.places; room = k.room; tickets = 0 }
-
+-- which fields there are isn't said by the tickets
 same_is_field : (k : Shape) (field : Field) → is_field k field
     ≡ is_field (record { waiter = k.waiter; slots = k.slots; places = k.places; room = k.room; tickets = 0 }) field
 same_is_field k fields.Clock = refl
