@@ -77,9 +77,6 @@ joined_more vs seat other w front joined quiet place works is mine theirs = reco
       ];
 }
   where
-    both : View
-    both = stepped (both_of seat other) H2 Front front
-
     joined_places : (p : ℕ) → times p (seat.joined ++ (numbers_from other.place other.places ++ other.joined))
         ≡ times p seat.joined + (times p (numbers_from other.place other.places) + times p other.joined)
     joined_places p = let outer = times_append p seat.joined (numbers_from other.place other.places ++ other.joined) in
