@@ -166,24 +166,21 @@ at_space bytes front after word rest p l is = same_parts 32 front word after res
 -- what stands after the operation's key and a space, where this follows the operation and a space
 abbrev pub after_key : Op → List ℕ → List ℕ
 after_key (Put key value) rest = decimal value ++ 32 ∷ rest
-after_key (Get key) rest = rest
-after_key (Del key) rest = rest
 after_key (Set key value) rest = decimal value ++ 32 ∷ rest
+after_key _ rest = rest
 
 pub key_fits : (op : Op) → FitsWords op → key_of op < 2 ^ 64
 key_fits (Put key value) fits = fits.0
-key_fits (Get key) fits = fits
-key_fits (Del key) fits = fits
 key_fits (Set key value) fits = fits.0
+key_fits _ fits = fits
 
 pub op_words : (op : Op) (rest : List ℕ) → op_text op ++ 32 ∷ rest ≡ word_of op ++ 32 ∷ (words_of op ++ 32 ∷ rest)
 op_words op rest = ap (λ x. x ++ 32 ∷ rest) (op_text_is op) ∙ append_assoc (word_of op) (32 ∷ words_of op) (32 ∷ rest)
 
 pub key_words : (op : Op) (rest : List ℕ) → words_of op ++ 32 ∷ rest ≡ decimal (key_of op) ++ 32 ∷ after_key op rest
 key_words (Put key value) rest = append_assoc (decimal key) (32 ∷ decimal value) (32 ∷ rest)
-key_words (Get key) rest = refl
-key_words (Del key) rest = refl
 key_words (Set key value) rest = append_assoc (decimal key) (32 ∷ decimal value) (32 ∷ rest)
+key_words _ rest = refl
 
 pub after_key-short : (op : Op) (rest : List ℕ) → ((key : ℕ) × (op ≡ Get key)) ⊎ ((key : ℕ) × (op ≡ Del key)) → after_key op rest ≡ rest
 after_key-short op rest (inl h) = ap (λ o. after_key o rest) h.1

@@ -16,7 +16,7 @@ use Rattle.std.proofs.lemmas.Bool.{false≢true, cases_lt}
 use Rattle.std.proofs.lemmas.List.{length-map, get_or_past}
 use Rattle.std.proofs.lemmas.Bool.Decides.{nat_tests}
 use Rattle.prcu_model.specs.declared.operation.Op.TheVariants.{Put, Get, Del, Set}
-use Rattle.prcu_model.specs.declared.operation.Reply.TheVariants.{New, Old, Full, Val, Absent, Gone, Was}
+use Rattle.prcu_model.specs.declared.operation.Reply.TheVariants.{Val, Was}
 use Rattle.prcu_model.specs.Scripts.{FitsWords, AllFit}
 use Rattle.script_text.specs.Grammar.{op_text}
 use Rattle.std.specs.FinMap as finite
@@ -116,8 +116,6 @@ module _ (room : Room) (history : List Update) where
   keeps_all : (before : ℕ) (tolds lines : List Line) → AreNumbered room history before tolds lines → KeepsAll before tolds lines
   unfolding numbers_of
   keeps_all before [] [] h = record { ops = refl; confirmed = λ c. c; updates = refl; beside = tt; numbered = tt }
-  keeps_all before [] (line ∷ lines) h = absurd h
-  keeps_all before (told ∷ tolds) [] h = absurd h
   keeps_all before (told ∷ tolds) (line ∷ lines) h =
       let one = keeps before told line h.0 h.1 h.2 in
       let others = keeps_all line.number tolds lines h.3 in
@@ -128,6 +126,7 @@ module _ (room : Room) (history : List Update) where
         beside = (one.least.0, others.beside);
         numbered = (refl, refl, one.least, others.numbered);
       }
+  keeps_all before _ _ h = absurd h
 
   -- The same of all scripts.
   record KeepsScripts (tolds lists : List (List Line)) : Type 0 where
@@ -139,8 +138,6 @@ module _ (room : Room) (history : List Update) where
 
   keeps_scripts : (tolds lists : List (List Line)) → AllAreNumbered room history tolds lists → KeepsScripts tolds lists
   keeps_scripts [] [] h = record { ops = refl; confirmed = λ c. c; updates = λ c. refl; fronts = tt; numbered = tt }
-  keeps_scripts [] (lines ∷ lists) h = absurd h
-  keeps_scripts (told ∷ tolds) [] h = absurd h
   keeps_scripts (told ∷ tolds) (lines ∷ lists) h =
       let one = keeps_all 0 told lines h.0 in
       let others = keeps_scripts tolds lists h.1 in
@@ -151,6 +148,7 @@ module _ (room : Room) (history : List Update) where
         fronts = ((numbers_of lines, one.beside), others.fronts);
         numbered = (one.numbered, others.numbered);
       }
+  keeps_scripts _ _ h = absurd h
 
   -- what is explained stays explained when it is numbered
   AreExplained-numbered : (tolds lists : List (List Line)) → AreExplained room history tolds → AllAreNumbered room history tolds lists
@@ -167,26 +165,24 @@ module _ (room : Room) (history : List Update) where
   replies_told : (before : ℕ) (ops : List Op) (tolds : List Told) (lines : List Line) → length tolds ≡ length ops
       → AreNumbered room history before (told_lines ops tolds) lines → map (λ line. line.reply) lines ≡ map (λ answer. answer.reply) tolds
   replies_told before [] [] [] same h = refl
-  replies_told before [] [] (line ∷ lines) same h = absurd h
   replies_told before [] (told ∷ tolds) lines same h = absurd (omega (arith, same))
   replies_told before (op ∷ ops) [] lines same h = absurd (omega (arith, same))
-  replies_told before (op ∷ ops) (told ∷ tolds) [] same h = absurd h
   replies_told before (op ∷ ops) (told ∷ tolds) (line ∷ lines) same h =
       let others = replies_told line.number ops tolds lines (omega (arith, same)) h.3 in
       λ i. h.1 i ∷ others i
+  replies_told before _ _ _ same h = absurd h
 
   HaveReplies-numbered : (scripts : List (List Op)) (tolds : List (List Told)) (lists : List (List Line))
       → map length tolds ≡ map length scripts → AllAreNumbered room history (all_told_lines scripts tolds) lists → HaveReplies tolds lists
   HaveReplies-numbered [] [] [] same h = refl
-  HaveReplies-numbered [] [] (lines ∷ lists) same h = absurd h
   HaveReplies-numbered [] (told ∷ tolds) lists same h = absurd (cc)
   HaveReplies-numbered (script ∷ scripts) [] lists same h = absurd (cc)
-  HaveReplies-numbered (script ∷ scripts) (told ∷ tolds) [] same h = absurd h
   HaveReplies-numbered (script ∷ scripts) (told ∷ tolds) (lines ∷ lists) same h =
       let head : length told ≡ length script = cc in
       let tail : map length tolds ≡ map length scripts = cc in
       let others = HaveReplies-numbered scripts tolds lists tail h.1 in
       λ i. replies_told 0 script told lines head h.0 i ∷ others i
+  HaveReplies-numbered _ _ _ same h = absurd h
 
 -- the numbered lines of what scripts were told make an account of the scripts, whose history is this one and whose replies are those
 pub IsAccount-as_told : (scripts : List (List Op)) (tolds : List (List Told)) (history : List Update) (slots : ℕ) (lists : List (List Line))
@@ -246,8 +242,6 @@ module _ (room : Room) (history : List Update) where
       → AreNumbered room history before xs xs → AreNumbered room history before ys ys → xs ≡ ys
   unfolding replies_of
   one_script before [] [] ops replies updates h k = refl
-  one_script before [] (y ∷ ys) ops replies updates h k = absurd (cc)
-  one_script before (x ∷ xs) [] ops replies updates h k = absurd (cc)
   one_script before (x ∷ xs) (y ∷ ys) ops replies updates h k =
       let op : y.op ≡ x.op = cc in
       let reply : y.reply ≡ x.reply = cc in
@@ -262,17 +256,17 @@ module _ (room : Room) (history : List Update) where
       let others = one_script x.number xs ys other_ops other_replies number.1 h.3
       (subst (λ n. AreNumbered room history n ys ys) (sym number.0) k.3) in
       λ i. record { op = sym op i; reply = sym reply i; number = number.0 i } ∷ others i
+  one_script before _ _ ops replies updates h k = absurd (cc)
 
   all_scripts : (xs ys : List (List Line)) → map ops_of xs ≡ map ops_of ys → map replies_of xs ≡ map replies_of ys
       → ((c : ℕ) → told_updates (get_or xs c []) ≡ told_updates (get_or ys c [])) → AllAreNumbered room history xs xs
       → AllAreNumbered room history ys ys → xs ≡ ys
   all_scripts [] [] ops replies updates h k = refl
-  all_scripts [] (y ∷ ys) ops replies updates h k = absurd (cc)
-  all_scripts (x ∷ xs) [] ops replies updates h k = absurd (cc)
   all_scripts (x ∷ xs) (y ∷ ys) ops replies updates h k =
       let first = one_script 0 x y (cc) (cc) (updates 0) h.0 k.0 in
       let others = all_scripts xs ys (cc) (cc) (λ c. updates (suc c)) h.1 k.1 in
       λ i. first i ∷ others i
+  all_scripts _ _ ops replies updates h k = absurd (cc)
 
 pub accounts_are_one : AccountsAreOne
 unfolding replies_of
@@ -310,26 +304,24 @@ module _ (room : Room) (history : List Update) where
   one_numbering : (before : ℕ) (told a b : List Line) → AreNumbered room history before told a → AreNumbered room history before told b
       → a ≡ b
   one_numbering before [] [] [] h k = refl
-  one_numbering before [] [] (y ∷ b) h k = absurd k
   one_numbering before [] (x ∷ a) b h k = absurd h
   one_numbering before (t ∷ told) [] b h k = absurd h
-  one_numbering before (t ∷ told) (x ∷ a) [] h k = absurd k
   one_numbering before (t ∷ told) (x ∷ a) (y ∷ b) h k =
       let number = one_least before t x.number y.number h.2 k.2 in
       let same : x ≡ y = λ i. record { op = (h.0 ∙ sym k.0) i; reply = (h.1 ∙ sym k.1) i; number = number i } in
       let others = one_numbering x.number told a b h.3 (subst (λ n. AreNumbered room history n told b) (sym number) k.3) in
       λ i. same i ∷ others i
+  one_numbering before _ _ _ h k = absurd k
 
   one_numbering_of_all : (told a b : List (List Line)) → AllAreNumbered room history told a → AllAreNumbered room history told b → a ≡ b
   one_numbering_of_all [] [] [] h k = refl
-  one_numbering_of_all [] [] (y ∷ b) h k = absurd k
   one_numbering_of_all [] (x ∷ a) b h k = absurd h
   one_numbering_of_all (t ∷ told) [] b h k = absurd h
-  one_numbering_of_all (t ∷ told) (x ∷ a) [] h k = absurd k
   one_numbering_of_all (t ∷ told) (x ∷ a) (y ∷ b) h k =
       let first = one_numbering 0 t x y h.0 k.0 in
       let others = one_numbering_of_all told a b h.1 k.1 in
       λ i. first i ∷ others i
+  one_numbering_of_all _ _ _ h k = absurd k
 
 -- what is printed is an account
 pub IsAccount-from_printed : (scripts : List (List Op)) (slots : ℕ) (told : List (List Told)) (history : List Update) (text : List ℕ)
@@ -440,33 +432,15 @@ FitsMap-at history front ops = FitsMap-updated_all finite.empty (take front hist
 -- a reply that a dictionary explains or confirms has a value that fits
 FitsReply-explained : (room : Room) (m : Dictionary) (op : Op) (reply : Reply) → FitsMap m → Explains room m op reply → FitsReply reply
 FitsReply-explained room m (Get key) (Val value) fits h = fits key value h
-FitsReply-explained room m (Put k v) (Val value) fits h = absurd h
-FitsReply-explained room m (Del k) (Val value) fits h = absurd h
-FitsReply-explained room m (Set k v) (Val value) fits h = absurd h
-FitsReply-explained room m (Put k v) (Was value) fits h = absurd h
-FitsReply-explained room m (Get k) (Was value) fits h = absurd h
-FitsReply-explained room m (Del k) (Was value) fits h = absurd h
-FitsReply-explained room m (Set k v) (Was value) fits h = absurd h
-FitsReply-explained room m op New fits h = tt
-FitsReply-explained room m op Old fits h = tt
-FitsReply-explained room m op Full fits h = tt
-FitsReply-explained room m op Absent fits h = tt
-FitsReply-explained room m op Gone fits h = tt
+FitsReply-explained room m _ (Val value) fits h = absurd h
+FitsReply-explained room m _ (Was value) fits h = absurd h
+FitsReply-explained room m _ _ fits h = tt
 
 FitsReply-confirmed : (m : Dictionary) (op : Op) (reply : Reply) → FitsMap m → Confirms m op reply → FitsReply reply
 FitsReply-confirmed m (Set key v) (Was value) fits h = fits key value h
-FitsReply-confirmed m (Put k v) (Was value) fits h = absurd h
-FitsReply-confirmed m (Get k) (Was value) fits h = absurd h
-FitsReply-confirmed m (Del k) (Was value) fits h = absurd h
-FitsReply-confirmed m (Put k v) (Val value) fits h = absurd h
-FitsReply-confirmed m (Get k) (Val value) fits h = absurd h
-FitsReply-confirmed m (Del k) (Val value) fits h = absurd h
-FitsReply-confirmed m (Set k v) (Val value) fits h = absurd h
-FitsReply-confirmed m op New fits h = tt
-FitsReply-confirmed m op Old fits h = tt
-FitsReply-confirmed m op Full fits h = tt
-FitsReply-confirmed m op Absent fits h = tt
-FitsReply-confirmed m op Gone fits h = tt
+FitsReply-confirmed m _ (Was value) fits h = absurd h
+FitsReply-confirmed m _ (Val value) fits h = absurd h
+FitsReply-confirmed m _ _ fits h = tt
 
 -- positions of updates are within the history
 own_updates_from-within : (p c : ℕ) (us : List Update)

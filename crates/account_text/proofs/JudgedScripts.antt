@@ -274,9 +274,8 @@ module _ (room : Room) (history : List Update) where
   pub MayStandBeside-lower : (low high : ℕ) (lines : List Line) (numbers : List ℕ) → low ≤ high
       → MayStandBeside room history high lines numbers → MayStandBeside room history low lines numbers
   MayStandBeside-lower low high [] [] le h = h
-  MayStandBeside-lower low high [] (n ∷ ns) le h = h
-  MayStandBeside-lower low high (line ∷ lines) [] le h = h
   MayStandBeside-lower low high (line ∷ lines) (n ∷ ns) le h = (MayStand-lower low high line n le h.0, h.1)
+  MayStandBeside-lower low high _ _ le h = h
 
   -- numbers may stand beside lines, after a number
   abbrev pub Can : ℕ → List Line → Type 0

@@ -38,7 +38,7 @@ use Rattle.class_hash.specs.Seats.{HasPlace, HasRoom, TableAt}
 use Rattle.class_hash.specs.Answers.{IsInformed, IsHeldByOther, GivesAnswer, StandsInClass, IsLink, IsLinkOf, IsFull, FindsFull, TellsWord, IsCounted, Gains}
 use Rattle.atomic_table.proofs.Lists.{set_here}
 use Rattle.prcu_marks.specs.declared.mark.Mark.TheVariants.{Left}
-use Rattle.hash_core.specs.declared.act.Act.TheVariants.{LoadFront, Enter, Leave, SearchLoad, Lock as LockAct, Unlock, LoadReaders, LockedLoad, TakeSlot, TakeRetired, FreeRetired, StoreChain, Retire, Fill, OpenCommit, LinkSlot, UnlinkSlot, ReplaceValue, CloseCommit}
+use Rattle.hash_core.specs.declared.act.Act.TheVariants.{LoadFront, Enter, Leave, SearchLoad, Lock as LockAct, LoadReaders, LockedLoad, TakeSlot, StoreChain, Retire, Fill, OpenCommit, LinkSlot, UnlinkSlot, ReplaceValue, CloseCommit}
 use Rattle.hash_core.proofs.Splits.{quiet_turn}
 use Rattle.atomic_table.specs.Seated.{TableId}
 use Rattle.atomic_table.specs.Table.{State, Me, keeps, Allows}
@@ -299,10 +299,7 @@ module _ {capacities : List ℕ} {places tickets : ℕ} {m : Memory} {vs : List 
         (λ x there. chain_slot rule.roles x
         (let e = ap (times x) q.2 in let a = times_append x q.0 (slot ∷ q.1) in
         let b : times x (slot ∷ q.1) ≡ (cond (lib.Dec.eqb slot x) 1 0) + times x q.1 = refl in omega arith)) q.3
-    link_of (Key slot) of = tt
-    link_of (Value slot) of = tt
-    link_of (Chain slot) of = tt
-    link_of _ of = absurd of
+    link_of _ of = tt
 
     -- what the dictionary gives the key of a slot on the known walk
     pub value_now : (slot key : ℕ) → IsOnWalk hold slot → known_in hold.known (Key slot) ≡ Some key
@@ -401,23 +398,7 @@ module _ {capacities : List ℕ} {places tickets : ℕ} {m : Memory} {vs : List 
       let most = seat.rule.shape.few_places in
       omega arith
   fits act.Leave d = subst (λ (z : Section). 1 ≤ m (Readers (z.key % 64))) (sym (section_is v d.0 d.1)) (one_reader d.0 d.1)
-  fits act.LoadFront d = tt
-  fits (act.SearchLoad field) d = tt
-  fits (act.Lock class) d = tt
-  fits act.Unlock d = tt
-  fits act.LoadReaders d = tt
-  fits (act.LockedLoad field) d = tt
-  fits (act.TakeSlot slot next) d = tt
-  fits (act.TakeRetired slot) d = tt
-  fits (act.FreeRetired slot) d = tt
-  fits (act.StoreChain slot number) d = tt
-  fits (act.Retire slot) d = tt
-  fits (act.Fill field number) d = tt
-  fits (act.OpenCommit even) d = tt
-  fits (act.LinkSlot slot key value) d = tt
-  fits (act.UnlinkSlot link slot key next) d = tt
-  fits (act.ReplaceValue slot key value) d = tt
-  fits (act.CloseCommit front) d = tt
+  fits _ d = tt
 
 -- No step takes a place away.
 pub still_places : (v : View) (a : Act) (h : List Mark) (n : ℕ) → (done v a h n).places ≡ v.places
@@ -430,22 +411,7 @@ still_places v act.LoadReaders h n = elim (n == 0) as (λ b. (cond b
 still_places v (act.OpenCommit even) h n = elim (n == even) as (λ b. (cond b
     (record (noted v (act.OpenCommit even) n) { commit = Some (record { found = even; stored = false }) })
     (noted v (act.OpenCommit even) n)).places ≡ v.places) [ true ↦ refl | false ↦ refl ]
-still_places v act.LoadFront h n = refl
-still_places v (act.Enter key) h n = refl
-still_places v act.Leave h n = refl
-still_places v (act.SearchLoad field) h n = refl
-still_places v act.Unlock h n = refl
-still_places v (act.LockedLoad field) h n = refl
-still_places v (act.TakeSlot slot next) h n = refl
-still_places v (act.TakeRetired slot) h n = refl
-still_places v (act.FreeRetired slot) h n = refl
-still_places v (act.StoreChain slot number) h n = refl
-still_places v (act.Retire slot) h n = refl
-still_places v (act.Fill field number) h n = refl
-still_places v (act.LinkSlot slot key value) h n = refl
-still_places v (act.UnlinkSlot link slot key next) h n = refl
-still_places v (act.ReplaceValue slot key value) h n = refl
-still_places v (act.CloseCommit front) h n = refl
+still_places v _ h n = refl
 
 -- The word of an act whose needs are met is one of the table's.
 module _ (capacities : List ℕ) (v : View) (place : HasPlace v) where
@@ -458,12 +424,8 @@ module _ (capacities : List ℕ) (v : View) (place : HasPlace v) where
   field_there act.Leave d = lt-ltb ((section_of v).key % 64) 64 (key_small (section_of v).key)
   field_there (act.SearchLoad field) d = field_inside capacities (d.0.key % 64) (key_small d.0.key) field d.3
   field_there (act.Lock class) d = lt-ltb class 64 d.0
-  field_there act.Unlock d = held_class d.0 d.1.hold_is
   field_there act.LoadReaders d = held_class d.0 d.1
   field_there (act.LockedLoad field) d = field_inside capacities d.0.class (place.held d.0 d.1) field d.2
-  field_there (act.TakeSlot slot next) d = held_class d.0 d.1.hold_is
-  field_there (act.TakeRetired slot) d = held_class d.0 d.1.hold_is
-  field_there (act.FreeRetired slot) d = held_class d.0 d.1.hold_is
   field_there (act.StoreChain slot number) d = field_inside capacities d.0.class (place.held d.0 d.1.hold_is) (Chain slot) d.2
   field_there (act.Retire slot) d = held_class d.0 d.2.hold_is
   field_there (act.Fill field number) d = field_inside capacities d.0.class (place.held d.0 d.2.hold_is) field d.3
@@ -472,6 +434,7 @@ module _ (capacities : List ℕ) (v : View) (place : HasPlace v) where
   field_there (act.UnlinkSlot link slot key next) d = field_inside capacities d.0.class (place.held d.0 d.2.commit.hold_is) link d.3
   field_there (act.ReplaceValue slot key value) d = field_inside capacities d.0.class (place.held d.0 d.2.commit.hold_is) (Value slot) d.3
   field_there (act.CloseCommit front) d = refl
+  field_there _ d = held_class d.0 d.1.hold_is
 
   pub word_below : (a : Act) (words word : ℕ) → words ≡ word_count capacities → word ≡ word_of (field_of v a) → Needs capacities v a
       → word < words
@@ -510,8 +473,6 @@ module _ {capacities : List ℕ} {places tickets : ℕ} {m : Memory} {vs : List 
 
   pub gains : (t : TableAt) → t.capacities ≡ capacities → t.places ≡ places → (a : Act) → Needs capacities v a
       → Gains t v a h (said v a (m (field_of v a))) (done v a h (m (field_of v a)))
-  gains t of_table at_places LoadFront d = tt
-  gains t of_table at_places (Enter key) d = tt
   gains t of_table at_places Leave d =
       subst (GivesAnswer (h ++ Left v.place (section_of v).count ∷ [])) (sym (section_is v d.0 d.1))
       (left_answer d.0 h v.place (section_of v).count (gives_answer seat d.0 d.1))
@@ -523,8 +484,6 @@ module _ {capacities : List ℕ} {places tickets : ℕ} {m : Memory} {vs : List 
     even = quiet_turn m vs _ seat.rule.turned id v seat.at d.1.1;
     other = subst (λ n. IsHeldByOther n v (m (Lock class))) (sym at_places) (held_by_other seat class d.0 d.1.1);
   }
-  gains t of_table at_places Unlock d = tt
-  gains t of_table at_places LoadReaders d = tt
   gains t of_table at_places (LockedLoad field) d =
       let w : View = done v (LockedLoad field) h (m field) in
       let tells : TellsWord capacities d.0 field (m field) w = record {
@@ -535,11 +494,6 @@ module _ {capacities : List ℕ} {places tickets : ℕ} {m : Memory} {vs : List 
       subst (λ (z : List ℕ × Hold). TellsWord z.0 z.1 field (m field) w) (λ i. (sym of_table i, sym (hold_is v d.0 d.1) i)) tells
   gains t of_table at_places (TakeSlot slot next) d = subst (λ (z : Hold). IsOnWalk z slot → ⊥) (sym (hold_is v d.0 d.1.hold_is))
       (free_off seat d.1.hold_is slot d.1.some d.1.first)
-  gains t of_table at_places (TakeRetired slot) d = tt
-  gains t of_table at_places (FreeRetired slot) d = tt
-  gains t of_table at_places (StoreChain slot number) d = tt
-  gains t of_table at_places (Retire slot) d = tt
-  gains t of_table at_places (Fill field number) d = tt
   gains t of_table at_places (OpenCommit even) d = front_small seat
   gains t of_table at_places (LinkSlot slot key value) d = counted (LinkSlot slot key value) d refl refl
   gains t of_table at_places (UnlinkSlot link slot key next) d = counted (UnlinkSlot link slot key next) d refl refl
@@ -548,7 +502,7 @@ module _ {capacities : List ℕ} {places tickets : ℕ} {m : Memory} {vs : List 
     was = λ old is. old_value seat d.2.commit.hold_is slot key old d.2.on_walk d.2.key_is
         (subst (λ (z : Hold). known_in z.known (Value slot) ≡ Some old) (hold_is v d.0 d.2.commit.hold_is) is);
   }
-  gains t of_table at_places (CloseCommit front) d = tt
+  gains t of_table at_places _ d = tt
 
 -- The one border: where a law keeps the rule, an act is a step that the table allows.
 

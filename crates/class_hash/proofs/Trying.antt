@@ -4,7 +4,7 @@ use Rattle.std.proofs.Common.{◌≡◌, ℕ, ◌+◌, ◌-◌, ◌%◌, ◌≤�
 use Rattle.std.specs.List.{AllByRecursion, slice_get}
 use mathlib.Core.List.{IsPrefix}
 use Rattle.prcu_marks.specs.declared.mark.Mark.{Mark}
-use Rattle.prcu_marks.specs.declared.mark.Mark.TheVariants.{Entered, Left, Done, Unlinked, Began, Ended, Given, Freed}
+use Rattle.prcu_marks.specs.declared.mark.Mark.TheVariants.{Entered, Left, Done, Unlinked}
 use Rattle.prcu_model.specs.declared.operation.Op.{Op}
 use Rattle.prcu_model.specs.declared.operation.Op.TheVariants.{Put, Set, Del, Get}
 use Rattle.prcu_model.specs.declared.operation.Reply.TheVariants.{New, Old, Full, Gone, Was, Val, Absent}
@@ -440,10 +440,7 @@ module _ (capacities : List ℕ) (v w : View) (key value : ℕ) where
                 (record { kind = H7; field = Lock (hold_of p.leaves.listed).class; number = 0 } ∷ []) (loaded l.hold.class 0)
                 (loaded_next l.hold.class 0) walked.trail.trail l.trail (ap (λ (z : View). z.trail) e));
           }
-  exactly (Val x) number p = absurd p
-  exactly Absent number p = absurd p
-  exactly Gone number p = absurd p
-  exactly (Was x) number p = absurd p
+  exactly _ number p = absurd p
 
   pub full_exactly : (told : Told) → Puts capacities v key value told w → (told.reply ≡ Full) ↔ LoadsBothEmpty (key % 64) v.trail w.trail
   full_exactly told p = exactly told.reply told.number p
@@ -455,33 +452,18 @@ module _ (capacities : List ℕ) (v w : View) (key value : ℕ) where
 section_left : (place key : ℕ) (m : Mark) → IsOfSection place key m → IsLeftBy place key m
 section_left place key (Entered p c x) is = is
 section_left place key (Left p c) is = is
-section_left place key (Began p c low high) is = absurd is
-section_left place key (Ended p c) is = absurd is
-section_left place key (Done u) is = absurd is
-section_left place key (Given s) is = absurd is
-section_left place key (Unlinked s) is = absurd is
-section_left place key (Freed s) is = absurd is
+section_left place key _ is = absurd is
 
 section_waits : (us : List Update) (place key : ℕ) (m : Mark) → IsOfSection place key m → WaitsFor us m
 section_waits us place key (Entered p c x) is = tt
 section_waits us place key (Left p c) is = tt
-section_waits us place key (Began p c low high) is = absurd is
-section_waits us place key (Ended p c) is = absurd is
-section_waits us place key (Done u) is = absurd is
-section_waits us place key (Given s) is = absurd is
-section_waits us place key (Unlinked s) is = absurd is
-section_waits us place key (Freed s) is = absurd is
+section_waits us place key _ is = absurd is
 
 no_updates : (place key : ℕ) (ms : List Mark) → AllByRecursion (IsOfSection place key) ms → updates_of ms ≡ []
 no_updates place key [] all = refl
 no_updates place key (Entered p c x ∷ ms) all = no_updates place key ms all.1
 no_updates place key (Left p c ∷ ms) all = no_updates place key ms all.1
-no_updates place key (Began p c low high ∷ ms) all = absurd all.0
-no_updates place key (Ended p c ∷ ms) all = absurd all.0
-no_updates place key (Done u ∷ ms) all = absurd all.0
-no_updates place key (Given s ∷ ms) all = absurd all.0
-no_updates place key (Unlinked s ∷ ms) all = absurd all.0
-no_updates place key (Freed s ∷ ms) all = absurd all.0
+no_updates place key (_ ∷ ms) all = absurd all.0
 
 module _ (explains : Dictionary → Op → Reply → Type 0) (v w : View) (op : Op) (told : Told)
     (met : HasSeenItsOwn (record { place = w.place; own = w.own; seen = w.seen })) where
@@ -631,10 +613,7 @@ module _ (capacities : List ℕ) (v w : View) (places : ℕ) (informed : IsInfor
       (ap (λ (z : View). z.place) t.view) t.own t.plain p.searched t.seen refl (length (updates_of w.seen))
       (updates_below v.seen w.seen t.seen) (omega arith)
       (subst (λ d. ExplainsInClasses capacities d (Put key value) Full) (sym now) (p.room.absent, p.room.pairs))
-  was_put key value (Val x) number p = absurd p
-  was_put key value Absent number p = absurd p
-  was_put key value Gone number p = absurd p
-  was_put key value (Was x) number p = absurd p
+  was_put key value _ number p = absurd p
 
   was_set : (key value : ℕ) (reply : Reply) (number : ℕ) → SetsBy v key value reply number w
       → HasAnswered (ExplainsInClasses capacities) (record { place = v.place; own = v.own; seen = v.seen }) (Set key value)
@@ -643,11 +622,7 @@ module _ (capacities : List ℕ) (v w : View) (places : ℕ) (informed : IsInfor
       (record { reply = Absent; number = number }) met_here p.before None p.tried p.looked refl (λ m none. absent capacities m key none)
   was_set key value (Was old) number p = updated (ExplainsInClasses capacities) v w (Set key value)
       (record { reply = Was old; number = number }) met_here p.before [] refl p.updated refl p.was
-  was_set key value New number p = absurd p
-  was_set key value Old number p = absurd p
-  was_set key value Full number p = absurd p
-  was_set key value (Val x) number p = absurd p
-  was_set key value Gone number p = absurd p
+  was_set key value _ number p = absurd p
 
   was_deleted : (key : ℕ) (reply : Reply) (number : ℕ) → DelsBy v key reply number w
       → HasAnswered (ExplainsInClasses capacities) (record { place = v.place; own = v.own; seen = v.seen }) (Del key)
@@ -656,11 +631,7 @@ module _ (capacities : List ℕ) (v w : View) (places : ℕ) (informed : IsInfor
       (record { reply = Absent; number = number }) met_here p.before None p.tried p.looked refl (λ m none. absent capacities m key none)
   was_deleted key Gone number p = updated (ExplainsInClasses capacities) v w (Del key)
       (record { reply = Gone; number = number }) met_here p.before (Unlinked p.slot ∷ []) refl p.updated refl tt
-  was_deleted key New number p = absurd p
-  was_deleted key Old number p = absurd p
-  was_deleted key Full number p = absurd p
-  was_deleted key (Val x) number p = absurd p
-  was_deleted key (Was x) number p = absurd p
+  was_deleted key _ number p = absurd p
 
   pub made_answers : (op : Op) (told : Told) → Makes capacities v op told w
       → HasAnswered (ExplainsInClasses capacities) (record { place = v.place; own = v.own; seen = v.seen }) op told
@@ -686,10 +657,9 @@ chain_has_told capacities ops tolds before after same met none chain =
         → IsChain (λ (x : ClientAt) (op : Op) (told : Told) (y : ClientAt). HasCalled x op told y
         × (x.table.capacities ≡ capacities)) c os ts after
     with_capacities [] [] c is done = done
-    with_capacities [] (t ∷ ts) c is done = absurd done
-    with_capacities (o ∷ os) [] c is done = absurd done
     with_capacities (o ∷ os) (t ∷ ts) c is done =
         (done.0, (done.1, is), with_capacities os ts done.0 (ap (λ (z : TableAt). z.capacities) done.1.table ∙ is) done.2)
+    with_capacities _ _ c is done = absurd done
 
 pub chains_meet : ChainsMeetFronts
 chains_meet ops tolds before after informed none chain =
@@ -697,46 +667,34 @@ chains_meet ops tolds before after informed none chain =
     (chain_has_told before.table.capacities ops tolds before after refl
     (informed.met before.view.place (inl (omega arith, (let works = informed.works in omega arith)))) none chain)
 
--- a call leaves the seat at its places
+-- a search after others leaves the seat at its places
+looked_stays : (v u w : View) (key : ℕ) (answer : Option ℕ) → HasTried v key u → Looked u key answer w
+    → (w.place ≡ v.place) × (w.places ≡ v.places)
+looked_stays v u w key answer tried looked = (
+  ap (λ (z : View). z.place) looked.view ∙ ap (λ (z : View). z.place) tried.view,
+  ap (λ (z : View). z.places) looked.view ∙ ap (λ (z : View). z.places) tried.view,
+)
+
+-- so does a call
 pub calls_stay : (capacities : List ℕ) (v w : View) (op : Op) (told : Told) → Makes capacities v op told w
     → (w.place ≡ v.place) × (w.places ≡ v.places)
 calls_stay capacities v w (Get key) told g = (ap (λ (z : View). z.place) g.2.view, ap (λ (z : View). z.places) g.2.view)
 calls_stay capacities v w (Put key value) told p = by told.reply told.number p
   where
     by : (reply : Reply) (number : ℕ) → PutsBy capacities v key value reply number w → (w.place ≡ v.place) × (w.places ≡ v.places)
-    by Old number q = (
-      ap (λ (z : View). z.place) q.looked.view ∙ ap (λ (z : View). z.place) q.tried.view,
-      ap (λ (z : View). z.places) q.looked.view ∙ ap (λ (z : View). z.places) q.tried.view,
-    )
+    by Old number q = looked_stays v q.before w key (Some q.old) q.tried q.looked
     by New number q = (ap (λ (z : View). z.place) q.updated.view, ap (λ (z : View). z.places) q.updated.view)
     by Full number q = (ap (λ (z : View). z.place) q.tried.view, ap (λ (z : View). z.places) q.tried.view)
-    by (Val x) number q = absurd q
-    by Absent number q = absurd q
-    by Gone number q = absurd q
-    by (Was x) number q = absurd q
+    by _ number q = absurd q
 calls_stay capacities v w (Set key value) told p = by told.reply told.number p
   where
     by : (reply : Reply) (number : ℕ) → SetsBy v key value reply number w → (w.place ≡ v.place) × (w.places ≡ v.places)
-    by Absent number q = (
-      ap (λ (z : View). z.place) q.looked.view ∙ ap (λ (z : View). z.place) q.tried.view,
-      ap (λ (z : View). z.places) q.looked.view ∙ ap (λ (z : View). z.places) q.tried.view,
-    )
+    by Absent number q = looked_stays v q.before w key None q.tried q.looked
     by (Was old) number q = (ap (λ (z : View). z.place) q.updated.view, ap (λ (z : View). z.places) q.updated.view)
-    by New number q = absurd q
-    by Old number q = absurd q
-    by Full number q = absurd q
-    by (Val x) number q = absurd q
-    by Gone number q = absurd q
+    by _ number q = absurd q
 calls_stay capacities v w (Del key) told p = by told.reply told.number p
   where
     by : (reply : Reply) (number : ℕ) → DelsBy v key reply number w → (w.place ≡ v.place) × (w.places ≡ v.places)
-    by Absent number q = (
-      ap (λ (z : View). z.place) q.looked.view ∙ ap (λ (z : View). z.place) q.tried.view,
-      ap (λ (z : View). z.places) q.looked.view ∙ ap (λ (z : View). z.places) q.tried.view,
-    )
+    by Absent number q = looked_stays v q.before w key None q.tried q.looked
     by Gone number q = (ap (λ (z : View). z.place) q.updated.view, ap (λ (z : View). z.places) q.updated.view)
-    by New number q = absurd q
-    by Old number q = absurd q
-    by Full number q = absurd q
-    by (Val x) number q = absurd q
-    by (Was x) number q = absurd q
+    by _ number q = absurd q

@@ -13,9 +13,8 @@ use Rattle.class_hash.specs.Seats.{HasRoom, IsInside, IsBucket}
 -- the bucket whose lock the seat holds, if it holds one
 abbrev pub IsHolding : Option Bucket → Option Hold → Type 0
 IsHolding None None = Unit {0}
-IsHolding None (Some hold) = ⊥
-IsHolding (Some bucket) None = ⊥
 IsHolding (Some bucket) (Some hold) = IsBucket bucket.class bucket.free bucket.retired hold
+IsHolding _ _ = ⊥
 
 -- The numbers that a seat keeps when the program runs.
 pub record Numbers : Type 0 where

@@ -49,9 +49,8 @@ pub record HasRoom (v : View) : Type 0 where
 -- the key of the open section, if there is one
 abbrev pub IsInside : Option ℕ → Option Section → Type 0
 IsInside None None = Unit {0}
-IsInside None (Some section) = ⊥
-IsInside (Some key) None = ⊥
 IsInside (Some key) (Some section) = key ≡ section.key
+IsInside _ _ = ⊥
 
 -- what a seat remembers of the bucket whose lock it holds: its class, and its free and retired words where they are known
 pub record IsBucket (class : ℕ) (free retired : Option ℕ) (hold : Hold) : Type 0 where

@@ -141,14 +141,13 @@ count-with_told caller op told rest = elim (tells_update told.reply) as (λ tell
 pub length-numbered_updates : (caller : ℕ) (script : List Op) (told : List Told) → length told ≡ length script
     → length (numbered_updates caller (told_lines script told)) ≡ count_by (λ answer. tells_update answer.reply) told
 length-numbered_updates caller [] [] same = refl
-length-numbered_updates caller [] (answer ∷ told) same = absurd (omega arith)
-length-numbered_updates caller (op ∷ script) [] same = absurd (omega arith)
 length-numbered_updates caller (op ∷ script) (answer ∷ told) same =
     let rest = length-numbered_updates caller script told (omega arith) in
     let here = ap length (with_told-at caller op answer (told_lines script told)) in
     let more = count-with_told caller op answer (numbered_updates caller (told_lines script told)) in
     let counted = sum_by-cons (λ (other : Told). if tells_update other.reply then 1 else 0) answer told in
     omega arith
+length-numbered_updates caller _ _ same = absurd (omega arith)
 
 -- the updates of the scripts that are left, from script i on
 abbrev pub all_left : List (List Op) → List (Roomy Told) → ℕ → List Numbered
@@ -165,19 +164,16 @@ all_left-end scripts told i past = ap (λ ss. all_numbered_updates i (all_told_l
 
 -- no more updates than operations
 length-told_updates-le : (script : List Op) (told : List Told) → length (told_updates (told_lines script told)) ≤ length script
-length-told_updates-le [] told = omega arith
-length-told_updates-le (op ∷ script) [] = omega arith
 length-told_updates-le (op ∷ script) (answer ∷ told) =
     let rest = length-told_updates-le script told in
     elim (tells_update answer.reply) as (λ tells. length
     (if tells then record { position = answer.number; op = op } ∷ told_updates (told_lines script told)
     else told_updates (told_lines script told)) ≤ suc (length script))
     [ true ↦ omega arith | false ↦ omega arith ]
+length-told_updates-le _ _ = omega arith
 
 pub length-all_left-le : (caller : ℕ) (scripts : List (List Op)) (tolds : List (List Told))
     → length (all_numbered_updates caller (all_told_lines scripts tolds)) ≤ op_count scripts
-length-all_left-le caller [] tolds = omega arith
-length-all_left-le caller (script ∷ scripts) [] = omega arith
 length-all_left-le caller (script ∷ scripts) (told ∷ tolds) =
     let own = length-told_updates-le script told in
     let rest = length-all_left-le (caller + 1) scripts tolds in
@@ -188,6 +184,7 @@ length-all_left-le caller (script ∷ scripts) (told ∷ tolds) =
     numbered) in
     let counted = sum_by-cons length script scripts in
     omega arith
+length-all_left-le caller _ _ = omega arith
 
 -- a list's answers that tell of updates, and the updates that are left after it
 pub counted_turn : (scripts : List (List Op)) (told : List (Roomy Told)) (i : ℕ) (list : Roomy Told) → i < length told

@@ -65,10 +65,9 @@ lines_shorter : (done todo : List Op) (tolds : List Told) → length tolds ≡ l
     → told_lines (done ++ todo) tolds ≡ told_lines done tolds
 lines_shorter [] [] [] same = refl
 lines_shorter [] (op ∷ ops) [] same = refl
-lines_shorter [] todo (t ∷ ts) same = absurd (omega (arith, same))
-lines_shorter (op ∷ ops) todo [] same = absurd (omega (arith, same))
 lines_shorter (op ∷ ops) todo (t ∷ ts) same = ap (λ xs. record { op = op; reply = t.reply; number = t.number } ∷ xs)
     (lines_shorter ops todo ts (omega (arith, same)))
+lines_shorter _ todo _ same = absurd (omega (arith, same))
 
 -- ---- the run
 

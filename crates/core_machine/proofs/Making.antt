@@ -253,10 +253,9 @@ none_stand : (kept : List Caller) (p : ℕ) (scripts : List (List Op)) → lengt
     → ((i : ℕ) (c : Caller) → slice_get kept i ≡ Some c → c.stands ≡ None)
     → map (λ (c : Caller). c.stands) kept ≡ map standing_of (place_views p (tickets_of scripts))
 none_stand [] p [] same all = refl
-none_stand [] p (s ∷ ss) same all = absurd (omega (arith, same))
-none_stand (c ∷ cs) p [] same all = absurd (omega (arith, same))
 none_stand (c ∷ cs) p (s ∷ ss) same all = let rest = none_stand cs (p + 1) ss (omega (arith, same)) (λ i d e. all (suc i) d e) in
     λ j. all zero c refl j ∷ rest j
+none_stand _ p _ same all = absurd (omega (arith, same))
 
 -- a machine of the words of a fresh table and of the callers as they are made
 module _ (scripts : List (List Op)) (slots : ℕ) (some_slot : 1 ≤ slots) (few_slots : slots ≤ 2097152) (some_script : 1 ≤ length scripts)

@@ -1,5 +1,6 @@
 -- How far a call is, by its point; and what a caller's own steps bring nearer, in any order of callers: so the front is given back.
-use Rattle.std.proofs.Common.{◌≡◌, ℕ, true, false, refl, sym, ◌∙◌, Option, Some, None, ◌≢◌, zero, suc, ◌+◌, ◌≤◌, ◌<◌, ◌⊎◌, List, [], ◌∷◌, length, set, ap, subst, ⊎_elim, arith, ne_eqb, eq-eqb, inl, inr}
+use Rattle.std.proofs.Common.{◌≡◌, ℕ, true, false, refl, sym, ◌∙◌, Option, Some, None, ◌≢◌, zero, suc, ◌+◌, ◌≤◌, ◌<◌, ◌⊎◌, List, [], ◌∷◌, length, ap, subst, ⊎_elim, arith, ne_eqb, eq-eqb, inl, inr}
+use Rattle.std.proofs.lemmas.List.{length-set}
 use Rattle.prcu_marks.specs.declared.commit.Commit.{Commit}
 use Rattle.prcu_marks.specs.declared.mark.Side.{Side}
 use Rattle.core_state.specs.declared.view.Section.{Section}
@@ -86,15 +87,11 @@ module _ (o : Own) (v : View) where
 
   made : (u : Update) (commit : Option Commit) → Made o u (plain v) commit → Has commit
   made (update.Leaf spot) commit p = record { outside = (p.0).outside; turn_is = (p.0).turn_is }
-  made (update.Value s old) commit p = record { outside = (p.0).outside; turn_is = (p.0).turn_is }
-  made (update.Bypass d child) commit p = record { outside = (p.0).outside; turn_is = (p.0).turn_is }
-  made (update.Copy d u next_key copy) commit p = record { outside = (p.0).outside; turn_is = (p.0).turn_is }
+  made _ commit p = record { outside = (p.0).outside; turn_is = (p.0).turn_is }
 
   unlocking : (end : Last) → PointUnlock o (plain v) end → Has None
   unlocking last.Again p = record { outside = (p.0).outside; turn_is = (p.0).no_turn }
-  unlocking (last.New number) p = record { outside = (p.0).outside; turn_is = (p.0).no_turn }
-  unlocking (last.Gone number) p = record { outside = (p.0).outside; turn_is = (p.0).no_turn }
-  unlocking (last.Was value number) p = record { outside = (p.0).outside; turn_is = (p.0).no_turn }
+  unlocking _ p = record { outside = (p.0).outside; turn_is = (p.0).no_turn }
 
   -- before the front is made even it is this view's
   pub even_commit : (u : Update) (front : ℕ) → Fits o (at.Even u front) v → v.commit ≡ Some (record { found = front; stored = true })
@@ -185,11 +182,6 @@ section_goes stage _ = refl
 
 -- ---- lists
 
-set_long : {A : Type 0} (xs : List A) (i : ℕ) (x : A) → length (set xs i x) ≡ length xs
-set_long [] i x = refl
-set_long (y ∷ ys) zero x = refl
-set_long (y ∷ ys) (suc i) x = ap suc (set_long ys i x)
-
 at_index : {A : Type 0} (xs : List A) (i : ℕ) → i < length xs → (x : A) × (get_elem? xs i ≡ some x)
 at_index [] i below = absurd (omega (arith, below))
 at_index (x ∷ xs) zero below = (x, refl)
@@ -207,8 +199,8 @@ pub goes : (k : Shape) (count : ℕ) (c : Core) (i : ℕ) → Going k count c �
 goes k count c i g = record {
   run = step_runs k c i g.run;
   owns = step_by (λ (d : Core). length d.owns ≡ count) c i g.owns
-      (λ o v eo ev going. set_long c.owns i (after o (told_in c o) o.stage) ∙ g.owns);
-  views = step_by (λ (d : Core). length d.views ≡ count) c i g.views (λ o v eo ev going. set_long c.views i _ ∙ g.views);
+      (λ o v eo ev going. length-set c.owns i (after o (told_in c o) o.stage) ∙ g.owns);
+  views = step_by (λ (d : Core). length d.views ≡ count) c i g.views (λ o v eo ev going. length-set c.views i _ ∙ g.views);
 }
 
 going_on : (k : Shape) (count : ℕ) (c : Core) (callers : List ℕ) → Going k count c → Going k count (steps c callers)

@@ -1,6 +1,6 @@
 -- A step of the machine is the core's, also where the script had ended or the step is blocked.
 -- A step of the machine is the core's.
-use Rattle.std.proofs.Common.{◌≡◌, ℕ, zero, suc, ◌*◌, ◌<◌, ◌≤◌, cond, Bool, true, false, List, [], ◌∷◌, ◌++◌, length, get_or, map, set, take, slice_get, slice_set, slice_index_or, Option as Opt, Some, None, refl, sym, ap, subst, ◌∙◌, arith, length-set, ◌+◌, ◌%◌, ◌==◌, ◌&&◌, not}
+use Rattle.std.proofs.Common.{◌≡◌, ℕ, zero, suc, ◌*◌, ◌<◌, ◌≤◌, cond, Bool, true, false, List, [], ◌∷◌, ◌++◌, length, get_or, map, set, slice_get, slice_set, slice_index_or, Option as Opt, Some, None, refl, sym, ap, subst, ◌∙◌, arith, length-set, ◌+◌, ◌%◌, ◌==◌, ◌&&◌, not}
 use Rattle.std.proofs.lemmas.List.{length-map, map-set, set-get_or}
 use Rattle.std.proofs.lemmas.List.Sums.{sum_by-cons}
 use Rattle.std.proofs.lemmas.Option.{get_or_from_slice_get}
@@ -51,12 +51,6 @@ module _ {A : Type 0} where
   put_keeps P (y ∷ ys) zero x px all (suc j) d e = all (suc j) d e
   put_keeps P (y ∷ ys) (suc i) x px all zero d e = all zero d e
   put_keeps P (y ∷ ys) (suc i) x px all (suc j) d e = put_keeps P ys i x px (λ k z q. all (suc k) z q) j d e
-
-  pub whole : (xs ys : List A) (n : ℕ) → length xs ≡ n → take n (xs ++ ys) ≡ xs
-  whole [] ys zero same = refl
-  whole [] ys (suc n) same = absurd (omega (arith, same))
-  whole (x ∷ xs) ys zero same = absurd (omega (arith, same))
-  whole (x ∷ xs) ys (suc n) same = ap (λ zs. x ∷ zs) (whole xs ys n (omega (arith, same)))
 
 -- a script is no longer than all of them
 script_within : (scripts : List (List Op)) (i : ℕ) (script : List Op) → get_elem? scripts i ≡ some script → length script ≤ op_count scripts

@@ -8,7 +8,7 @@ use Rattle.std.proofs.lemmas.Option.{slice_get_within}
 use Rattle.prcu_marks.specs.declared.mark.Mark.{Mark}
 use Rattle.prcu_marks.specs.declared.mark.Mark.TheVariants.{Began, Left as LeftMark, Ended, Given}
 use Rattle.prcu_model.specs.declared.operation.Op.{Op}
-use Rattle.prcu_model.specs.declared.operation.Op.TheVariants.{Put, Get, Del, Set}
+use Rattle.prcu_model.specs.declared.operation.Op.TheVariants.{Put, Del, Set}
 use Rattle.prcu_model.specs.declared.operation.Reply.{Reply}
 use Rattle.prcu_model.specs.declared.operation.Reply.TheVariants.{New, Old, Gone, Was, Full, Absent}
 use Rattle.prcu_model.specs.declared.operation.Told.{Told}
@@ -68,6 +68,11 @@ waiting (Reuse aim) = aiming aim
 waiting (Move m) = made m.number Gone
 
 abbrev pub phase : Stage → Phase
+phase at.Finished = searching
+phase at.EnterClock = searching
+phase (at.EnterKey clock) = searching
+phase (at.EnterStamp clock) = searching
+phase (at.Keep s) = searching
 phase (at.AtLink s b) = inside
 phase (at.AtKey s p b) = inside
 phase (at.Leave next) = inside
@@ -82,11 +87,6 @@ phase (at.NodeRight d) = inside
 phase (at.SuccessorLeft d u) = inside
 phase (at.SuccessorParentLife d u) = inside
 phase (at.SuccessorLife d u) = inside
-phase (at.LeafField spot i) = outside
-phase (at.LeafLock spot) = outside
-phase (at.LeafLife spot) = outside
-phase (at.LeafSide spot life) = outside
-phase (at.LeafTag spot life link) = outside
 phase (at.Reserve aim expected) = aiming aim
 phase (at.Seize aim) = aiming aim
 phase (at.Age aim s) = aiming aim
@@ -101,31 +101,18 @@ phase (at.OldAge aim) = aiming aim
 phase (at.OldRaise aim life) = aiming aim
 phase (at.OldFree aim) = aiming aim
 phase (at.OldCount aim) = aiming aim
-phase (at.Commit u expected) = outside
-phase (at.Store u front) = outside
 phase (at.Even u front) = made_as u ((front + 2) / 2)
 phase (at.Unlock last.Again) = searching
 phase (at.Unlock (last.New number)) = made number New
 phase (at.Unlock (last.Gone number)) = made number Gone
 phase (at.Unlock (last.Was value number)) = made number (Was value)
-phase (at.SetLock s generation) = outside
-phase (at.SetCheck s generation) = outside
-phase (at.SetValue s) = outside
-phase (at.TargetLock t i) = outside
-phase (at.TargetLoad t i number) = outside
-phase (at.Mark d child) = outside
 phase (at.EmptyTag number s b) = made number Gone
 phase (at.EmptyRaise number s b tag) = made number Gone
-phase (at.SuccessorKey d u) = outside
-phase (at.SuccessorValue d u next_key) = outside
-phase (at.CopyField d u next_key value i) = outside
-phase (at.CopyAge d u next_key) = outside
-phase (at.CopyLock d u next_key) = outside
-phase (at.CopyMark d u next_key) = outside
 phase (at.OldMark m) = made m.number Gone
 phase (at.OldRight m) = made m.number Gone
 phase (at.Unlink m child) = made m.number Gone
-phase _ = searching
+-- the section was left, or isn't needed any more, and no update is made
+phase _ = outside
 
 -- the caller at the place, as it was at its last answer
 abbrev pub at_answer : ℕ → List Mark → List Mark → Caller
@@ -294,15 +281,13 @@ either_next o p false x y nx ny = ny
 
 -- a call begins by searching
 pub first_phase : (o' : Own) (op : Op) → (is_finished (first_point o' op) ≡ false) × (phase (first_point o' op) ≡ searching)
-first_phase o' (Put key value) = (refl, refl)
-first_phase o' (Get key) = (refl, refl)
-first_phase o' (Set key value) = (refl, refl)
 first_phase o' (Del key) = either (nat_le o'.room (length o'.retired + 1)) _ _ (refl, refl) (either (is_some o'.spare) _ _ (refl, refl) (refl, refl))
   where
     either : (b : Bool) (x y : Stage) → (is_finished x ≡ false) × (phase x ≡ searching) → (is_finished y ≡ false) × (phase y ≡ searching)
         → (is_finished (cond b x y) ≡ false) × (phase (cond b x y) ≡ searching)
     either true x y p q = p
     either false x y p q = q
+first_phase o' _ = (refl, refl)
 
 module _ (room : Room) (i : ℕ) (script : List Op) (o : Own) (section : Option Section) (h : List Mark) (t : Tells room i script o section h)
     (going : is_finished o.stage ≡ false) where
@@ -474,8 +459,7 @@ module _ (i key : ℕ) (us : List Update) (v : View) (place : v.allowance.place 
 
 pub aim_outside : (aim : Aim) → aiming aim ≡ inside → ⊥
 aim_outside (Leaf spot) e = absurd (cc)
-aim_outside Spare e = absurd (cc)
-aim_outside ForRoom e = absurd (cc)
+aim_outside _ e = absurd (cc)
 
 pub wait_outside : (waits : Waits) → waiting waits ≡ inside → ⊥
 wait_outside (Reuse aim) e = aim_outside aim e
@@ -494,15 +478,11 @@ either_tells room i script section h false x y tx ty = ty refl
 
 pub ended_next : (o o' : Own) (op : Op) (s : ℕ) (b : Side) → said o' ≡ said o → Next o inside (go o' (ended op s b))
 ended_next o o' (Put key value) s b same = (same, refl, inl refl)
-ended_next o o' (Get key) s b same = (same, refl, inl refl)
-ended_next o o' (Del key) s b same = (same, refl, inl refl)
-ended_next o o' (Set key value) s b same = (same, refl, inl refl)
+ended_next o o' _ s b same = (same, refl, inl refl)
 
 pub found_next : (o o' : Own) (op : Op) (s p : ℕ) (b : Side) → said o' ≡ said o → Next o inside (go o' (found op s p b))
 found_next o o' (Put key value) s p b same = (same, refl, inl refl)
-found_next o o' (Get key) s p b same = (same, refl, inl refl)
-found_next o o' (Del key) s p b same = (same, refl, inl refl)
-found_next o o' (Set key value) s p b same = (same, refl, inl refl)
+found_next o o' _ s p b same = (same, refl, inl refl)
 
 pub lock_next : (o o' : Own) (s n : ℕ) (next : Stage) → said o' ≡ said o → is_finished next ≡ false → phase next ≡ outside
     → Next o outside (past_lock o' s n next)
@@ -557,59 +537,41 @@ target_next o o' t j f same = by t.successor
 pub absent_explained : (room : Room) (op : Op) (m : Dictionary) → is_put op ≡ false → finite.get m (key_of op) ≡ None
     → Explains room m op Absent
 absent_explained room (Put key value) m other none = absurd (cc)
-absent_explained room (Get key) m other none = ap is_some none
-absent_explained room (Del key) m other none = ap is_some none
-absent_explained room (Set key value) m other none = ap is_some none
+absent_explained room _ m other none = ap is_some none
 
 pub old_explained : (room : Room) (op : Op) (m : Dictionary) (value : ℕ) → is_put op ≡ true → finite.get m (key_of op) ≡ Some value
     → Explains room m op Old
 old_explained room (Put key v) m value put is = ap is_some is
-old_explained room (Get key) m value put is = absurd (cc)
-old_explained room (Del key) m value put is = absurd (cc)
-old_explained room (Set key v) m value put is = absurd (cc)
+old_explained room _ m value put is = absurd (cc)
 
 pub full_explained : (room : Room) (op : Op) (m : Dictionary) → is_put op ≡ true → room.slots ≤ finite.len m + 20 * (room.scripts - 1)
     → Explains room m op Full
 full_explained room (Put key v) m put large = large
-full_explained room (Get key) m put large = absurd (cc)
-full_explained room (Del key) m put large = absurd (cc)
-full_explained room (Set key v) m put large = absurd (cc)
+full_explained room _ m put large = absurd (cc)
 
 pub put_is : (op : Op) → is_put op ≡ true → Put (key_of op) (value_in op) ≡ op
 put_is (Put key value) e = refl
-put_is (Get key) e = absurd (cc)
-put_is (Del key) e = absurd (cc)
-put_is (Set key value) e = absurd (cc)
+put_is _ e = absurd (cc)
 
 pub del_is : (op : Op) → is_delete op ≡ true → Del (key_of op) ≡ op
-del_is (Put key value) e = absurd (cc)
-del_is (Get key) e = absurd (cc)
 del_is (Del key) e = refl
-del_is (Set key value) e = absurd (cc)
+del_is _ e = absurd (cc)
 
 pub set_is : (op : Op) → is_set op ≡ true → Set (key_of op) (value_in op) ≡ op
-set_is (Put key value) e = absurd (cc)
-set_is (Get key) e = absurd (cc)
-set_is (Del key) e = absurd (cc)
 set_is (Set key value) e = refl
+set_is _ e = absurd (cc)
 
 pub new_confirms : (op : Op) (d : Dictionary) → is_put op ≡ true → Confirms d op New
 new_confirms (Put key value) d e = tt
-new_confirms (Get key) d e = absurd (cc)
-new_confirms (Del key) d e = absurd (cc)
-new_confirms (Set key value) d e = absurd (cc)
+new_confirms _ d e = absurd (cc)
 
 pub gone_confirms : (op : Op) (d : Dictionary) → is_delete op ≡ true → Confirms d op Gone
-gone_confirms (Put key value) d e = absurd (cc)
-gone_confirms (Get key) d e = absurd (cc)
 gone_confirms (Del key) d e = tt
-gone_confirms (Set key value) d e = absurd (cc)
+gone_confirms _ d e = absurd (cc)
 
 pub was_confirms : (op : Op) (d : Dictionary) (old : ℕ) → is_set op ≡ true → finite.get d (key_of op) ≡ Some old → Confirms d op (Was old)
-was_confirms (Put key value) d old e is = absurd (cc)
-was_confirms (Get key) d old e is = absurd (cc)
-was_confirms (Del key) d old e is = absurd (cc)
 was_confirms (Set key value) d old e is = is
+was_confirms _ d old e is = absurd (cc)
 
 -- a search's answer, at a front since its section was entered
 pub said_explains : (room : Room) (c : Caller) (op : Op) (h marks : List Mark) (reply : Reply) (from : ℕ) (answers : Option ℕ)

@@ -27,7 +27,7 @@ use Rattle.core_machine.specs.Runs.{Core, told_in, moved, moved_by, step, steps,
 use Rattle.std.specs.List.{AllByRecursion}
 use Rattle.std.proofs.lemmas.List.Sums.{sum_by-cons}
 use Rattle.list_laws.specs.Counts.{Each, total}
-use Rattle.prcu_model.specs.declared.operation.Op.TheVariants.{Put, Get, Del, Set}
+use Rattle.prcu_model.specs.declared.operation.Op.TheVariants.{Put, Set}
 use Rattle.prcu_model.specs.Dictionary.{key_of}
 use Rattle.prcu_model.specs.Scripts.{AllFit, FitsWords, op_count}
 use Rattle.core_state.specs.Steps.{new_view, after_search_load, key_stand, linked_on, loaded, searched, walked}
@@ -184,9 +184,8 @@ runs k c (i ∷ is) run = runs k (step c i) is (step_runs k c i run)
 
 op_fits : (op : Op) → FitsWords op → key_of op < 2 ^ 64
 op_fits (Put key value) f = f.0
-op_fits (Get key) f = f
-op_fits (Del key) f = f
 op_fits (Set key value) f = f.0
+op_fits _ f = f
 
 keys_fit : (ops : List Op) → AllByRecursion FitsWords ops → Each ops (λ op. key_of op < 2 ^ 64)
 keys_fit [] all i op e = cc
@@ -330,9 +329,7 @@ either_other false x y ex ey = ey
 
 store_other : (o : Own) (u : Update) → moves_search (store_act o u) ≡ false
 store_other o (update.Leaf spot) = refl
-store_other o (update.Value s old) = refl
-store_other o (update.Bypass d child) = refl
-store_other o (update.Copy d u next_key copy) = refl
+store_other o _ = refl
 
 -- ---- loads of a search
 

@@ -90,9 +90,7 @@ some_to_enter op n stood stage (enter_stamp clock) one = omega (arith, one)
 
 few_after : (op : Op) → tail op ≤ 8
 few_after (Get key) = omega arith
-few_after (Put key value) = omega arith
-few_after (Set key value) = omega arith
-few_after (Del key) = omega arith
+few_after _ = omega arith
 
 most_to_leave : (op : Op) (n stood : ℕ) (stage : Stage) → InSection stage → to_leave op n stood stage ≤ 2 * n + 10
 most_to_leave op n stood stage (in_link s b) = let few = few_after op in omega (arith, few)

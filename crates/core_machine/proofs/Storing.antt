@@ -12,7 +12,7 @@ use Rattle.core_state.specs.declared.view.View.{View}
 use Rattle.core_state.specs.Memory.{Memory, place_room, class_room, row_room, is_field, half, slot_base, room_behind, memory_of, stored, word_of, side_number}
 use Rattle.core_state.specs.Parts.{HasFewSlots}
 use Rattle.core_state.specs.Invariant.{IsShape}
-use Rattle.core_points.specs.declared.stage.Aim.TheVariants.{Leaf, Spare, Room}
+use Rattle.core_points.specs.declared.stage.Aim.TheVariants.{Leaf}
 use Rattle.core_points.specs.declared.stage.Node.{Node}
 use Rattle.core_points.specs.declared.stage.Successor.{Successor}
 use Rattle.core_points.specs.declared.stage.Target.{Target}
@@ -159,8 +159,7 @@ module _ (k : Shape) (shape : IsShape k) (o : Own) (v w : View) (h h' : List Mar
   able (at.LeafLock spot) n f word left next = free_locks f.owns.locks_are ((f.point).bare).locks_are
   able at.Count n f word left next = omega arith
   able (at.LookKey (Reuse (Leaf spot)) clock p) n f word left next = ((f.point).2, tt)
-  able (at.LookKey (Reuse Spare) clock p) n f word left next = ((f.point).2, tt)
-  able (at.LookKey (Reuse Room) clock p) n f word left next = ((f.point).2, tt)
+  able (at.LookKey (Reuse _) clock p) n f word left next = ((f.point).2, tt)
   able (at.LookKey (Move move) clock p) n f word left next =
       let is = ((f.point).0).move in
       let t = told.moves is.move is.is in
@@ -179,9 +178,7 @@ module _ (k : Shape) (shape : IsShape k) (o : Own) (v w : View) (h h' : List Mar
       (let del = ((f.point).copying).deleting in let most = del.1.room del.0 in omega arith)
   able (at.Even u front) n f word left next = omega arith
   able (at.Unlock last.Again) n f word left next = some_left o.locks ((f.point).0).some
-  able (at.Unlock (last.New number)) n f word left next = some_left o.locks ((f.point).0).some
-  able (at.Unlock (last.Gone number)) n f word left next = some_left o.locks ((f.point).0).some
-  able (at.Unlock (last.Was value number)) n f word left next = some_left o.locks ((f.point).0).some
+  able (at.Unlock _) n f word left next = some_left o.locks ((f.point).0).some
   able (at.SetLock s generation) n f word left next = free_locks f.owns.locks_are (f.point).locks_are
   able (at.NodeRight d) n f word left next = λ some_child. right_able d n some_child next
   able (at.SuccessorLeft d u) n f word left next = left_able d u n next
@@ -269,10 +266,7 @@ same_word k l slots places (fields.Life s) = λ i. slot_base + half * (slots i +
 same_word k l slots places (fields.Tag s b) = λ i. slot_base + half * (slots i + places i + 1) + half * s + side_number b
 same_word k l slots places _ = refl
 
--- the shape of a caller's table, but for the tickets
-untold_tickets : Shape → Shape
-untold_tickets k = record { waiter = k.waiter; slots = k.slots; places = k.places; room = k.room; tickets = 0 }
-
+-- which fields there are isn't said by the tickets
 same_is_field : (k : Shape) (field : Field) → is_field k field
     ≡ is_field (record { waiter = k.waiter; slots = k.slots; places = k.places; room = k.room; tickets = 0 }) field
 same_is_field k fields.Clock = refl

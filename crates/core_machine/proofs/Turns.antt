@@ -424,9 +424,7 @@ module _ (k : Shape) (m : Memory) (vs : List View) (h : List Mark) (i : ℕ) (o 
       where
         outside_last : (l : Last) → phase (at.Unlock l) ≡ inside → ⊥
         outside_last last.Again e = absurd (cc)
-        outside_last (last.New number) e = absurd (cc)
-        outside_last (last.Gone number) e = absurd (cc)
-        outside_last (last.Was value number) e = absurd (cc)
+        outside_last _ e = absurd (cc)
 
         last_one : (l : Last) (t : Before (at.Unlock l))
             → Tells (record { scripts = k.places; slots = k.slots }) i script (unlocked (record o { locks = but_first o.locks }) l) section

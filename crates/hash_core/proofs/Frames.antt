@@ -556,15 +556,7 @@ word_inside capacities field is = inside_case field (lies capacities field is)
   where
     inside_case : (f : Field) → Lies capacities f → word_of f < word_count capacities
     inside_case Front p = omega arith
-    inside_case (Lock c) p = omega arith
-    inside_case (Readers c) p = omega arith
-    inside_case (Head c) p = omega arith
-    inside_case (Free c) p = omega arith
-    inside_case (Retired c) p = omega arith
-    inside_case (Key s) p = omega arith
-    inside_case (Value s) p = omega arith
-    inside_case (Next s) p = omega arith
-    inside_case (Chain s) p = omega arith
+    inside_case _ p = omega arith
 
 -- a class's words stand behind the front, in the class's own room
 own_place : (c : ℕ) (f : Field) → IsOwnWord c f → (CLASS_BASE + APART * c ≤ word_of f) × (word_of f < CLASS_BASE + APART * c + CLASS_WORDS)

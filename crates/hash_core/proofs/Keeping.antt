@@ -153,11 +153,10 @@ module _ {capacities : List ℕ} {places tickets : ℕ} {m : Memory} {vs : List 
   stands : (state : SearchState) → WillAnswer capacities (section.key % 64) m h (updates_of h)
       (r.bucket (section.key % 64)).chain section state → (slot : ℕ) → StandsAt state slot
       → (is_slot_of capacities (section.key % 64) slot ≡ true) × (IsLinked m (section.key % 64) slot ⊎ IsHeldBack h section slot)
-  stands Start w slot at = absurd at
   stands (Unread s) w slot at = way_stands slot (subst Way at w)
   stands (Passed s) w slot at = way_stands slot (subst Way at w.0)
   stands (Found s) w slot at = way_stands slot (subst Way at w.0)
-  stands Ended w slot at = absurd at
+  stands _ w slot at = absurd at
 
 pub searches_are_answered : SearchesAreAnswered
 searches_are_answered t section opened = answered t.rule section opened section.state (will t.rule section opened)

@@ -6,7 +6,7 @@ use mathlib.Core.List.{IsPrefix}
 use lib.ListN.{get_elem?}
 use Rattle.atomic_table.proofs.Lists.{at_longer}
 use Rattle.prcu_marks.specs.declared.mark.Mark.{Mark}
-use Rattle.prcu_marks.specs.declared.mark.Mark.TheVariants.{Entered, Left, Began, Ended, Done, Given, Unlinked, Freed}
+use Rattle.prcu_marks.specs.declared.mark.Mark.TheVariants.{Entered, Left, Began, Ended, Given, Unlinked, Freed}
 use Rattle.prcu_marks.specs.Marks.{Open, open_at, entered_at, last_unlinked, next_open, next_gone, gone_at, own_of, is_of, updates_of}
 use Rattle.hash_core.specs.Memory.{IsLeftHere, AreMarks, ReuseByClass, Memory}
 use Rattle.list_laws.proofs.Lists.{at_end, before_at, past_snoc, each_set, total_set, somewhere_here, somewhere_still, only_change}
@@ -36,14 +36,10 @@ NewMark places h (Left p c) = (o : Open) × (open_at p h ≡ Some o) × (o.count
 NewMark places h m = IsLeftHere m
 
 left_here : (places : ℕ) (h : List Mark) (m : Mark) → NewMark places h m → IsLeftHere m
-left_here places h (Entered p c x) n = tt
-left_here places h (Left p c) n = tt
 left_here places h (Began p c a b) n = n
 left_here places h (Ended p c) n = n
-left_here places h (Done u) n = tt
-left_here places h (Given s) n = tt
-left_here places h (Unlinked s) n = tt
 left_here places h (Freed s) n = n
+left_here places h _ n = tt
 
 pub marks_snoc : (places : ℕ) (h : List Mark) (m : Mark) → NewMark places h m → AreMarks places h → AreMarks places (h ++ m ∷ [])
 marks_snoc places h m new t = record {
@@ -88,22 +84,13 @@ TurnsNoSlot _ = Unit {0}
 next_open-same : (p i : ℕ) (o : Option Open) (m : Mark) → TurnsNoSection m → next_open p i o m ≡ o
 next_open-same p i o (Entered q c x) n = absurd n
 next_open-same p i o (Left q c) n = absurd n
-next_open-same p i o (Began q c a b) n = refl
-next_open-same p i o (Ended q c) n = refl
-next_open-same p i o (Done u) n = refl
-next_open-same p i o (Given s) n = refl
-next_open-same p i o (Unlinked s) n = refl
-next_open-same p i o (Freed s) n = refl
+next_open-same p i o _ n = refl
 
 next_gone-same : (s i : ℕ) (g : Option ℕ) (m : Mark) → TurnsNoSlot m → next_gone s i g m ≡ g
-next_gone-same s i g (Entered q c x) n = refl
-next_gone-same s i g (Left q c) n = refl
-next_gone-same s i g (Began q c a b) n = refl
-next_gone-same s i g (Ended q c) n = refl
-next_gone-same s i g (Done u) n = refl
 next_gone-same s i g (Given t) n = absurd n
 next_gone-same s i g (Unlinked t) n = absurd n
 next_gone-same s i g (Freed t) n = absurd n
+next_gone-same s i g _ n = refl
 
 module _ (h : List Mark) (m : Mark) where
   pub open_at-same : TurnsNoSection m → (p : ℕ) → open_at p (h ++ m ∷ []) ≡ open_at p h

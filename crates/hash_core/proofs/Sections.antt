@@ -11,7 +11,7 @@ use Rattle.prcu_marks.specs.declared.mark.Mark.TheVariants.{Entered, Left, Ended
 use Rattle.prcu_model.specs.Dictionary.{map_of, IsLegal, WasSaid}
 use Rattle.prcu_marks.proofs.Callers.{said_now}
 use Rattle.hash_core.specs.declared.words.Field.{Field}
-use Rattle.hash_core.specs.declared.words.Field.TheVariants.{Readers, Head, Free, Retired, Key, Value, Next, Chain}
+use Rattle.hash_core.specs.declared.words.Field.TheVariants.{Readers, Head, Key, Value, Next}
 use Rattle.hash_core.specs.declared.view.SearchState.{SearchState}
 use Rattle.hash_core.specs.declared.view.SearchState.TheVariants.{Start, Unread, Passed, Found, Ended}
 use Rattle.hash_core.specs.declared.view.Section.{Section}
@@ -67,14 +67,8 @@ module _ {capacities : List ℕ} {places tickets : ℕ} {m : Memory} {vs : List 
 
   -- how many read a class is no field of it
   readers_stay : (c n : ℕ) (field : Field) → IsOfClass capacities c field → stored m (Readers c) n field ≡ m field
-  readers_stay c n (Head d) of = refl
-  readers_stay c n (Free d) of = refl
-  readers_stay c n (Retired d) of = refl
-  readers_stay c n (Key s) of = refl
-  readers_stay c n (Value s) of = refl
-  readers_stay c n (Next s) of = refl
-  readers_stay c n (Chain s) of = refl
-  readers_stay c n _ of = absurd of
+  readers_stay c n (Readers d) of = absurd of
+  readers_stay c n _ of = refl
 
   module _ (key : ℕ) (fits : key < 2 ^ 64) (works : 1 ≤ v.places) (outside : v.section ≡ None) where
     abbrev section_enter : Section

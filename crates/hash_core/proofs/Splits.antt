@@ -19,7 +19,7 @@ use mathlib.Core.Logic.{dite}
 use mathlib.Core.List.{IsPrefix}
 use native.Mathlib.Decide.{dec_le, ℕ_discrete}
 use Rattle.atomic_table.proofs.Lists.{at_longer, set_here, set_else}
-use Rattle.prcu_marks.specs.declared.mark.Mark.TheVariants.{Entered, Left, Began, Ended, Done, Given, Unlinked, Freed}
+use Rattle.prcu_marks.specs.declared.mark.Mark.TheVariants.{Entered, Left, Began, Ended, Done}
 use Rattle.prcu_model.proofs.ListFacts.{prefix_trans, all_map, all_append}
 use Rattle.prcu_marks.proofs.Marks.{own_of-append, own_of-between, longer_begins, longer_first, longer_second, longer_whole_first, longer_whole_second}
 use Rattle.std.proofs.lemmas.Bool.{lt-ltb, le-leb, and_from}
@@ -157,9 +157,7 @@ no_entered p (Ended q c ∷ h) none = elim (q == p) as (λ b. cond b (Ended q c 
     → entered_at p h ≡ 0) [ true ↦ λ e. absurd (cc) | false ↦ λ e. no_entered p h e ] none
 no_entered p (Done u ∷ h) none = elim (u.caller == p) as (λ b. cond b (Done u ∷ own_of p h) (own_of p h) ≡ []
     → entered_at p h ≡ 0) [ true ↦ λ e. absurd (cc) | false ↦ λ e. no_entered p h e ] none
-no_entered p (Given s ∷ h) none = no_entered p h none
-no_entered p (Unlinked s ∷ h) none = no_entered p h none
-no_entered p (Freed s ∷ h) none = no_entered p h none
+no_entered p (_ ∷ h) none = no_entered p h none
 
 module _ {capacities : List ℕ} {places tickets : ℕ} {m : Memory} {vs : List View} {h : List Mark} {id : ℕ} {v : View}
     (seat : Seated capacities places tickets m vs h id v) where

@@ -19,7 +19,7 @@ use Rattle.class_hash.specs.Seats.{TableAt}
 use Rattle.class_hash.specs.Replies.{ClientAt, caller_of, HasCalled, ExplainsInClasses}
 use Rattle.hash_run.specs.Crews.{IsDone, IsJoined, StandsFor, all_own, idle_view, client_for}
 use Rattle.prcu_marks.specs.declared.mark.Mark.{Mark}
-use Rattle.prcu_marks.specs.declared.mark.Mark.TheVariants.{Entered, Left, Began, Ended, Done, Given, Unlinked, Freed}
+use Rattle.prcu_marks.specs.declared.mark.Mark.TheVariants.{Entered, Left, Began, Ended, Done}
 use Rattle.prcu_model.specs.declared.operation.Op.{Op}
 use Rattle.prcu_model.specs.declared.operation.Told.{Told}
 use Rattle.prcu_model.specs.declared.operation.Line.{Line}
@@ -77,9 +77,6 @@ joined_more vs seat other w front joined quiet place works is mine theirs = reco
       ];
 }
   where
-    both : View
-    both = stepped (both_of seat other) H2 Front front
-
     joined_places : (p : ℕ) → times p (seat.joined ++ (numbers_from other.place other.places ++ other.joined))
         ≡ times p seat.joined + (times p (numbers_from other.place other.places) + times p other.joined)
     joined_places p = let outer = times_append p seat.joined (numbers_from other.place other.places ++ other.joined) in
@@ -195,9 +192,7 @@ module _ (table : TableAt) (scripts : List (List Op)) (befores afters : List (Wo
     not_of p q (Began r c low high) ne is = ne_eqb r q (λ e. ne (sym (eqb-true r p is) ∙ e))
     not_of p q (Ended r c) ne is = ne_eqb r q (λ e. ne (sym (eqb-true r p is) ∙ e))
     not_of p q (Done u) ne is = ne_eqb u.caller q (λ e. ne (sym (eqb-true u.caller p is) ∙ e))
-    not_of p q (Given s) ne is = refl
-    not_of p q (Unlinked s) ne is = refl
-    not_of p q (Freed s) ne is = refl
+    not_of p q _ ne is = refl
 
     none_of : (p q : ℕ) (ms : List Mark) → p ≢ q → AllByRecursion (λ m. is_of p m ≡ true) ms → own_of q ms ≡ []
     none_of p q [] ne all = refl

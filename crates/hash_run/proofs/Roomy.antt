@@ -16,7 +16,7 @@ use Rattle.hash_run.specs.Capacities.{puts_of, all_puts, put_keys, class_len, cl
 use Rattle.std.specs.Cmp.{unsigned_tied}
 use Rattle.prcu_model.specs.declared.operation.Op.TheVariants.{Put, Get, Del, Set}
 use Rattle.prcu_model.specs.declared.operation.Reply.{Reply}
-use Rattle.prcu_model.specs.declared.operation.Reply.TheVariants.{New, Old, Full, Val, Absent, Gone, Was}
+use Rattle.prcu_model.specs.declared.operation.Reply.TheVariants.{New, Full}
 use Rattle.prcu_model.specs.declared.operation.Told.{Told}
 use Rattle.prcu_model.specs.declared.operation.Line.{Line}
 use Rattle.prcu_model.specs.Fronts.{Placed, told_lines, all_told_lines, own_updates_from, told_updates, MayStandBy, MayStandBesideBy, CanBeNumbered}
@@ -176,9 +176,7 @@ put_stays m (Put key value) k is there = by (finite.contains_key m key) refl
     by false has = dite (ℕ_discrete k key)
         (λ same. subst (λ z. finite.contains_key (updated m (Put key value)) z ≡ true) (sym same) (ap is_some (get-put m key value has)))
         (λ apart. ap is_some (get-updated_other m (Put key value) k apart) ∙ there)
-put_stays m (Get key) k is there = absurd (cc)
-put_stays m (Del key) k is there = absurd (cc)
-put_stays m (Set key value) k is there = absurd (cc)
+put_stays m _ k is there = absurd (cc)
 
 put_there : (m : Dictionary) (op : Op) → is_put op ≡ true → finite.contains_key (updated m op) (key_of op) ≡ true
 put_there m (Put key value) is = by (finite.contains_key m key) refl
@@ -186,9 +184,7 @@ put_there m (Put key value) is = by (finite.contains_key m key) refl
     by : (b : Bool) → finite.contains_key m key ≡ b → finite.contains_key (updated m (Put key value)) key ≡ true
     by true has = subst (λ z. finite.contains_key z key ≡ true) (sym (ap (λ b. cond b m (finite.insert m key value)) has)) has
     by false has = ap is_some (get-put m key value has)
-put_there m (Get key) is = absurd (cc)
-put_there m (Del key) is = absurd (cc)
-put_there m (Set key value) is = absurd (cc)
+put_there m _ is = absurd (cc)
 
 puts_stay : (m : Dictionary) (us : List Update) (k : ℕ) → AllByRecursion IsPut us → finite.contains_key m k ≡ true
     → finite.contains_key (updated_all m us) k ≡ true
@@ -218,9 +214,7 @@ module _ (d : Dictionary) where
       → AllByRecursion (PutsInto d) ops
   script_puts [] all = tt
   script_puts (Put key value ∷ ops) all = (all.0, script_puts ops all.1)
-  script_puts (Get key ∷ ops) all = (tt, script_puts ops all)
-  script_puts (Del key ∷ ops) all = (tt, script_puts ops all)
-  script_puts (Set key value ∷ ops) all = (tt, script_puts ops all)
+  script_puts (_ ∷ ops) all = (tt, script_puts ops all)
 
   scripts_put : (scripts : List (List Op)) → AllByRecursion (λ (u : Update). finite.contains_key d (key_of u.op) ≡ true) (all_puts scripts)
       → AllByRecursion (AllByRecursion (PutsInto d)) scripts
@@ -333,34 +327,9 @@ module _ (scripts : List (List Op)) (capacities : List ℕ) (right : AreCapaciti
   -- what explains a reply here explains it wherever, if no put is told that no slot is left
   plain_row : (room : Room) (m : Dictionary) (op : Op) (reply : Reply) → ((key value : ℕ) → op ≡ Put key value → reply ≡ Full → ⊥)
       → ExplainsInClasses capacities m op reply → Explains room m op reply
-  plain_row room m (Put key value) New not_full e = e
-  plain_row room m (Put key value) Old not_full e = e
   plain_row room m (Put key value) Full not_full e = absurd (not_full key value refl refl)
-  plain_row room m (Put key value) (Val x) not_full e = e
-  plain_row room m (Put key value) Absent not_full e = e
-  plain_row room m (Put key value) Gone not_full e = e
-  plain_row room m (Put key value) (Was x) not_full e = e
-  plain_row room m (Get key) New not_full e = e
-  plain_row room m (Get key) Old not_full e = e
-  plain_row room m (Get key) Full not_full e = e
-  plain_row room m (Get key) (Val x) not_full e = e
-  plain_row room m (Get key) Absent not_full e = e
-  plain_row room m (Get key) Gone not_full e = e
-  plain_row room m (Get key) (Was x) not_full e = e
-  plain_row room m (Del key) New not_full e = e
-  plain_row room m (Del key) Old not_full e = e
-  plain_row room m (Del key) Full not_full e = e
-  plain_row room m (Del key) (Val x) not_full e = e
-  plain_row room m (Del key) Absent not_full e = e
-  plain_row room m (Del key) Gone not_full e = e
-  plain_row room m (Del key) (Was x) not_full e = e
-  plain_row room m (Set key value) New not_full e = e
-  plain_row room m (Set key value) Old not_full e = e
-  plain_row room m (Set key value) Full not_full e = e
-  plain_row room m (Set key value) (Val x) not_full e = e
-  plain_row room m (Set key value) Absent not_full e = e
-  plain_row room m (Set key value) Gone not_full e = e
-  plain_row room m (Set key value) (Was x) not_full e = e
+  plain_row room m _ New not_full e = e
+  plain_row room m _ _ not_full e = e
 
   module _ (room : Room) (us : List Update) (put : AllByRecursion (λ (u : Update). PutsInto (put_keys scripts) u.op) us) where
     row : (front : ℕ) (op : Op) (reply : Reply) → PutsInto (put_keys scripts) op → ExplainsInClasses capacities (map_at us front) op reply
@@ -387,10 +356,9 @@ module _ (scripts : List (List Op)) (capacities : List ℕ) (right : AreCapaciti
         → AllByRecursion (λ (line : Line). PutsInto (put_keys scripts) line.op) lines
         → MayStandBesideBy (ExplainsInClasses capacities) us before lines numbers → MayStandBesideBy (Explains room) us before lines numbers
     lines_stand before [] [] all beside = tt
-    lines_stand before [] (n ∷ numbers) all beside = absurd beside
-    lines_stand before (line ∷ lines) [] all beside = absurd beside
     lines_stand before (line ∷ lines) (n ∷ numbers) all beside =
         (line_stands before line n all.0 beside.0, lines_stand n lines numbers all.1 beside.1)
+    lines_stand before _ _ all beside = absurd beside
 
     pub all_stand : (lists : List (List Line)) → AllByRecursion
         (AllByRecursion (λ (line : Line). PutsInto (put_keys scripts) line.op)) lists
@@ -430,15 +398,13 @@ module _ (P : Op → Type 0) where
 
   lines_from_ops : (ops : List Op) (tolds : List Told) → AllByRecursion P ops
       → AllByRecursion (λ (line : Line). P line.op) (told_lines ops tolds)
-  lines_from_ops [] tolds all = tt
-  lines_from_ops (op ∷ ops) [] all = tt
   lines_from_ops (op ∷ ops) (t ∷ tolds) all = (all.0, lines_from_ops ops tolds all.1)
+  lines_from_ops _ _ all = tt
 
   pub all_lines_from_ops : (scripts : List (List Op)) (tolds : List (List Told)) → AllByRecursion (AllByRecursion P) scripts
       → AllByRecursion (AllByRecursion (λ (line : Line). P line.op)) (all_told_lines scripts tolds)
-  all_lines_from_ops [] tolds all = tt
-  all_lines_from_ops (s ∷ ss) [] all = tt
   all_lines_from_ops (s ∷ ss) (t ∷ ts) all = (lines_from_ops s t all.0, all_lines_from_ops ss ts all.1)
+  all_lines_from_ops _ _ all = tt
 
   pub at_number : (lists : List (List Line)) (i : ℕ) → AllByRecursion (AllByRecursion (λ (line : Line). P line.op)) lists
       → AllByRecursion (λ (line : Line). P line.op) (get_or lists i [])

@@ -68,11 +68,8 @@ get-updated m (Set key value) q = get_case (finite.contains_key m key) (finite.i
 
 stays : (op : Op) (its was : Option ℕ) → value_after false op its was ≡ was
 stays (Put key value) None was = refl
-stays (Put key value) (Some v) was = refl
-stays (Get key) its was = refl
-stays (Del key) its was = refl
 stays (Set key value) None was = refl
-stays (Set key value) (Some v) was = refl
+stays _ _ was = refl
 
 equal : (q : ℕ) → eq_by_cmp nat_cmp q q ≡ true
 equal q = unsigned_tied q q ∙ eq-eqb q q refl
@@ -272,12 +269,11 @@ update_puts (u ∷ us) = cond (is_put u.op) 1 0 + update_puts us
 
 len-at_front : (m : Dictionary) (us : List Update) (front : ℕ) → finite.len (updated_all m (take front us)) ≤ finite.len m + update_puts us
 len-at_front m [] zero = omega arith
-len-at_front m [] (suc front) = omega arith
-len-at_front m (u ∷ us) zero = omega arith
 len-at_front m (u ∷ us) (suc front) =
     let one = len-updated m u.op in
     let rest = len-at_front (updated m u.op) us front in
     omega (arith, one, rest)
+len-at_front m _ _ = omega arith
 
 -- the puts of the callers from this one on
 abbrev puts_from : ℕ → List Update → ℕ
@@ -299,14 +295,10 @@ puts_from_all (u ∷ us) =
 split_case : (b c d : Bool) (later : ℕ) (p : Placed) (ps : List Placed) (rest : ℕ) → cond b 1 0 ≡ cond c 1 0 + cond d 1 0
     → rest ≡ placed_puts ps + later → cond b (cond (is_put p.op) 1 0) 0 + rest
     ≡ placed_puts (cond c (p ∷ ps) ps) + (cond d (cond (is_put p.op) 1 0) 0 + later)
-split_case true true true later p ps rest e more = absurd (omega (arith, e))
 split_case true true false later p ps rest e more = omega (arith, more)
 split_case true false true later p ps rest e more = omega (arith, more)
-split_case true false false later p ps rest e more = absurd (omega (arith, e))
-split_case false true true later p ps rest e more = absurd (omega (arith, e))
-split_case false true false later p ps rest e more = absurd (omega (arith, e))
-split_case false false true later p ps rest e more = absurd (omega (arith, e))
 split_case false false false later p ps rest e more = omega (arith, more)
+split_case _ _ _ later p ps rest e more = absurd (omega (arith, e))
 
 one_caller : (n caller : ℕ) → cond (leb caller n) 1 0 ≡ cond (eqb n caller) 1 0 + cond (leb (caller + 1) n) 1 0
 one_caller n caller = grind (arith, nat_tests)
@@ -378,9 +370,7 @@ module _ (room : Room) (history : List Update)
     (roomy : (front : ℕ) → finite.len (map_at history front) + 20 * (room.scripts - 1) < room.slots) where
   fills : (op : Op) (m : Dictionary) → Explains room m op Full → room.slots ≤ finite.len m + 20 * (room.scripts - 1)
   fills (Put key value) m e = e
-  fills (Get key) m e = absurd e
-  fills (Del key) m e = absurd e
-  fills (Set key value) m e = absurd e
+  fills _ m e = absurd e
 
   lacks_line : (before : ℕ) (line : Line) (number : ℕ) → MayStand room history before line number → line.reply ≡ Full → ⊥
   lacks_line before line number may full =

@@ -65,11 +65,9 @@ op_count-last before script = omega (arith, sum_by-append length before (script 
 
 pub with_op-set : (scripts : List (List Op)) (last : ℕ) (op : Op) → length scripts ≡ last + 1
     → with_op scripts op ≡ set scripts last (get_or scripts last [] ++ op ∷ [])
-with_op-set [] last op e = absurd (omega (arith, e))
 with_op-set (s ∷ []) zero op e = refl
-with_op-set (s ∷ []) (suc last) op e = absurd (omega (arith, e))
-with_op-set (s ∷ t ∷ scripts) zero op e = absurd (omega (arith, e))
 with_op-set (s ∷ t ∷ scripts) (suc last) op e = ap (λ x. s ∷ x) (with_op-set (t ∷ scripts) last op (omega (arith, e)))
+with_op-set _ _ op e = absurd (omega (arith, e))
 
 pub length-with_op : (scripts : List (List Op)) (op : Op) → length (with_op scripts op) ≡ length scripts
 length-with_op [] op = refl

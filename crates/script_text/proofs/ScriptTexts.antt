@@ -145,9 +145,8 @@ words_of (Set key value) = pair_text key value
 
 pub op_text_is : (op : Op) → op_text op ≡ word_of op ++ 32 ∷ words_of op
 op_text_is (Put key value) = ap (λ x. codes "put " ++ x) (append_assoc (decimal key) (codes " ") (decimal value))
-op_text_is (Get key) = refl
-op_text_is (Del key) = refl
 op_text_is (Set key value) = ap (λ x. codes "set " ++ x) (append_assoc (decimal key) (codes " ") (decimal value))
+op_text_is _ = refl
 
 three : (a b c byte : ℕ) → a ≢ byte → b ≢ byte → c ≢ byte → Lacks (a ∷ b ∷ c ∷ []) byte
 three a b c byte na nb nc =
@@ -189,21 +188,11 @@ pair_text-injective m n m' n' is_m is_n is_m' is_n' e =
 -- The first word and the others tell the operation.
 same_op : (o p : Op) → FitsWords o → FitsWords p → word_of o ≡ word_of p → words_of o ≡ words_of p → o ≡ p
 same_op (Put k v) (Put l w) f g e h = let both = pair_text-injective k v l w f.0 f.1 g.0 g.1 h in cc (both.0, both.1)
-same_op (Put k v) (Get l) f g e h = absurd (omega (arith, ap (λ x. get_or x 0 0) e))
-same_op (Put k v) (Del l) f g e h = absurd (omega (arith, ap (λ x. get_or x 0 0) e))
-same_op (Put k v) (Set l w) f g e h = absurd (omega (arith, ap (λ x. get_or x 0 0) e))
-same_op (Get k) (Put l w) f g e h = absurd (omega (arith, ap (λ x. get_or x 0 0) e))
 same_op (Get k) (Get l) f g e h = ap Get (decimal_injective k l f g h)
-same_op (Get k) (Del l) f g e h = absurd (omega (arith, ap (λ x. get_or x 0 0) e))
-same_op (Get k) (Set l w) f g e h = absurd (omega (arith, ap (λ x. get_or x 0 0) e))
-same_op (Del k) (Put l w) f g e h = absurd (omega (arith, ap (λ x. get_or x 0 0) e))
-same_op (Del k) (Get l) f g e h = absurd (omega (arith, ap (λ x. get_or x 0 0) e))
 same_op (Del k) (Del l) f g e h = ap Del (decimal_injective k l f g h)
-same_op (Del k) (Set l w) f g e h = absurd (omega (arith, ap (λ x. get_or x 0 0) e))
-same_op (Set k v) (Put l w) f g e h = absurd (omega (arith, ap (λ x. get_or x 0 0) e))
-same_op (Set k v) (Get l) f g e h = absurd (omega (arith, ap (λ x. get_or x 0 0) e))
-same_op (Set k v) (Del l) f g e h = absurd (omega (arith, ap (λ x. get_or x 0 0) e))
 same_op (Set k v) (Set l w) f g e h = let both = pair_text-injective k v l w f.0 f.1 g.0 g.1 h in cc (both.0, both.1)
+-- two different words differ in their first letter
+same_op _ _ f g e h = absurd (omega (arith, ap (λ x. get_or x 0 0) e))
 
 -- An operation is told by its text.
 pub op_text-injective : (o p : Op) → FitsWords o → FitsWords p → op_text o ≡ op_text p → o ≡ p
@@ -222,16 +211,12 @@ pair_parts bytes first second m n small p e =
 -- An operation's text begins with a letter.
 pub first_of_op_text : (op : Op) → 97 ≤ get_or (op_text op) 0 0
 first_of_op_text (Put key value) = omega arith
-first_of_op_text (Get key) = omega arith
-first_of_op_text (Del key) = omega arith
-first_of_op_text (Set key value) = omega arith
+first_of_op_text _ = omega arith
 
 -- Its first word has three letters.
 pub fourth_of_op_text : (op : Op) → get_or (op_text op) 3 0 ≡ 32
 fourth_of_op_text (Put key value) = refl
-fourth_of_op_text (Get key) = refl
-fourth_of_op_text (Del key) = refl
-fourth_of_op_text (Set key value) = refl
+fourth_of_op_text _ = refl
 
 -- A line after some scripts gives one list of scripts, and so does a text.
 

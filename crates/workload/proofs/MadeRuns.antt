@@ -204,12 +204,9 @@ case_some false v w was e = inl e
 came_from : (b : Bool) (op : Op) (its was : Option ℕ) (w : ℕ) → value_after b op its was ≡ Some w
     → (was ≡ Some w) ⊎ ((b ≡ true) × (w ≡ value_of op))
 came_from b (Put key value) None was w e = case_some b value w was e
-came_from b (Put key value) (Some v) was w e = inl e
-came_from b (Get key) its was w e = inl e
-came_from true (Del key) its was w e = absurd (cc)
-came_from false (Del key) its was w e = inl e
-came_from b (Set key value) None was w e = inl e
 came_from b (Set key value) (Some v) was w e = case_some b value w was e
+came_from true (Del key) its was w e = absurd (cc)
+came_from _ _ _ was w e = inl e
 
 tied : (q key : ℕ) → eq_by_cmp nat_cmp q key ≡ true → q ≡ key
 tied q key e =

@@ -210,9 +210,6 @@ update_at m [] front u legal below = absurd (omega (arith, below))
 update_at m (v ∷ us) zero u legal below = legal.0
 update_at m (v ∷ us) (suc front) u legal below = update_at (updated m v.op) us front u legal.1 (omega (arith, below))
 
-placed_of : Line → Placed
-placed_of line = record { position = line.number; op = line.op }
-
 -- what the lines tell of comes after the number before them
 told_past : (room : Room) (history : List Update) (before : ℕ) (lines : List Line) (numbers : List ℕ)
     → MayStandBeside room history before lines numbers → ArePast before (told_updates lines)
@@ -302,8 +299,6 @@ module _ (owner : ℕ → ℕ) (room : Room) (history : List Update) (all_own : 
       → Agrees owner caller (map_at history front) (map_of h) → IsPlain h ops tolds
   plain_along [] [] h front numbers same own beside confirmed lacks ahead_is agrees =
       record { replies = refl; agrees = λ q is. sym (skip_all owner history all_own caller front ahead_is q is) ∙ agrees q is }
-  plain_along [] (told ∷ tolds) h front numbers same own beside confirmed lacks ahead_is agrees = absurd (omega (arith, same))
-  plain_along (op ∷ ops) [] h front numbers same own beside confirmed lacks ahead_is agrees = absurd (omega (arith, same))
   plain_along (op ∷ ops) (told ∷ tolds) h front [] same own beside confirmed lacks ahead_is agrees = absurd beside
   plain_along (op ∷ ops) (told ∷ tolds) h front (number ∷ numbers) same own beside confirmed lacks ahead_is agrees =
       let line : Line = record { op = op; reply = told.reply; number = told.number } in
@@ -335,6 +330,7 @@ module _ (owner : ℕ → ℕ) (room : Room) (history : List Update) (all_own : 
             IsPlain-next h op ops told tolds passed.is_plain (subst (λ after. IsPlain after ops tolds) with
             (plain_along ops tolds h number numbers fewer own.1 beside.1 confirmed.1 lacks.1 passed.stands.own passed.stands.agrees))
       ] refl beside.0 ahead_is
+  plain_along _ _ h front numbers same own beside confirmed lacks ahead_is agrees = absurd (omega (arith, same))
 
 -- a script changes no other caller's keys
 pub keeps_others : (owner : ℕ → ℕ) (caller : ℕ) (ops : List Op) (h : List Update) (q : ℕ) → AllByRecursion (IsOwn owner caller) ops
@@ -433,8 +429,6 @@ module _ (owner : ℕ → ℕ) (room : Room) (history : List Update) (all_own : 
           sym (skip_all owner history all_own (owner q) 0 none q refl) ∙ map.get-empty nat_cmp q ∙ sym (later q past)
     ];
   }
-  plain_from [] (told ∷ tolds) caller h lengths own updates confirmed fronts lacks earlier later = absurd (cc)
-  plain_from (script ∷ scripts) [] caller h lengths own updates confirmed fronts lacks earlier later = absurd (cc)
   plain_from (script ∷ scripts) (told ∷ tolds) caller h lengths own updates confirmed fronts lacks earlier later =
       let first : length told ≡ length script = cc in
       let others : list_map length tolds ≡ list_map length scripts = cc in
@@ -452,6 +446,7 @@ module _ (owner : ℕ → ℕ) (room : Room) (history : List Update) (all_own : 
       ])
       (λ q past. keeps_others owner caller script h q own.0 (λ e. absurd (omega (arith, e, past))) ∙ later q (omega (arith, past))) in
       record { replies = λ i. one.replies i ∷ rest.replies i; same = rest.same }
+  plain_from _ _ caller h lengths own updates confirmed fronts lacks earlier later = absurd (cc)
 
 -- What the plain map tells and leaves.
 pub record ArePlain (scripts : List (List Op)) (tolds : List (List Told)) (history : List Update) : Type 0 where

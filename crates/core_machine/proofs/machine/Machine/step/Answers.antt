@@ -1,4 +1,5 @@
 use Rattle.std.proofs.Common.{◌≡◌, ℕ, ◌<◌, List, [], ◌∷◌, ◌++◌, length, map, set, take, drop, slice_get, Some, refl, ◌∙◌, sym, ap, subst, vec_capacity}
+use Rattle.std.proofs.lemmas.List.{take_at}
 use Rattle.prcu_model.specs.declared.operation.Op.{Op}
 use Rattle.core_points.specs.Programs.{Own}
 use Rattle.core_points.specs.Laws.{is_finished}
@@ -6,7 +7,7 @@ use Rattle.core_machine.specs.declared.caller.Caller.{Caller}
 use Rattle.core_machine.specs.Runs.{core}
 use Rattle.core_machine.specs.Stored.{own_of}
 use Rattle.core_machine.specs.Machines.{HasStored, IsReached, MachineAt}
-use Rattle.core_machine.proofs.Owning.{at_of, below_by, got, has_room, lengths_by, next_answers, next_stored, one_changed, reached_by, reached_next, steppable, stored_by, whole, unmoved, words_stay}
+use Rattle.core_machine.proofs.Owning.{at_of, below_by, got, has_room, lengths_by, next_answers, next_stored, one_changed, reached_by, reached_next, steppable, stored_by, unmoved, words_stay}
 use Rattle.core_machine.proofs.machine.Machine.step.Goals as goal
 
 pub step_at-requires-clause-caller : goal.step_at-requires-clause-caller
@@ -49,12 +50,12 @@ lengths c =
 -- the lists are written back whole
 words_back : (c : goal.After-self-2-1) → take c.self.inside.words.len
     (c.step_at.new.words ++ drop (length c.step_at.new.words) c.self.inside.words.items) ≡ c.step_at.new.words
-words_back c = whole c.step_at.new.words (drop (length c.step_at.new.words) c.self.inside.words.items) c.self.inside.words.len
+words_back c = take_at c.step_at.new.words (drop (length c.step_at.new.words) c.self.inside.words.items) c.self.inside.words.len
     ((lengths c).0 ∙ c.deref_mut.ensures.len)
 
 callers_back : (c : goal.After-self-2-1) → take c.self.inside.callers.len
     (c.step_at.new.callers ++ drop (length c.step_at.new.callers) c.self.inside.callers.items) ≡ c.step_at.new.callers
-callers_back c = whole c.step_at.new.callers (drop (length c.step_at.new.callers) c.self.inside.callers.items) c.self.inside.callers.len
+callers_back c = take_at c.step_at.new.callers (drop (length c.step_at.new.callers) c.self.inside.callers.items) c.self.inside.callers.len
     ((lengths c).1 ∙ c.deref_mut-2.ensures.len)
 
 pub invariant_of-self : goal.invariant_of-self
