@@ -210,10 +210,6 @@ pub hops_of_path : (m : Memory) (x s : ℕ) → OnPath m x s → (k : ℕ) × Ho
 hops_of_path m x s root = (0, refl)
 hops_of_path m x s (down {s = p} path e ne) = let w = hops_of_path m x p path in (suc w.0, hops_more m x w.0 0 p s w.1 e ne)
 
-pub path_of_hops : (m : Memory) (x k a b : ℕ) → OnPath m x a → Hops m x k a b → OnPath m x b
-path_of_hops m x zero a b path w = subst (OnPath m x) w path
-path_of_hops m x (suc k) a b path w = path_of_hops m x k (next m x a) b (down path refl w.0) w.1
-
 -- What a search from the root answers.
 
 -- a search for x from a slot ends at this one, with x in its range

@@ -335,11 +335,6 @@ abbrev op_of : Mark → Op
 op_of (Done u) = u.op
 op_of _ = Get 0
 
--- a del is followed by the unlinking of its node
-abbrev pub AreDeleted : List Mark → Type 0
-AreDeleted h = (j p x : ℕ) → get_elem? h j ≡ some (Done (record { caller = p; op = Del x }))
-    → (s : ℕ) × (get_elem? h (j + 1) ≡ some (Unlinked s))
-
 -- an update that is no delete
 pub marks_done : (h : List Mark) (u : Update) → ((x : ℕ) → u.op ≢ Del x) → (places : ℕ) → AreMarks places h
     → AreMarks places (h ++ Done u ∷ [])

@@ -444,12 +444,6 @@ pub note_option-none : (s : ℕ) (known : Known) (o : Option Held) → note_opti
 note_option-none s known None e = refl
 note_option-none s known (Some held) e = absurd (cc)
 
--- what it was before
-pub note_option-back : (s : ℕ) (known : Known) (o : Option Held) (held : Held) → note_option s known o ≡ Some held
-    → (old : Held) × (o ≡ Some old) × (note_held s known old ≡ held)
-note_option-back s known None held e = absurd (cc)
-note_option-back s known (Some old) held e = (old, refl, (let q : note_held s known old ≡ held = cc in q))
-
 pub note_option-still_none : (s : ℕ) (known : Known) (o : Option Held) → o ≡ None → note_option s known o ≡ None
 note_option-still_none s known o e = ap (note_option s known) e
 

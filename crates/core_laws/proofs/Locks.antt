@@ -206,14 +206,6 @@ module _ (who : Stepper) (r : Reading) (d : ℕ) (kept : IsIn (readings_of who.v
 
 -- The locks of a view after one was changed, and after a link of one slot was stored and another slot was unlinked.
 
-pub lock_slot : (ls : List HeldLock) (s : ℕ) (l : HeldLock) → lock_of ls s ≡ Some l → l.slot ≡ s
-lock_slot [] s l e = absurd (cc)
-lock_slot (x ∷ ls) s l e = cases (x.slot == s) refl (lock_slot ls s l) e
-  where
-    cases : (b : Bool) → (x.slot == s) ≡ b → (lock_of ls s ≡ Some l → l.slot ≡ s) → cond b (Some x) (lock_of ls s) ≡ Some l → l.slot ≡ s
-    cases true t rest q = let same : x ≡ l = cc in ap (λ (y : HeldLock). y.slot) (sym same) ∙ eqb-true x.slot s t
-    cases false t rest q = rest q
-
 abbrev pub changed : (HeldLock → HeldLock) → Bool → Option HeldLock → Option HeldLock
 changed f b None = None
 changed f b (Some l) = Some (cond b (f l) l)

@@ -23,13 +23,6 @@ use Rattle.std.specs.FinMap as finite
 -- What holds of chains of calls, whatever the client.
 
 module _ {C : Type 0} (made : C → Op → Told → C → Type 0) where
-  -- a call is told for each operation
-  pub chain_length : (ops : List Op) (tolds : List Told) (before after : C) → IsChain made before ops tolds after
-      → length tolds ≡ length ops
-  chain_length [] [] before after chain = refl
-  chain_length (op ∷ ops) (told ∷ tolds) before after chain = let rest = chain_length ops tolds chain.0 after chain.2 in omega arith
-  chain_length _ _ before after chain = absurd chain
-
   -- what holds of the calls so far and of the client that they leave, and is kept by each call, is kept by the chain
   pub chain_carries : (P : List Op → List Told → C → Type 0)
       → ((ops : List Op) (tolds : List Told) (before : C) (op : Op) (told : Told) (after : C) → P ops tolds before
@@ -48,16 +41,6 @@ module _ {C : Type 0} (made : C → Op → Told → C → Type 0) where
   pub chain_keeps : (P : C → Type 0) → ((before : C) (op : Op) (told : Told) (after : C) → P before → made before op told after → P after)
       → (ops : List Op) (tolds : List Told) (before after : C) → P before → IsChain made before ops tolds after → P after
   chain_keeps P keeps ops tolds before after = chain_carries (λ _ _ client. P client) (λ _ _. keeps) [] [] ops tolds before after
-
-  -- where each call leaves at least one less than was left, so many calls leave at least so many less
-  pub chain_leaves : (left : C → ℕ) → ((before : C) (op : Op) (told : Told) (after : C) → made before op told after
-      → left before ≤ left after + 1)
-      → (ops : List Op) (tolds : List Told) (before after : C) → IsChain made before ops tolds after → left before ≤ left after + length ops
-  chain_leaves left lowers [] [] before after chain = let same = ap left chain in omega arith
-  chain_leaves left lowers (op ∷ ops) (told ∷ tolds) before after chain =
-      let one = lowers before op told chain.0 chain.1 in
-      let rest = chain_leaves left lowers ops tolds chain.0 after chain.2 in omega arith
-  chain_leaves left lowers _ _ before after chain = absurd chain
 
   -- a chain, and one from where it ends
   pub chain_append : (ops : List Op) (tolds : List Told) (more_ops : List Op) (more_tolds : List Told) (before middle after : C)
