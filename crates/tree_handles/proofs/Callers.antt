@@ -1,10 +1,10 @@
 -- What the calls of a caller come to: its answers, its cookie, its sections and its tidies.
 -- A caller whose call was answered by the tree's, with nothing behind that.
-use Rattle.std.proofs.Common.{◌≤◌, refl, inl, ◌≡◌, ℕ, ◌+◌, ◌-◌, ◌*◌, inr, arith, subst, sym, ◌∙◌, true, false, Bool, List, [], Option, Some, None, ap, ⊎_elim, append-nil, ◌⊎◌, zero, suc, is_some, length, ◌∷◌, ◌++◌}
+use Rattle.std.proofs.Common.{◌≤◌, refl, inl, ◌≡◌, ℕ, ◌+◌, ◌-◌, ◌*◌, inr, arith, subst, sym, ◌∙◌, true, false, Bool, List, [], Option, Some, None, ap, ⊎_elim, append-nil, zero, suc, is_some, length, ◌∷◌, ◌++◌}
 use Rattle.prcu_model.specs.declared.operation.Op.{Op}
 use Rattle.prcu_model.specs.declared.operation.Told.{Told}
-use Rattle.tree_handles.specs.Callers.{CallerAt, IsSameCaller, MayGoOn, pairs_that_fit, IsFilled, IsInside, AreOfOneIndex}
-use Rattle.tree_handles.specs.Calls.{TreeTells, IsCalled, ComesBehind, IsAnswered, IsCalledAndKept, CallsMeetFronts, HasLifted, IsLostBehind, IsHinderedBy, IsStoppedBy, Misses, StaysInside, IsLost}
+use Rattle.tree_handles.specs.Callers.{CallerAt, IsSameCaller, MayGoOn, pairs_that_fit, IsFilled, AreOfOneIndex}
+use Rattle.tree_handles.specs.Calls.{TreeTells, IsCalled, ComesBehind, IsAnswered, IsCalledAndKept, CallsMeetFronts, StaysInside, IsLost}
 use Rattle.prcu_marks.specs.Marks.{updates_of, own_of}
 use Rattle.prcu_model.specs.Dictionary.{map_of, Explains}
 use Rattle.prcu_model.specs.declared.operation.Op.TheVariants.{Put}
@@ -32,18 +32,16 @@ use Rattle.citrus_tree.specs.Lookups.{HoldsOrNot, IsHolding, Looked}
 use Rattle.citrus_tree.proofs.Leavings.{goes_looked}
 use Rattle.exact_list.specs.Loads.{HasListed, HasListedAfterTries, HasListedAlone, HasListedByTry, IsOneWalk}
 use Rattle.exact_list.specs.Tries.{Try, HasTried, Paged, marks_from}
-use Rattle.grace_cookie.specs.Cookies.{CookieAt, IsOf, IsGivenUp, KeepsLatest}
+use Rattle.grace_cookie.specs.Cookies.{CookieAt, IsGivenUp, KeepsLatest}
 use Rattle.grace_cookie.proofs.Keeping.{waits_stay, keeps_latest, begins_later, waits_later}
-use Rattle.tree_handles.specs.Holds.{HasCookie, CannotAsk, Waits}
+use Rattle.tree_handles.specs.Holds.{HasCookie, CannotAsk}
 use Rattle.tree_handles.specs.Lists.{IsLeft, Lists}
 use Rattle.key_interval.specs.Keys.{Interval}
 use Rattle.core_state.specs.declared.view.Section.{Section}
 use Rattle.tree_handles.specs.declared.status.Status.{Status}
-use Rattle.tree_handles.specs.declared.status.Status.TheVariants.{Done, Unchanged, Full, More, Moved, New, Different, Closed, BadArgument, NoMemory, Spent, Lost, Holds}
-use Rattle.core_state.specs.declared.view.Retired.{Retired}
-use Rattle.seat_table.specs.Gains.{IsFull}
+use Rattle.tree_handles.specs.declared.status.Status.TheVariants.{Done, Full, More, Lost}
 use Rattle.exact_list.specs.declared.alone.Exact.{Exact}
-use Rattle.tree_handles.specs.Tidying.{Finishes, IsUnwritten, MayTidy, Output, Tidies, LiftsNext, LevelledTo, StopsAt, MakesSlots, Levels, IsOfTidy, LeavesNoUpdates, TidiesMakeNoUpdate}
+use Rattle.tree_handles.specs.Tidying.{Finishes, MayTidy, Output, Tidies, LiftsNext, LevelledTo, StopsAt, MakesSlots, Levels, IsOfTidy, LeavesNoUpdates, TidiesMakeNoUpdate}
 use Rattle.std.specs.List.{AllByRecursion}
 use Rattle.prcu_marks.specs.declared.mark.Mark.{Mark}
 use Rattle.tree_points.proofs.Locks.{gone_on, gone_same}
@@ -124,14 +122,6 @@ calls_meet ops tolds before after none chain =
     (chain_told IsCalledAndKept client_of answers (shape_of before.way before.table) ops tolds before after refl none chain)
 
 -- A caller's cookie stays good over its calls.
-
-pub no_cookie : {k : Shape} {v : View} → HasCookie k None v
-no_cookie = record { each = λ c e. absurd (cc) }
-
-pub one_cookie : {k : Shape} {v : View} (c : CookieAt) → c.over ≡ false → IsOf k c v → HasCookie k (Some c) v
-one_cookie {k} {v} c going of = record {
-  each = λ d e. (let same : c ≡ d = cc in subst (λ (z : CookieAt). (z.over ≡ false) × IsOf k z v) same (going, of));
-}
 
 -- what the seat had seen it has seen still
 seen_first : {v w : View} → HasBegunFirst v w → IsPrefix v.seen w.seen
@@ -257,46 +247,6 @@ stays_inside c o kept seat quiet inside e = record {
   inside = record { kept = kept; seat = seat; quiet = quiet; inside = inside_some o c.seat.view.section inside e };
 }
 
--- what stops a call hinders it, however many tickets it needs
-pub stops_call : (needed : ℕ) (status : Status) (c d : CallerAt) → IsStoppedBy status c d → IsHinderedBy needed status c d
-stops_call needed Lost c d s = s
-stops_call needed Holds c d s = s
-stops_call needed _ c d s = absurd s
-
--- where the keys are some, what hinders a call with one ticket is what a wait answers
-pub hinders_wait : (keys : Interval) (status : Status) (c d : CallerAt) → keys.low ≤ keys.high → IsHinderedBy 1 status c d
-    → Waits c keys status d
-hinders_wait keys Spent c d some h = (some, h)
-hinders_wait keys Lost c d some h = h
-hinders_wait keys Holds c d some h = h
-hinders_wait keys _ c d some h = absurd h
-
--- a caller that may go on is in no section
-may_outside : (c : CallerAt) → MayGoOn c → IsInside c → ⊥
-may_outside c may inside =
-    let none : c.seat.view.section ≡ None = may.quiet.view.section in
-    let some : c.seat.view.section ≡ Some inside.inside.0 = inside.inside.1 in absurd (cc)
-
-lifted_outside : (key : ℕ) (s : SeatAt) (d : CallerAt) → HasLifted key s d ⊎ IsLostBehind d → IsInside d → ⊥
-lifted_outside key s d (inl lifted) inside = may_outside d lifted.may inside
-lifted_outside key s d (inr lost) inside =
-    let gone : d.lost ≡ true = lost.lost in
-    let kept : d.lost ≡ false = inside.kept in absurd (cc)
-
-behind_outside : (op : Op) (told : Told) (s : SeatAt) (d : CallerAt) → ComesBehind op told s d → IsInside d → ⊥
-behind_outside op told s d (inl goes) inside = may_outside d goes.may inside
-behind_outside op told s d (inr b) inside = lifted_outside b.0 s d b.2 inside
-
--- and so is one that was just called
-pub answered_outside : (c : CallerAt) (op : Op) (reply : Reply) (d : CallerAt) → IsAnswered c op reply d → IsInside d → ⊥
-answered_outside c op reply d a inside = behind_outside op a.0 a.2.answered d a.2.behind inside
-
--- a caller that is in a section has made no round of an upsert
-pub none_missed : (rounds : ℕ) (key value : ℕ) (c a d : CallerAt) → Misses c key value rounds a → StaysInside a d → StaysInside c d
-none_missed zero key value c a d misses stays = subst (λ z. StaysInside z d) misses stays
-none_missed (suc rounds) key value c a d misses stays =
-    absurd (answered_outside misses.1 _ _ a misses.4 stays.inside)
-
 -- Lifts of ways one after another.
 
 pub index_on : (c b d : CallerAt) → AreOfOneIndex c b → AreOfOneIndex b d → AreOfOneIndex c d
@@ -314,15 +264,6 @@ lost_on c b d before index may lost = record {
   tired = λ _. lost.tired may.kept;
   earlier = λ e. absurd (let other : true ≡ false = sym e ∙ before.kept in cc);
 }
-
--- No slot was free for a place that has none to give back: as many pairs are there as always fit.
-pub filled_here : (c d : CallerAt) → d.table ≡ c.table → IsFull (shape_of c.way c.table) d.seat.view → d.seat.view.hands.retired ≡ [] → IsFilled d
-filled_here c d same full none =
-    let k = shape_of c.way c.table in
-    let kept = (c.table.room + 4) * (c.table.places - 1) in
-    let empty = ap (length {A = Retired}) none in record {
-      pairs = subst (λ (t : TableAt). pairs_that_fit t ≤ finite.len (map_of (updates_of d.seat.view.seen))) (sym same) (omega (arith, full, empty));
-    }
 
 -- Listed keys whose ways were lifted are what a tidy answers.
 listed_on : (c : CallerAt) (keys : Interval) (page : Paged) (exact : Exact) (b d : CallerAt) → Lists c keys page exact b → IsLost b d
@@ -342,13 +283,6 @@ tidies_listed c keys turns was Full out d page after front b may capacity listed
 tidies_listed c keys turns was Lost out d page after front b may capacity listed finished =
     (listed_on c keys page (record { front = front; next = after }) b d listed finished.0, finished.1)
 tidies_listed c keys turns was _ out d page after front b may capacity listed finished = absurd finished
-
--- what stops a call is what a tidy answers
-pub tidies_stopped : (c : CallerAt) (keys : Interval) (turns was : ℕ) (status : Status) (out : Output) (d : CallerAt) → IsStoppedBy status c d
-    → IsUnwritten was out → Tidies c keys turns was status out d
-tidies_stopped c keys turns was Lost out d stops unwritten = (stops, unwritten)
-tidies_stopped c keys turns was Holds out d stops unwritten = (stops, unwritten)
-tidies_stopped c keys turns was _ out d stops unwritten = absurd stops
 
 -- A tidy leaves no mark of an update.
 

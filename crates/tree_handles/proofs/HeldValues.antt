@@ -1,6 +1,6 @@
 -- A value that was taken out may be given up after a wait: by marks, and by what calls say.
 -- Marks and updates at the end of beginnings.
-use Rattle.std.proofs.Common.{◌≡◌, ℕ, zero, suc, ◌+◌, ◌<◌, ◌≤◌, List, [], ◌∷◌, ◌++◌, length, take, refl, sym, ap, subst, ◌∙◌, arith, append_assoc, length-append, ◌⊎◌, inl, inr, ⊎_elim, Bool, true, false, Option, Some, None, is_some, cond, eq-eqb}
+use Rattle.std.proofs.Common.{◌≡◌, ℕ, zero, suc, ◌+◌, ◌<◌, ◌≤◌, List, [], ◌∷◌, ◌++◌, length, take, refl, sym, ap, subst, ◌∙◌, arith, append_assoc, length-append, ◌⊎◌, inl, inr, ⊎_elim, Bool, true, Option, Some, None, is_some, cond, eq-eqb}
 use mathlib.Core.Logic.{dite}
 use mathlib.Core.List.{IsPrefix}
 use mathlib.Core.Option.{some, some-injective, some-ne-none}
@@ -14,7 +14,7 @@ use Rattle.prcu_model.specs.declared.operation.Update.{Update}
 use Rattle.prcu_model.proofs.ListFacts.{prefix_trans, prefix_of_longer}
 use Rattle.std.proofs.lemmas.List.{length-take-le}
 use Rattle.prcu_model.specs.declared.operation.Op.{Op}
-use Rattle.prcu_model.specs.declared.operation.Op.TheVariants.{Put, Get, Del, Set}
+use Rattle.prcu_model.specs.declared.operation.Op.TheVariants.{Put, Del, Set}
 use Rattle.prcu_model.specs.Dictionary.{Dictionary, key_of, map_of, updated, updated_all}
 use Rattle.prcu_model.proofs.Dictionaries.{updated_all-append, value_after, get-updated, get-updated_other, map_of-push, get-del, get-set}
 use Rattle.key_interval.specs.Keys.{Interval, Holds}
