@@ -25,8 +25,8 @@ use Rattle.prcu_marks.proofs.Callers.{HasTold, chain_tells, map_at-longer}
 use Rattle.prcu_marks.proofs.Marks.{updates_of-append, updates_below, entered_for-append, own_twice}
 use Rattle.core_state.specs.declared.shape.Shape.{Shape}
 use Rattle.core_state.specs.declared.view.View.{View}
-use Rattle.tree_points.specs.Points.{HasGone}
-use Rattle.tree_points.proofs.Locks.{gone_same}
+use Rattle.tree_points.specs.Points.{HasAdvanced}
+use Rattle.tree_points.proofs.Locks.{advanced_same}
 use Rattle.citrus_tree.specs.Going.{IsOfTry}
 use Rattle.citrus_tree.specs.Lookups.{Looked, told_of, Gets}
 use Rattle.citrus_tree.specs.Replies.{WasAnswered, HasUpdated, HasTried, PutsBy, SetsBy, DelsBy, ClientAt, caller_of, IsTold, room_of}
@@ -67,8 +67,8 @@ pub met_its_own : (v : View) → HasSeenItsOwn (of_view v)
 met_its_own v = sym (own_twice v.allowance.place v.seen)
 
 module _ (explains : Dictionary → Op → Reply → Type 0) (v w : View) (op : Op) (told : Told) where
-  own_grows : (marks : List Mark) → HasGone v w marks → own_of w.allowance.place w.seen ≡ own_of v.allowance.place v.seen ++ marks
-  own_grows marks gone = ap (λ p. own_of p w.seen) gone.same ∙ gone.own
+  own_grows : (marks : List Mark) → HasAdvanced v w marks → own_of w.allowance.place w.seen ≡ own_of v.allowance.place v.seen ++ marks
+  own_grows marks advanced = ap (λ p. own_of p w.seen) advanced.same ∙ advanced.own
 
   -- a call that made no update
   unchanged : (tries : List Mark) → HasTried v (key_of op) tries w → tells_update told.reply ≡ false → (front : ℕ)
@@ -201,9 +201,9 @@ looked_tried v w key answer l =
     ap (λ b. cond b (cond (key == key) 1 0) 0 + 0) (eq-eqb p p refl) ∙ ap (λ b. cond b 1 0 + 0) (eq-eqb key key refl) in (
       record {
         tried = record { each = ((refl, refl), (refl, tt)); entered = omega arith; once = omega arith };
-        own = (goes_looked l).gone;
+        own = (goes_looked l).advanced;
       },
-      was_answered l gone_same,
+      was_answered l advanced_same,
     )
 
 -- What each other place may hold back beyond 16 retired slots is told as slots that the table hasn't.

@@ -10,7 +10,7 @@ use Rattle.prcu_model.proofs.ListFacts.{prefix_trans}
 use Rattle.core_state.specs.declared.view.View.{View}
 use Rattle.seat_table.specs.Gains.{Sees, Told, IsAsked}
 use Rattle.seat_table.specs.Seats.{SeatAt, AreListed, IsSlotOf}
-use Rattle.tree_points.specs.Points.{HasGone, IsAt, HasLocks}
+use Rattle.tree_points.specs.Points.{HasAdvanced, IsAt, HasLocks}
 use Rattle.citrus_tree.specs.Deletes.{HasDone, RetiresBy, retired_slots, KeepsAll, relinked_at, KeepsValue, KeepsWaits, HasCopied, HasDeleted}
 use Rattle.citrus_tree.specs.Replies.{AreUnlinkedSince, IsUnlinkedSince, RetiresInOrder, IsMoveWait}
 use Rattle.std.proofs.lemmas.Bool.{cases_eq}
@@ -37,7 +37,7 @@ use Rattle.core_state.specs.declared.words.Field.{Field}
 use Rattle.core_state.specs.declared.words.Field.TheVariants.{Life, Link}
 use Rattle.core_state.specs.Views.{known_in, known_under}
 use Rattle.core_frames.specs.Telling.{IsToldOf}
-use Rattle.tree_points.proofs.Locks.{allowed, needs_copy, needs_copy_age, own_spare, passes_copy, passes_copy_age, further, gone_on}
+use Rattle.tree_points.proofs.Locks.{allowed, needs_copy, needs_copy_age, own_spare, passes_copy, passes_copy_age, further, advanced_on}
 use Rattle.citrus_tree.specs.Going.{Opened, Closed, retired_marks}
 use Rattle.citrus_tree.proofs.DeleteUpdates.{keeps, keeps_on, keeps_fill, keeps_locked_load, keeps_own_life, spare_fill, spare_locked_load, spare_own_life, value_fill, value_load, value_on, value_own_life, unlinked_gone}
 use Rattle.core_laws.proofs.Locks.{loaded_known}
@@ -97,7 +97,7 @@ two_retired s t u key node old number d same i listed = record {
 }
 
 -- What came before leaves the list as it was, or empty.
-pub retires_before : {marks : List Mark} (r s t : SeatAt) (key number : ℕ) → HasGone r.view s.view marks
+pub retires_before : {marks : List Mark} (r s t : SeatAt) (key number : ℕ) → HasAdvanced r.view s.view marks
     → (s.listed ≡ r.listed) ⊎ (s.listed ≡ []) → RetiresInOrder s key number t → RetiresInOrder r key number t
 retires_before r s t key number g first x = record {
   before = x.before;
@@ -378,14 +378,14 @@ unlinking {k} {op} {kept} {right} {child} {v} m is told a = subst (λ x. IsAt k 
 
 -- what the unlinking leaves
 pub record Unlinks (v : View) (old : ℕ) (w : View) : Type 0 where
-  pub gone : HasGone v w []
+  pub advanced : HasAdvanced v w []
   pub unlinked : IsUnlinkedSince v.seen old w.seen
   pub retired : retired_slots w ≡ retired_slots v ++ old ∷ []
   pub waits : KeepsWaits v w
 
 pub copy_unlinks : (k : Shape) (v w : View) (copy old child n : ℕ) → Told k v (acts.UnlinkRight copy old child) n w → Unlinks v old w
 copy_unlinks k v w copy old child n t = record {
-  gone = unlinked_gone v w t.marks old (further v _ t.goes refl) t.sees (allowed t.goes refl) (ap (λ (x : View). x.seen) t.goes);
+  advanced = unlinked_gone v w t.marks old (further v _ t.goes refl) t.sees (allowed t.goes refl) (ap (λ (x : View). x.seen) t.goes);
   unlinked = unlinked_there v w t.marks old t.sees (ap (λ (x : View). x.seen) t.goes);
   retired = ap retired_slots t.goes ∙ map_append v.hands.retired _;
   waits = record { wait = ap (λ (x : View). x.wait) t.goes; count = ap (λ (x : View). x.counts.waits) t.goes };
@@ -393,7 +393,7 @@ copy_unlinks k v w copy old child n t = record {
 
 pub parent_unlinks : (k : Shape) (v w : View) (parent old child n : ℕ) → Told k v (acts.UnlinkLeft parent old child) n w → Unlinks v old w
 parent_unlinks k v w parent old child n t = record {
-  gone = unlinked_gone v w t.marks old (further v _ t.goes refl) t.sees (allowed t.goes refl) (ap (λ (x : View). x.seen) t.goes);
+  advanced = unlinked_gone v w t.marks old (further v _ t.goes refl) t.sees (allowed t.goes refl) (ap (λ (x : View). x.seen) t.goes);
   unlinked = unlinked_there v w t.marks old t.sees (ap (λ (x : View). x.seen) t.goes);
   retired = ap retired_slots t.goes ∙ map_append v.hands.retired _;
   waits = record { wait = ap (λ (x : View). x.wait) t.goes; count = ap (λ (x : View). x.counts.waits) t.goes };
@@ -441,19 +441,19 @@ one_listed listed v w node each more t = (let a = ap (times t) more ∙ times_ap
     omega (arith, a, e))
 
 -- its update, with the wait after it
-pub move_deletes : (v w x y : View) (key next_key node number : ℕ) → HasGone v w [] → HasCopied w key next_key node number x
-    → HasGone x y (Began x.allowance.place x.counts.waits (key + 1) next_key ∷ (Ended x.allowance.place x.counts.waits ∷ []))
+pub move_deletes : (v w x y : View) (key next_key node number : ℕ) → HasAdvanced v w [] → HasCopied w key next_key node number x
+    → HasAdvanced x y (Began x.allowance.place x.counts.waits (key + 1) next_key ∷ (Ended x.allowance.place x.counts.waits ∷ []))
     → HasDeleted v key number y
 move_deletes v w x y key next_key node number first copied later =
-    let place : x.allowance.place ≡ v.allowance.place = copied.done.gone.same ∙ first.same in
-    let mine = subst (λ p. HasGone v x (Done (record { caller = p; op = Del key }) ∷ [])) first.same (gone_on first copied.done.gone) in
+    let place : x.allowance.place ≡ v.allowance.place = copied.done.advanced.same ∙ first.same in
+    let mine = subst (λ p. HasAdvanced v x (Done (record { caller = p; op = Del key }) ∷ [])) first.same (advanced_on first copied.done.advanced) in
     let marks = λ (p : ℕ). Began p x.counts.waits (key + 1) next_key ∷ (Ended p x.counts.waits ∷ []) in
     record {
       node = node;
       after = marks v.allowance.place;
       done = record {
         before = copied.done.before;
-        gone = gone_on mine (subst (λ p. HasGone x y (marks p)) place later);
+        advanced = advanced_on mine (subst (λ p. HasAdvanced x y (marks p)) place later);
         since = prefix_trans v.seen w.seen copied.done.before first.begins copied.done.since;
         stands = subst (λ p. IsPrefix (copied.done.before
             ++ Done (record { caller = p; op = Del key }) ∷ (Unlinked node ∷ [])) y.seen) first.same
@@ -464,13 +464,13 @@ move_deletes v w x y key next_key node number first copied later =
     }
 
 -- Nothing of the place's own was left before.
-pub deleted_later : (v w x : View) (key number : ℕ) → HasGone v w [] → HasDeleted w key number x → HasDeleted v key number x
+pub deleted_later : (v w x : View) (key number : ℕ) → HasAdvanced v w [] → HasDeleted w key number x → HasDeleted v key number x
 deleted_later v w x key number g d = record {
   node = d.node;
   after = d.after;
   done = record {
     before = d.done.before;
-    gone = subst (λ p. HasGone v x (Done (record { caller = p; op = Del key }) ∷ d.after)) g.same (gone_on g d.done.gone);
+    advanced = subst (λ p. HasAdvanced v x (Done (record { caller = p; op = Del key }) ∷ d.after)) g.same (advanced_on g d.done.advanced);
     since = prefix_trans v.seen w.seen d.done.before g.begins d.done.since;
     stands = subst (λ p. IsPrefix (d.done.before ++ Done (record { caller = p; op = Del key })
         ∷ (Unlinked d.node ∷ [])) x.seen) g.same d.done.stands;

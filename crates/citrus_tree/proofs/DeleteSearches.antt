@@ -18,12 +18,12 @@ use Rattle.core_points.specs.declared.stage.Target.{Target}
 use Rattle.core_points.specs.Facts.{is_delete, SameLocks}
 use Rattle.seat_table.specs.Gains.{StoodInside, IsAsked, Told}
 use Rattle.seat_table.specs.Sections.{HasLeft, is_entry, is_exit}
-use Rattle.tree_points.specs.Points.{IsAt, IsDone, HasGone, HasLocks}
+use Rattle.tree_points.specs.Points.{IsAt, IsDone, HasAdvanced, HasLocks}
 use Rattle.tree_points.proofs.Passing.{moves_on, no_hand_enter, at_false, at_true, needs, passes}
 use Rattle.seat_table.proofs.SeveralSteps.{made_both}
 use Rattle.citrus_tree.specs.Lookups.{is_load, is_of_lookup, IsSearching, Looked}
 use Rattle.citrus_tree.proofs.Searching.{load_is, entry_is, exit_is}
-use Rattle.tree_points.proofs.Locks.{allowed, further_by, gone_entered, gone_left, gone_none, gone_on, gone_same, gone_stays, needs_unlock, passes_target_lock_busy, passes_target_lock_first, passes_target_lock_free, passes_unlock, passes_unlock_again, locks_target_lock, no_further}
+use Rattle.tree_points.proofs.Locks.{allowed, further_by, advanced_entered, advanced_left, advanced_none, advanced_on, advanced_same, advanced_stays, needs_unlock, passes_target_lock_busy, passes_target_lock_first, passes_target_lock_free, passes_unlock, passes_unlock_again, locks_target_lock, no_further}
 use Rattle.tree_points.proofs.Waits.{leaves_delete}
 use Rattle.citrus_tree.specs.Going.{IsSeated, retired_marks}
 use Rattle.citrus_tree.specs.Deletes.{HasSearched, OnlyLoads, retired_slots, Comes, StandsAt, walked_to, KeepsRest, giving_up, AreLivesSmall}
@@ -120,18 +120,18 @@ pub searched_found : {v w x y : View} {key : ℕ} {state : SearchState} → IsSe
     → HasSearched v key y
 searched_found {v} {w} {x} {y} {key} {state} i k left =
     let e = i.entered in
-    let inside : HasGone v w (Entered v.allowance.place v.counts.sections key ∷ []) =
-    gone_stays (gone_entered e) (gone_none (further_by i.entry w _ i.made.trail refl) (allowed i.others refl)
+    let inside : HasAdvanced v w (Entered v.allowance.place v.counts.sections key ∷ []) =
+    advanced_stays (advanced_entered e) (advanced_none (further_by i.entry w _ i.made.trail refl) (allowed i.others refl)
     (ap (λ (z : View). z.seen) i.others)) in
-    let before : HasGone v x (Entered v.allowance.place v.counts.sections key ∷ []) = gone_stays inside k.all.gone in
+    let before : HasAdvanced v x (Entered v.allowance.place v.counts.sections key ∷ []) = advanced_stays inside k.all.advanced in
     record {
       made = made_both is_of_lookup is_exit is_of_lookup (λ kind is. is) exit_is v.trail x.trail y.trail
           (made_both is_of_lookup is_load is_of_lookup (λ kind is. is) load_is v.trail w.trail x.trail
           (made_both is_entry is_load is_of_lookup entry_is load_is v.trail i.entry.trail w.trail e.made i.made) k.made) left.made;
       count = v.counts.sections;
       left = left.section.count;
-      gone = subst (λ p. HasGone v y (Entered v.allowance.place v.counts.sections key ∷ (LeftMark p left.section.count ∷ []))) before.same
-          (gone_on before (gone_left left));
+      advanced = subst (λ p. HasAdvanced v y (Entered v.allowance.place v.counts.sections key ∷ (LeftMark p left.section.count ∷ []))) before.same
+          (advanced_on before (advanced_left left));
       waits = record {
         wait = ap (λ (z : View). z.wait) left.others ∙ k.all.waits.wait ∙ ap (λ (z : View). z.wait) i.others
             ∙ ap (λ (z : View). z.wait) e.others;
@@ -149,17 +149,17 @@ searched_missed {v} {w} l =
       made = l.made;
       count = v.counts.sections;
       left = v.counts.sections;
-      gone = goes.gone;
+      advanced = goes.advanced;
       waits = record { wait = goes.wait; count = goes.waits };
       retired = ap (map (λ (r : Retired). r.slot)) goes.retired;
       stay = ap (map (λ (r : Retired). (r.slot, r.unlinked, r.waited))) goes.retired;
     }
 
 pub answered_now : {v w : View} {key : ℕ} {answer : Option ℕ} → Looked v key answer w → WasAnswered v key answer w
-answered_now l = was_answered l gone_same
+answered_now l = was_answered l advanced_same
 
 -- An answer since a later moment is one since an earlier.
-pub answered_before : {u v w : View} {key : ℕ} {answer : Option ℕ} {marks : List Mark} → HasGone u v marks → WasAnswered v key answer w
+pub answered_before : {u v w : View} {key : ℕ} {answer : Option ℕ} {marks : List Mark} → HasAdvanced u v marks → WasAnswered v key answer w
     → WasAnswered u key answer w
 answered_before {u} {v} {w} {key} g a = record {
   count = a.count;
@@ -309,7 +309,7 @@ successor_loaded {k} {op} {kept} {n} {v} {w} d parent slot above g e a told =
 -- Before any step nothing changed.
 pub rest_none : (v : View) → KeepsRest v v
 rest_none v = record {
-  gone = gone_none (no_further v v refl) (record { rest = refl }) refl;
+  advanced = advanced_none (no_further v v refl) (record { rest = refl }) refl;
   waits = record { wait = refl; count = refl };
   retired = refl;
   stay = refl;

@@ -18,10 +18,10 @@ use Rattle.seat_table.specs.Seats.{TableAt, AreListed, IsSlotOf, SeatAt}
 use Rattle.seat_table.specs.Gains.{IsAsked, Told as StepTold, IsInformed}
 use Rattle.node_slots.specs.Reclaiming.{HasReclaimed}
 use Rattle.node_slots.specs.Taking.{FoundNone, HasTaken}
-use Rattle.node_slots.proofs.Points.{MayReclaim, gives_all, none_begins_spare, none_gone, reclaim_gone, taken_gone, takes_spare}
-use Rattle.tree_points.specs.Points.{IsAt, HasGone, IsDone, KeepsAllowance}
+use Rattle.node_slots.proofs.Points.{MayReclaim, gives_all, none_begins_spare, none_advanced, reclaim_advanced, taken_advanced, takes_spare}
+use Rattle.tree_points.specs.Points.{IsAt, HasAdvanced, IsDone, KeepsAllowance}
 use Rattle.tree_points.proofs.Passing.{begins_delete, begins_room, begins_spare, none_raised, has_kept, is_quiet, needs, passes}
-use Rattle.tree_points.proofs.Locks.{gone_on, gone_same, gone_stays, stays}
+use Rattle.tree_points.proofs.Locks.{advanced_on, advanced_same, advanced_stays, stays}
 use Rattle.tree_points.proofs.Waits.{reclaims_room, reclaims_spare}
 use Rattle.citrus_tree.specs.Going.{IsSeated, NeededRoom, NeededSlots, MayBegin, AreTries, IsOfTry, KeepsWait, waits_in}
 use Rattle.citrus_tree.specs.Deletes.{HasMadeRoom, HasWaitedForRoom, IsReadyToDelete, KeepsWaits, BeginsByLookup, DelsAtOnce, HasDeleted, HasSearched, KeepsRest, retired_slots, TellsTaken}
@@ -69,14 +69,14 @@ no_spare (Some slot) held is none = absurd (let e : true ≡ false = none in cc)
 
 -- Nothing had to be done.
 pub room_same : {k : Shape} (v : View) → HasMadeRoom k v v
-room_same v = record { marks = []; gone = gone_same; waited = inl refl; waits = omega arith; latest = inl (none_yet v) }
+room_same v = record { marks = []; advanced = advanced_same; waited = inl refl; waits = omega arith; latest = inl (none_yet v) }
 
 -- All retired slots were given back.
 pub room_reclaimed : {k : Shape} {v w : View} {listed : List ℕ} → HasReclaimed k v listed w
     → NeededSlots k v w → HasMadeRoom k v w
 room_reclaimed {k} {v} {w} {listed} back why = record {
   marks = Began v.allowance.place v.counts.waits 0 18446744073709551615 ∷ (Ended v.allowance.place v.counts.waits ∷ []);
-  gone = reclaim_gone back;
+  advanced = reclaim_advanced back;
   waited = inr (record { count = v.counts.waits; marks_are = refl; why = why });
   waits = (let e : w.counts.waits ≡ v.counts.waits + 1 = ap (λ (z : View). z.counts.waits) back.rest in omega arith);
   latest = inr (reclaimed_first back);
@@ -100,11 +100,11 @@ needed_before {k} {v} {w} {x} seen retired spare = ⊎_elim
     ))
 
 -- Nothing of the place's own was left before.
-pub room_later : {k : Shape} {v w x : View} → HasGone v w [] → KeepsWaits v w → w.hands.retired ≡ v.hands.retired → w.hands.spare ≡ v.hands.spare
+pub room_later : {k : Shape} {v w x : View} → HasAdvanced v w [] → KeepsWaits v w → w.hands.retired ≡ v.hands.retired → w.hands.spare ≡ v.hands.spare
     → HasMadeRoom k w x → HasMadeRoom k v x
 room_later {k} {v} {w} {x} g same retired spare r = record {
   marks = r.marks;
-  gone = gone_on g r.gone;
+  advanced = advanced_on g r.advanced;
   waited = ⊎_elim (λ (none : r.marks ≡ []). inl none)
       (λ (f : HasWaitedForRoom k w r.marks x). inr (record {
         count = f.count;
@@ -156,11 +156,11 @@ module _ {k : Shape} {v : View} (quiet : IsQuiet v) where
         pub room_kept : IsPrefix v.trail.steps w.trail.steps → HasMadeRoom k v x
         room_kept steps = record {
           marks = [];
-          gone = gone_stays (taken_gone taken steps) (stays (acts.KeepAsSpare slot) refl t);
+          advanced = advanced_stays (taken_advanced taken steps) (stays (acts.KeepAsSpare slot) refl t);
           waited = inl refl;
           waits = (let a : x.counts.waits ≡ w.counts.waits = ap (λ (z : View). z.counts.waits) t.goes in
               let b : w.counts.waits ≡ v.counts.waits = ap (λ (z : View). z.counts.waits) taken.rest in omega arith);
-          latest = inl (none_begun (gone_stays (taken_gone taken steps) (stays (acts.KeepAsSpare slot) refl t))
+          latest = inl (none_begun (advanced_stays (taken_advanced taken steps) (stays (acts.KeepAsSpare slot) refl t))
               (ap (λ (z : View). z.counts.waits) t.goes ∙ ap (λ (z : View). z.counts.waits) taken.rest)
               (ap (λ (z : View). z.wait) t.goes ∙ ap (λ (z : View). z.wait) taken.rest));
         }
@@ -199,13 +199,13 @@ module _ {k : Shape} {v : View} (quiet : IsQuiet v) where
             retired = at_least_one w.hands.retired (empty.spare_comes spare);
             until = w.seen;
             since = prefix_self w.seen;
-            made = (reclaim_gone back).begins;
+            made = (reclaim_advanced back).begins;
             fills = empty.full quiet.moving quiet.owes;
           },
         )
 
         pub room_spare : IsPrefix v.trail.steps w.trail.steps → HasMadeRoom k v x
-        room_spare steps = room_later (none_gone empty steps) (record
+        room_spare steps = room_later (none_advanced empty steps) (record
             { wait = ap (λ (z : View). z.wait) empty.rest; count = ap (λ (z : View). z.counts.waits) empty.rest })
             (ap (λ (z : View). z.hands.retired) empty.rest) (ap (λ (z : View). z.hands.spare) empty.rest)
             (room_reclaimed back needed_spare)
@@ -222,7 +222,7 @@ waits_on a b = record { wait = b.wait ∙ a.wait; count = b.count ∙ a.count }
 -- So far there were only sections with the key, and the call may begin its next try.
 pub record TriesToDelete (k : Shape) (key : ℕ) (v w : View) : Type 0 where
   pub marks : List Mark
-  pub gone : HasGone v w marks
+  pub advanced : HasAdvanced v w marks
   pub each : AllByRecursion (IsOfTry v.allowance.place key) marks
   pub none : waits_in marks ≡ 0
   pub waits : KeepsWaits v w
@@ -232,7 +232,7 @@ pub record TriesToDelete (k : Shape) (key : ℕ) (v w : View) : Type 0 where
 pub tries_first : (k : Shape) (key : ℕ) (v : View) → TriesToDelete k key v v
 tries_first k key v = record {
   marks = [];
-  gone = gone_same;
+  advanced = advanced_same;
   each = tt;
   none = refl;
   waits = record { wait = refl; count = refl };
@@ -243,10 +243,10 @@ tries_first k key v = record {
 -- one more section
 module _ {k : Shape} {key : ℕ} {v w x : View} (t : TriesToDelete k key v w) (s : HasSearched w key x) where
   place : w.allowance.place ≡ v.allowance.place
-  place = t.gone.same
+  place = t.advanced.same
 
-  gone : HasGone v x (t.marks ++ (Entered w.allowance.place s.count key ∷ (LeftMark w.allowance.place s.left ∷ [])))
-  gone = gone_on t.gone s.gone
+  advanced : HasAdvanced v x (t.marks ++ (Entered w.allowance.place s.count key ∷ (LeftMark w.allowance.place s.left ∷ [])))
+  advanced = advanced_on t.advanced s.advanced
 
   none : waits_in (t.marks ++ (Entered w.allowance.place s.count key ∷ (LeftMark w.allowance.place s.left ∷ []))) ≡ 0
   none = waits_in-append t.marks (Entered w.allowance.place s.count key ∷ (LeftMark w.allowance.place s.left ∷ [])) ∙ ap (λ n. n + 0) t.none
@@ -276,7 +276,7 @@ module _ {k : Shape} {key : ℕ} {v w x : View} (t : TriesToDelete k key v w) (s
   pub absent_dels : WasAnswered w key None x → DelsAtOnce v key (record { reply = Absent; number = 0 }) x
   absent_dels a = (
     t.marks ++ (Entered w.allowance.place s.count key ∷ (LeftMark w.allowance.place s.left ∷ [])),
-    (refl, record { tried = tries; own = gone }, answered_before t.gone a),
+    (refl, record { tried = tries; own = advanced }, answered_before t.advanced a),
     none,
   )
 
@@ -284,18 +284,18 @@ module _ {k : Shape} {key : ℕ} {v w x : View} (t : TriesToDelete k key v w) (s
   absent_begins = begins_searched t.first s
 
   pub absent_wait : KeepsWait v x
-  absent_wait = inl (none_begun gone searched_waits.count searched_waits.wait)
+  absent_wait = inl (none_begun advanced searched_waits.count searched_waits.wait)
 
   -- the target wasn't taken out
   pub tries_again : {y : View} → KeepsRest x y → ((kept : ℕ) → MayBegin k (Del key) kept w → IsAt k (Del key) kept at.EnterClock y)
       → TriesToDelete k key v y
   tries_again {y} rest again = record {
     marks = t.marks ++ (Entered w.allowance.place s.count key ∷ (LeftMark w.allowance.place s.left ∷ []));
-    gone = gone_stays gone rest.gone;
+    advanced = advanced_stays advanced rest.advanced;
     each = each;
     none = none;
     waits = waits_on searched_waits rest.waits;
-    first = inr (begins_later absent_begins rest.gone);
+    first = inr (begins_later absent_begins rest.advanced);
     ready = λ kept a. may_begin (again kept (t.ready kept a));
   }
 
@@ -303,21 +303,21 @@ module _ {k : Shape} {key : ℕ} {v w x : View} (t : TriesToDelete k key v w) (s
   pub gone_dels : {y : View} {number : ℕ} → HasDeleted x key number y → IsInformed y
       → DelsAtOnce v key (record { reply = Gone; number = number }) y
   gone_dels {y} {number} d informed =
-      let same : x.allowance.place ≡ v.allowance.place = gone.same in
-      let all : HasGone v y ((t.marks ++ (Entered w.allowance.place s.count key ∷ (LeftMark w.allowance.place s.left ∷ [])))
+      let same : x.allowance.place ≡ v.allowance.place = advanced.same in
+      let all : HasAdvanced v y ((t.marks ++ (Entered w.allowance.place s.count key ∷ (LeftMark w.allowance.place s.left ∷ [])))
       ++ (Done (record { caller = v.allowance.place; op = Del key }) ∷ d.after)) =
-      subst (λ p. HasGone v y ((t.marks ++ (Entered w.allowance.place s.count key ∷ (LeftMark w.allowance.place s.left ∷ [])))
-      ++ (Done (record { caller = p; op = Del key }) ∷ d.after))) same (gone_on gone d.done.gone) in (
+      subst (λ p. HasAdvanced v y ((t.marks ++ (Entered w.allowance.place s.count key ∷ (LeftMark w.allowance.place s.left ∷ [])))
+      ++ (Done (record { caller = p; op = Del key }) ∷ d.after))) same (advanced_on advanced d.done.advanced) in (
         t.marks ++ (Entered w.allowance.place s.count key ∷ (LeftMark w.allowance.place s.left ∷ [])),
         (
           d.done.before,
           d.after,
           record {
             tried = tries;
-            own = subst (HasGone v y) (sym (append_assoc
+            own = subst (HasAdvanced v y) (sym (append_assoc
                 (t.marks ++ (Entered w.allowance.place s.count key ∷ (LeftMark w.allowance.place s.left ∷ [])))
                 (Done (record { caller = v.allowance.place; op = Del key }) ∷ []) d.after)) all;
-            since = prefix_trans v.seen x.seen d.done.before gone.begins d.done.since;
+            since = prefix_trans v.seen x.seen d.done.before advanced.begins d.done.since;
             stands = subst (λ p. IsPrefix (d.done.before ++ Done (record { caller = p; op = Del key }) ∷ []) y.seen) same
                 (prefix_trans _ (d.done.before ++ Done (record { caller = x.allowance.place; op = Del key })
                 ∷ (Unlinked d.node ∷ [])) y.seen (
@@ -336,26 +336,26 @@ module _ {k : Shape} {key : ℕ} {v w x : View} (t : TriesToDelete k key v w) (s
       )
 
   pub gone_begins : {y : View} {number : ℕ} → HasDeleted x key number y → BeginsByLookup v key y
-  gone_begins d = begins_later absent_begins d.done.gone
+  gone_begins d = begins_later absent_begins d.done.advanced
 
   -- with the value that it tells
   pub tells_gone : (y : View) (number : ℕ) (o : Option ℕ) → TellsTaken x key number o y
       → TellsValue v key (record { reply = Gone; number = number }) o y
   tells_gone y number (Some value) took =
-      (refl, subst (λ p. TookOut (updates_of y.seen) p key value number) gone.same took)
+      (refl, subst (λ p. TookOut (updates_of y.seen) p key value number) advanced.same took)
   tells_gone y number None took = absurd took
 
   pub gone_wait : (y : View) → KeepsWait x y → KeepsWait v y
-  gone_wait y later = wait_later (none_begun gone searched_waits.count searched_waits.wait) later
+  gone_wait y later = wait_later (none_begun advanced searched_waits.count searched_waits.wait) later
 
 -- what it retired, by the try that took it out
 pub tried_retires : {k : Shape} {key : ℕ} (r l q y : SeatAt) (number : ℕ) → TriesToDelete k key r.view l.view
     → HasSearched l.view key q.view → q.listed ≡ r.listed → RetiresInOrder q key number y → RetiresInOrder r key number y
-tried_retires {key = key} r l q y number t s same x = retires_before r q y key number (gone_on t.gone s.gone) (inl same) x
+tried_retires {key = key} r l q y number t s same x = retires_before r q y key number (advanced_on t.advanced s.advanced) (inl same) x
 
 -- the marks that a delete left
 dels_gone : (v w : View) (key number : ℕ) (ms : List Mark) (reply : Reply) → DelsBy v key ms reply number w
-    → (left : List Mark) × HasGone v w left
+    → (left : List Mark) × HasAdvanced v w left
 dels_gone v w key number ms Gone d = ((ms ++ Done (record { caller = v.allowance.place; op = Del key }) ∷ []) ++ d.1, d.2.own)
 dels_gone v w key number ms Absent d = (ms, d.1.own)
 dels_gone v w key number ms _ d = absurd d
@@ -368,7 +368,7 @@ needed_later {k} {v} {u} {w} seen = ⊎_elim (λ (many : k.room ≤ length v.han
 -- The call whole: what came before its first search, and the rest.
 module _ {k : Shape} {v u : View} (room : HasMadeRoom k v u) (key : ℕ) where
   place_first : u.allowance.place ≡ v.allowance.place
-  place_first = room.gone.same
+  place_first = room.advanced.same
 
   first_each : AllByRecursion (IsOfTry v.allowance.place key) room.marks
   first_each = ⊎_elim (λ (bare : room.marks ≡ []). subst (AllByRecursion (IsOfTry v.allowance.place key)) (sym bare) tt)
@@ -388,15 +388,15 @@ module _ {k : Shape} {v u : View} (room : HasMadeRoom k v u) (key : ℕ) where
     once = (let split = waits_in-append room.marks ms in let few = first_once in omega arith);
   }
 
-  all_gone : (ms after : List Mark) (w : View) → HasGone u w
+  all_advanced : (ms after : List Mark) (w : View) → HasAdvanced u w
       ((ms ++ Done (record { caller = u.allowance.place; op = Del key }) ∷ []) ++ after)
-      → HasGone v w (((room.marks ++ ms) ++ Done (record { caller = v.allowance.place; op = Del key }) ∷ []) ++ after)
-  all_gone ms after w g =
+      → HasAdvanced v w (((room.marks ++ ms) ++ Done (record { caller = v.allowance.place; op = Del key }) ∷ []) ++ after)
+  all_advanced ms after w g =
       let d : List Mark = Done (record { caller = v.allowance.place; op = Del key }) ∷ [] in
-      let mine : HasGone u w ((ms ++ d) ++ after) =
-      subst (λ p. HasGone u w ((ms ++ Done (record { caller = p; op = Del key }) ∷ []) ++ after)) place_first g in
-      subst (HasGone v w) (sym (append_assoc room.marks (ms ++ d) after) ∙ ap (λ l. l ++ after) (sym (append_assoc room.marks ms d)))
-      (gone_on room.gone mine)
+      let mine : HasAdvanced u w ((ms ++ d) ++ after) =
+      subst (λ p. HasAdvanced u w ((ms ++ Done (record { caller = p; op = Del key }) ∷ []) ++ after)) place_first g in
+      subst (HasAdvanced v w) (sym (append_assoc room.marks (ms ++ d) after) ∙ ap (λ l. l ++ after) (sym (append_assoc room.marks ms d)))
+      (advanced_on room.advanced mine)
 
   dels_by : (ms : List Mark) → waits_in ms ≡ 0 → (w : View) (reply : Reply) (number : ℕ) → DelsBy u key ms reply number w
       → DelsBy v key (room.marks ++ ms) reply number w
@@ -405,8 +405,8 @@ module _ {k : Shape} {v u : View} (room : HasMadeRoom k v u) (key : ℕ) where
     after,
     record {
       tried = all_tries ms bare up.tried;
-      own = all_gone ms after w up.own;
-      since = prefix_trans v.seen u.seen before room.gone.begins up.since;
+      own = all_advanced ms after w up.own;
+      since = prefix_trans v.seen u.seen before room.advanced.begins up.since;
       stands = subst (λ p. IsPrefix (before ++ Done (record { caller = p; op = Del key }) ∷ []) w.seen) place_first up.stands;
       number_is = up.number_is;
       legal = up.legal;
@@ -415,7 +415,7 @@ module _ {k : Shape} {v u : View} (room : HasMadeRoom k v u) (key : ℕ) where
         (m.0, m.1, m.2 ∙ ap (λ p. Began p m.0 (key + 1) m.1 ∷ (Ended p m.0 ∷ [])) place_first, m.3)) move,
   )
   dels_by ms bare w Absent number (zero_is, tried, answered) =
-      (zero_is, record { tried = all_tries ms bare tried.tried; own = gone_on room.gone tried.own }, answered_before room.gone answered)
+      (zero_is, record { tried = all_tries ms bare tried.tried; own = advanced_on room.advanced tried.own }, answered_before room.advanced answered)
   dels_by ms bare w _ number d = absurd d
 
   pub dels : (w : View) (told : Told) → DelsAtOnce u key told w → Dels k v key told w

@@ -21,8 +21,8 @@ use Rattle.citrus_tree.specs.Lookups.{is_load}
 use Rattle.seat_table.specs.Seats.{IsSlotOf}
 use Rattle.seat_table.specs.Gains.{Told, IsAsked, Sees}
 use Rattle.list_laws.specs.Counts.{times}
-use Rattle.tree_points.specs.Points.{HasLocks, KeepsAllowance, IsAt, HasGone}
-use Rattle.tree_points.proofs.Locks.{gone_none, gone_on, no_further, own_spare, allowed, further, gone_with}
+use Rattle.tree_points.specs.Points.{HasLocks, KeepsAllowance, IsAt, HasAdvanced}
+use Rattle.tree_points.proofs.Locks.{advanced_none, advanced_on, no_further, own_spare, allowed, further, advanced_with}
 use Rattle.citrus_tree.specs.Deletes.{KeepsAll, KeepsRest, OnlyLoads, locked_slots, retired_slots, HasMadeRoom, KeepsValue, TakesValue, TellsTaken, HasCopied, HasDone, KeepsWaits}
 use Rattle.citrus_tree.specs.Going.{retired_marks, Opened}
 use Rattle.prcu_marks.specs.declared.mark.Mark.{Mark}
@@ -43,7 +43,7 @@ use Rattle.core_points.specs.declared.stage.Node.{Node}
 use Rattle.core_points.specs.declared.stage.Successor.{Successor}
 use Rattle.core_points.proofs.Unlinks.{held_by_load, node_to}
 use Rattle.core_points.proofs.Locks.{under_flag, clear_changed, held_still, known_more_under, known_now, loaded_more}
-use Rattle.core_points.proofs.Notes.{quiet_noted, owns_noted}
+use Rattle.core_points.proofs.Notes.{settled_noted, owns_noted}
 use Rattle.core_laws.proofs.Locks.{length_change}
 use Rattle.tree_points.proofs.Passing.{moves_on}
 use Rattle.citrus_tree.specs.Replies.{TellsValue, TookOut}
@@ -62,7 +62,7 @@ use Rattle.core_points.specs.declared.stage.Update.TheVariants as update
 
 pub keeps_on : (v w x : View) → KeepsAll v w → KeepsAll w x → KeepsAll v x
 keeps_on v w x f g = record {
-  gone = gone_on f.gone g.gone;
+  advanced = advanced_on f.advanced g.advanced;
   waits = record { wait = g.waits.wait ∙ f.waits.wait; count = g.waits.count ∙ f.waits.count };
   retired = g.retired ∙ f.retired;
   stay = g.stay ∙ f.stay;
@@ -71,14 +71,14 @@ keeps_on v w x f g = record {
 
 pub keeps_rest : (v w x : View) → KeepsRest v w → KeepsRest w x → KeepsRest v x
 keeps_rest v w x f g = record {
-  gone = gone_on f.gone g.gone;
+  advanced = advanced_on f.advanced g.advanced;
   waits = record { wait = g.waits.wait ∙ f.waits.wait; count = g.waits.count ∙ f.waits.count };
   retired = g.retired ∙ f.retired;
   stay = g.stay ∙ f.stay;
 }
 
 pub rest_of : (v w : View) → KeepsAll v w → KeepsRest v w
-rest_of v w f = record { gone = f.gone; waits = f.waits; retired = f.retired; stay = f.stay }
+rest_of v w f = record { advanced = f.advanced; waits = f.waits; retired = f.retired; stay = f.stay }
 
 -- Locks.
 pub slots_kept : (s : ℕ) (f : HeldLock → HeldLock) → ((l : HeldLock) → (f l).slot ≡ l.slot) → (ls : List HeldLock)
@@ -111,7 +111,7 @@ pub keeps : (v w : View) → IsPrefix v.trail.steps w.trail.steps → KeepsAllow
     → retired_marks w ≡ retired_marks v → locked_slots w ≡ locked_slots v → KeepsAll v w
 keeps v w steps allowance seen wait waits stay locked =
     record {
-      gone = gone_none steps allowance seen;
+      advanced = advanced_none steps allowance seen;
       waits = record { wait = wait; count = waits };
       retired = slots_stay v w stay;
       stay = stay;
@@ -203,7 +203,7 @@ pub keeps_rest_of : (v w : View) → IsPrefix v.trail.steps w.trail.steps → Ke
     → retired_marks w ≡ retired_marks v → KeepsRest v w
 keeps_rest_of v w steps allowance seen wait waits stay =
     record {
-      gone = gone_none steps allowance seen;
+      advanced = advanced_none steps allowance seen;
       waits = record { wait = wait; count = waits };
       retired = slots_stay v w stay;
       stay = stay;
@@ -250,7 +250,7 @@ few_at {k} {op} {kept} {v} d n a =
       tickets = a.fits.tickets;
       unraised = λ z. a.fits.unraised refl;
       point = record {
-        quiet = quiet_noted o v d.node (Value d.node) n false None p.quiet;
+        quiet = settled_noted o v d.node (Value d.node) n false None p.quiet;
         deleting = p.deleting;
         has_locks = p.has_locks;
         clear = clear_changed d.node (note_lock kn) (λ l c. c) v.locks p.clear;
@@ -303,7 +303,7 @@ both_at {k} {op} {kept} {v} d u n a =
       unraised = λ z. a.fits.unraised refl;
       point = record {
         copying = record {
-          quiet = quiet_noted o v d.node (Value d.node) n false None c.quiet;
+          quiet = settled_noted o v d.node (Value d.node) n false None c.quiet;
           deleting = c.deleting;
           both = (
             both.0,
@@ -428,24 +428,24 @@ pub takes_more : {v w : View} {node key number : ℕ} (x : View) → IsPrefix w.
     → TakesValue v node key number x
 takes_more {w = w} x grows takes = record { took = λ value known. took_later w.seen x.seen grows (takes.took value known) }
 
-pub takes_since : {marks : List Mark} {v w x : View} {node key number : ℕ} → HasGone v w marks → KeepsValue node v w
+pub takes_since : {marks : List Mark} {v w x : View} {node key number : ℕ} → HasAdvanced v w marks → KeepsValue node v w
     → TakesValue w node key number x → TakesValue v node key number x
-takes_since {x = x} {key = key} {number = number} gone keeps takes = record {
-  took = λ value known. subst (λ p. TookOut (updates_of x.seen) p key value number) gone.same (takes.took value (keeps.still value known));
+takes_since {x = x} {key = key} {number = number} advanced keeps takes = record {
+  took = λ value known. subst (λ p. TookOut (updates_of x.seen) p key value number) advanced.same (takes.took value (keeps.still value known));
 }
 
 -- What is told of the value: by a try that took the node out, and by the call whole.
-pub told_taken : {marks : List Mark} {v w x : View} {node key number : ℕ} (o : Option ℕ) → HasGone v w marks → is_some o ≡ true
+pub told_taken : {marks : List Mark} {v w x : View} {node key number : ℕ} (o : Option ℕ) → HasAdvanced v w marks → is_some o ≡ true
     → IfSome o (λ value. known_in (known_under w node) (Value node) ≡ Some value) → TakesValue w node key number x
     → TellsTaken v key number o x
-told_taken None gone some known takes = absurd (let q : false ≡ true = some in cc)
-told_taken {x = x} {key = key} {number = number} (Some value) gone some known takes =
-    subst (λ p. TookOut (updates_of x.seen) p key value number) gone.same (takes.took value known)
+told_taken None advanced some known takes = absurd (let q : false ≡ true = some in cc)
+told_taken {x = x} {key = key} {number = number} (Some value) advanced some known takes =
+    subst (λ p. TookOut (updates_of x.seen) p key value number) advanced.same (takes.took value known)
 
 pub told_since : {k : Shape} {v u : View} (w : View) (key : ℕ) (told : Reply) (o : Option ℕ) → HasMadeRoom k v u → TellsValue u key told o w
     → TellsValue v key told o w
 told_since w key told (Some value) room tells =
-    (tells.0, subst (λ p. TookOut (updates_of w.seen) p key value told.number) room.gone.same tells.1)
+    (tells.0, subst (λ p. TookOut (updates_of w.seen) p key value told.number) room.advanced.same tells.1)
 told_since w key told None room tells = tells
 
 -- What the two updates of a delete leave: the bypass of a node, and the link of a copy.
@@ -475,7 +475,7 @@ pub done_by_marks : (v w : View) (op : Op) (h : List Mark) (node front : ℕ) �
     → HasDone v op node [] (front / 2 + 1) w
 done_by_marks v w op h node front steps sees keeps e counted = record {
   before = h;
-  gone = subst (HasGone v w) (own_done v.allowance.place node op) (gone_with h (done_mark v op ∷ (Unlinked node ∷ [])) steps sees keeps e);
+  advanced = subst (HasAdvanced v w) (own_done v.allowance.place node op) (advanced_with h (done_mark v op ∷ (Unlinked node ∷ [])) steps sees keeps e);
   since = sees.begins;
   stands = ([], append-nil (h ++ done_mark v op ∷ (Unlinked node ∷ [])) ∙ sym e);
   number_is = half_front front (length (updates_of h))
@@ -502,26 +502,26 @@ took_by_marks v w h node key front value e counted is = record {
 pub done_later : (v w x : View) (op : Op) (node : ℕ) (after : List Mark) (n : ℕ) → KeepsAll v w → HasDone w op node after n x
     → HasDone v op node after n x
 done_later v w x op node after n k d =
-    let same = k.gone.same in
+    let same = k.advanced.same in
     record {
       before = d.before;
-      gone = subst (λ p. HasGone v x (Done (record { caller = p; op = op }) ∷ after)) same (gone_on k.gone d.gone);
-      since = prefix_trans v.seen w.seen d.before k.gone.begins d.since;
+      advanced = subst (λ p. HasAdvanced v x (Done (record { caller = p; op = op }) ∷ after)) same (advanced_on k.advanced d.advanced);
+      since = prefix_trans v.seen w.seen d.before k.advanced.begins d.since;
       stands = subst (λ p. IsPrefix (d.before ++ Done (record { caller = p; op = op }) ∷ (Unlinked node ∷ [])) x.seen) same d.stands;
       number_is = d.number_is;
     }
 
-pub done_more : (v w x : View) (op : Op) (node : ℕ) (after more : List Mark) (n : ℕ) → HasDone v op node after n w → HasGone w x more
+pub done_more : (v w x : View) (op : Op) (node : ℕ) (after more : List Mark) (n : ℕ) → HasDone v op node after n w → HasAdvanced w x more
     → HasDone v op node (after ++ more) n x
 done_more v w x op node after more n d g = record {
   before = d.before;
-  gone = gone_on d.gone g;
+  advanced = advanced_on d.advanced g;
   since = d.since;
   stands = prefix_trans _ w.seen x.seen d.stands g.begins;
   number_is = d.number_is;
 }
 
-pub done_still : (v w x : View) (op : Op) (node : ℕ) (after : List Mark) (n : ℕ) → HasDone v op node after n w → HasGone w x []
+pub done_still : (v w x : View) (op : Op) (node : ℕ) (after : List Mark) (n : ℕ) → HasDone v op node after n w → HasAdvanced w x []
     → HasDone v op node after n x
 done_still v w x op node after n d g = subst (λ l. HasDone v op node l n x) (append-nil after) (done_more v w x op node after [] n d g)
 
@@ -606,12 +606,12 @@ pub copied_later : (v w x : View) (key next_key node n : ℕ) → KeepsAll v w �
 unfolding done_later
 copied_later v w x key next_key node n k c = record { done = done_later v w x (Del key) node [] n k c.done; next = c.next }
 
-pub copied_still : (v w x : View) (key next_key node n : ℕ) → HasCopied v key next_key node n w → HasGone w x []
+pub copied_still : (v w x : View) (key next_key node n : ℕ) → HasCopied v key next_key node n w → HasAdvanced w x []
     → HasCopied v key next_key node n x
 copied_still v w x key next_key node n c g = record {
   done = record {
     before = c.done.before;
-    gone = subst (HasGone v x) (append-nil _) (gone_on c.done.gone g);
+    advanced = subst (HasAdvanced v x) (append-nil _) (advanced_on c.done.advanced g);
     since = c.done.since;
     stands = prefix_trans _ w.seen x.seen c.done.stands g.begins;
     number_is = c.done.number_is;
@@ -622,5 +622,5 @@ copied_still v w x key next_key node n c g = record {
 -- The old successor's unlinking.
 pub unlinked_gone : (v w : View) (h : List Mark) (old : ℕ) → IsPrefix v.trail.steps w.trail.steps → Sees v h → KeepsAllowance v w
     → w.seen ≡ h ++ Unlinked old ∷ []
-    → HasGone v w []
-unlinked_gone v w h old steps sees keeps e = gone_with h (Unlinked old ∷ []) steps sees keeps e
+    → HasAdvanced v w []
+unlinked_gone v w h old steps sees keeps e = advanced_with h (Unlinked old ∷ []) steps sees keeps e

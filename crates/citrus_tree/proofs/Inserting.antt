@@ -24,9 +24,9 @@ use Rattle.core_points.specs.Programs.{key_now}
 use Rattle.core_points.specs.Facts.{HasSpot, is_put, table_of}
 use Rattle.core_points.specs.Fits.{owed_op}
 use Rattle.core_points.specs.declared.stage.Spot.{Spot}
-use Rattle.tree_points.specs.Points.{IsAt, HasGone}
+use Rattle.tree_points.specs.Points.{IsAt, HasAdvanced}
 use Rattle.tree_points.proofs.Passing.{begins_put, has_kept, is_quiet, moves_on}
-use Rattle.tree_points.proofs.Locks.{gone_on, gone_same, slot_in_hand}
+use Rattle.tree_points.proofs.Locks.{advanced_on, advanced_same, slot_in_hand}
 use Rattle.citrus_tree.specs.Deletes.{BeginsByLookup, Comes, StandsAt}
 use Rattle.citrus_tree.proofs.Leavings.{MayHaveBegun, begins_later, begins_looked, first_later, first_stays, none_begun, none_on, none_yet, answered_on, goes_looked, was_answered, KeepsView}
 use Rattle.citrus_tree.specs.declared.insert.Reached.{Reached}
@@ -125,7 +125,7 @@ module _ {k : Shape} {v w : View} {key : ℕ} {marks : List Mark} (s : Since k v
   since_goes : {x : View} (more : List Mark) → Goes w x more → AllByRecursion (IsOfTry v.allowance.place key) more → waits_in more ≡ 0
       → Since k v key (marks ++ more) x
   since_goes {x} more g each none = record {
-    gone = gone_on s.gone g.gone;
+    advanced = advanced_on s.advanced g.advanced;
     each = all_append (IsOfTry v.allowance.place key) marks more s.each each;
     waits = ⊎_elim
         (λ (u : Unwaited v w marks). inl (record {
@@ -137,8 +137,8 @@ module _ {k : Shape} {v w : View} {key : ℕ} {marks : List Mark} (s : Since k v
         (λ (t : Waited k v w marks). inr (record {
           one = (let both = waits_in-append marks more in let first = t.one in omega arith);
           none = g.retired ∙ t.none;
-          needed = needed_on t.needed g.gone.begins;
-          wait = first_stays t.wait g.gone.begins g.wait;
+          needed = needed_on t.needed g.advanced.begins;
+          wait = first_stays t.wait g.advanced.begins g.wait;
         }))
         s.waits;
   }
@@ -152,8 +152,8 @@ module _ {k : Shape} {v w : View} {key : ℕ} {marks : List Mark} (s : Since k v
       let more : List Mark = Began w.allowance.place w.counts.waits 0 18446744073709551615
       ∷ (Ended w.allowance.place w.counts.waits ∷ []) in
       record {
-        gone = gone_on s.gone r.gone;
-        each = all_append (IsOfTry v.allowance.place key) marks more s.each ((s.gone.same, refl, refl), (s.gone.same, tt));
+        advanced = advanced_on s.advanced r.advanced;
+        each = all_append (IsOfTry v.allowance.place key) marks more s.each ((s.advanced.same, refl, refl), (s.advanced.same, tt));
         waits = ⊎_elim
             (λ (u : Unwaited v w marks). inr (record {
               one = (let both = waits_in-append marks more in let first = u.none in omega arith);
@@ -161,12 +161,12 @@ module _ {k : Shape} {v w : View} {key : ℕ} {marks : List Mark} (s : Since k v
               needed = record {
                 retired = subst (λ (rs : List Retired). 1 ≤ length rs) u.retired r.needed.retired;
                 until = r.needed.until;
-                since = prefix_trans v.seen w.seen r.needed.until s.gone.begins r.needed.since;
+                since = prefix_trans v.seen w.seen r.needed.until s.advanced.begins r.needed.since;
                 made = r.needed.made;
                 fills = subst (λ (rs : List Retired). k.slots
                     ≤ finite.len (map_of (updates_of r.needed.until)) + length rs + (k.room + 4) * (k.places - 1)) u.retired r.needed.fills;
               };
-              wait = first_later (none_begun s.gone u.waits u.wait) r.wait;
+              wait = first_later (none_begun s.advanced u.waits u.wait) r.wait;
             }))
             (λ (t : Waited k v w marks). absurd (let some = r.needed.retired in let none = ap length t.none in omega arith))
             s.waits;
@@ -184,13 +184,13 @@ module _ {k : Shape} {v w : View} {key : ℕ} {marks : List Mark} (s : Since k v
   -- one more section
   module _ {answer : Option ℕ} {x : View} (l : Looked w key answer x) where
     pub since_looked : Since k v key (marks ++ section_of w key) x
-    since_looked = since_goes (section_of w key) (goes_looked l) ((s.gone.same, refl), (s.gone.same, tt)) refl
+    since_looked = since_goes (section_of w key) (goes_looked l) ((s.advanced.same, refl), (s.advanced.same, tt)) refl
 
     pub entered_looked : 1 ≤ entered_for v.allowance.place key (marks ++ section_of w key)
     entered_looked =
         let split = entered_for-append v.allowance.place key marks (section_of w key) in
         let one : entered_for v.allowance.place key (section_of w key) ≡ 1 =
-        ap (λ b. cond b (cond (key == key) 1 0) 0 + 0) (eq-eqb w.allowance.place v.allowance.place s.gone.same)
+        ap (λ b. cond b (cond (key == key) 1 0) 0 + 0) (eq-eqb w.allowance.place v.allowance.place s.advanced.same)
         ∙ ap (λ b. cond b 1 0 + 0) (eq-eqb key key refl) in
         omega arith
 
@@ -207,16 +207,16 @@ module _ {k : Shape} {v w : View} {key : ℕ} {marks : List Mark} (s : Since k v
       (λ (t : Waited k v w marks). needed_on t.needed more) s.waits
 
   pub keeps_wait : (x : View) → HasBegunNone w x → KeepsWait v x
-  keeps_wait x none = ⊎_elim (λ (u : Unwaited v w marks). inl (none_on (none_begun s.gone u.waits u.wait) none))
+  keeps_wait x none = ⊎_elim (λ (u : Unwaited v w marks). inl (none_on (none_begun s.advanced u.waits u.wait) none))
       (λ (t : Waited k v w marks). inr (first_stays t.wait none.seen none.wait)) s.waits
 
 -- the marks of room that was made, none of which is a section's
-room_leaves : {k : Shape} {v w : View} → MakesRoom k v w → (more : List Mark) × HasGone v w more × ((p s : ℕ) → entered_for p s more ≡ 0)
+room_leaves : {k : Shape} {v w : View} → MakesRoom k v w → (more : List Mark) × HasAdvanced v w more × ((p s : ℕ) → entered_for p s more ≡ 0)
 room_leaves {k} {v} {w} room = ⊎_elim
-    (λ (g : Goes v w []). ([], g.gone, λ p s. refl))
+    (λ (g : Goes v w []). ([], g.advanced, λ p s. refl))
     (λ (r : Reused k v w). (
       Began v.allowance.place v.counts.waits 0 18446744073709551615 ∷ (Ended v.allowance.place v.counts.waits ∷ []),
-      r.gone,
+      r.advanced,
       λ p s. refl,
     ))
     room
@@ -235,7 +235,7 @@ module _ {k : Shape} {key value : ℕ} {v : View} where
   pub begins : IsQuiet v → key < 2 ^ 64 → Trying k key value v v
   begins quiet fits = record {
     marks = [];
-    since = record { gone = gone_same; each = tt; waits = inl (record { none = refl; retired = refl; wait = refl; waits = refl }) };
+    since = record { advanced = advanced_same; each = tt; waits = inl (record { none = refl; retired = refl; wait = refl; waits = refl }) };
     first = inl refl;
     ready = λ kept few. record {
       outside = quiet.section;
@@ -274,14 +274,14 @@ module _ {k : Shape} {key value : ℕ} {v : View} where
               t.marks ++ section_of w key,
               (
                 refl,
-                record { tried = are_tries s (entered_looked t.since old_found.1); own = s.gone },
-                (old_found.0, answered_on before.gone (was_answered old_found.1 t.since.gone) g.gone refl),
+                record { tried = are_tries s (entered_looked t.since old_found.1); own = s.advanced },
+                (old_found.0, answered_on before.advanced (was_answered old_found.1 t.since.advanced) g.advanced refl),
               ),
               needs_room s (no_more y.seen),
             )
 
         pub old_begins : BeginsByLookup v key y
-        old_begins = begins_later (begins_looked t.first old_found.1) g.gone
+        old_begins = begins_later (begins_looked t.first old_found.1) g.advanced
 
         pub old_keeps : Comes k (old_stage x.hands.hand) x at.Finished y → KeepsView 4 v y
         old_keeps ends = let since = since_stays (since_looked t.since old_found.1) g in record {
@@ -289,7 +289,7 @@ module _ {k : Shape} {key value : ℕ} {v : View} where
           wait = keeps_wait since y (none_yet y);
           tickets = (let left = has_kept (ends (Put key value) (v.allowance.tickets - 4)
               (old_ready (v.allowance.tickets - 4) (omega arith))) in omega arith);
-          allowance = since.gone.allowance;
+          allowance = since.advanced.allowance;
         }
 
     -- it isn't
@@ -312,7 +312,7 @@ module _ {k : Shape} {key value : ℕ} {v : View} where
       spot_looked = goes_looked spot_found.0
 
       module _ {y : View} (room : MakesRoom k x y) where
-        left : (more : List Mark) × HasGone x y more × ((p s : ℕ) → entered_for p s more ≡ 0)
+        left : (more : List Mark) × HasAdvanced x y more × ((p s : ℕ) → entered_for p s more ≡ 0)
         left = room_leaves room
 
         abbrev tried : List Mark
@@ -333,8 +333,8 @@ module _ {k : Shape} {key value : ℕ} {v : View} where
           tried,
           (
             refl,
-            record { tried = are_tries since entered; own = since.gone },
-            answered_on (since_looked t.since spot_found.0).gone (was_answered spot_found.0 t.since.gone) left.1 (left.2 v.allowance.place
+            record { tried = are_tries since entered; own = since.advanced },
+            answered_on (since_looked t.since spot_found.0).advanced (was_answered spot_found.0 t.since.advanced) left.1 (left.2 v.allowance.place
                 key),
             full,
           ),
@@ -355,7 +355,7 @@ module _ {k : Shape} {key value : ℕ} {v : View} where
             quiet = is_quiet (full_done 0 few);
             wait = keeps_wait since y (none_yet y);
             tickets = (let left = has_kept (full_done (v.allowance.tickets - 4) (omega arith)) in omega arith);
-            allowance = since.gone.allowance;
+            allowance = since.advanced.allowance;
           }
 
         -- a filled slot is in hand
@@ -375,7 +375,7 @@ module _ {k : Shape} {key value : ℕ} {v : View} where
           tries_again {z} g none again = record {
             marks = tried;
             since = since_stays since g;
-            first = inr (begins_later full_begins g.gone);
+            first = inr (begins_later full_begins g.advanced);
             ready = λ kept enough. may_begin (subst (λ r. IsAt k (Put key value) kept (linked_stage r) z) none
                 (again kept (locking kept enough)));
           }
@@ -387,11 +387,11 @@ module _ {k : Shape} {key value : ℕ} {v : View} where
             linked = made 0 number (locking 0 few) one
 
             same_place : y.allowance.place ≡ v.allowance.place
-            same_place = since.gone.same
+            same_place = since.advanced.same
 
-            all_gone : HasGone v z (tried ++ Done (record { caller = v.allowance.place; op = Put key value }) ∷ [])
-            all_gone = subst (λ (p : ℕ). HasGone v z (tried ++ Done (record { caller = p; op = Put key value }) ∷ [])) same_place
-                (gone_on since.gone linked.1.goes.gone)
+            all_advanced : HasAdvanced v z (tried ++ Done (record { caller = v.allowance.place; op = Put key value }) ∷ [])
+            all_advanced = subst (λ (p : ℕ). HasAdvanced v z (tried ++ Done (record { caller = p; op = Put key value }) ∷ [])) same_place
+                (advanced_on since.advanced linked.1.goes.advanced)
 
             stands : IsPrefix (linked.0 ++ Done (record { caller = v.allowance.place; op = Put key value }) ∷ []) z.seen
             stands = (
@@ -414,20 +414,20 @@ module _ {k : Shape} {key value : ℕ} {v : View} where
                 linked.0,
                 record {
                   tried = are_tries since entered;
-                  own = subst (HasGone v z) (sym (append-nil
-                      (tried ++ Done (record { caller = v.allowance.place; op = Put key value }) ∷ []))) all_gone;
-                  since = prefix_trans v.seen y.seen linked.0 since.gone.begins linked.1.since;
+                  own = subst (HasAdvanced v z) (sym (append-nil
+                      (tried ++ Done (record { caller = v.allowance.place; op = Put key value }) ∷ []))) all_advanced;
+                  since = prefix_trans v.seen y.seen linked.0 since.advanced.begins linked.1.since;
                   stands = stands;
                   number_is = linked.1.number_is;
                   legal = linked.1.legal;
                 },
                 newest,
               ),
-              needs_room since linked.1.goes.gone.begins,
+              needs_room since linked.1.goes.advanced.begins,
             )
 
             pub new_begins : BeginsByLookup v key z
-            new_begins = begins_later full_begins linked.1.goes.gone
+            new_begins = begins_later full_begins linked.1.goes.advanced
 
             pub new_goes : Goes y z (Done (record { caller = y.allowance.place; op = Put key value }) ∷ [])
             new_goes = linked.1.goes
@@ -440,7 +440,7 @@ module _ {k : Shape} {key value : ℕ} {v : View} where
               pub new_keeps : KeepsView 4 v z
               new_keeps = record {
                 quiet = is_quiet (new_done 0 few);
-                wait = keeps_wait since z (none_begun linked.1.goes.gone linked.1.goes.waits linked.1.goes.wait);
+                wait = keeps_wait since z (none_begun linked.1.goes.advanced linked.1.goes.waits linked.1.goes.wait);
                 tickets = (let left = has_kept (new_done (v.allowance.tickets - 4) (omega arith)) in omega arith);
-                allowance = all_gone.allowance;
+                allowance = all_advanced.allowance;
               }

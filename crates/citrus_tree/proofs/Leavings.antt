@@ -16,8 +16,8 @@ use Rattle.core_frames.proofs.Roles.{works_there}
 use Rattle.core_state.specs.declared.act.Part.{Part}
 use Rattle.seat_table.specs.Gains.{Sees, Told, IsAsked}
 use Rattle.seat_table.specs.Sections.{Makes, HasStepped}
-use Rattle.tree_points.specs.Points.{HasGone, IsAt, KeepsAllowance}
-use Rattle.tree_points.proofs.Locks.{allowed, further_by, gone_none, gone_on, gone_stays, gone_same, stays, further, no_further, allowed_on}
+use Rattle.tree_points.specs.Points.{HasAdvanced, IsAt, KeepsAllowance}
+use Rattle.tree_points.proofs.Locks.{allowed, further_by, advanced_none, advanced_on, advanced_stays, advanced_same, stays, further, no_further, allowed_on}
 use Rattle.citrus_tree.specs.Going.{Goes, Opened, Closed, KeepsSlots, retired_marks, HasBegunFirst, HasBegunNone, KeepsWait, MakesRoom, Reused, KeepsSeat}
 use Rattle.citrus_tree.specs.Lookups.{Looked, IsSearching}
 use Rattle.citrus_tree.specs.Replies.{WasAnswered}
@@ -57,23 +57,23 @@ rest_if : (z : Bool) (v x y : View) → Rest v x → Rest v y → Rest v (cond z
 rest_if true v x y a b = a
 rest_if false v x y a b = b
 
-with_rest : {v w : View} {marks : List Mark} → HasGone v w marks → (x : View) → w ≡ x → Rest v x → Goes v w marks
-with_rest gone x e r = record {
-  gone = gone;
+with_rest : {v w : View} {marks : List Mark} → HasAdvanced v w marks → (x : View) → w ≡ x → Rest v x → Goes v w marks
+with_rest advanced x e r = record {
+  advanced = advanced;
   retired = ap (λ (z : View). z.hands.retired) e ∙ r.retired;
   wait = ap (λ (z : View). z.wait) e ∙ r.wait;
   waits = ap (λ (z : View). z.counts.waits) e ∙ r.waits;
 }
 
 pub goes_same : (v : View) → Goes v v []
-goes_same v = record { gone = gone_same; retired = refl; wait = refl; waits = refl }
+goes_same v = record { advanced = advanced_same; retired = refl; wait = refl; waits = refl }
 
 pub goes_on : {u v w : View} {first second : List Mark} → Goes u v first → Goes v w second → Goes u w (first ++ second)
-goes_on a b = record { gone = gone_on a.gone b.gone; retired = b.retired ∙ a.retired; wait = b.wait ∙ a.wait; waits = b.waits ∙ a.waits }
+goes_on a b = record { advanced = advanced_on a.advanced b.advanced; retired = b.retired ∙ a.retired; wait = b.wait ∙ a.wait; waits = b.waits ∙ a.waits }
 
 pub goes_stays : {u v w : View} {first : List Mark} → Goes u v first → Goes v w [] → Goes u w first
 goes_stays a b = record {
-  gone = gone_stays a.gone b.gone;
+  advanced = advanced_stays a.advanced b.advanced;
   retired = b.retired ∙ a.retired;
   wait = b.wait ∙ a.wait;
   waits = b.waits ∙ a.waits;
@@ -91,11 +91,11 @@ pub goes_unlock : {k : Shape} {v w : View} {n s : ℕ} → Told k v (acts.Unlock
 goes_unlock {k} {v} {w} {n} {s} t = with_rest (stays (acts.Unlock s) refl t) _ t.goes (record { retired = refl; wait = refl; waits = refl })
 
 pub goes_opened : {v w : View} {front : ℕ} → Opened v front w → Goes v w []
-goes_opened e = with_rest (gone_none e.steps (allowed e.rest refl) (ap (λ (z : View). z.seen) e.rest)) _ e.rest
+goes_opened e = with_rest (advanced_none e.steps (allowed e.rest refl) (ap (λ (z : View). z.seen) e.rest)) _ e.rest
     (record { retired = refl; wait = refl; waits = refl })
 
 pub goes_closed : {v w : View} → Closed v w → Goes v w []
-goes_closed e = with_rest (gone_none e.steps (allowed e.rest refl) (ap (λ (z : View). z.seen) e.rest)) _ e.rest
+goes_closed e = with_rest (advanced_none e.steps (allowed e.rest refl) (ap (λ (z : View). z.seen) e.rest)) _ e.rest
     (record { retired = refl; wait = refl; waits = refl })
 
 -- A section with the key was entered after these marks and left after those, with no mark of its place in between.
@@ -147,7 +147,7 @@ module _ {v w : View} {key : ℕ} {answer : Option ℕ} (l : Looked v key answer
   pub goes_looked : Goes v w (Entered v.allowance.place v.counts.sections key ∷ (LeftMark v.allowance.place v.counts.sections ∷ []))
   goes_looked = goes_section v w key l.before l.until l.within l.between l.seen l.sees l.made l.others
 
-  pub was_answered : {u : View} {marks : List Mark} → HasGone u v marks → WasAnswered u key answer w
+  pub was_answered : {u : View} {marks : List Mark} → HasAdvanced u v marks → WasAnswered u key answer w
   was_answered {u} g = record {
     count = v.counts.sections;
     before = l.before;
@@ -167,8 +167,8 @@ module _ {v w : View} {key : ℕ} {answer : Option ℕ} (l : Looked v key answer
   }
 
 -- An answer stays one where the place enters no further section with the key.
-pub answered_on : {u v w : View} {key : ℕ} {answer : Option ℕ} {first later : List Mark} → HasGone u v first → WasAnswered u key answer v
-    → HasGone v w later → entered_for u.allowance.place key later ≡ 0 → WasAnswered u key answer w
+pub answered_on : {u v w : View} {key : ℕ} {answer : Option ℕ} {first later : List Mark} → HasAdvanced u v first → WasAnswered u key answer v
+    → HasAdvanced v w later → entered_for u.allowance.place key later ≡ 0 → WasAnswered u key answer w
 answered_on {u} {v} {w} {key} {later = later} g a n none = record {
   count = a.count;
   before = a.before;
@@ -336,8 +336,8 @@ rest_slots r s t f rest listed = slots_on r s t f (slots_rest s t rest listed)
 pub none_yet : (v : View) → HasBegunNone v v
 none_yet v = record { place = refl; seen = ([], append-nil v.seen); count = refl; wait = refl }
 
-pub none_begun : {v w : View} {marks : List Mark} → HasGone v w marks → w.counts.waits ≡ v.counts.waits → w.wait ≡ v.wait → HasBegunNone v w
-none_begun gone count wait = record { place = gone.same; seen = gone.begins; count = count; wait = wait }
+pub none_begun : {v w : View} {marks : List Mark} → HasAdvanced v w marks → w.counts.waits ≡ v.counts.waits → w.wait ≡ v.wait → HasBegunNone v w
+none_begun advanced count wait = record { place = advanced.same; seen = advanced.begins; count = count; wait = wait }
 
 pub none_on : {u v w : View} → HasBegunNone u v → HasBegunNone v w → HasBegunNone u w
 none_on {u} {v} {w} a b = record {
@@ -482,9 +482,9 @@ keeps_looked {s = s} {t = t} q l listed =
         commit = q.view.commit;
         raised = q.view.raised;
       });
-      wait = inl (none_begun goes.gone goes.waits goes.wait);
+      wait = inl (none_begun goes.advanced goes.waits goes.wait);
       tickets = (let e = ap (λ (a : Allowance). a.tickets) same in omega arith);
-      allowance = goes.gone.allowance;
+      allowance = goes.advanced.allowance;
     }) goes listed q.listed
 
 -- nothing was done
@@ -520,15 +520,15 @@ keeps_on {r = r} {s = s} {t = t} j k = record {
 abbrev pub MayHaveBegun : View → ℕ → View → Type 0
 MayHaveBegun v key w = (w ≡ v) ⊎ BeginsByLookup v key w
 
-pub begins_later : {v w x : View} {key : ℕ} {marks : List Mark} → BeginsByLookup v key w → HasGone w x marks → BeginsByLookup v key x
-begins_later {marks = marks} b gone = record {
+pub begins_later : {v w x : View} {key : ℕ} {marks : List Mark} → BeginsByLookup v key w → HasAdvanced w x marks → BeginsByLookup v key x
+begins_later {marks = marks} b advanced = record {
   looked = b.looked;
   count = b.count;
   left = b.left;
   section = b.section;
   made = b.made;
   marks = b.marks ++ marks;
-  later = gone_on b.later gone;
+  later = advanced_on b.later advanced;
 }
 
 pub looked_first : {v w : View} {key : ℕ} {answer : Option ℕ} → Looked v key answer w → BeginsByLookup v key w
@@ -536,10 +536,10 @@ looked_first {v} {w} l = record {
   looked = w;
   count = v.counts.sections;
   left = v.counts.sections;
-  section = (goes_looked l).gone;
+  section = (goes_looked l).advanced;
   made = l.made;
   marks = [];
-  later = gone_same;
+  later = advanced_same;
 }
 
 searched_first : {v w : View} {key : ℕ} → HasSearched v key w → BeginsByLookup v key w
@@ -547,23 +547,23 @@ searched_first {v} {w} s = record {
   looked = w;
   count = s.count;
   left = s.left;
-  section = s.gone;
+  section = s.advanced;
   made = s.made;
   marks = [];
-  later = gone_same;
+  later = advanced_same;
 }
 
 -- one more section of a try
 pub begins_looked : {v w x : View} {key : ℕ} {answer : Option ℕ} → MayHaveBegun v key w → Looked w key answer x → BeginsByLookup v key x
 begins_looked {v} {w} {x} {key} begun l = ⊎_elim
     (λ (e : w ≡ v). subst (λ z. BeginsByLookup z key x) e (looked_first l))
-    (λ (b : BeginsByLookup v key w). begins_later b (goes_looked l).gone)
+    (λ (b : BeginsByLookup v key w). begins_later b (goes_looked l).advanced)
     begun
 
 pub begins_searched : {v w x : View} {key : ℕ} → MayHaveBegun v key w → HasSearched w key x → BeginsByLookup v key x
 begins_searched {v} {w} {x} {key} begun s = ⊎_elim
     (λ (e : w ≡ v). subst (λ z. BeginsByLookup z key x) e (searched_first s))
-    (λ (b : BeginsByLookup v key w). begins_later b s.gone)
+    (λ (b : BeginsByLookup v key w). begins_later b s.advanced)
     begun
 
 -- Each round of a call makes a step.
@@ -582,4 +582,4 @@ links_steps {k} {v} {w} {s} {b} {n} l =
 
 pub room_steps : {k : Shape} {v w : View} → MakesRoom k v w → length v.trail.steps ≤ length w.trail.steps
 room_steps {k} {v} {w} room =
-    ⊎_elim (λ (x : Goes v w []). prefix_steps v w x.gone.steps) (λ (x : Reused k v w). prefix_steps v w x.gone.steps) room
+    ⊎_elim (λ (x : Goes v w []). prefix_steps v w x.advanced.steps) (λ (x : Reused k v w). prefix_steps v w x.advanced.steps) room

@@ -20,14 +20,14 @@ use Rattle.core_state.specs.declared.act.Part.{Part}
 use Rattle.seat_table.specs.Seats.{AreListed, IsSlotOf, SeatAt}
 use Rattle.seat_table.specs.Gains.{IsAsked, Told}
 use Rattle.tree_points.proofs.Passing.{needs, passes, at_true, at_false, commits_any}
-use Rattle.tree_points.specs.Points.{IsAt, HasGone, IsDone, HasLocks}
-use Rattle.tree_points.proofs.Locks.{gone_on, gone_stays, needs_leaf, passes_leaf, same_fill, keeps_hand, stays, passes_leaf_lock_free, passes_leaf_lock_busy, locks_leaf_tag, locks_store_leaf, needs_unlock, passes_unlock_again, passes_unlock_new, keeps_locks, locks_from, same_locked}
+use Rattle.tree_points.specs.Points.{IsAt, HasAdvanced, IsDone, HasLocks}
+use Rattle.tree_points.proofs.Locks.{advanced_on, advanced_stays, needs_leaf, passes_leaf, same_fill, keeps_hand, stays, passes_leaf_lock_free, passes_leaf_lock_busy, locks_leaf_tag, locks_store_leaf, needs_unlock, passes_unlock_again, passes_unlock_new, keeps_locks, locks_from, same_locked}
 use Rattle.tree_points.proofs.Waits.{reclaims_leaf}
 use Rattle.node_slots.specs.Slots.{PutsBack}
 use Rattle.node_slots.specs.Taking.{HasTaken, FoundNone, TriesInVain, exchange}
 use Rattle.node_slots.specs.Reclaiming.{HasReclaimed}
 use Rattle.node_slots.proofs.Returns.{listed_length, some_there}
-use Rattle.node_slots.proofs.Points.{back_ends, back_gone, back_retired, gives_all, none_begins, none_gone, none_is_full, none_retired_now, reclaim_gone, reclaim_retired, taken_gone, taken_retired}
+use Rattle.node_slots.proofs.Points.{back_ends, back_advanced, back_retired, gives_all, none_begins, none_advanced, none_is_full, none_retired_now, reclaim_advanced, reclaim_retired, taken_advanced, taken_retired}
 use Rattle.citrus_tree.specs.Going.{Goes, leaf_stage, NeededRoom, MakesRoom, Reused, old_stage, Opened, Closed, Links, held_stage}
 use Rattle.citrus_tree.specs.Replies.{IsFullNow}
 use Rattle.citrus_tree.proofs.Leavings.{first_later, first_stays, none_begun, reclaimed_first, goes_stays, goes_on, goes_lock, goes_load, goes_unlock, goes_opened, goes_closed}
@@ -37,7 +37,7 @@ use Rattle.prcu_marks.specs.declared.mark.Mark.{Mark}
 use Rattle.prcu_marks.proofs.Marks.{updates_of-append}
 use Rattle.core_state.specs.declared.view.HeldLock.{HeldLock}
 use Rattle.core_laws.proofs.Acting.{commit_is}
-use Rattle.tree_points.proofs.Updates.{gone_store_leaf, locks_link, needs_store_leaf, passes_store_leaf}
+use Rattle.tree_points.proofs.Updates.{advanced_store_leaf, locks_link, needs_store_leaf, passes_store_leaf}
 use Rattle.std.specs.FinMap as finite
 use Rattle.core_points.specs.declared.stage.Stage.TheVariants as at
 use Rattle.core_state.specs.declared.act.Act.TheVariants as acts
@@ -51,7 +51,7 @@ use Rattle.core_points.specs.declared.stage.Update.TheVariants as update
 module _ {k : Shape} {v w : View} {s x n : ℕ} {p : Part} (t : Told k v (acts.Fill s p x) n w) where
   pub goes_fill : Goes v w []
   goes_fill = record {
-    gone = stays (acts.Fill s p x) refl t;
+    advanced = stays (acts.Fill s p x) refl t;
     retired = ap (λ (z : View). z.hands.retired) t.goes;
     wait = ap (λ (z : View). z.wait) t.goes;
     waits = ap (λ (z : View). z.counts.waits) t.goes;
@@ -105,7 +105,7 @@ module _ {k : Shape} {key value kept leaf : ℕ} {spot : Spot} {v : View} (is : 
 -- The slot in hand is put back.
 pub goes_back : {slot : ℕ} {v w : View} → PutsBack v slot w → Goes v w []
 goes_back back = record {
-  gone = back_gone back;
+  advanced = back_advanced back;
   retired = back_retired back;
   wait = ap (λ (z : View). z.wait) back.rest;
   waits = ap (λ (z : View). z.counts.waits) back.rest;
@@ -125,7 +125,7 @@ gives_up_at {k} {op} {kept} slot {v} {w} is back a =
 -- A slot was taken, or none was free.
 pub goes_taken : {slot generation : ℕ} {v w : View} → HasTaken v slot generation w → IsPrefix v.trail.steps w.trail.steps → Goes v w []
 goes_taken taken steps = record {
-  gone = taken_gone taken steps;
+  advanced = taken_advanced taken steps;
   retired = taken_retired taken;
   wait = ap (λ (z : View). z.wait) taken.rest;
   waits = ap (λ (z : View). z.counts.waits) taken.rest;
@@ -133,7 +133,7 @@ goes_taken taken steps = record {
 
 pub goes_none : {k : Shape} {v w : View} → FoundNone k v w → IsPrefix v.trail.steps w.trail.steps → Goes v w []
 goes_none none steps = record {
-  gone = none_gone none steps;
+  advanced = none_advanced none steps;
   retired = none_retired_now none;
   wait = ap (λ (z : View). z.wait) none.rest;
   waits = ap (λ (z : View). z.counts.waits) none.rest;
@@ -191,10 +191,10 @@ pub room_goes : {k : Shape} {v w x : View} → MakesRoom k v w → Goes w x [] �
 room_goes {k} {v} {w} {x} room goes = ⊎_elim
     (λ (g : Goes v w []). inl (goes_stays g goes))
     (λ (r : Reused k v w). inr (record {
-      gone = gone_stays r.gone goes.gone;
-      needed = needed_on r.needed goes.gone.begins;
+      advanced = advanced_stays r.advanced goes.advanced;
+      needed = needed_on r.needed goes.advanced.begins;
       none = goes.retired ∙ r.none;
-      wait = first_stays r.wait goes.gone.begins goes.wait;
+      wait = first_stays r.wait goes.advanced.begins goes.wait;
     })) room
 
 -- none was free, and the retired slots were given back
@@ -204,21 +204,21 @@ module _ {k : Shape} {v x y : View} {listed : List ℕ} (none : FoundNone k v x)
       → Reused k v y
   reuses steps a =
       let g = goes_none none steps in
-      let place : x.allowance.place ≡ v.allowance.place = g.gone.same in
+      let place : x.allowance.place ≡ v.allowance.place = g.advanced.same in
       let count : x.counts.waits ≡ v.counts.waits = g.waits in
       record {
-        gone = subst (λ (z : ℕ × ℕ). HasGone v y (Began z.0 z.1 0 18446744073709551615 ∷ (Ended z.0 z.1 ∷ []))) (λ i. (place i, count i))
-            (gone_on g.gone (reclaim_gone back));
+        advanced = subst (λ (z : ℕ × ℕ). HasAdvanced v y (Began z.0 z.1 0 18446744073709551615 ∷ (Ended z.0 z.1 ∷ []))) (λ i. (place i, count i))
+            (advanced_on g.advanced (reclaim_advanced back));
         needed = record {
           retired = subst (λ (rs : List Retired). 1 ≤ length rs) g.retired (at_least_one x.hands.retired some);
           until = x.seen;
-          since = g.gone.begins;
-          made = (reclaim_gone back).begins;
+          since = g.advanced.begins;
+          made = (reclaim_advanced back).begins;
           fills = subst (λ (rs : List Retired). k.slots
               ≤ finite.len (map_of (updates_of x.seen)) + length rs + (k.room + 4) * (k.places - 1)) g.retired (none_is_full none a);
         };
         none = reclaim_retired back;
-        wait = first_later (none_begun g.gone g.waits g.wait) (reclaimed_first back);
+        wait = first_later (none_begun g.advanced g.waits g.wait) (reclaimed_first back);
       }
 
   pub reserves_again : {op : Op} {kept e : ℕ} {spot : Spot}
@@ -365,7 +365,7 @@ module _ {k : Shape} {key value kept : ℕ} {spot : Spot} {v : View} (a : IsAt k
           h = fourth.marks
 
           place : o.allowance.place ≡ v.allowance.place
-          place = (goes3 odd).gone.same
+          place = (goes3 odd).advanced.same
 
           seen : q.seen ≡ h ++ Done (record { caller = v.allowance.place; op = Put key value }) ∷ []
           seen = ap (λ (x : View). x.seen) fourth.goes ∙ ap (λ (p : ℕ). h ++ Done (record { caller = p; op = Put key value }) ∷ []) place
@@ -380,7 +380,7 @@ module _ {k : Shape} {key value kept : ℕ} {spot : Spot} {v : View} (a : IsAt k
           goes4 : Goes v q (Done (record { caller = v.allowance.place; op = Put key value }) ∷ [])
           goes4 = subst (λ (p : ℕ). Goes v q (Done (record { caller = p; op = Put key value }) ∷ [])) place
               (goes_on (goes3 odd) (record {
-                gone = gone_store_leaf storing fourth;
+                advanced = advanced_store_leaf storing fourth;
                 retired = ap (λ (x : View). x.hands.retired) fourth.goes;
                 wait = ap (λ (x : View). x.wait) fourth.goes;
                 waits = ap (λ (x : View). x.counts.waits) fourth.goes;
@@ -411,7 +411,7 @@ module _ {k : Shape} {key value kept : ℕ} {spot : Spot} {v : View} (a : IsAt k
                     h,
                     record {
                       goes = goes_stays goes4 (goes_stays (goes_closed even) (goes_unlock fifth));
-                      since = prefix_trans v.seen o.seen h (goes3 odd).gone.begins fourth.sees.begins;
+                      since = prefix_trans v.seen o.seen h (goes3 odd).advanced.begins fourth.sees.begins;
                       seen = seen_e;
                       number_is = number_is ∙ omega arith;
                       legal = fifth.informed.legal;

@@ -8,7 +8,7 @@ use Rattle.core_points.specs.Programs.{Own, key_now, value_in}
 use Rattle.core_points.specs.Facts.{HandFits, is_set, is_put}
 use Rattle.core_points.proofs.Notes.{fits, set_owed, ready_set}
 use Rattle.core_points.proofs.Locks.{one_again}
-use Rattle.tree_points.specs.Points.{IsAt, IsDone, HasLocks, HasGone}
+use Rattle.tree_points.specs.Points.{IsAt, IsDone, HasLocks, HasAdvanced}
 use Rattle.tree_points.proofs.Passing.{moves_on, begins_set, has_kept, is_quiet, outside_enter, unlocked_enter, needs, at_true, at_false, commits_any, passes}
 use Rattle.prcu_marks.specs.declared.commit.Commit.{Commit}
 use Rattle.prcu_marks.specs.declared.mark.Mark.{Mark}
@@ -24,7 +24,7 @@ use Rattle.core_state.specs.Memory.{slot_count}
 use Rattle.core_state.specs.Views.{LoadedGeneration, IsQuiet}
 use Rattle.core_laws.proofs.Acting.{commit_is}
 use Rattle.seat_table.specs.Gains.{IsAsked, Told}
-use Rattle.tree_points.proofs.Updates.{gone_store_value, locks_replace, the_value, needs_store_value, passes_store_value}
+use Rattle.tree_points.proofs.Updates.{advanced_store_value, locks_replace, the_value, needs_store_value, passes_store_value}
 use Rattle.tree_points.proofs.Locks.{passes_set_lock_free, passes_set_lock_busy, locks_set_check, needs_unlock, passes_unlock_again, passes_unlock_was, locks_store_value, keeps_locks, locks_from, same_locked}
 use Rattle.citrus_tree.specs.declared.replace.Holder.{Holder}
 use Rattle.citrus_tree.specs.declared.replace.Replaced.{Replaced}
@@ -217,7 +217,7 @@ module _ {k : Shape} {key kept value s g : ℕ} {v : View} (a : IsAt k (Set key 
                 h = fourth.marks
 
                 place_stays : o.allowance.place ≡ v.allowance.place
-                place_stays = goes4.gone.same
+                place_stays = goes4.advanced.same
 
                 seen : q.seen ≡ h ++ Done (record { caller = v.allowance.place; op = Set key value }) ∷ []
                 seen = ap (λ (x : View). x.seen) fourth.goes
@@ -233,7 +233,7 @@ module _ {k : Shape} {key kept value s g : ℕ} {v : View} (a : IsAt k (Set key 
                 goes5 : Goes v q (Done (record { caller = v.allowance.place; op = Set key value }) ∷ [])
                 goes5 = subst (λ (p : ℕ). Goes v q (Done (record { caller = p; op = Set key value }) ∷ [])) place_stays
                     (goes_on goes4 (record {
-                      gone = gone_store_value storing fourth;
+                      advanced = advanced_store_value storing fourth;
                       retired = ap (λ (x : View). x.hands.retired) fourth.goes;
                       wait = ap (λ (x : View). x.wait) fourth.goes;
                       waits = ap (λ (x : View). x.counts.waits) fourth.goes;
@@ -266,7 +266,7 @@ module _ {k : Shape} {key kept value s g : ℕ} {v : View} (a : IsAt k (Set key 
                           h,
                           record {
                             goes = goes_stays goes5 (goes_stays (goes_closed even) (goes_unlock fifth));
-                            since = prefix_trans v.seen o.seen h goes4.gone.begins fourth.sees.begins;
+                            since = prefix_trans v.seen o.seen h goes4.advanced.begins fourth.sees.begins;
                             seen = seen_e;
                             number_is = number_is ∙ omega arith;
                             legal = fifth.informed.legal;
@@ -326,7 +326,7 @@ module _ {k : Shape} {key value : ℕ} {v : View} where
       marks = t.marks ++ section
 
       place : w.allowance.place ≡ v.allowance.place
-      place = t.goes.gone.same
+      place = t.goes.advanced.same
 
       goes : Goes v x (t.marks ++ (Entered w.allowance.place w.counts.sections key ∷ (LeftMark w.allowance.place w.counts.sections ∷ [])))
       goes = goes_on t.goes (goes_looked l)
@@ -361,16 +361,16 @@ module _ {k : Shape} {key value : ℕ} {v : View} where
       pub absent_sets : {told : Reply} → answer ≡ None → told ≡ record { reply = Absent; number = 0 } → Sets v key value told x
       absent_sets e told = subst (λ (r : Reply). Sets v key value r x) (sym told) (
         t.marks ++ (Entered w.allowance.place w.counts.sections key ∷ (LeftMark w.allowance.place w.counts.sections ∷ [])),
-        (refl, record { tried = tries; own = goes.gone }, subst (λ a. WasAnswered v key a x) e (was_answered l t.goes.gone)),
+        (refl, record { tried = tries; own = goes.advanced }, subst (λ a. WasAnswered v key a x) e (was_answered l t.goes.advanced)),
         none,
       )
 
       pub looked_tried : HasTried v key (t.marks
           ++ (Entered w.allowance.place w.counts.sections key ∷ (LeftMark w.allowance.place w.counts.sections ∷ []))) x
-      looked_tried = record { tried = tries; own = goes.gone }
+      looked_tried = record { tried = tries; own = goes.advanced }
 
       pub looked_answered : WasAnswered v key answer x
-      looked_answered = was_answered l t.goes.gone
+      looked_answered = was_answered l t.goes.advanced
 
       pub looked_none : waits_in (t.marks
           ++ (Entered w.allowance.place w.counts.sections key ∷ (LeftMark w.allowance.place w.counts.sections ∷ []))) ≡ 0
@@ -383,9 +383,9 @@ module _ {k : Shape} {key value : ℕ} {v : View} where
         pub absent_keeps : KeepsView 4 v x
         absent_keeps = record {
           quiet = is_quiet (done 0 few);
-          wait = inl (none_begun goes.gone goes.waits goes.wait);
+          wait = inl (none_begun goes.advanced goes.waits goes.wait);
           tickets = (let left = has_kept (done (v.allowance.tickets - 4) (omega arith)) in omega arith);
-          allowance = goes.gone.allowance;
+          allowance = goes.advanced.allowance;
         }
 
       pub absent_goes : Goes v x (t.marks ++ (Entered w.allowance.place w.counts.sections key
@@ -417,7 +417,7 @@ module _ {k : Shape} {key value : ℕ} {v : View} where
         goes = goes_stays (goes found.looked) g;
         each = each found.looked;
         none = none found.looked;
-        first = inr (begins_later (begins_looked t.first found.looked) g.gone);
+        first = inr (begins_later (begins_looked t.first found.looked) g.advanced);
         ready = λ kept enough. may_begin (subst (λ r. IsAt k (Set key value) kept (set_stage r) y) unmade
             (again kept (locking kept enough)));
       }
@@ -432,10 +432,10 @@ module _ {k : Shape} {key value : ℕ} {v : View} where
         is_stored = s 0 done_as (locking 0 few) one
 
         same_place : x.allowance.place ≡ v.allowance.place
-        same_place = (goes found.looked).gone.same
+        same_place = (goes found.looked).advanced.same
 
         pub stored_begins : BeginsByLookup v key y
-        stored_begins = begins_later (begins_looked t.first found.looked) is_stored.1.goes.gone
+        stored_begins = begins_later (begins_looked t.first found.looked) is_stored.1.goes.advanced
 
         pub goes_all : Goes v y ((t.marks ++ (Entered w.allowance.place w.counts.sections key
             ∷ (LeftMark w.allowance.place w.counts.sections ∷ [])))
@@ -452,10 +452,10 @@ module _ {k : Shape} {key value : ℕ} {v : View} where
             is_stored.0,
             record {
               tried = tries found.looked;
-              own = subst (HasGone v y) (sym (append-nil
+              own = subst (HasAdvanced v y) (sym (append-nil
                   ((t.marks ++ (Entered w.allowance.place w.counts.sections key ∷ (LeftMark w.allowance.place w.counts.sections ∷ [])))
-                  ++ Done (record { caller = v.allowance.place; op = Set key value }) ∷ []))) goes_all.gone;
-              since = prefix_trans v.seen x.seen is_stored.0 (goes found.looked).gone.begins is_stored.1.since;
+                  ++ Done (record { caller = v.allowance.place; op = Set key value }) ∷ []))) goes_all.advanced;
+              since = prefix_trans v.seen x.seen is_stored.0 (goes found.looked).advanced.begins is_stored.1.since;
               stands = (
                 [],
                 append-nil (is_stored.0 ++ Done (record { caller = v.allowance.place; op = Set key value }) ∷ [])
@@ -475,9 +475,9 @@ module _ {k : Shape} {key value : ℕ} {v : View} where
         pub stored_keeps : KeepsView 4 v y
         stored_keeps = record {
           quiet = is_quiet (finished 0 few);
-          wait = inl (none_begun goes_all.gone goes_all.waits goes_all.wait);
+          wait = inl (none_begun goes_all.advanced goes_all.waits goes_all.wait);
           tickets = (let left = has_kept (finished (v.allowance.tickets - 4) (omega arith)) in omega arith);
-          allowance = goes_all.gone.allowance;
+          allowance = goes_all.advanced.allowance;
         }
 
 -- What a compare is told, by its tries.

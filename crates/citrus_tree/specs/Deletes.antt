@@ -22,7 +22,7 @@ use Rattle.core_points.specs.declared.stage.Node.{Node}
 use Rattle.core_points.specs.declared.stage.Successor.{Successor}
 use Rattle.core_points.specs.declared.stage.Target.{Target}
 use Rattle.core_points.specs.declared.stage.Stage.{Stage}
-use Rattle.tree_points.specs.Points.{IsAt, HasGone}
+use Rattle.tree_points.specs.Points.{IsAt, HasAdvanced}
 use Rattle.citrus_tree.specs.Going.{MayBegin, KeepsSeat, KeepsWait, NeededSlots, retired_marks, waits_in}
 use Rattle.seat_table.specs.Gains.{IsInformed}
 use Rattle.seat_table.specs.Seats.{SeatAt}
@@ -57,7 +57,7 @@ pub record KeepsWaits (v w : View) : Type 0 where
 
 -- No mark was left at the place, and the same slots are locked and retired.
 pub record KeepsAll (v w : View) : Type 0 where
-  pub gone : HasGone v w []
+  pub advanced : HasAdvanced v w []
   pub waits : KeepsWaits v w
   pub retired : retired_slots w ≡ retired_slots v
   pub stay : retired_marks w ≡ retired_marks v
@@ -65,7 +65,7 @@ pub record KeepsAll (v w : View) : Type 0 where
 
 -- The same, but for the locks.
 pub record KeepsRest (v w : View) : Type 0 where
-  pub gone : HasGone v w []
+  pub advanced : HasAdvanced v w []
   pub waits : KeepsWaits v w
   pub retired : retired_slots w ≡ retired_slots v
   pub stay : retired_marks w ≡ retired_marks v
@@ -80,7 +80,7 @@ pub record HasSearched (v : View) (key : ℕ) (w : View) : Type 0 where
   pub made : Makes is_of_lookup v.trail w.trail
   pub count : ℕ
   pub left : ℕ
-  pub gone : HasGone v w (Entered v.allowance.place count key ∷ (Left v.allowance.place left ∷ []))
+  pub advanced : HasAdvanced v w (Entered v.allowance.place count key ∷ (Left v.allowance.place left ∷ []))
   pub waits : KeepsWaits v w
   pub retired : retired_slots w ≡ retired_slots v
   pub stay : retired_marks w ≡ retired_marks v
@@ -96,7 +96,7 @@ giving_up count = if count == 0 then at.EnterClock else at.Unlock last.Again
 -- The update of the operation was made, at its number, and unlinked this slot; and these marks were left after it.
 pub record HasDone (v : View) (op : Op) (node : ℕ) (after : List Mark) (number : ℕ) (w : View) : Type 0 where
   pub before : List Mark
-  pub gone : HasGone v w (Done (record { caller = v.allowance.place; op = op }) ∷ after)
+  pub advanced : HasAdvanced v w (Done (record { caller = v.allowance.place; op = op }) ∷ after)
   pub since : IsPrefix v.seen before
   pub stands : IsPrefix (before ++ Done (record { caller = v.allowance.place; op = op }) ∷ (Unlinked node ∷ [])) w.seen
   pub number_is : number ≡ length (updates_of before) + 1
@@ -134,7 +134,7 @@ pub record HasWaitedForRoom (k : Shape) (v : View) (marks : List Mark) (w : View
 
 pub record HasMadeRoom (k : Shape) (v w : View) : Type 0 where
   pub marks : List Mark
-  pub gone : HasGone v w marks
+  pub advanced : HasAdvanced v w marks
   pub waited : (marks ≡ []) ⊎ HasWaitedForRoom k v marks w
   pub waits : v.counts.waits ≤ w.counts.waits
   pub latest : KeepsWait v w
@@ -181,10 +181,10 @@ pub record BeginsByLookup (v : View) (key : ℕ) (w : View) : Type 0 where
   pub looked : View
   pub count : ℕ
   pub left : ℕ
-  pub section : HasGone v looked (Entered v.allowance.place count key ∷ (Left v.allowance.place left ∷ []))
+  pub section : HasAdvanced v looked (Entered v.allowance.place count key ∷ (Left v.allowance.place left ∷ []))
   pub made : Makes is_of_lookup v.trail looked.trail
   pub marks : List Mark
-  pub later : HasGone looked w marks
+  pub later : HasAdvanced looked w marks
 
 -- A del first sees to it that the place has a spare, and room for two more retired slots. Where it has both it begins by its lookup.
 pub record BeginsOnceReady (k : Shape) (v : View) (key : ℕ) (w : View) : Type 0 where

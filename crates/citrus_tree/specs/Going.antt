@@ -23,7 +23,7 @@ use Rattle.core_points.specs.declared.stage.Spot.{Spot}
 use Rattle.core_points.specs.declared.stage.Stage.{Stage}
 use Rattle.core_points.specs.declared.stage.Aim.TheVariants.{Leaf}
 use Rattle.seat_table.specs.Gains.{IsSlot}
-use Rattle.tree_points.specs.Points.{IsAt, HasGone, KeepsAllowance}
+use Rattle.tree_points.specs.Points.{IsAt, HasAdvanced, KeepsAllowance}
 use Rattle.citrus_tree.specs.declared.insert.Reached.{Reached}
 use Rattle.citrus_tree.specs.declared.replace.Holder.{Holder}
 use Rattle.citrus_tree.specs.declared.replace.Replaced.{Replaced}
@@ -134,7 +134,7 @@ pub record MayBegin (k : Shape) (op : Op) (kept : ℕ) (v : View) : Type 0 where
 
 -- These marks were left, and neither the retired slots changed nor the waits.
 pub record Goes (v w : View) (marks : List Mark) : Type 0 where
-  pub gone : HasGone v w marks
+  pub advanced : HasAdvanced v w marks
   pub retired : w.hands.retired ≡ v.hands.retired
   pub wait : w.wait ≡ v.wait
   pub waits : w.counts.waits ≡ v.counts.waits
@@ -193,7 +193,7 @@ pub record Waited (k : Shape) (v w : View) (marks : List Mark) : Type 0 where
   pub wait : HasBegunFirst v w
 
 pub record Since (k : Shape) (v : View) (key : ℕ) (marks : List Mark) (w : View) : Type 0 where
-  pub gone : HasGone v w marks
+  pub advanced : HasAdvanced v w marks
   pub each : AllByRecursion (IsOfTry v.allowance.place key) marks
   pub waits : Unwaited v w marks ⊎ Waited k v w marks
 
@@ -247,7 +247,7 @@ linked_stage (Some number) = at.Finished
 
 -- All retired slots were given back after a wait for everybody, which was needed.
 pub record Reused (k : Shape) (v w : View) : Type 0 where
-  pub gone : HasGone v w (Began v.allowance.place v.counts.waits 0 18446744073709551615 ∷ (Ended v.allowance.place v.counts.waits ∷ []))
+  pub advanced : HasAdvanced v w (Began v.allowance.place v.counts.waits 0 18446744073709551615 ∷ (Ended v.allowance.place v.counts.waits ∷ []))
   pub needed : NeededRoom k v w
   pub none : w.hands.retired ≡ []
   pub wait : HasBegunFirst v w

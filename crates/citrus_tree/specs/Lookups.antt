@@ -18,7 +18,7 @@ use Rattle.core_state.specs.declared.words.Kind.TheVariants.{K17}
 use Rattle.core_state.specs.Parts.{state_slot}
 use Rattle.list_laws.specs.Counts.{IsIn}
 use Rattle.seat_table.specs.Gains.{Sees, IsInformed}
-use Rattle.seat_table.specs.Sections.{Makes, is_entry, is_exit, HasEntered, IsQuietReader}
+use Rattle.seat_table.specs.Sections.{Makes, is_entry, is_exit, HasEntered, IsQuietButSection}
 use Rattle.prcu_marks.specs.declared.mark.Side.{Side}
 use Rattle.seat_table.specs.Seats.{SeatAt, IsQuietSeat}
 use Rattle.citrus_tree.specs.declared.descent.Descent.TheVariants as descent
@@ -111,7 +111,7 @@ HoldsOrNot v key None w = Looked v key None w
 
 -- afterwards the seat is quiet, but for the section that is open
 abbrev pub LeavesQuiet : Option ℕ → SeatAt → Type 0
-LeavesQuiet (Some value) s = IsQuietReader s
+LeavesQuiet (Some value) s = IsQuietButSection s
 LeavesQuiet None s = IsQuietSeat s
 
 -- Whatever was held in the section, the dictionary gave at a front between the section's marks.

@@ -19,7 +19,7 @@ use Rattle.core_state.specs.declared.words.Kind.TheVariants.{K10}
 use Rattle.core_state.specs.declared.view.View.{View}
 use Rattle.seat_table.specs.Seats.{SeatAt, TableAt}
 use Rattle.seat_table.specs.Waits.{EndWith}
-use Rattle.tree_points.specs.Points.{HasGone}
+use Rattle.tree_points.specs.Points.{HasAdvanced}
 use Rattle.citrus_tree.specs.Going.{AreTries, NeededRoom, NeededSlots, waits_in, FoundHolder}
 use Rattle.citrus_tree.specs.declared.comparing.Compared.{Compared}
 use Rattle.citrus_tree.specs.declared.comparing.Compared.TheVariants.{Replaced, Differs, Absent as Missing}
@@ -47,7 +47,7 @@ pub record WasAnswered (v : View) (key : ℕ) (answer : Option ℕ) (w : View) :
 -- place left before the update, and after it.
 pub record HasUpdated (v : View) (op : Op) (tries before after : List Mark) (number : ℕ) (w : View) : Type 0 where
   pub tried : AreTries v.allowance.place (key_of op) tries
-  pub own : HasGone v w ((tries ++ Done (record { caller = v.allowance.place; op = op }) ∷ []) ++ after)
+  pub own : HasAdvanced v w ((tries ++ Done (record { caller = v.allowance.place; op = op }) ∷ []) ++ after)
   pub since : IsPrefix v.seen before
   pub stands : IsPrefix (before ++ Done (record { caller = v.allowance.place; op = op }) ∷ []) w.seen
   pub number_is : number ≡ length (updates_of before) + 1
@@ -56,7 +56,7 @@ pub record HasUpdated (v : View) (op : Op) (tries before after : List Mark) (num
 -- The call made no update. These are the marks that its place left.
 pub record HasTried (v : View) (key : ℕ) (tries : List Mark) (w : View) : Type 0 where
   pub tried : AreTries v.allowance.place key tries
-  pub own : HasGone v w tries
+  pub own : HasAdvanced v w tries
 
 -- The last step found the free count 0, with nothing retired at the place. So the dictionary, with as many slots as each other place may
 -- keep from it, its room for retired ones and four, fills the slots.

@@ -2,7 +2,7 @@
 ghost use Rattle.std.specs.Prelude.{◌≡◌, Some};
 ghost use Rattle.core_state.specs.declared.view.Section.{Section};
 ghost use Rattle.seat_table.specs.Seats.{IsQuietSeat, shape_of};
-ghost use Rattle.seat_table.specs.Sections.{HasLeft, IsQuietReader};
+ghost use Rattle.seat_table.specs.Sections.{HasLeft, IsQuietButSection};
 ghost use Rattle.citrus_tree.specs.Hops.{EndsWithin};
 ghost use Rattle.citrus_tree.specs.Lookups.{HoldsOrNot, LeavesQuiet, Releases};
 
@@ -47,7 +47,7 @@ pub fn hold<W: WaitPart, G: Gate>(
 pub fn release<W: WaitPart>(table: &CitrusTable<W>, seat: &mut Seat<W>)
     requires table { seat.old.table ≡ table.now }
     requires inside { (section : Section) × (seat.old.view.section ≡ Some section) }
-    requires quiet { IsQuietReader seat.old }
+    requires quiet { IsQuietButSection seat.old }
     ensures seat { (seat.new.table ≡ seat.old.table) × (seat.new.listed ≡ seat.old.listed) }
     ensures left { HasLeft seat.old.view seat.new.view }
     ensures released { Releases seat.old.view seat.new.view }

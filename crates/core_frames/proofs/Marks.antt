@@ -53,18 +53,18 @@ not_done (Done v) u o e = absurd o
 not_done _ u o e = cc
 
 -- The marks that came say nothing of updates and slots.
-pub record QuietMarks (h h' : List Mark) : Type 0 where
+pub record SilentMarks (h h' : List Mark) : Type 0 where
   pub updates : updates_of h' ≡ updates_of h
   pub gone : (s : ℕ) → gone_at s h' ≡ gone_at s h
   pub last : (s : ℕ) → last_unlinked s h' ≡ last_unlinked s h
   pub longer : (j : ℕ) (a : Mark) → get_elem? h j ≡ some a → get_elem? h' j ≡ some a
   pub done : (j : ℕ) (u : Update) → get_elem? h' j ≡ some (Done u) → get_elem? h j ≡ some (Done u)
 
-pub quiet_same : (h : List Mark) → QuietMarks h h
-quiet_same h = record { updates = refl; gone = λ s. refl; last = λ s. refl; longer = λ j a e. e; done = λ j u e. e }
+pub silent_same : (h : List Mark) → SilentMarks h h
+silent_same h = record { updates = refl; gone = λ s. refl; last = λ s. refl; longer = λ j a e. e; done = λ j u e. e }
 
-pub quiet_snoc : (h : List Mark) (m : Mark) → IsOutside m → QuietMarks h (h ++ m ∷ [])
-quiet_snoc h m o = record {
+pub silent_snoc : (h : List Mark) (m : Mark) → IsOutside m → SilentMarks h (h ++ m ∷ [])
+silent_snoc h m o = record {
   updates = updates_of-append h (m ∷ []) ∙ ap (λ z. updates_of h ++ z) (updates_same m o) ∙ append-nil (updates_of h);
   gone = λ s. gone_at-snoc s h m ∙ gone_same s (length h) (gone_at s h) m o;
   last = λ s. last_unlinked-same h m (unlinks_none m o) s;
@@ -130,14 +130,14 @@ pub prefix_snoc : (h : List Mark) (m : Mark) → IsPrefix h (h ++ m ∷ [])
 prefix_snoc h m = prefix_more h h (m ∷ []) (prefix_self h)
 
 -- No wait ended with the marks that came, and those that had ended began before.
-pub record QuietWaits (h h' : List Mark) : Type 0 where
+pub record NoWaitEnded (h h' : List Mark) : Type 0 where
   pub began : (j p c low high : ℕ) → HasEnded h p c → get_elem? h' j ≡ some (Began p c low high) → get_elem? h j ≡ some (Began p c low high)
   pub ended : (j p c : ℕ) → get_elem? h' j ≡ some (Ended p c) → get_elem? h j ≡ some (Ended p c)
 
-pub waits_same : (h : List Mark) → QuietWaits h h
+pub waits_same : (h : List Mark) → NoWaitEnded h h
 waits_same h = record { began = λ j p c low high has e. e; ended = λ j p c e. e }
 
-pub waits_snoc : (h : List Mark) (m : Mark) → TurnsNoWait m → QuietWaits h (h ++ m ∷ [])
+pub waits_snoc : (h : List Mark) (m : Mark) → TurnsNoWait m → NoWaitEnded h (h ++ m ∷ [])
 waits_snoc h m none = record {
   began = λ j p c low high has e. ⊎_elim (λ (o : get_elem? h j ≡ some (Began p c low high)). o) (λ n. absurd (subst TurnsNoWait n.1 none))
       (at_end h m (Began p c low high) j e);
@@ -286,7 +286,7 @@ module _ (place : ℕ) (h h' : List Mark) (more : PlainMarks place h h') where
     deleted = deleted;
   }
 
-  pub waits_plain : QuietWaits h h'
+  pub waits_plain : NoWaitEnded h h'
   waits_plain = record { began = λ j p c low high has e. more.began j p c low high e; ended = more.ended }
 
   pub others_plain : OtherMarks place h h'

@@ -14,7 +14,7 @@ use Rattle.core_state.specs.Views.{retired_of, slots_of, known_in, lock_of, Load
 use Rattle.core_state.specs.Tree.{Chart}
 use Rattle.core_state.specs.Parts.{HasFewSpent, HasFewSlots, IsRetired, IsRetiredOf, IsHeldKnown, AreHandsKnown, SlotParts, IsHolderOf, HasFewLocks, IsUnraised, IsLockKept, IsLockKnown, IsReadingKept, LockParts, turns_to_come, CountParts, linked_count, young_count, old_count, IsTurned, IsOddBy, FrontParts, HasMet, IsOwned, SectionStands, IsCounted, SeatParts, HasRetired, HasOpen, MakesOdd, HasUnraised, IsHandKnown}
 use Rattle.list_laws.proofs.Lists.{each_change, total_same, total_set, each_set, somewhere_at, somewhere_here, somewhere_still, only_at, only_change}
-use Rattle.core_frames.proofs.Marks.{QuietMarks, begun_at-same, OtherMarks, cut_at, others_same, others_snoc}
+use Rattle.core_frames.proofs.Marks.{SilentMarks, begun_at-same, OtherMarks, cut_at, others_same, others_snoc}
 use Rattle.core_frames.proofs.Views.{SameSlots, own_same, content_same, retired_same, spares_same, slots_same, OwnSlots, SameNodes, own_slots, SamePlaces, places_same}
 use native.Mathlib.Decide.{ℕ_discrete}
 use Rattle.core_state.specs.declared.words.Field.{Field}
@@ -74,11 +74,11 @@ module _ (m m' : Memory) (nodes : SameNodes m m') (states : (s : ℕ) → m' (St
     spares = λ s has. even_same s (i.spares s has);
   }
 
-  retired_is : (h h' : List Mark) (r : Retired) → QuietMarks h h' → IsRetired m h r → IsRetired m' h' r
+  retired_is : (h h' : List Mark) (r : Retired) → SilentMarks h h' → IsRetired m h r → IsRetired m' h' r
   retired_is h h' r quiet = retired_by m m' h h' r (quiet.gone r.slot) (nodes.life r.slot)
       (λ field c. content_same m m' nodes r.slot field c)
 
-  pub slots_elsewhere : {room : ℕ} (n : ℕ) (g : Chart) (vs : List View) (h h' : List Mark) → QuietMarks h h' → SlotParts room m n g vs h
+  pub slots_elsewhere : {room : ℕ} (n : ℕ) (g : Chart) (vs : List View) (h h' : List Mark) → SilentMarks h h' → SlotParts room m n g vs h
       → SlotParts room m' n g vs h'
   slots_elsewhere n g vs h h' quiet t = record {
     roles = record {
@@ -153,7 +153,7 @@ hands_view m v w e i = record {
 }
 
 pub slot_frame : {room : ℕ} (m m' : Memory) (n : ℕ) (g : Chart) (vs : List View) (id : ℕ) (v w : View) (h h' : List Mark)
-    → get_elem? vs id ≡ some v → SameSlots m m' → SameForSlots v w → QuietMarks h h' → SlotParts room m n g vs h
+    → get_elem? vs id ≡ some v → SameSlots m m' → SameForSlots v w → SilentMarks h h' → SlotParts room m n g vs h
     → SlotParts room m' n g (set vs id w) h'
 slot_frame m m' n g vs id v w h h' there slots same quiet t =
     slots_by m' n g vs id v w h' there (λ s. ap (times s) (slots_same v w same.own)) (few_same v w same) (hands_view m' v w same)
@@ -391,7 +391,7 @@ pub record SameNumbers (v w : View) : Type 0 where
   pub moving : has w.moving ≡ has v.moving
 
 pub counts_kept : (tickets : ℕ) (m m' : Memory) (n : ℕ) (g : Chart) (vs : List View) (id : ℕ) (v w : View) (h h' : List Mark)
-    → get_elem? vs id ≡ some v → SameSlots m m' → m' Clock ≡ m Clock → m' Free ≡ m Free → SameNumbers v w → QuietMarks h h'
+    → get_elem? vs id ≡ some v → SameSlots m m' → m' Clock ≡ m Clock → m' Free ≡ m Free → SameNumbers v w → SilentMarks h h'
     → w.counts.turns ≡ v.counts.turns → w.wait ≡ v.wait → CountParts tickets m n g vs h → CountParts tickets m' n g (set vs id w) h'
 counts_kept tickets m m' n g vs id v w h h' there slots clock free same quiet turns wait t =
     let left = same.tickets in
@@ -412,7 +412,7 @@ counts_kept tickets m m' n g vs id v w h h' there slots clock free same quiet tu
 
 -- a step that leaves all that is counted
 pub count_frame : (tickets : ℕ) (m m' : Memory) (n : ℕ) (g : Chart) (vs : List View) (id : ℕ) (v w : View) (h h' : List Mark)
-    → get_elem? vs id ≡ some v → SameSlots m m' → m' Clock ≡ m Clock → m' Free ≡ m Free → numbers_of w ≡ numbers_of v → QuietMarks h h'
+    → get_elem? vs id ≡ some v → SameSlots m m' → m' Clock ≡ m Clock → m' Free ≡ m Free → numbers_of w ≡ numbers_of v → SilentMarks h h'
     → CountParts tickets m n g vs h → CountParts tickets m' n g (set vs id w) h'
 count_frame tickets m m' n g vs id v w h h' there slots clock free same quiet t =
     counts_still tickets m m' n g vs id v w h h' there (sums_same m m' n slots.nodes slots.state) quiet.updates
@@ -444,7 +444,7 @@ front_by m m' vs id v w h h' there front commit settled updates t =
     }
 
 pub front_frame : (m m' : Memory) (vs : List View) (id : ℕ) (v w : View) (h h' : List Mark)
-    → get_elem? vs id ≡ some v → m' Front ≡ m Front → w.commit ≡ v.commit → (v.moving ≡ None → w.moving ≡ None) → QuietMarks h h'
+    → get_elem? vs id ≡ some v → m' Front ≡ m Front → w.commit ≡ v.commit → (v.moving ≡ None → w.moving ≡ None) → SilentMarks h h'
     → FrontParts m vs h → FrontParts m' (set vs id w) h'
 front_frame m m' vs id v w h h' there front commit settled quiet t = front_by m m' vs id v w h h' there front commit settled quiet.updates t
 

@@ -23,7 +23,7 @@ use Rattle.list_laws.specs.Counts.{IsIn, Each}
 use Rattle.core_state.specs.Views.{lock_of, readings_of, open_reading}
 use Rattle.core_state.specs.Parts.{HasGeneration, map_now, IsMoving, TreeParts, Answered, IsServed, IsAsRecorded, IsStillLinked, IsRecord, IsReading, IsMetBefore, ReaderParts, IsBetween, GoesOn, here, StandsNow, IsVisit, IsListing, ListingParts, HasMetBefore, AreAged, IsGoneSince, IsReadingKept}
 use Rattle.list_laws.proofs.Lists.{each_set, each_change, somewhere_still, somewhere_was}
-use Rattle.core_frames.proofs.Marks.{QuietMarks}
+use Rattle.core_frames.proofs.Marks.{SilentMarks}
 use Rattle.prcu_marks.specs.Marks.{updates_of, gone_at}
 use Rattle.core_state.specs.declared.view.Section.{Section}
 use Rattle.core_state.specs.declared.view.SearchState.{SearchState}
@@ -220,7 +220,7 @@ module _ (m m' : Memory) (nodes : SameNodes m m') where
     unmet = λ r generation has loaded e. i.unmet r generation (fewer r has) loaded (sym (nodes.life a.copy.slot) ∙ e);
   }
 
-  pub moving_same : (g : Chart) (h h' : List Mark) (u z : View) (move : Move) → QuietMarks h h' → z.allowance.place ≡ u.allowance.place
+  pub moving_same : (g : Chart) (h h' : List Mark) (u z : View) (move : Move) → SilentMarks h h' → z.allowance.place ≡ u.allowance.place
       → z.locks ≡ u.locks
       → ((r : Reading) → IsIn u.records r → IsIn z.records r) → ((r : Reading) → IsIn z.records r → IsIn u.records r)
       → IsMoving m g h u move → IsMoving m' g h' z move
@@ -270,7 +270,7 @@ moves_same vs id v w there moving = record {
       record { view = z.0; before = a; stands = z.1; has_it = sym z.2 ∙ is; form = same_form a });
 }
 
-pub tree_by : (m m' : Memory) (n : ℕ) (g : Chart) (vs us : List View) (h h' : List Mark) → SameNodes m m' → QuietMarks h h'
+pub tree_by : (m m' : Memory) (n : ℕ) (g : Chart) (vs us : List View) (h h' : List Mark) → SameNodes m m' → SilentMarks h h'
     → SameMoves vs us → Each us (λ u. (move : Move) → u.moving ≡ Some move → IsMoving m' g h' u move) → TreeParts m n g vs h
     → TreeParts m' n g us h'
 tree_by m m' n g vs us h h' nodes quiet same each t = record {
@@ -289,7 +289,7 @@ tree_by m m' n g vs us h h' nodes quiet same each t = record {
 }
 
 pub tree_frame : (m m' : Memory) (n : ℕ) (g : Chart) (vs : List View) (id : ℕ) (v w : View) (h h' : List Mark)
-    → get_elem? vs id ≡ some v → SameNodes m m' → SameForTree v w → QuietMarks h h' → TreeParts m n g vs h
+    → get_elem? vs id ≡ some v → SameNodes m m' → SameForTree v w → SilentMarks h h' → TreeParts m n g vs h
     → TreeParts m' n g (set vs id w) h'
 tree_frame m m' n g vs id v w h h' there nodes same quiet t =
     tree_by m m' n g vs (set vs id w) h h' nodes quiet (moves_same vs id v w there same.moving)
@@ -320,10 +320,10 @@ module _ (m m' : Memory) (lives : (s : ℕ) → m' (Life s) ≡ m (Life s)) wher
     same = ap (λ x. x / 2) (sym (lives s)) ∙ i.same;
   }
 
-pub held_back_same : (g : Chart) (h h' : List Mark) (entered s : ℕ) → QuietMarks h h' → IsHeldBack g h entered s → IsHeldBack g h' entered s
+pub held_back_same : (g : Chart) (h h' : List Mark) (entered s : ℕ) → SilentMarks h h' → IsHeldBack g h entered s → IsHeldBack g h' entered s
 held_back_same g h h' entered s quiet i = record { out = i.out; at = i.at; gone = quiet.gone s ∙ i.gone; later = i.later }
 
-pub said_same : (h h' : List Mark) (key from : ℕ) (o : Option ℕ) → QuietMarks h h' → WasSaid (updates_of h) key from o
+pub said_same : (h h' : List Mark) (key from : ℕ) (o : Option ℕ) → SilentMarks h h' → WasSaid (updates_of h) key from o
     → WasSaid (updates_of h') key from o
 said_same h h' key from o quiet i = subst (λ us. WasSaid us key from o) (sym quiet.updates) i
 
@@ -415,7 +415,7 @@ see_same vs id v w there moving locks = record {
   emptied = emptied_still vs id v w there locks;
 }
 
-module _ (m m' : Memory) (nodes : SameNodes m m') (g : Chart) (vs us : List View) (h h' : List Mark) (quiet : QuietMarks h h')
+module _ (m m' : Memory) (nodes : SameNodes m m') (g : Chart) (vs us : List View) (h h' : List Mark) (quiet : SilentMarks h h')
     (see : ReadersSee vs us) where
   contents : SameContents m m' any any
   contents = all_same m m' nodes
@@ -468,7 +468,7 @@ module _ (m m' : Memory) (nodes : SameNodes m m') (g : Chart) (vs us : List View
 
 -- The stepping view's section and records stay.
 module _ (m m' : Memory) (nodes : SameNodes m m') (g : Chart) (vs : List View) (id : ℕ) (v w : View) (h h' : List Mark)
-    (there : get_elem? vs id ≡ some v) (quiet : QuietMarks h h') (see : ReadersSee vs (set vs id w)) (section : w.section ≡ v.section)
+    (there : get_elem? vs id ≡ some v) (quiet : SilentMarks h h') (see : ReadersSee vs (set vs id w)) (section : w.section ≡ v.section)
     (records : w.records ≡ v.records) where
   served_stays : (s : Section) → IsServed m g h vs s → IsServed m' g h' (set vs id w) s
   served_stays = served_by m m' nodes g vs (set vs id w) h h' quiet see
@@ -491,7 +491,7 @@ module _ (m m' : Memory) (nodes : SameNodes m m') (g : Chart) (vs : List View) (
   }
 
 module _ (m m' : Memory) (nodes : SameNodes m m') (g : Chart) (vs : List View) (id : ℕ) (v w : View) (h h' : List Mark)
-    (there : get_elem? vs id ≡ some v) (moving : w.moving ≡ v.moving) (locks : w.locks ≡ v.locks) (quiet : QuietMarks h h') where
+    (there : get_elem? vs id ≡ some v) (moving : w.moving ≡ v.moving) (locks : w.locks ≡ v.locks) (quiet : SilentMarks h h') where
   pub served_same : (section : Section) → IsServed m g h vs section → IsServed m' g h' (set vs id w) section
   served_same = served_by m m' nodes g vs (set vs id w) h h' quiet (see_same vs id v w there moving locks)
 
@@ -530,7 +530,7 @@ module _ (m m' : Memory) (nodes : SameNodes m m') (g : Chart) (vs : List View) (
 -- listings of other views; of its own it says what holds.
 
 module _ (m m' : Memory) (nodes : SameNodes m m') (g : Chart) (h h' : List Mark)
-    (quiet : QuietMarks h h') where
+    (quiet : SilentMarks h h') where
   map_kept : map_now h' ≡ map_now h
   map_kept = ap (λ us x. finite.get (map_of us) x) quiet.updates
 

@@ -94,14 +94,14 @@ reader_words m = record {
 }
 
 -- all words but those in which readers show, and the gates
-pub record QuietWords : Type 0 where
+pub record WriterWords : Type 0 where
   pub slots : SlotWords
   pub clock : ℕ
   pub front : ℕ
   pub free : ℕ
 
-abbrev pub quiet_words : Memory → QuietWords
-quiet_words m = record { slots = slot_words m; clock = m Clock; front = m Front; free = m Free }
+abbrev pub writer_words : Memory → WriterWords
+writer_words m = record { slots = slot_words m; clock = m Clock; front = m Front; free = m Free }
 
 pub slots_stay : (m m' : Memory) → slot_words m' ≡ slot_words m → SameSlots m m'
 slots_stay m m' e = record {

@@ -16,7 +16,7 @@ use Rattle.core_state.specs.Parts.{HasEnded, WaitStands, MarkParts, HasSeenAll, 
 use Rattle.list_laws.proofs.Lists.{at_below, at_end, past_snoc, each_change, each_set, total_same, somewhere_here, somewhere_still}
 use Rattle.core_frames.proofs.Views.{was, reader_words}
 use Rattle.core_state.specs.Views.{Works}
-use Rattle.core_frames.proofs.Marks.{QuietWaits, cut_at, longer_at, waits_same, IsOutside, TurnsNoWait, QuietMarks, back_at, prefix_snoc, waits_snoc, reuse_more, begun-same, room_at}
+use Rattle.core_frames.proofs.Marks.{NoWaitEnded, cut_at, longer_at, waits_same, IsOutside, TurnsNoWait, SilentMarks, back_at, prefix_snoc, waits_snoc, reuse_more, begun-same, room_at}
 use Rattle.core_state.specs.declared.view.Move.{Move}
 use Rattle.core_state.specs.declared.view.Retired.{Retired}
 use Rattle.core_state.specs.declared.view.Section.{Section}
@@ -128,7 +128,7 @@ module _ (places : ℕ) (vs : List View) (id : ℕ) (v w : View) (h h' : List Ma
   }
 
   -- no wait begins or ends
-  pub mark_frame_still : QuietWaits h h' → SameForMarks v w → MarkParts places (set vs id w) h'
+  pub mark_frame_still : NoWaitEnded h h' → SameForMarks v w → MarkParts places (set vs id w) h'
   mark_frame_still quiet same =
       let back : (p c : ℕ) → HasEnded h' p c → HasEnded h p c = λ p c has. (has.0, quiet.ended has.0 p c has.1) in
       mark_frame_by
@@ -173,7 +173,7 @@ pub waited_longer : (h h' : List Mark) → ((j : ℕ) (a : Mark) → get_elem? h
     → HasWaited h p after low high → HasWaited h' p after low high
 waited_longer h h' longer p after low high i = waited_by i (longer i.began _ i.begins) (longer i.ended _ i.ends)
 
-pub waited_before : (h h' : List Mark) → QuietWaits h h' → (p after low high : ℕ) → HasWaited h' p after low high
+pub waited_before : (h h' : List Mark) → NoWaitEnded h h' → (p after low high : ℕ) → HasWaited h' p after low high
     → HasWaited h p after low high
 waited_before h h' quiet p after low high i =
     let ends = quiet.ended i.ended p i.count i.ends in
@@ -183,7 +183,7 @@ waited_below : (h : List Mark) (p after low high : ℕ) → HasWaited h p after 
 waited_below h p after low high i = let l = at_below h i.began _ i.begins in let late = i.late in omega arith
 
 -- where no wait ends, grace stays
-pub grace_longer : (h h' : List Mark) → IsPrefix h h' → QuietWaits h h' → Grace h → Grace h'
+pub grace_longer : (h h' : List Mark) → IsPrefix h h' → NoWaitEnded h h' → Grace h → Grace h'
 grace_longer h h' grows quiet grace i j e p n low high q c x began ended entered lt from to =
     let f = quiet.ended j p n ended in
     let b = quiet.began i p n low high (j, f) began in
@@ -264,8 +264,8 @@ module _ (vs : List View) (id : ℕ) (v w : View) (there : get_elem? vs id ≡ s
   }
 
 -- A step that leaves retired slots and the move, and may enter or leave a section.
-pub grace_frame : (vs : List View) (id : ℕ) (v w : View) (h h' : List Mark) → get_elem? vs id ≡ some v → OnlyOlder h v w → QuietMarks h h'
-    → QuietWaits h h' → w.allowance.place ≡ v.allowance.place → w.allowance.joined ≡ v.allowance.joined → w.hands.retired ≡ v.hands.retired
+pub grace_frame : (vs : List View) (id : ℕ) (v w : View) (h h' : List Mark) → get_elem? vs id ≡ some v → OnlyOlder h v w → SilentMarks h h'
+    → NoWaitEnded h h' → w.allowance.place ≡ v.allowance.place → w.allowance.joined ≡ v.allowance.joined → w.hands.retired ≡ v.hands.retired
     → w.moving ≡ v.moving
     → Grace h' → Reuse h' → GraceParts vs h → GraceParts (set vs id w) h'
 grace_frame vs id v w h h' there older quiet waits place joined retired moving grace reuse t =

@@ -20,8 +20,8 @@ use Rattle.core_state.specs.Views.{Works, open_reading}
 use Rattle.core_state.specs.Steps.{spent_view, stepped}
 use Rattle.core_state.specs.Parts.{ReaderParts, WaiterParts, CountParts, FrontParts, GraceParts, ListingParts, LockParts, IsUnraisedOf, MarkParts, WaitStands, SeatParts, SlotParts, TreeParts, IsClear, IsWaitedRetired}
 use Rattle.core_state.specs.Invariant.{HoldsNow, IsShape}
-use Rattle.core_frames.proofs.Marks.{QuietMarks, quiet_same, others_same, waits_same, IsUnlinkedNow, PlainMarks, others_plain, waits_plain, OtherMarks}
-use Rattle.core_frames.proofs.Views.{SameSlots, OwnSlots, own_slots, reader_words, slots_stay, same_slots, quiet_words, SamePlaces, content_same, stored_same}
+use Rattle.core_frames.proofs.Marks.{SilentMarks, silent_same, others_same, waits_same, IsUnlinkedNow, PlainMarks, others_plain, waits_plain, OtherMarks}
+use Rattle.core_frames.proofs.Views.{SameSlots, OwnSlots, own_slots, reader_words, slots_stay, same_slots, writer_words, SamePlaces, content_same, stored_same}
 use Rattle.core_frames.proofs.WaitFrames.{Sees, mark_frame_by, wait_same, waiter_frame, grace_frame, excused_same, turned_same, AreLoaded, clocked_same, waiters_by, grace_frame_by, grace_longer, retired_still, waited_before, waited_longer, mark_frame_still}
 use Rattle.core_frames.proofs.PlaceFrames.{counted_still, seat_frame_still, slot_frame, lock_frame, count_frame, numbers_of, front_frame}
 use Rattle.core_frames.proofs.TreeFrames.{tree_frame, see_same, readers_stay, listing_frame_still}
@@ -112,7 +112,7 @@ whole k m g vs h table of_slots of_seats waiters counts front listings = record 
 module _ (k : Shape) (m : Memory) (vs : List View) (h : List Mark) (id : ℕ) (v w : View) (i : HoldsNow k m vs h)
     (there : get_elem? vs id ≡ some v) where
   -- A step that leaves what its view has of slots, and their words.
-  pub slot_half : (m' : Memory) (h' : List Mark) → SameSlots m m' → QuietMarks h h' → slot_side w ≡ slot_side v
+  pub slot_half : (m' : Memory) (h' : List Mark) → SameSlots m m' → SilentMarks h h' → slot_side w ≡ slot_side v
       → ((v.hands.reserved ≡ true → v.hands.hand ≡ None) → w.hands.reserved ≡ true → w.hands.hand ≡ None)
       → SlotHalf k m' i.chart (set vs id w) h'
   slot_half m' h' slots quiet same one =
@@ -157,7 +157,7 @@ module _ (k : Shape) (m : Memory) (vs : List View) (h : List Mark) (id : ℕ) (v
             (others_same v.allowance.place h) sees
             (counted_still h h v w place refl refl (λ n. (same n).sections) (λ n. (same n).waits)
             (i.seats.counted id v there works)) i.seats section refl;
-        grace = grace_frame vs id v w h h there (λ s is. inr (s, sym section ∙ is, refl, refl)) (quiet_same h) (waits_same h) place
+        grace = grace_frame vs id v w h h there (λ s is. inr (s, sym section ∙ is, refl, refl)) (silent_same h) (waits_same h) place
             (λ n. (same n).joined) (λ n. (same n).retired) (λ n. (same n).moving) i.grace.grace i.grace.reuse i.grace;
       }
 
@@ -173,21 +173,21 @@ lasting u = record u { enter = spent_view.enter; latest = spent_view.latest; loo
 
 -- A step that leaves all the rest of its view, all words but those in which readers show, and no mark: the parts on the waiter's words it
 -- has to say.
-pub quiet_law : (k : Shape) (m m' : Memory) (vs : List View) (h : List Mark) (id : ℕ) (v w : View) (i : HoldsNow k m vs h)
-    → get_elem? vs id ≡ some v → Works v → quiet_words m' ≡ quiet_words m → lasting w ≡ lasting v → WaiterParts k m' (set vs id w) h
+pub waiter_law : (k : Shape) (m m' : Memory) (vs : List View) (h : List Mark) (id : ℕ) (v w : View) (i : HoldsNow k m vs h)
+    → get_elem? vs id ≡ some v → Works v → writer_words m' ≡ writer_words m → lasting w ≡ lasting v → WaiterParts k m' (set vs id w) h
     → HoldsNow k m' (set vs id w) h
-quiet_law k m m' vs h id v w i there works words same waiters =
+waiter_law k m m' vs h id v w i there works words same waiters =
     let slots = slots_stay m m' (λ n. (words n).slots) in
     let front : m' Front ≡ m Front = (λ n. (words n).front) in
     whole k m' i.chart (set vs id w) h i.table
-    (slot_half k m vs h id v w i there m' h slots (quiet_same h) (λ n. slot_side (same n))
+    (slot_half k m vs h id v w i there m' h slots (silent_same h) (λ n. slot_side (same n))
     (λ one reserved. (λ n. (same n).hands.hand) ∙ one ((λ n. (sym same n).hands.reserved) ∙ reserved)))
     (seat_half k m vs h id v w i there works (λ n. seat_side (same n)) (inr (refl, λ n. (same n).seen))
     (wait_still k m vs h id v w i there (λ n. seat_side (same n)) (λ n. (same n).wait))) waiters
     (count_frame k.tickets m m' (slot_count k) i.chart vs id v w h h there slots (λ n. (words n).clock) (λ n. (words n).free)
-    (λ n. numbers_of (same n)) (quiet_same h) i.counts)
-    (front_frame m m' vs id v w h h there front (λ n. (same n).commit) (λ e. (λ n. (same n).moving) ∙ e) (quiet_same h) i.front)
-    (listing_frame_still m m' slots.nodes i.chart h h (quiet_same h) vs id v w there (λ n. (same n).section) i.listings)
+    (λ n. numbers_of (same n)) (silent_same h) i.counts)
+    (front_frame m m' vs id v w h h there front (λ n. (same n).commit) (λ e. (λ n. (same n).moving) ∙ e) (silent_same h) i.front)
+    (listing_frame_still m m' slots.nodes i.chart h h (silent_same h) vs id v w there (λ n. (same n).section) i.listings)
 
 -- what a view has to do with the words of its waiter: its place, its section, its wait, and what it loaded and announced for its next
 -- section
@@ -223,12 +223,12 @@ pub all_seen : (k : Shape) (m : Memory) (vs : List View) (h : List Mark) (id : �
 all_seen k m vs h id v i there works latest looks =
     let w : View = record v { latest = latest; looks = looks; seen = h } in
     let slots = same_slots m in
-    whole k m i.chart (set vs id w) h i.table (slot_half k m vs h id v w i there m h slots (quiet_same h) refl (λ one. one))
+    whole k m i.chart (set vs id w) h i.table (slot_half k m vs h id v w i there m h slots (silent_same h) refl (λ one. one))
     (seat_half k m vs h id v w i there works refl (inl refl) (wait_still k m vs h id v w i there refl refl))
     (waiters_stay k m m vs h id v w i there refl refl refl)
-    (count_frame k.tickets m m (slot_count k) i.chart vs id v w h h there slots refl refl refl (quiet_same h) i.counts)
-    (front_frame m m vs id v w h h there refl refl (λ e. e) (quiet_same h) i.front)
-    (listing_frame_still m m slots.nodes i.chart h h (quiet_same h) vs id v w there refl i.listings)
+    (count_frame k.tickets m m (slot_count k) i.chart vs id v w h h there slots refl refl refl (silent_same h) i.counts)
+    (front_frame m m vs id v w h h there refl refl (λ e. e) (silent_same h) i.front)
+    (listing_frame_still m m slots.nodes i.chart h h (silent_same h) vs id v w there refl i.listings)
 
 -- What marks of updates and slots leave: such a step keeps the parts on marks, seats, waiters and grace by the frames of each group.
 
@@ -408,9 +408,9 @@ module _ (z : Stepper) where
       → HoldsNow k (stored m field left) (set vs id w) (h ++ marks) → StepKeeps field left w marks
   by_store field left w marks slots i = kept k m (stored m field left) h (set vs id w) (h ++ marks) slots i
 
-  pub by_quiet_store : (field : Field) (left : ℕ) (w : View) → SameSlots m (stored m field left)
+  pub by_waiter_store : (field : Field) (left : ℕ) (w : View) → SameSlots m (stored m field left)
       → HoldsNow k (stored m field left) (set vs id w) h → StepKeeps field left w []
-  by_quiet_store field left w slots i =
+  by_waiter_store field left w slots i =
       no_mark k m (stored m field left) h (set vs id w) (kept k m (stored m field left) h (set vs id w) h slots i)
 
 -- a step is noted in the trail
@@ -419,7 +419,7 @@ pub stepped_keeps : (k : Shape) (m : Memory) (vs : List View) (h : List Mark) (i
     → HoldsNow k m (set vs id (stepped v kind field number)) h
 stepped_keeps k m vs h id v i there works kind field number =
     let w : View = stepped v kind field number in
-    quiet_law k m m vs h id v w i there works refl refl (waiters_stay k m m vs h id v w i there refl refl refl)
+    waiter_law k m m vs h id v w i there works refl refl (waiters_stay k m m vs h id v w i there refl refl refl)
 
 -- a step that keeps the invariant keeps it where it is noted in the trail afterwards
 pub noted_keeps : (z : Stepper) (field : Field) (left : ℕ) (w : View) (marks : List Mark) → Works w → StepKeeps z field left w marks

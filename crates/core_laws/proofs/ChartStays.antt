@@ -35,7 +35,7 @@ use Rattle.core_frames.proofs.Charts.{carry_going, bool_cases}
 use Rattle.core_state.specs.declared.shape.Shape.{Shape}
 use Rattle.core_state.specs.Invariant.{HoldsNow}
 use Rattle.core_frames.proofs.PlainLaws.{clocked_before}
-use Rattle.core_frames.proofs.Marks.{IsPlain, plain_one, quiet_same}
+use Rattle.core_frames.proofs.Marks.{IsPlain, plain_one, silent_same}
 use Rattle.core_frames.proofs.WaitFrames.{NewMark, marks_snoc, mark_frame, waiter_frame, grace_frame_by, retired_still, move_still}
 use Rattle.core_frames.proofs.PlaceFrames.{seat_frame, front_by, lock_frame, counts_kept, retired_of_still, slots_by}
 use Rattle.core_state.specs.declared.view.Retired.{Retired}
@@ -532,7 +532,7 @@ module _ (k : Shape) (m : Memory) (vs : List View) (h : List Mark) (id : ℕ) (v
           unraised = (let e = same.unraised in omega arith);
           locks = refl;
           moving = refl;
-        }) (quiet_same h) refl refl i.counts
+        }) (silent_same h) refl refl i.counts
 
     pub law_hands : HoldsNow k m (set vs id w) h
     law_hands = hands_rest slots counts

@@ -20,10 +20,10 @@ use Rattle.core_state.specs.Invariant.{HoldsNow}
 use Rattle.list_laws.proofs.Lists.{at_below, at_one, from_times, times_append, times_in, total_part, at_most_one, in_second}
 use Rattle.core_frames.proofs.Roles.{works_there, places_apart, place_within, record_of}
 use Rattle.core_state.specs.declared.shape.Waiter.TheVariants.{Deer, Domain, Eer}
-use Rattle.core_frames.proofs.Marks.{IsOutside, QuietMarks, TurnsNoWait, quiet_snoc, prefix_snoc, waits_snoc}
+use Rattle.core_frames.proofs.Marks.{IsOutside, SilentMarks, TurnsNoWait, silent_snoc, prefix_snoc, waits_snoc}
 use Rattle.core_state.specs.Parts.{ListingParts, LockParts, ReaderParts, SeatParts, TreeParts, WaiterParts, IsReading, IsServed, HasStood, EerWords, DomainWords, DeerWords, IsRecord}
 use Rattle.core_frames.proofs.WaitFrames.{NewMark, mark_frame_still, marks_snoc, OnlyOlder, grace_frame, grace_snoc, reuse_snoc, waiters_section}
-use Rattle.core_frames.proofs.Views.{SameSlots, own_slots, slots_stay, quiet_words}
+use Rattle.core_frames.proofs.Views.{SameSlots, own_slots, slots_stay, writer_words}
 use Rattle.core_state.specs.declared.shape.Waiter.{Waiter}
 use Rattle.core_frames.proofs.PlaceFrames.{count_frame, numbers_of, front_frame, slot_frame, open_none, seats_enter, lock_frame, seats_left}
 use Rattle.core_state.specs.Steps.{spent_view, NeedsEntry, entering, new_section, fresh_reading, leaving}
@@ -112,14 +112,14 @@ abbrev pub beside_section : View → View
 beside_section u = record u { enter = spent_view.enter; section = None; records = []; counts = record u.counts { sections = 0 }; seen = [] }
 
 module _ (k : Shape) (m m' : Memory) (vs : List View) (h : List Mark) (id : ℕ) (v w : View) (mark : Mark) (i : HoldsNow k m vs h)
-    (there : get_elem? vs id ≡ some v) (words : quiet_words m' ≡ quiet_words m)
+    (there : get_elem? vs id ≡ some v) (words : writer_words m' ≡ writer_words m)
     (outside : IsOutside mark) (turns : TurnsNoWait mark) (same : beside_section w ≡ beside_section v)
     (seen : w.seen ≡ h ++ mark ∷ []) where
   slots : SameSlots m m'
   slots = slots_stay m m' (λ n. (words n).slots)
 
-  quiet : QuietMarks h (h ++ mark ∷ [])
-  quiet = quiet_snoc h mark outside
+  quiet : SilentMarks h (h ++ mark ∷ [])
+  quiet = silent_snoc h mark outside
 
   -- What the step does to seats, words, locks, the tree, readers and listings it has to say.
   pub section_law : NewMark k.places h mark → OnlyOlder h v w → SeatParts k.places (set vs id w) (h ++ mark ∷ [])
@@ -162,7 +162,7 @@ module _ (k : Shape) (m m' : Memory) (vs : List View) (h : List Mark) (id : ℕ)
 
 module _ (k : Shape) (m m' : Memory) (vs : List View) (h : List Mark) (id : ℕ) (v : View) (i : HoldsNow k m vs h)
     (there : get_elem? vs id ≡ some v) (works : Works v) (key stamp clocked : ℕ) (entry : NeedsEntry v key)
-    (words : quiet_words m' ≡ quiet_words m) where
+    (words : writer_words m' ≡ writer_words m) where
   abbrev view_entered : View
   view_entered = entering v key stamp clocked h
 
@@ -175,8 +175,8 @@ module _ (k : Shape) (m m' : Memory) (vs : List View) (h : List Mark) (id : ℕ)
   slots_entered : SameSlots m m'
   slots_entered = slots_stay m m' (λ n. (words n).slots)
 
-  quiet_entered : QuietMarks h (h ++ mark_entered ∷ [])
-  quiet_entered = quiet_snoc h mark_entered tt
+  quiet_entered : SilentMarks h (h ++ mark_entered ∷ [])
+  quiet_entered = silent_snoc h mark_entered tt
 
   is_new : (s : Section) → view_entered.section ≡ Some s → section_now ≡ s
   is_new s is = cc
@@ -281,7 +281,7 @@ module _ (k : Shape) (m m' : Memory) (vs : List View) (h : List Mark) (id : ℕ)
 
 module _ (k : Shape) (m m' : Memory) (vs : List View) (h : List Mark) (id : ℕ) (v : View) (i : HoldsNow k m vs h)
     (there : get_elem? vs id ≡ some v) (works : Works v) (section : Section) (is_inside : v.section ≡ Some section)
-    (words : quiet_words m' ≡ quiet_words m) where
+    (words : writer_words m' ≡ writer_words m) where
   abbrev view_left : View
   view_left = leaving v section h
 
@@ -291,8 +291,8 @@ module _ (k : Shape) (m m' : Memory) (vs : List View) (h : List Mark) (id : ℕ)
   slots_left : SameSlots m m'
   slots_left = slots_stay m m' (λ n. (words n).slots)
 
-  quiet_left : QuietMarks h (h ++ mark_left ∷ [])
-  quiet_left = quiet_snoc h mark_left tt
+  quiet_left : SilentMarks h (h ++ mark_left ∷ [])
+  quiet_left = silent_snoc h mark_left tt
 
   none_now : (A : Type 0) (s : Section) → view_left.section ≡ Some s → A
   none_now A s none = absurd (let e : None ≡ Some s = none in cc)

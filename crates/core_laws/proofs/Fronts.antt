@@ -13,11 +13,11 @@ use Rattle.core_state.specs.Memory.{Memory, slot_count, stored, flag}
 use Rattle.core_state.specs.Views.{Works}
 use Rattle.core_state.specs.Parts.{FrontParts, IsOddBy}
 use Rattle.core_state.specs.Invariant.{HoldsNow}
-use Rattle.core_frames.proofs.Marks.{quiet_same}
+use Rattle.core_frames.proofs.Marks.{silent_same}
 use Rattle.core_frames.proofs.Views.{SameSlots, same_slots, reader_words, slots_stay}
 use Rattle.core_frames.proofs.PlaceFrames.{NumbersStep, numbers_of, counts_still, sums_same, numbers_stay, front_frame, odd_by}
 use Rattle.core_frames.proofs.TreeFrames.{listing_frame_still}
-use Rattle.core_frames.proofs.WholeFrames.{whole, slot_half, seat_half, wait_still, waiters_stay, Stepper, StepKeeps, by_quiet_store, only_loaded, no_mark, kept}
+use Rattle.core_frames.proofs.WholeFrames.{whole, slot_half, seat_half, wait_still, waiters_stay, Stepper, StepKeeps, by_waiter_store, only_loaded, no_mark, kept}
 use Rattle.prcu_marks.specs.Marks.{updates_of, updates_by}
 use Rattle.list_laws.specs.Counts.{Each}
 use Rattle.core_state.specs.Steps.{NeedsOpenCommit, with_front, NeedsCloseCommit, after_close_commit, after_open_commit, NeedsGiveFrontBack}
@@ -42,20 +42,20 @@ module _ (k : Shape) (m m' : Memory) (vs : List View) (h : List Mark) (id : ℕ)
       → (reserved ≡ true → v.hands.hand ≡ None)
       → NumbersStep m m' (numbers_of v) (numbers_of w) → FrontParts m' (set vs id w) h → HoldsNow k m' (set vs id w) h
   number_law slots clock words known one numbers front =
-      whole k m' i.chart (set vs id w) h i.table (slot_half k m vs h id v w i there m' h slots (quiet_same h) refl (λ _. one))
+      whole k m' i.chart (set vs id w) h i.table (slot_half k m vs h id v w i there m' h slots (silent_same h) refl (λ _. one))
       (seat_half k m vs h id v w i there works refl (⊎_elim (λ e. inl e) (λ e. inr (refl, e)) known)
       (wait_still k m vs h id v w i there refl refl))
       (waiters_stay k m m' vs h id v w i there clock words refl)
       (counts_still k.tickets m m' (slot_count k) i.chart vs id v w h h there
       (sums_same m m' (slot_count k) slots.nodes slots.state) refl numbers i.counts) front
-      (listing_frame_still m m' slots.nodes i.chart h h (quiet_same h) vs id v w there refl i.listings)
+      (listing_frame_still m m' slots.nodes i.chart h h (silent_same h) vs id v w there refl i.listings)
 
   -- Where the front and the commit are as they were, only the counts have to be right.
   pub free_law : SameSlots m m' → m' Clock ≡ m Clock → m' Front ≡ m Front → reader_words m' ≡ reader_words m → commit ≡ v.commit
       → (seen ≡ h) ⊎ (seen ≡ v.seen) → (reserved ≡ true → v.hands.hand ≡ None) → NumbersStep m m' (numbers_of v) (numbers_of w)
       → HoldsNow k m' (set vs id w) h
   free_law slots clock front words same known one numbers =
-      number_law slots clock words known one numbers (front_frame m m' vs id v w h h there front same (λ e. e) (quiet_same h) i.front)
+      number_law slots clock words known one numbers (front_frame m m' vs id v w h h there front same (λ e. e) (silent_same h) i.front)
 
 -- only the latest numbers and what was seen change, and no word
 pub seen_law : (k : Shape) (m : Memory) (vs : List View) (h : List Mark) (id : ℕ) (v : View) (i : HoldsNow k m vs h)
@@ -152,11 +152,11 @@ module _ (z : Stepper) where
       (turns_odd k m vs h id v inv there works expected (m Front == expected) needs refl)
 
   pub keeps_close_commit : (front : ℕ) → NeedsCloseCommit v front → StepKeeps z Front front (after_close_commit v front) []
-  keeps_close_commit front needs = by_quiet_store z Front front (after_close_commit v front) (slots_stay m (stored m Front front) refl)
+  keeps_close_commit front needs = by_waiter_store z Front front (after_close_commit v front) (slots_stay m (stored m Front front) refl)
       (closed_law k m vs h id v inv there works front needs)
 
   pub keeps_give_front_back : (front : ℕ) → NeedsGiveFrontBack v front → StepKeeps z Front front (after_close_commit v front) []
-  keeps_give_front_back front needs = by_quiet_store z Front front (after_close_commit v front) (slots_stay m (stored m Front front) refl)
+  keeps_give_front_back front needs = by_waiter_store z Front front (after_close_commit v front) (slots_stay m (stored m Front front) refl)
       (given_back_law k m vs h id v inv there works front needs)
 
 -- The steps on the free count keep the invariant: K10 and K16.
@@ -227,5 +227,5 @@ module _ (z : Stepper) where
       (reserves k m vs h id v inv there works expected (m Free == expected) (m Free == 0) needs refl)
 
   pub keeps_count_free : NeedsCountFree v → StepKeeps z Free (m Free + 1) (after_count_free v (m Free)) []
-  keeps_count_free needs = by_quiet_store z Free (m Free + 1) (after_count_free v (m Free))
+  keeps_count_free needs = by_waiter_store z Free (m Free + 1) (after_count_free v (m Free))
       (slots_stay m (stored m Free (m Free + 1)) refl) (counted_law k m vs h id v inv there works (m Free) refl needs)

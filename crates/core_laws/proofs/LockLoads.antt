@@ -31,7 +31,7 @@ use Rattle.core_frames.proofs.PlaceFrames.{free_slots, generations_in, tags_rais
 use Rattle.atomic_table.proofs.Lists.{set_here, set_again}
 use Rattle.core_state.specs.declared.view.Known.{Known}
 use Rattle.core_state.specs.declared.view.Section.{Section}
-use Rattle.core_frames.proofs.Marks.{quiet_same}
+use Rattle.core_frames.proofs.Marks.{silent_same}
 use Rattle.core_frames.proofs.WaitFrames.{mark_frame, waiter_frame, grace_frame_by, retired_still, move_still}
 use Rattle.core_frames.proofs.TreeFrames.{emptied_still, readers_stay, see_by, same_form, HadMove, IsForm, tree_by, moving_by, SameMoves, listing_frame, listing_same}
 use Rattle.std.proofs.lemmas.Bool.{cases_eq}
@@ -266,12 +266,12 @@ module _ (k : Shape) (m : Memory) (vs : List View) (h : List Mark) (id : ℕ) (v
   counts : CountParts k.tickets m (slot_count k) i.chart (set vs id copy_view) h
   counts = counts_kept k.tickets m m (slot_count k) i.chart vs id v copy_view h h there (same_slots m) refl refl
       (record { tickets = refl; reserved = refl; owes = refl; unraised = omega arith; locks = refl; moving = sym (ap has moving) })
-      (quiet_same h) refl refl i.counts
+      (silent_same h) refl refl i.counts
 
   tree : TreeParts m (slot_count k) i.chart (set vs id copy_view) h
   tree =
       let t = i.tree in
-      tree_by m m (slot_count k) i.chart vs (set vs id copy_view) h h (same_slots m).nodes (quiet_same h) moves_of
+      tree_by m m (slot_count k) i.chart vs (set vs id copy_view) h h (same_slots m).nodes (silent_same h) moves_of
       (each_set (λ j u. (a : Move) → u.moving ≡ Some a → IsMoving m i.chart h u a) vs id copy_view
       (λ a is. (let q : with_copy ≡ a = cc in let x = t.moves.each id v there move moving in
       subst (IsMoving m i.chart h copy_view) q (moving_by m m (same_slots m).nodes i.chart h h v copy_view move move.waited ks
@@ -280,7 +280,7 @@ module _ (k : Shape) (m : Memory) (vs : List View) (h : List Mark) (id : ℕ) (v
       (λ j u ne e a is. t.moves.each j u e a is)) t
 
   readers : ReaderParts m i.chart (set vs id copy_view) h
-  readers = readers_stay m m (same_slots m).nodes i.chart vs id v copy_view h h there (quiet_same h)
+  readers = readers_stay m m (same_slots m).nodes i.chart vs id v copy_view h h there (silent_same h)
       (see_by vs (set vs id copy_view) moves_of (emptied_still vs id v copy_view there refl)) refl refl i.readers
 
   grace : GraceParts (set vs id copy_view) h
@@ -295,7 +295,7 @@ module _ (k : Shape) (m : Memory) (vs : List View) (h : List Mark) (id : ℕ) (v
       (record { shown = x.shown; noted = x.noted; clear = x.clear }))) i.grace
 
   pub law_copy : HoldsNow k m (set vs id copy_view) h
-  law_copy = let quiet = quiet_same h in let nodes = (same_slots m).nodes in record {
+  law_copy = let quiet = silent_same h in let nodes = (same_slots m).nodes in record {
     table = i.table;
     chart = i.chart;
     marks = mark_frame k.places vs id v copy_view h there (record { place = refl; places = refl; wait = refl; waits = refl }) refl i.marks;

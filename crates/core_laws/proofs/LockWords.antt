@@ -20,7 +20,7 @@ use Rattle.core_state.specs.declared.view.View.{View}
 use Rattle.core_state.specs.Tree.{Chart, IsEmptied, HasEmptied}
 use Rattle.core_state.specs.Parts.{IsHolderOf, HasFewLocks, IsUnraised, IsLockKept, IsLockKnown, IsReadingKept, LockParts, ReaderParts, IsMoving, TreeParts}
 use Rattle.core_frames.proofs.TreeFrames.{moves_same, tree_by, moving_by, moving_same, may_still, old_still, readers_stay, listing_frame_still}
-use Rattle.core_frames.proofs.Marks.{quiet_same}
+use Rattle.core_frames.proofs.Marks.{silent_same}
 use Rattle.core_state.specs.declared.view.Reading.{Reading}
 use Rattle.core_frames.proofs.PlaceFrames.{kept_same, known_same, reading_same, counts_still, sums_same, slot_frame, slots_elsewhere, front_frame}
 use Rattle.prcu_marks.specs.declared.mark.Side.TheVariants.{Left, Right}
@@ -124,14 +124,14 @@ module _ (vs : List View) (id : ℕ) (v : View) (there : get_elem? vs id ≡ som
         (λ (p : s ≡ move.parent). (no_end move is).2 (sym p ∙ e)) r) which)) (λ r x. x) (λ r x. x)
 
     pub tree_locks : (n : ℕ) → TreeParts m n g vs h → TreeParts m' n g (set vs id w) h
-    tree_locks n t = tree_by m m' n g vs (set vs id w) h h nodes (quiet_same h) (moves_same vs id v w there refl)
+    tree_locks n t = tree_by m m' n g vs (set vs id w) h h nodes (silent_same h) (moves_same vs id v w there refl)
         (each_set (λ j u. (move : Move) → u.moving ≡ Some move → IsMoving m' g h u move) vs id w
         (λ move is. moving_on move is (t.moves.each id v there move is))
-        (λ j u ne e move is. moving_same m m' nodes g h h u u move (quiet_same h) refl refl (λ r x. x) (λ r x. x)
+        (λ j u ne e move is. moving_same m m' nodes g h h u u move (silent_same h) refl refl (λ r x. x) (λ r x. x)
         (t.moves.each j u e move is))) t
 
     pub readers_locks : ReaderParts m g vs h → ReaderParts m' g (set vs id w) h
-    readers_locks = readers_stay m m' nodes g vs id v w h h there (quiet_same h)
+    readers_locks = readers_stay m m' nodes g vs id v w h h there (silent_same h)
         (record { may = may_still vs id v w there refl; old_for = old_still vs id v w there refl; emptied = emptied_on }) refl refl
 
   -- What a step has to say of the slot whose lock it is.
@@ -215,7 +215,7 @@ module _ (k : Shape) (m : Memory) (vs : List View) (h : List Mark) (id : ℕ) (v
   relock_law : HoldsNow k to (set vs id w') h
   relock_law =
       let nodes = lock_nodes m slot x in
-      let quiet = quiet_same h in
+      let quiet = silent_same h in
       whole k to i.chart (set vs id w') h i.table
       (record {
         slots = slots_elsewhere m to nodes (λ s. refl) (slot_count k) i.chart (set vs id w') h h quiet

@@ -31,7 +31,7 @@ use Rattle.core_state.specs.declared.view.Retired.{Retired}
 use Rattle.core_state.specs.declared.view.Spent.{Spent}
 use Rattle.core_state.specs.Marks.{begun, begun_at, Grace, HasWaited, WasLeft}
 use Rattle.core_state.specs.Views.{Works}
-use Rattle.core_frames.proofs.Marks.{QuietMarks, quiet_snoc, begun-append, begun_at-append, others_snoc, prefix_snoc}
+use Rattle.core_frames.proofs.Marks.{SilentMarks, silent_snoc, begun-append, begun_at-append, others_snoc, prefix_snoc}
 use Rattle.core_frames.proofs.Views.{same_slots}
 use Rattle.core_frames.proofs.WaitFrames.{marks_snoc, mark_frame_by, reuse_snoc, StaysNoted, clear_same, move_stays, retired_stays, waited_longer, waited_by}
 use Rattle.core_frames.proofs.PlaceFrames.{counts_still, sums_same, front_frame, counted_still, seat_frame_still}
@@ -201,8 +201,8 @@ module _ (k : Shape) (m : Memory) (vs : List View) (h : List Mark) (id : ℕ) (v
   stands : WaitStands h v wait
   stands = i.marks.waits id v there wait waits
 
-  quiet : QuietMarks h h'
-  quiet = quiet_snoc h mark tt
+  quiet : SilentMarks h h'
+  quiet = silent_snoc h mark tt
 
   -- an end among the marks is an old one or this one
   new_end : (j p n : ℕ) → get_elem? h' j ≡ some (Ended p n)

@@ -18,7 +18,7 @@ use Rattle.core_state.specs.Tree.{Chart}
 use Rattle.core_state.specs.Parts.{IsRetired, IsRetiredOf, SlotParts, CountParts, HasRetired}
 use Rattle.core_state.specs.Invariant.{HoldsNow}
 use Rattle.list_laws.proofs.Lists.{in_append, in_first, in_second, at_below, set_twice, times_append, times_other, somewhere_still}
-use Rattle.core_frames.proofs.Marks.{quiet_same}
+use Rattle.core_frames.proofs.Marks.{silent_same}
 use Rattle.core_frames.proofs.Views.{same_slots}
 use Rattle.core_frames.proofs.PlaceFrames.{counts_kept, slots_by, retired_of_still}
 use Rattle.core_frames.proofs.Roles.{unraised_append, map_append}
@@ -169,7 +169,7 @@ module _ (k : Shape) (m : Memory) (vs : List View) (h : List Mark) (id : ℕ) (v
         unraised = (let e = unraised_are in omega arith);
         locks = refl;
         moving = refl;
-      }) (quiet_same h) refl refl i.counts
+      }) (silent_same h) refl refl i.counts
 
   same : SameOutside v w
   same = same_but v v.locks w.hands v.seen
@@ -237,7 +237,7 @@ module _ (k : Shape) (m : Memory) (vs : List View) (h : List Mark) (id : ℕ) (v
   kept_counts : CountParts k.tickets m (slot_count k) i.chart (set vs id kept_view) h
   kept_counts = counts_kept k.tickets m m (slot_count k) i.chart vs id v kept_view h h there (same_slots m) refl refl
       (record { tickets = refl; reserved = refl; owes = refl; unraised = omega arith; locks = refl; moving = refl })
-      (quiet_same h) refl refl i.counts
+      (silent_same h) refl refl i.counts
 
   pub law_keep : HoldsNow k m (set vs id kept_view) h
   law_keep = hands_rest k m vs h id v i there works None v.hands.hand kept_slots kept_counts

@@ -29,7 +29,7 @@ use Rattle.core_frames.proofs.Views.{same_slots}
 use Rattle.core_frames.proofs.TreeFrames.{ReadersSee, record_by, see_by, served_by, SameMoves, same_form, tree_by}
 use Rattle.core_state.specs.Invariant.{HoldsNow}
 use Rattle.core_frames.proofs.WaitFrames.{StaysNoted, move_stays, retired_stays, wait_same}
-use Rattle.core_frames.proofs.Marks.{quiet_same}
+use Rattle.core_frames.proofs.Marks.{silent_same}
 use Rattle.core_frames.proofs.WholeFrames.{whole}
 
 -- what a view is about: its section, its locks, its move, its commit
@@ -201,7 +201,7 @@ module _ (vs us : List View) (id : ℕ) (v a b : View) (r : Regroups vs us id v 
   }
 
   tree_regroup : (m : Memory) (n : ℕ) (g : Chart) (h : List Mark) → TreeParts m n g vs h → TreeParts m n g us h
-  tree_regroup m n g h t = tree_by m m n g vs us h h (same_slots m).nodes (quiet_same h) moves_regroup
+  tree_regroup m n g h t = tree_by m m n g vs us h h (same_slots m).nodes (silent_same h) moves_regroup
       (each_regroup (λ (u : View). (move : Move) → u.moving ≡ Some move → IsMoving m g h u move)
       (λ (u : View). (move : Move) → u.moving ≡ Some move → IsMoving m g h u move)
       (λ u i. i) (λ i move is. absurd (idle_move a move is r.idle_a)) (λ move is. absurd (idle_move b move is idle_b)) t.moves.each) t
@@ -216,13 +216,13 @@ module _ (vs us : List View) (id : ℕ) (v a b : View) (r : Regroups vs us id v 
           (λ i. subst (λ rs. Each rs IsReading) (sym readings_a) i) (each_empty IsReading (readings_of b) readings_b) t.readings;
       served = each_regroup (λ (u : View). (section : Section) → u.section ≡ Some section → IsServed m g h vs section)
           (λ (u : View). (section : Section) → u.section ≡ Some section → IsServed m g h us section)
-          (λ u i section is. served_by m m (same_slots m).nodes g vs us h h (quiet_same h) see section (i section is))
+          (λ u i section is. served_by m m (same_slots m).nodes g vs us h h (silent_same h) see section (i section is))
           (λ i section is. absurd (idle_section a section is r.idle_a))
           (λ section is. absurd (idle_section b section is idle_b)) t.served;
       records = each_regroup (λ (u : View). Each u.records (IsRecord m g vs)) (λ (u : View). Each u.records (IsRecord m g us))
-          (λ u i j x e. record_by m m (same_slots m).nodes g vs us h h (quiet_same h) see x (i j x e))
+          (λ u i j x e. record_by m m (same_slots m).nodes g vs us h h (silent_same h) see x (i j x e))
           (λ i. subst (λ (z : Remains). Each z.records (IsRecord m g us)) (sym r.rest)
-          (λ j x e. record_by m m (same_slots m).nodes g vs us h h (quiet_same h) see x (i j x e)))
+          (λ j x e. record_by m m (same_slots m).nodes g vs us h h (silent_same h) see x (i j x e)))
           (each_empty (IsRecord m g us) b.records (λ n. (r.bare n).left.records)) t.records;
       ages = λ s at c side gone met link ne. t.ages s at c side gone (record {
         id = met.id;

@@ -24,7 +24,7 @@ use Rattle.core_state.specs.Steps.{spent_view, keys_of, spot_of, no_bounds, narr
 use Rattle.core_state.specs.Parts.{IsHolderOf, HasFewLocks, IsLockKept, IsLockKnown, IsReadingKept, LockParts, IsOwned, SectionStands, IsCounted, IsOpenOf, SeatParts, IsClocked, IsTurnedOnce, inside_count, WaiterParts, IsReading, IsServed, IsListing, IsClear, map_now, IsBetween, GoesOn, here, past, StandsNow, IsVisit, HasOpen, IsGoneSince}
 use Rattle.core_state.specs.Invariant.{HoldsNow}
 use Rattle.list_laws.proofs.Lists.{at_below, each_set, each_change, total_same, in_second, in_append, set_twice, somewhere_still}
-use Rattle.core_frames.proofs.Marks.{quiet_same, waits_same}
+use Rattle.core_frames.proofs.Marks.{silent_same, waits_same}
 use Rattle.core_frames.proofs.Views.{same_slots, was}
 use Rattle.core_frames.proofs.WaitFrames.{mark_frame, grace_frame}
 use Rattle.core_frames.proofs.PlaceFrames.{slot_frame, count_frame, front_frame, front_counts}
@@ -196,7 +196,7 @@ module _ (k : Shape) (m : Memory) (vs : List View) (h : List Mark) (id : ℕ) (v
 
     pub in_section : HoldsNow k m (set vs id w) h
     in_section =
-        let quiet = quiet_same h in
+        let quiet = silent_same h in
         let nodes = (same_slots m).nodes in
         record {
           table = i.table;

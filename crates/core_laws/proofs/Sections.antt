@@ -21,7 +21,7 @@ use Rattle.list_laws.proofs.Lists.{each_set, each_change, total_set}
 use Rattle.core_frames.proofs.Roles.{open_entered, open_entered_other, open_left_other}
 use Rattle.core_state.specs.Invariant.{HoldsNow}
 use Rattle.core_state.specs.declared.words.Field.{Field}
-use Rattle.core_frames.proofs.WholeFrames.{Stepper, StepKeeps, by_load, by_store, by_quiet_store, quiet_law, waiters_stay}
+use Rattle.core_frames.proofs.WholeFrames.{Stepper, StepKeeps, by_load, by_store, by_waiter_store, waiter_law, waiters_stay}
 use Rattle.core_state.specs.Views.{Works, open_of}
 use Rattle.core_laws.proofs.Entering.{apart, inside_works, enter_law, leave_law, no_other}
 use Rattle.core_frames.proofs.PlainLaws.{clocked_before}
@@ -53,7 +53,7 @@ module _ (k : Shape) (m : Memory) (vs : List View) (h : List Mark) (id : ℕ) (v
   clock_law =
       let w : View = after_clock_load v (m Clock) h in
       let now : Clocked = record { number = m Clock; at = length h } in
-      quiet_law k m m vs h id v w i there works refl refl
+      waiter_law k m m vs h id v w i there works refl refl
       (waiter_frame k m m vs id v w h there (record { place = refl; section = refl; wait = refl }) refl refl refl
       (λ clocked is. (let e : now ≡ clocked = cc in
       subst (λ (c : Clocked). (c.at ≤ length h) × (c.number ≡ begun (take c.at h))) e
@@ -96,7 +96,7 @@ module _ (k : Shape) (m : Memory) (vs : List View) (h : List Mark) (id : ℕ) (v
       }
 
       keyed_law : HoldsNow k keyed (set vs id keyed_view) h
-      keyed_law = quiet_law k m keyed vs h id v keyed_view i there works refl refl (record {
+      keyed_law = waiter_law k m keyed vs h id v keyed_view i there works refl refl (record {
         clock = i.waiters.clock;
         clocked = clocked_same k.waiter vs id v keyed_view h h there (prefix_self h) (clocked_before k m vs h i) refl refl
             i.waiters.clocked;
@@ -192,7 +192,7 @@ module _ (z : Stepper) where
 
   pub keeps_announce : (key : ℕ) → k.waiter ≡ Eer → NeedsAnnounce v
       → StepKeeps z (Announced v.allowance.place) key (after_announce v key) []
-  keeps_announce key way needs = by_quiet_store z (Announced v.allowance.place) key (after_announce v key)
+  keeps_announce key way needs = by_waiter_store z (Announced v.allowance.place) key (after_announce v key)
       (slots_stay m (stored m (Announced v.allowance.place) key) refl) (keyed_law k m vs h id v inv there works way key needs)
 
   pub keeps_enter_by_stamp : (key stamp : ℕ) (clocked : Clocked) → k.waiter ≡ Eer → NeedsEnterByStamp v key stamp clocked
@@ -227,7 +227,7 @@ module _ (k : Shape) (m : Memory) (vs : List View) (h : List Mark) (id : ℕ) (v
   gate_law : (class found : ℕ) (o : Option Section) → HoldsNow k m (set vs id (gated v class found o)) h
   gate_law class found None =
       let w : View = gated v class found None in
-      quiet_law k m m vs h id v w i there works refl refl (waiters_stay k m m vs h id v w i there refl refl refl)
+      waiter_law k m m vs h id v w i there works refl refl (waiters_stay k m m vs h id v w i there refl refl refl)
   gate_law class found (Some section) = subst (λ us. HoldsNow k m us h) (sym (set_again vs id v there)) i
 
   -- K29: a section is entered on a side of its class

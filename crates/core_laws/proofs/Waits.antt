@@ -13,13 +13,13 @@ use Rattle.core_state.specs.Memory.{has, Memory, slot_count, stored}
 use Rattle.core_state.specs.Views.{Works, slots_of, spares_of, held_list, joined_retired, unraised_hand, unraised_among, unraised_of}
 use Rattle.core_state.specs.Parts.{WaitStands, IsTurnedOnce, WaiterParts, turns_to_come, HasEnded, HasFewSlots, IsRetired, IsRetiredOf, AreHandsKnown, IsMoving, HasRetired, IsHandKnown}
 use Rattle.core_state.specs.Invariant.{HoldsNow}
-use Rattle.core_frames.proofs.Marks.{quiet_same, QuietMarks, quiet_snoc, begun-append, begun_at-append, QuietWaits, others_snoc, prefix_snoc, at_some}
-use Rattle.core_frames.proofs.Views.{reader_words, slots_stay, quiet_words, same_slots, in_times, few_below}
+use Rattle.core_frames.proofs.Marks.{silent_same, SilentMarks, silent_snoc, begun-append, begun_at-append, NoWaitEnded, others_snoc, prefix_snoc, at_some}
+use Rattle.core_frames.proofs.Views.{reader_words, slots_stay, writer_words, same_slots, in_times, few_below}
 use Rattle.core_frames.proofs.PlaceFrames.{front_frame, counts_still, sums_same, seat_frame_still, lock_frame, slots_by}
 use Rattle.core_frames.proofs.TreeFrames.{listing_frame_still, emptied_still, readers_stay, see_by, IsForm, tree_by, moving_by, SameMoves, HadMove, same_form}
 use Rattle.core_frames.proofs.WaitFrames.{AreLoaded, StandsExcused, clocked_same, excused_wait, turned_frame, waiters_by, wait_same, marks_snoc, mark_frame_by, reuse_snoc, grace_frame, grace_longer}
 use Rattle.core_state.specs.declared.words.Field.{Field}
-use Rattle.core_frames.proofs.WholeFrames.{whole, slot_half, seat_half, SeatHalf, SlotHalf, Stepper, StepKeeps, by_store, by_quiet_store}
+use Rattle.core_frames.proofs.WholeFrames.{whole, slot_half, seat_half, SeatHalf, SlotHalf, Stepper, StepKeeps, by_store, by_waiter_store}
 use Rattle.core_state.specs.Marks.{begun, begun_at, AreMarks, WasLeft}
 use Rattle.prcu_marks.specs.Marks.{open_at, entered_at, Open, next_open}
 use Rattle.prcu_model.proofs.ListFacts.{prefix_self}
@@ -73,7 +73,7 @@ waiters_own k m m' vs id v w h h' wait there place section enter has words clock
 
 module _ (k : Shape) (m m' : Memory) (vs : List View) (h : List Mark) (id : ℕ) (v : View) (i : HoldsNow k m vs h)
     (there : get_elem? vs id ≡ some v) (works : Works v) (wait : Waiting) (turns : ℕ)
-    (quiet : quiet_words m' ≡ quiet_words m) (words : reader_words m' ≡ reader_words m) where
+    (quiet : writer_words m' ≡ writer_words m) (words : reader_words m' ≡ reader_words m) where
   abbrev with_wait : View
   with_wait = record v { wait = Some wait; counts = record v.counts { turns = turns } }
 
@@ -87,7 +87,7 @@ module _ (k : Shape) (m m' : Memory) (vs : List View) (h : List Mark) (id : ℕ)
       let front : m' Front ≡ m Front = (λ n. (quiet n).front) in
       let free : m' Free ≡ m Free = (λ n. (quiet n).free) in
       whole k m' i.chart (set vs id with_wait) h i.table
-      (slot_half k m vs h id v with_wait i there m' h slots (quiet_same h) refl (λ one. one))
+      (slot_half k m vs h id v with_wait i there m' h slots (silent_same h) refl (λ one. one))
       (seat_half k m vs h id v with_wait i there works refl (inr (refl, refl))
       (λ x is. of_wait (WaitStands h with_wait) with_wait.wait wait x refl stands is))
       (waiters_own k m m' vs id v with_wait h h wait there refl refl refl refl words (clock ∙ i.waiters.clock) (prefix_self h) (λ p. refl)
@@ -102,8 +102,8 @@ module _ (k : Shape) (m m' : Memory) (vs : List View) (h : List Mark) (id : ℕ)
         turns = omega arith;
         pending = refl;
       }) i.counts)
-      (front_frame m m' vs id v with_wait h h there front refl (λ e. e) (quiet_same h) i.front)
-      (listing_frame_still m m' slots.nodes i.chart h h (quiet_same h) vs id v with_wait there refl i.listings)
+      (front_frame m m' vs id v with_wait h h there front refl (λ e. e) (silent_same h) i.front)
+      (listing_frame_still m m' slots.nodes i.chart h h (silent_same h) vs id v with_wait there refl i.listings)
 
 -- K7, the beginning of a wait, keeps the invariant.
 
@@ -144,8 +144,8 @@ module _ (k : Shape) (m : Memory) (vs : List View) (h : List Mark) (id : ℕ) (v
   abbrev new : Memory
   new = stored m Clock (m Clock + 1)
 
-  quiet : QuietMarks h hs
-  quiet = quiet_snoc h mark tt
+  quiet : SilentMarks h hs
+  quiet = silent_snoc h mark tt
 
   counted : v.counts.waits ≡ begun_at v.allowance.place h
   counted = (i.seats.counted id v there works).waits
@@ -154,7 +154,7 @@ module _ (k : Shape) (m : Memory) (vs : List View) (h : List Mark) (id : ℕ) (v
   not_over has = not_ended k.places v.allowance.place h i.marks.marks (subst (HasEnded h v.allowance.place) counted has)
 
   -- no wait ends, and this one hasn't
-  waits : QuietWaits h hs
+  waits : NoWaitEnded h hs
   waits = record {
     began = λ j p n from to over e. ⊎_elim (λ (o : get_elem? h j ≡ some (Began p n from to)). o)
         (λ x. absurd (let q : mark ≡ Began p n from to = x.1 in let place : v.allowance.place ≡ p = cc in
@@ -286,7 +286,7 @@ module _ (z : Stepper) where
       → StepKeeps z (Gate class) (turned_gate (m (Gate class))) (after_gate_turn v wait class) []
   keeps_gate_turn wait class needs =
       let left : ℕ = turned_gate (m (Gate class)) in
-      by_quiet_store z (Gate class) left (after_gate_turn v wait class) (slots_stay m (stored m (Gate class) left) refl)
+      by_waiter_store z (Gate class) left (after_gate_turn v wait class) (slots_stay m (stored m (Gate class) left) refl)
       (turned_law k m vs h id v inv there works wait class left needs)
 
 -- What a list of marks says of a section that was entered: it was left, or is open. And that a wait began at one place of the list.
@@ -551,11 +551,11 @@ module _ (vs : List View) (id : ℕ) (v : View) (there : get_elem? vs id ≡ som
         outside = λ section is. (t.locks.few id v there).outside section is;
         readings = λ r has. inl has;
       }) t.locks;
-      tree = tree_by m m (slot_count k) g vs (set vs id view_noted) h h (same_slots m).nodes (quiet_same h) forms_noted
+      tree = tree_by m m (slot_count k) g vs (set vs id view_noted) h h (same_slots m).nodes (silent_same h) forms_noted
           (each_set (λ j u. (move : Move) → u.moving ≡ Some move → IsMoving m g h u move) vs id view_noted
           (λ move is. (let x = move_back wait v.moving move is in
           subst (IsMoving m g h view_noted) x.same (moving_noted x.before x.waited (t.tree.moves.each id v there x.before x.had))))
           (λ j u ne e. t.tree.moves.each j u e)) t.tree;
-      readers = readers_stay m m (same_slots m).nodes g vs id v view_noted h h there (quiet_same h)
+      readers = readers_stay m m (same_slots m).nodes g vs id v view_noted h h there (silent_same h)
           (see_by vs (set vs id view_noted) forms_noted (emptied_still vs id v view_noted there refl)) refl refl t.readers;
     }

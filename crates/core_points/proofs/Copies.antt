@@ -34,7 +34,7 @@ use Rattle.core_points.specs.Fits.{IsGiven, GoesOn, Fits, plain}
 use Rattle.core_points.proofs.Unlinks.{KeepsLife, KeepsLinks, held_by_load, is_marked, life_same, links_same, marked_node, node_marked, node_records, node_to, same_length, slots_push, under_marked, unraised_push}
 use Rattle.core_points.proofs.Locks.{clear_marked, clear_stored, clear_changed, clear_lock, each_more, IsClear, held_still, known_more_under, known_now, loaded_more, under_other}
 use Rattle.core_frames.proofs.Views.{same_self}
-use Rattle.core_points.proofs.Notes.{fits, quiet_noted, quiet_hand, owns_relocked, owns_more, owns_noted, owns_retired, owns_spared, quiet_unlocking, held_here}
+use Rattle.core_points.proofs.Notes.{fits, settled_noted, settled_hand, owns_relocked, owns_more, owns_noted, owns_retired, owns_spared, quiet_unlocking, held_here}
 use Rattle.core_points.proofs.Links.{made_even}
 use Rattle.core_points.proofs.DeleteSearches.{delete_owed}
 use Rattle.core_points.proofs.Targets.{holds_new}
@@ -191,7 +191,7 @@ module _ (k : Shape) (h : List Mark) (o : Own) (v : View) (n : ℕ) where
       let kn : Known = read_at field n in
       let now : List HeldLock = change_lock u.slot (note_lock kn) v.locks in record {
         copying = record {
-          quiet = quiet_noted o v u.slot field n false None c.quiet;
+          quiet = settled_noted o v u.slot field n false None c.quiet;
           deleting = c.deleting;
           both = same_to v.records v.locks now (key_now o) d u
               (λ t. (
@@ -248,7 +248,7 @@ module _ (k : Shape) (h : List Mark) (o : Own) (v : View) (n : ℕ) where
       let same : (t : ℕ) → copy ≢ t → under now t ≡ under v.locks t =
       λ t ne. under_other v.locks copy (note_lock kn) (λ l. refl) t (λ e. ne (sym e)) in record {
         copying = record {
-          quiet = quiet_noted o v copy field number by_store None c.quiet;
+          quiet = settled_noted o v copy field number by_store None c.quiet;
           deleting = c.deleting;
           both = aside_to v.records v.locks now (key_now o) copy d u aside same c.both;
         };
@@ -371,7 +371,7 @@ module _ (k : Shape) (h : List Mark) (o : Own) (v : View) (n : ℕ) where
           let q = c.quiet in
           let some : is_none_left o.locks ≡ false = ap is_none_left p.locks_are ∙ some_locks d u in
           subst (λ z. let st : Stage = cond z at.EnterClock (at.Unlock last.Again) in Fits (go o st) st v) (sym some)
-          (fits f.owns (f.unraised refl) f.tickets (quiet_unlocking q q.turn_is p.clear some, quiet_hand o v q, (c.deleting).1))
+          (fits f.owns (f.unraised refl) f.tickets (quiet_unlocking q q.turn_is p.clear some, settled_hand o v q, (c.deleting).1))
 
   -- the mark of the node
   pub needs_copy_mark : (d : Node) (u : Successor) (next_key : ℕ) → IsGiven k o v n (at.CopyMark d u next_key)
@@ -415,7 +415,7 @@ module _ (k : Shape) (h : List Mark) (o : Own) (v : View) (n : ℕ) where
       (let t = f.tickets in let two = delete_owed o.op o.hand o.retired (c.deleting).0 in omega arith) (
         record {
           copying = record {
-            quiet = quiet_noted o v d.node (Life d.node) (2 * d.generation + 1) true None c.quiet;
+            quiet = settled_noted o v d.node (Life d.node) (2 * d.generation + 1) true None c.quiet;
             deleting = c.deleting;
             both = (
               r,
@@ -489,7 +489,7 @@ module _ (k : Shape) (h : List Mark) (o : Own) (v : View) (n : ℕ) where
       let linked : View = noting v d.parent (Link d.parent d.side) held.slot true in
       let stored : View = record linked { locks = now } in
       let owns = owns_noted o v d.parent (Link d.parent d.side) held.slot true f.owns in
-      let q = quiet_noted o v d.parent (Link d.parent d.side) held.slot true (Some (record { found = front; stored = false })) c.quiet in
+      let q = settled_noted o v d.parent (Link d.parent d.side) held.slot true (Some (record { found = front; stored = false })) c.quiet in
       let old = held_by_load v u.slot (Life u.slot) (2 * u.generation) (both.3).life in
       let locked : lock_of now u.slot ≡ Some old.0 =
       change_other d.node (with_mark false) (λ l. refl) noted u.slot apart.from_node

@@ -5,7 +5,7 @@ use Rattle.core_state.specs.declared.view.HeldLock.{HeldLock}
 use Rattle.core_state.specs.declared.view.Known.{Known}
 use Rattle.core_state.specs.Memory.{same_field, same_side}
 use Rattle.core_state.specs.Views.{known_in, known_of, loaded_in, lock_of, change_lock, note_lock, without_lock, is_emptied, with_emptied}
-use Rattle.core_points.specs.Facts.{read_at, AreClear, Owns, SameLocks, one_lock, Bare, Unlocking, Quiet, Ready}
+use Rattle.core_points.specs.Facts.{read_at, AreClear, Owns, SameLocks, one_lock, Bare, Unlocking, Settled, Ready}
 use Rattle.core_points.specs.DeleteFacts.{Holds, under, ClearButMark, AreApart, HasLoaded, HoldsAll, HoldsSuccessorLocks, IsLoadedNow, IsSkipped, found_number, target_words, two_children}
 use Rattle.core_frames.proofs.Views.{same_self}
 use Rattle.core_laws.proofs.Locks.{lock_of-change, changed, change_here, change_other, slots_change, emptied_slot}
@@ -29,7 +29,7 @@ use Rattle.core_points.specs.declared.stage.Last.{Last}
 use Rattle.core_state.specs.declared.act.Act.TheVariants.{Unlock}
 use Rattle.core_points.specs.Fits.{Fits, PointUnlock, plain, IsGiven, GoesOn, Point, is_raising, owed}
 use Rattle.core_points.specs.Laws.{TellsOnce}
-use Rattle.core_points.proofs.Notes.{answers, owns_locked, fits, one_locked, one_noted, owns_more, quiet_hand, quiet_unlocking}
+use Rattle.core_points.proofs.Notes.{answers, owns_locked, fits, one_locked, one_noted, owns_more, settled_hand, quiet_unlocking}
 use Rattle.std.proofs.lemmas.Bool.{eqb-true}
 use Rattle.core_state.specs.declared.words.Field.TheVariants.{Life, Link}
 use Rattle.core_points.specs.declared.stage.Found.{Found}
@@ -214,8 +214,8 @@ module _ (o : Own) (v : View) (s : ℕ) (known : List Known) (e : v.locks ≡ on
   one_owned owns = ap is_none_left (own_lock o v s _ owns e refl)
 
   -- what was loaded under it isn't as it should be: it is given up, and the call begins again
-  pub one_again : Quiet o v None → Owns o v → Ready o → PointUnlock o v last.Again
-  one_again q owns ready = (quiet_unlocking q q.turn_is one_clear (one_owned owns), quiet_hand o v q, ready)
+  pub one_again : Settled o v None → Owns o v → Ready o → PointUnlock o v last.Again
+  one_again q owns ready = (quiet_unlocking q q.turn_is one_clear (one_owned owns), settled_hand o v q, ready)
 
 -- after a first lock was tried: it is held, or the call begins again
 pub goes_locking : {o : Own} {v : View} {stage : Stage} (next : Stage) (s n : ℕ) → Fits o stage v → is_raising stage ≡ false

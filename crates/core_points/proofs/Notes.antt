@@ -21,7 +21,7 @@ use Rattle.core_state.specs.Views.{known_in, LoadedGeneration, lock_of, change_l
 use Rattle.core_state.specs.Steps.{leaving, new_lock, spare_slot, loaded, searched, walked, walking, after_search_load, NeedsSearchLoad}
 use Rattle.list_laws.specs.Counts.{IsIn, times, Each}
 use Rattle.core_points.specs.Programs.{Own, is_none_left, is_some, key_now, value_in, answer, begun_with, first_point, spare_first, go}
-use Rattle.core_points.specs.Facts.{AreClear, Bare, BareParts, HandFits, IsLeaf, Owns, QuietParts, SameLocks, Stands, UnlockingParts, leaf_held, one_lock, read_at, stored_at, Idle, IsReady, OwnsParts, Quiet, Calm, Ready, is_delete, is_put, is_set, Inside}
+use Rattle.core_points.specs.Facts.{AreClear, Bare, BareParts, HandFits, IsLeaf, Owns, SettledParts, SameLocks, Stands, UnlockingParts, leaf_held, one_lock, read_at, stored_at, Idle, IsReady, OwnsParts, Settled, Calm, Ready, is_delete, is_put, is_set, Inside}
 use Rattle.core_points.specs.Laws.{Tells, NewViewsAreFree, IsFree}
 use Rattle.core_laws.proofs.LockSteps.{known_here, known_still}
 use Rattle.std.proofs.lemmas.Bool.{le-leb}
@@ -170,8 +170,8 @@ stands_on r same is here s = record { searches = s.searches; key_is = s.key_is; 
 
 -- what is quiet stays so when the front is turned, and before locks are given up
 pub quiet_turned : {commit turn now here : Option Commit} {o_hand : Option ℕ} {section : Option Section} {moving : Option Move}
-    {reserved owes : Bool} {hand : Option Held} → here ≡ now → QuietParts commit o_hand section turn moving reserved owes hand
-    → QuietParts now o_hand section here moving reserved owes hand
+    {reserved owes : Bool} {hand : Option Held} → here ≡ now → SettledParts commit o_hand section turn moving reserved owes hand
+    → SettledParts now o_hand section here moving reserved owes hand
 quiet_turned e q = record {
   outside = q.outside;
   turn_is = e;
@@ -184,7 +184,7 @@ quiet_turned e q = record {
 
 pub quiet_unlocking : {commit turn now : Option Commit} {o_hand : Option ℕ} {section : Option Section} {moving : Option Move}
     {reserved owes : Bool} {hand : Option Held} {o_locks : List ℕ} {locks : List HeldLock}
-    → QuietParts commit o_hand section turn moving reserved owes hand → now ≡ None → AreClear locks → is_none_left o_locks ≡ false
+    → SettledParts commit o_hand section turn moving reserved owes hand → now ≡ None → AreClear locks → is_none_left o_locks ≡ false
     → UnlockingParts o_locks section now moving reserved owes locks
 quiet_unlocking q even clear some = record {
   outside = q.outside;
@@ -197,9 +197,9 @@ quiet_unlocking q even clear some = record {
 }
 
 -- a note changes nothing of what is quiet
-pub quiet_noted : (o : Own) (v : View) (s : ℕ) (field : Field) (n : ℕ) (by_store : Bool) (commit : Option Commit) → Quiet o v commit
-    → Quiet o (noting v s field n by_store) commit
-quiet_noted o v s field n by_store commit q =
+pub settled_noted : (o : Own) (v : View) (s : ℕ) (field : Field) (n : ℕ) (by_store : Bool) (commit : Option Commit) → Settled o v commit
+    → Settled o (noting v s field n by_store) commit
+settled_noted o v s field n by_store commit q =
     let kn : Known = record { field = field; number = n; stored = by_store } in
     record {
       outside = q.outside;
@@ -211,20 +211,20 @@ quiet_noted o v s field n by_store commit q =
       no_hand = q.no_hand;
     }
 
-pub quiet_hand : (o : Own) (v : View) → Quiet o v None → HandFits o.hand o.hand_life (key_now o) (value_in o.op) v.hands.hand
-quiet_hand o v q = subst (λ x. HandFits x o.hand_life (key_now o) (value_in o.op) v.hands.hand) (sym q.no_hand) q.empty
+pub settled_hand : (o : Own) (v : View) → Settled o v None → HandFits o.hand o.hand_life (key_now o) (value_in o.op) v.hands.hand
+settled_hand o v q = subst (λ x. HandFits x o.hand_life (key_now o) (value_in o.op) v.hands.hand) (sym q.no_hand) q.empty
 
 -- the caller's call starts again with nothing held
-pub quiet_calm : (o : Own) (v : View) → Quiet o v None → v.locks ≡ [] → Ready o → Calm o v
-quiet_calm o v q none ready = record {
+pub settled_calm : (o : Own) (v : View) → Settled o v None → v.locks ≡ [] → Ready o → Calm o v
+settled_calm o v q none ready = record {
   bare = record { locks_are = none; turn_is = q.turn_is; settled = q.settled; reserved_is = q.unreserved; paid = q.paid };
-  hand = quiet_hand o v q;
+  hand = settled_hand o v q;
   ready = ready;
 }
 
 -- outside the section, with no slot in hand
 pub calm_quiet : (o : Own) (v : View) (section : Section) (h : List Mark) → Calm o v → is_put o.op ≡ false
-    → Quiet o (leaving v section h) None
+    → Settled o (leaving v section h) None
 calm_quiet o v section h c no_put =
     let none = (c.ready).empty no_put in
     record {

@@ -23,7 +23,7 @@ use Rattle.core_points.specs.declared.stage.Update.TheVariants as update
 use Rattle.core_points.specs.Programs.{Own, go, key_now, value_in}
 use Rattle.core_points.specs.Facts.{Setting, is_put, one_lock, read_at, set_known, stored_at, table_of}
 use Rattle.core_points.specs.Fits.{Fits, IsGiven, GoesOn, plain}
-use Rattle.core_points.proofs.Notes.{loads_at, fits, calm_quiet, found_next, life_here, life_still, owns_noted, quiet_calm, quiet_noted, quiet_turned, ready_set, set_owed, the_set}
+use Rattle.core_points.proofs.Notes.{loads_at, fits, calm_quiet, found_next, life_here, life_still, owns_noted, settled_calm, settled_noted, quiet_turned, ready_set, set_owed, the_set}
 use Rattle.core_points.proofs.Links.{made_even}
 use Rattle.core_points.proofs.Locks.{goes_locking, one_again, one_clear, one_held, one_lock_more, one_owned}
 use Rattle.core_laws.proofs.LockSteps.{known_here}
@@ -76,14 +76,14 @@ module _ (k : Shape) (h : List Mark) (o : Own) (v : View) (n : ℕ) where
       let q = p.quiet in
       goes_locking (at.SetCheck s generation) s n f refl p.locks_are f.tickets f.tickets
       (record { quiet = q; locks_are = ap (λ ls. new_lock s ∷ ls) p.locks_are; found = p.found; sets = p.sets })
-      (q.outside, quiet_calm o v q p.locks_are (ready_set o.op o.hand o.spare o.retired p.sets q.no_hand))
+      (q.outside, settled_calm o v q p.locks_are (ready_set o.op o.hand o.spare o.retired p.sets q.no_hand))
 
   -- a load under the lock
   setting_more : (s generation : ℕ) (known : List Known) (field : Field) (stage : Stage)
       → Setting o (plain v) s generation (one_lock s known) None
       → Setting (go o stage) (plain (noting v s field n false)) s generation (one_lock s (read_at field n ∷ known)) None
   setting_more s generation known field stage p = record {
-    quiet = quiet_noted o v s field n false None p.quiet;
+    quiet = settled_noted o v s field n false None p.quiet;
     locks_are = one_lock_more o v s known p.locks_are field n false;
     found = p.found;
     sets = p.sets;
@@ -153,7 +153,7 @@ module _ (k : Shape) (h : List Mark) (o : Own) (v : View) (n : ℕ) where
       subst (λ x. Fits (go o (at.Even (update.Value s old) front)) (at.Even (update.Value s old) front)
       (after_replace v x s (key_now o) value h)) (sym (commit_is v _ (p.quiet).turn_is))
       (fits owns (f.unraised refl) (let t = f.tickets in omega arith) (
-        quiet_turned refl (quiet_noted o v s (Value s) value true _ p.quiet),
+        quiet_turned refl (settled_noted o v s (Value s) value true _ p.quiet),
         one_owned o w s (stored_at (Value s) value ∷ known) now owns,
         one_clear o w s (stored_at (Value s) value ∷ known) now,
         p.sets,

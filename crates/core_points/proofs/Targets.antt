@@ -23,12 +23,12 @@ use Rattle.core_points.specs.declared.stage.Target.{Target}
 use Rattle.core_points.specs.declared.stage.Stage.{Stage}
 use Rattle.core_points.specs.Programs.{Own, go, is_none_left, key_now, last_right, nothing_found, target_word, target_holds, target_lock, target_locks, target_part, target_slot, with_found, after, deleting, past_target_load}
 use Rattle.core_state.specs.Acts.{in_slot}
-use Rattle.core_points.specs.Facts.{AreClear, Owns, Quiet, read_at, table_of}
+use Rattle.core_points.specs.Facts.{AreClear, Owns, Settled, read_at, table_of}
 use Rattle.core_points.specs.DeleteFacts.{ReadsParent, AreGot, BothHold, FewHold, HasLoaded, HasTarget, Holds, HoldsAll, HoldsSuccessorLocks, IsLoadedNow, IsSkipped, IsUnmarked, first_locks, found_number, target_words, two_children, under}
 use Rattle.core_points.specs.Fits.{Fits, IsGiven, GoesOn}
 use Rattle.core_points.proofs.DeleteSearches.{lacks_child, has_children}
 use Rattle.core_points.proofs.Locks.{no_slots, clear_changed, each_more, IsClear, word_held, one_more, held_still, none_in}
-use Rattle.core_points.proofs.Notes.{owns_more, owns_noted, quiet_unlocking, fits, quiet_noted, quiet_calm, quiet_hand}
+use Rattle.core_points.proofs.Notes.{owns_more, owns_noted, quiet_unlocking, fits, settled_noted, settled_calm, settled_hand}
 use Rattle.core_points.proofs.Links.{both_true}
 use Rattle.core_laws.proofs.Locks.{length_change}
 use Rattle.core_points.specs.declared.stage.Last.TheVariants as last
@@ -346,11 +346,11 @@ module _ (k : Shape) (h : List Mark) (o : Own) (v : View) (n : ℕ) where
           let p = f.point in
           let q = p.quiet in
           let bare = no_slots v.locks (λ x. f.owns.locks_are x ∙ ap (times x) (none_in o.locks e)) in
-          fits f.owns (f.unraised refl) f.tickets (q.outside, quiet_calm o v q bare (p.deleting).1)
+          fits f.owns (f.unraised refl) f.tickets (q.outside, settled_calm o v q bare (p.deleting).1)
       taken false e =
           let p = f.point in
           let q = p.quiet in
-          fits f.owns (f.unraised refl) f.tickets (quiet_unlocking q q.turn_is p.clear e, quiet_hand o v q, (p.deleting).1)
+          fits f.owns (f.unraised refl) f.tickets (quiet_unlocking q q.turn_is p.clear e, settled_hand o v q, (p.deleting).1)
 
       got : (z : Bool) → (n == 0) ≡ z → let o' : Own =
           cond z (go (record o { locks = s ∷ o.locks })
@@ -386,8 +386,8 @@ module _ (k : Shape) (h : List Mark) (o : Own) (v : View) (n : ℕ) where
       owns : Owns o w
       owns = owns_noted o v s field n false f.owns
 
-      quiet : Quiet o w None
-      quiet = quiet_noted o v s field n false None (f.point).quiet
+      quiet : Settled o w None
+      quiet = settled_noted o v s field n false None (f.point).quiet
 
       clear : AreClear w.locks
       clear = clear_changed s (note_lock (read_at field n)) (λ l c. c) v.locks (f.point).clear
@@ -434,7 +434,7 @@ module _ (k : Shape) (h : List Mark) (o : Own) (v : View) (n : ℕ) where
       again =
           let p = f.point in
           fits owns (f.unraised refl) f.tickets
-          (quiet_unlocking quiet quiet.turn_is clear (some_left o.locks p.locks_are), quiet_hand o w quiet, (p.deleting).1)
+          (quiet_unlocking quiet quiet.turn_is clear (some_left o.locks p.locks_are), settled_hand o w quiet, (p.deleting).1)
 
       few : t.successor ≡ None → i ≡ 4 → (z : Bool) → target_holds t f' ≡ z → let st : Stage =
           cond z (deleting (record t.node { left = f'.left; right = f'.right }) None) (at.Unlock last.Again) in Fits (go o st) st w

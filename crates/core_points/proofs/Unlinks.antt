@@ -20,11 +20,11 @@ use Rattle.core_state.specs.Links.{FewChildren, IsMarkedNode, NodeRecords, after
 use Rattle.core_laws.proofs.Acting.{commit_is, may_update}
 use Rattle.core_points.specs.declared.stage.Node.{Node}
 use Rattle.core_points.specs.Programs.{Needs, view_after, Own, key_now, act_at, after, go, move_locks, target_lock}
-use Rattle.core_points.specs.Facts.{stored_at, read_at, Owns, Quiet}
+use Rattle.core_points.specs.Facts.{stored_at, read_at, Owns, Settled}
 use Rattle.core_points.specs.DeleteFacts.{ClearButMark, Holds, HoldsFew, HoldsNode, IsMarked, IsUnmarked, Relinked, under, IsMove, Shifting, first_locks, move_parent, two_children}
 use Rattle.core_points.specs.Fits.{IsGiven, GoesOn, Fits}
 use Rattle.core_points.proofs.Locks.{clear_marked, clear_stored, clear_emptied, clear_noted, emptied_lock, relinked_slots, under_flag, loaded_more, under_other, held_still, known_now}
-use Rattle.core_points.proofs.Notes.{fits, quiet_noted, owns_relocked, owns_noted, owns_retired, quiet_turned, quiet_unlocking, owns_locked}
+use Rattle.core_points.proofs.Notes.{fits, settled_noted, owns_relocked, owns_noted, owns_retired, quiet_turned, quiet_unlocking, owns_locked}
 use Rattle.core_points.proofs.Links.{made_even}
 use Rattle.core_points.proofs.DeleteSearches.{delete_owed}
 use Rattle.core_laws.proofs.Locks.{loaded_known, lock_under, change_here, slots_change, under_lock, note_side, emptied_slot}
@@ -188,7 +188,7 @@ module _ (k : Shape) (h : List Mark) (o : Own) (v : View) (n : ℕ) where
       (λ l. refl) (change_lock d.node (note_lock kn) v.locks)) owns) (f.unraised refl)
       (let t = f.tickets in let two = delete_owed o.op o.hand o.retired (p.deleting).0 in omega arith) (
         record {
-          quiet = quiet_noted o v d.node (Life d.node) (2 * d.generation + 1) true None p.quiet;
+          quiet = settled_noted o v d.node (Life d.node) (2 * d.generation + 1) true None p.quiet;
           deleting = p.deleting;
           has_locks = p.has_locks;
           few = (few.0, few.1, node_marked v.records v.locks few.0 d few.2, few.3);
@@ -227,7 +227,7 @@ module _ (k : Shape) (h : List Mark) (o : Own) (v : View) (n : ℕ) where
       let held = held_by_load v d.parent (Life d.parent) (2 * d.parent_generation) ((few.2).parent_life) in
       let noted : View = noting v d.parent (Link d.parent d.side) child true in
       let owns = owns_noted o v d.parent (Link d.parent d.side) child true f.owns in
-      let q = quiet_noted o v d.parent (Link d.parent d.side) child true (Some (record { found = front; stored = false })) p.quiet in
+      let q = settled_noted o v d.parent (Link d.parent d.side) child true (Some (record { found = front; stored = false })) p.quiet in
       subst (λ x. Fits o' o'.stage (after_bypass v x d.parent d.side d.node child (key_now o) h)) (sym (commit_is v _ (p.quiet).turn_is))
       (fits (owns_retired o (record noted { locks = relinked d.parent d.side child d.node noted.locks })
       (owns_relocked o noted _ (relinked_slots d.parent d.side child d.node (change_lock d.parent (note_lock kn) v.locks)) owns) _ _
@@ -255,7 +255,7 @@ module _ (k : Shape) (h : List Mark) (o : Own) (v : View) (n : ℕ) where
       let p = f.point in
       let e = p.2 in
       let kn : Known = read_at (Tag s b) n in fits (owns_noted o v s (Tag s b) n false f.owns) (f.unraised refl) f.tickets (
-        quiet_noted o v s (Tag s b) n false None p.0,
+        settled_noted o v s (Tag s b) n false None p.0,
         p.1,
         record {
           lock = note_lock kn e.lock;
@@ -277,7 +277,7 @@ module _ (k : Shape) (h : List Mark) (o : Own) (v : View) (n : ℕ) where
       let e = p.2 in
       let kn : Known = stored_at (Tag s b) (tag + 1) in
       let owns = owns_noted o v s (Tag s b) (tag + 1) true f.owns in
-      let q = quiet_noted o v s (Tag s b) (tag + 1) true None p.0 in
+      let q = settled_noted o v s (Tag s b) (tag + 1) true None p.0 in
       fits (owns_relocked o (noting v s (Tag s b) (tag + 1) true) _ (slots_change s (with_emptied b false) (emptied_slot b false)
       (change_lock s (note_lock kn) v.locks)) owns) (f.unraised refl)
       f.tickets (quiet_unlocking q q.turn_is (clear_noted kn s b v.locks e.clear) p.1, q.empty, q.no_hand, p.3)
@@ -475,7 +475,7 @@ module _ (k : Shape) (h : List Mark) (o : Own) (v : View) (n : ℕ) where
           _ _ (slots_push v.hands.retired (newly_retired v s (length h)) ∙ ap (λ xs. xs ++ s ∷ []) f.owns.retired_are)
 
       -- no move is pending
-      quiet : (parent : ℕ) (b : Side) → Quiet (go base (at.Unlock (last.Gone m.number))) (after_unlink_old v parent b s child h) None
+      quiet : (parent : ℕ) (b : Side) → Settled (go base (at.Unlock (last.Gone m.number))) (after_unlink_old v parent b s child h) None
       quiet parent b = let p = (f.point).0 in record {
         outside = p.outside;
         turn_is = p.turn_is;

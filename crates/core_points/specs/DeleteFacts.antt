@@ -25,7 +25,7 @@ use Rattle.core_points.specs.declared.stage.Target.{Target}
 use Rattle.core_points.specs.declared.stage.Found.{Found}
 use Rattle.core_points.specs.declared.stage.Moving.{Moving}
 use Rattle.core_points.specs.Programs.{Own, key_now, or_root, content, contents, target_slot, target_word, target_lock, target_locks}
-use Rattle.core_points.specs.Facts.{is_delete, table_of, read_at, AreClear, Calm, Inside, Quiet, Ready, HasLocks}
+use Rattle.core_points.specs.Facts.{is_delete, table_of, read_at, AreClear, Calm, Inside, Settled, Ready, HasLocks}
 
 -- In the section.
 
@@ -207,7 +207,7 @@ abbrev pub ClearButMark : List HeldLock → ℕ → Type 0
 ClearButMark locks s = AreClear (change_lock s (with_mark false) locks)
 
 pub record Bypassing (o : Own) (v : View) (d : Node) (child : ℕ) (commit : Option Commit) : Type 0 where
-  pub quiet : Quiet o v commit
+  pub quiet : Settled o v commit
   pub deleting : Deleting o
   pub has_locks : HasLocks o
   pub few : FewHold v.records v.locks (key_now o) d
@@ -217,7 +217,7 @@ pub record Bypassing (o : Own) (v : View) (d : Node) (child : ℕ) (commit : Opt
 
 -- so many of the target's locks were got, and one more is tried
 pub record TargetLocking (o : Own) (v : View) (t : Target) (i : ℕ) : Type 0 where
-  pub quiet : Quiet o v None
+  pub quiet : Settled o v None
   pub deleting : Deleting o
   pub target : HasTarget (table_of o) v.records (key_now o) t
   pub clear : AreClear v.locks
@@ -228,7 +228,7 @@ pub record TargetLocking (o : Own) (v : View) (t : Target) (i : ℕ) : Type 0 wh
 
 -- all were got, so many words were loaded, and one more is
 pub record TargetLoading (o : Own) (v : View) (t : Target) (i : ℕ) (f : Found) : Type 0 where
-  pub quiet : Quiet o v None
+  pub quiet : Settled o v None
   pub deleting : Deleting o
   pub target : HasTarget (table_of o) v.records (key_now o) t
   pub clear : AreClear v.locks
@@ -240,7 +240,7 @@ pub record TargetLoading (o : Own) (v : View) (t : Target) (i : ℕ) (f : Found)
 
 -- a node with at most one child is to be marked
 pub record FewMarking (o : Own) (v : View) (d : Node) (child : ℕ) : Type 0 where
-  pub quiet : Quiet o v None
+  pub quiet : Settled o v None
   pub deleting : Deleting o
   pub has_locks : HasLocks o
   pub clear : AreClear v.locks
@@ -277,7 +277,7 @@ abbrev pub all_locks : Node → Successor → List ℕ
 all_locks d u = first_locks (two_children d u) (target_locks (two_children d u))
 
 pub record Copying (o : Own) (v : View) (d : Node) (u : Successor) (commit : Option Commit) : Type 0 where
-  pub quiet : Quiet o v commit
+  pub quiet : Settled o v commit
   pub deleting : Deleting o
   pub both : BothHold v.records v.locks (key_now o) d u
 

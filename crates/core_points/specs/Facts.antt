@@ -314,7 +314,7 @@ abbrev pub Outlasting : Own → View → ℕ → ℕ → Type 0
 Outlasting o v clock p = (wait : Waiting) × (v.wait ≡ Some wait) × Outlasts wait v.hands.retired clock p
 
 -- Outside a section, with no slot in hand and no move: what holds before and after an update under locks.
-pub record QuietParts (commit : Option Commit) (o_hand : Option ℕ) (section : Option Section) (turn : Option Commit) (moving : Option Move)
+pub record SettledParts (commit : Option Commit) (o_hand : Option ℕ) (section : Option Section) (turn : Option Commit) (moving : Option Move)
     (reserved owes : Bool) (hand : Option Held) : Type 0 where
   pub outside : section ≡ None
   pub turn_is : turn ≡ commit
@@ -324,8 +324,8 @@ pub record QuietParts (commit : Option Commit) (o_hand : Option ℕ) (section : 
   pub empty : hand ≡ None
   pub no_hand : o_hand ≡ None
 
-abbrev pub Quiet : Own → View → Option Commit → Type 0
-Quiet o v commit = QuietParts commit o.hand v.section v.commit v.moving v.hands.reserved v.hands.owes v.hands.hand
+abbrev pub Settled : Own → View → Option Commit → Type 0
+Settled o v commit = SettledParts commit o.hand v.section v.commit v.moving v.hands.reserved v.hands.owes v.hands.hand
 
 abbrev pub HasLocks : Own → Type 0
 HasLocks o = is_none_left o.locks ≡ false
@@ -370,7 +370,7 @@ pub record HasFound (n : ℕ) (records : List Reading) (key s generation : ℕ) 
 
 -- a set that has a record, and this much under way
 pub record Setting (o : Own) (v : View) (s generation : ℕ) (locks : List HeldLock) (commit : Option Commit) : Type 0 where
-  pub quiet : Quiet o v commit
+  pub quiet : Settled o v commit
   pub locks_are : v.locks ≡ locks
   pub found : HasFound (table_of o) v.records (key_now o) s generation
   pub sets : is_set o.op ≡ true

@@ -24,7 +24,7 @@ use Rattle.core_state.specs.declared.view.View.{View}
 use Rattle.list_laws.specs.Counts.{IsIn, Each}
 use Rattle.core_state.specs.Views.{known_in, LoadedGeneration}
 use Rattle.core_points.specs.declared.stage.Moving.{Moving}
-use Rattle.core_points.specs.Facts.{is_put, is_delete, is_set, read_at, Bare, Inside, Nothing, one_lock, spot_known, AreClear, Owns, Ready, Hand, Calm, Putting, Idle, ForAim, Reserving, Seizing, Aging, Filling, Keeping, HasRaised, FirstAged, GivingBack, Outlasting, Owing, Quiet, HasLocks, Unlocking, Setting, set_known}
+use Rattle.core_points.specs.Facts.{is_put, is_delete, is_set, read_at, Bare, Inside, Nothing, one_lock, spot_known, AreClear, Owns, Ready, Hand, Calm, Putting, Idle, ForAim, Reserving, Seizing, Aging, Filling, Keeping, HasRaised, FirstAged, GivingBack, Outlasting, Owing, Settled, HasLocks, Unlocking, Setting, set_known}
 use Rattle.core_points.specs.DeleteFacts.{ReadsLives, WalksTo, ReadsParent, ReadsChildren, AreApart, OnNode, under, ClearButMark, Bypassing, IsAside, BeforeCopy, CopyFilling, IsFilled, BothMarking, CopyMaking, Shifting, HoldsOld, OutlastingMove, Emptied, Anything, Relinked, TargetLocking, TargetLoading, FewMarking}
 use Rattle.core_points.specs.declared.stage.Then.TheVariants as then
 use Rattle.core_points.specs.declared.stage.Last.TheVariants as last
@@ -130,9 +130,9 @@ Making o (update.Copy d u next_key copy) v commit = CopyMaking o v d u next_key 
 
 -- an update that was made, with the front odd still
 abbrev pub Made : Own → Update → View → Option Commit → Type 0
-Made o (update.Leaf spot) v commit = Quiet o v commit × HasLocks o × AreClear v.locks × (is_put o.op ≡ true)
-Made o (update.Value s old) v commit = Quiet o v commit × HasLocks o × AreClear v.locks × (is_set o.op ≡ true)
-Made o (update.Bypass d child) v commit = Quiet o v commit × HasLocks o × Relinked (child == 0) v.locks d.parent d.side
+Made o (update.Leaf spot) v commit = Settled o v commit × HasLocks o × AreClear v.locks × (is_put o.op ≡ true)
+Made o (update.Value s old) v commit = Settled o v commit × HasLocks o × AreClear v.locks × (is_set o.op ≡ true)
+Made o (update.Bypass d child) v commit = Settled o v commit × HasLocks o × Relinked (child == 0) v.locks d.parent d.side
     × (is_delete o.op ≡ true)
 Made o (update.Copy d u next_key copy) v commit =
     let m : Moving = record { node = d; successor = u; copy = copy; next_key = next_key; number = 0 } in
@@ -202,8 +202,8 @@ Point o (at.TargetLock t i) v = TargetLocking o v t i
 Point o (at.TargetLoad t i found) v = TargetLoading o v t i found
 -- few children
 Point o (at.Mark d child) v = FewMarking o v d child
-Point o (at.EmptyTag number s b) v = Quiet o v None × HasLocks o × Emptied v.locks s b Anything × (is_delete o.op ≡ true)
-Point o (at.EmptyRaise number s b tag) v = Quiet o v None × HasLocks o
+Point o (at.EmptyTag number s b) v = Settled o v None × HasLocks o × Emptied v.locks s b Anything × (is_delete o.op ≡ true)
+Point o (at.EmptyRaise number s b tag) v = Settled o v None × HasLocks o
     × Emptied v.locks s b (λ lock. known_in lock.known (Tag s b) ≡ Some tag) × (is_delete o.op ≡ true)
 -- two children
 Point o (at.SuccessorKey d u) v = BeforeCopy o v d u

@@ -318,46 +318,46 @@ module _ (k : Shape) (v : View) where
           is = record { low = at.bounds.low; known = at.known }
 
 -- what was loaded since a view, and where the walk has come to
-abbrev pub HasGone : Shape → View → View → ℕ → ℕ → Way → Type 0
-HasGone k v u from link way = (l : HasLoaded v u) × HasCome k l.after from link way
+abbrev pub HasFollowed : Shape → View → View → ℕ → ℕ → Way → Type 0
+HasFollowed k v u from link way = (l : HasLoaded v u) × HasCome k l.after from link way
 
 -- the latest link leads to a slot
 pub record Comes (k : Shape) (v u : View) (from s : ℕ) (way : Way) : Type 0 where
-  pub gone : HasGone k v u from s way
+  pub followed : HasFollowed k v u from s way
   pub some_slot : s ≢ 0
 
-pub comes_to : {k : Shape} {v u : View} {from link s : ℕ} {way : Way} → HasGone k v u from link way → child_of link ≡ Some s
+pub comes_to : {k : Shape} {v u : View} {from link s : ℕ} {way : Way} → HasFollowed k v u from link way → child_of link ≡ Some s
     → Comes k v u from s way
-comes_to {k} {v} {u} {from} {link} {s} {way} gone is =
+comes_to {k} {v} {u} {from} {link} {s} {way} followed is =
     let c = child_is link s is in
-    subst (λ z. Comes k v u from z way) c.1 (record { gone = gone; some_slot = c.0 })
+    subst (λ z. Comes k v u from z way) c.1 (record { followed = followed; some_slot = c.0 })
 
-pub comes_none : {k : Shape} {v u : View} {from link : ℕ} {way : Way} → HasGone k v u from link way → child_of link ≡ None
-    → HasGone k v u from 0 way
-comes_none {k} {v} {u} {from} {link} {way} gone is = subst (λ z. HasGone k v u from z way) (no_child link is) gone
+pub comes_none : {k : Shape} {v u : View} {from link : ℕ} {way : Way} → HasFollowed k v u from link way → child_of link ≡ None
+    → HasFollowed k v u from 0 way
+comes_none {k} {v} {u} {from} {link} {way} followed is = subst (λ z. HasFollowed k v u from z way) (no_child link is) followed
 
 -- a link fits the number of a slot
-pub link_fits : {k : Shape} {v u : View} {from link : ℕ} {way : Way} → HasGone k v u from link way → link < 4294967296
-link_fits {k} {v} {u} {from} {link} {way} gone = leads_fits gone.1.leads
+pub link_fits : {k : Shape} {v u : View} {from link : ℕ} {way : Way} → HasFollowed k v u from link way → link < 4294967296
+link_fits {k} {v} {u} {from} {link} {way} followed = leads_fits followed.1.leads
 
 module _ {k : Shape} {v u : View} {from s : ℕ} {way : Way} (z : Comes k v u from s way) where
   pub may_read_next : Asks k u (ListLoad s part.Key)
-  may_read_next = may_read k v u z.gone.0 s z.gone.1.bounds z.gone.1.leads z.some_slot
+  may_read_next = may_read k v u z.followed.0 s z.followed.1.bounds z.followed.1.leads z.some_slot
 
   module _ {w : View} {key : ℕ} (t : Told k u (ListLoad s part.Key) key w) where
-    at_key : (m : HasLoaded v w) × HasFoundMore z.gone.0.after m.after
+    at_key : (m : HasLoaded v w) × HasFoundMore z.followed.0.after m.after
         × ((at : IsAtKey k m.after s key way) × (low_bound at.bounds.low ≤ from))
-    at_key = reads k v u z.gone.0 s from way z.gone.1 z.some_slot w key t
+    at_key = reads k v u z.followed.0 s from way z.followed.1 z.some_slot w key t
 
     pub may_go_next : (b : Side) → Asks k w (ListLoad s (part.Link b))
     may_go_next b = may_go k v w at_key.0 s key at_key.2.0.bounds at_key.2.0.known b
 
-    pub comes_right : {x : View} {n : ℕ} → key < from → Told k w (ListLoad s (part.Link Right)) n x → HasGone k v x from n way
+    pub comes_right : {x : View} {n : ℕ} → key < from → Told k w (ListLoad s (part.Link Right)) n x → HasFollowed k v x from n way
     comes_right {x} {n} less right = let r = goes_right k v w at_key.0 s key way at_key.2.0 from x n (omega (arith, less)) right in
         (r.0, r.2)
 
     pub comes_left : {x : View} {n : ℕ} {next : Way} → HasPassed way (record { slot = s; key = key }) next
-        → Told k w (ListLoad s (part.Link Left)) n x → HasGone k v x from n next
+        → Told k w (ListLoad s (part.Link Left)) n x → HasFollowed k v x from n next
     comes_left {x} {n} {next} passed left = let r = goes_left k v w at_key.0 s key way at_key.2.0 from next x n at_key.2.1 passed left in
         (r.0, r.2)
 

@@ -29,9 +29,9 @@ use Rattle.core_points.proofs.Calls.{of_call}
 use Rattle.core_points.proofs.Notes.{fits, owns_noted, bare_noted}
 use Rattle.seat_table.specs.Gains.{IsFull}
 use Rattle.seat_table.specs.Seats.{IsSlotOf}
-use Rattle.tree_points.specs.Points.{IsAt, IsDone, HasGone, HasGivenAll}
+use Rattle.tree_points.specs.Points.{IsAt, IsDone, HasAdvanced, HasGivenAll}
 use Rattle.tree_points.proofs.Passing.{moves_on}
-use Rattle.tree_points.proofs.Locks.{allowed, further_by, gone_with, gone_all}
+use Rattle.tree_points.proofs.Locks.{allowed, further_by, advanced_with, advanced_all}
 use Rattle.node_slots.specs.Slots.{aged, next_life, renewing, PutsBack}
 use Rattle.node_slots.specs.Taking.{HasTaken, FoundNone, TriesBy}
 use Rattle.node_slots.specs.Reclaiming.{first_spare, HasReclaimed}
@@ -82,8 +82,8 @@ module _ {slot generation : ℕ} {v w : View} (taken : HasTaken v slot generatio
   pub taken_slot : IsSlotOf (Some slot) w.hands.hand
   taken_slot = subst (IsSlotOf (Some slot)) (sym taken_in_hand) refl
 
-  pub taken_gone : IsPrefix v.trail.steps w.trail.steps → HasGone v w []
-  taken_gone steps = gone_with taken.given.before (Given slot ∷ []) steps taken.given.seen (allowed taken.rest refl) taken.given.marked
+  pub taken_advanced : IsPrefix v.trail.steps w.trail.steps → HasAdvanced v w []
+  taken_advanced steps = advanced_with taken.given.before (Given slot ∷ []) steps taken.given.seen (allowed taken.rest refl) taken.given.marked
 
   pub taken_retired : w.hands.retired ≡ v.hands.retired
   taken_retired = ap (λ (z : View). z.hands.retired) taken.rest
@@ -129,8 +129,8 @@ none_retired [] os e some = absurd (some refl)
 none_retired (r ∷ rs) os e some = ap is_none_left (sym e)
 
 module _ {k : Shape} {v w : View} (none : FoundNone k v w) where
-  pub none_gone : IsPrefix v.trail.steps w.trail.steps → HasGone v w []
-  none_gone steps = gone_all w.seen steps none.sees (allowed none.rest refl) refl
+  pub none_advanced : IsPrefix v.trail.steps w.trail.steps → HasAdvanced v w []
+  none_advanced steps = advanced_all w.seen steps none.sees (allowed none.rest refl) refl
 
   pub none_retired_now : w.hands.retired ≡ v.hands.retired
   none_retired_now = ap (λ (z : View). z.hands.retired) none.rest
@@ -178,8 +178,8 @@ may_put_back {v = v} a =
     record { paid = (calm.bare).paid; hand = (leaf.0, leaf.1, (leaf.2).unraised) }
 
 module _ {slot : ℕ} {v w : View} (back : PutsBack v slot w) where
-  pub back_gone : HasGone v w []
-  back_gone = gone_with back.freed.before (Freed slot ∷ []) steps back.freed.seen (allowed back.rest refl) back.freed.marked
+  pub back_advanced : HasAdvanced v w []
+  back_advanced = advanced_with back.freed.before (Freed slot ∷ []) steps back.freed.seen (allowed back.rest refl) back.freed.marked
     where
       steps : IsPrefix v.trail.steps w.trail.steps
       steps = subst (λ (z : View). IsPrefix v.trail.steps z.trail.steps) (sym back.rest)
@@ -241,9 +241,9 @@ may_reclaim a =
       unraised = f.unraised refl;
     }
 
-pub reclaim_gone : {k : Shape} {v w : View} {listed : List ℕ} → HasReclaimed k v listed w
-    → HasGone v w (Began v.allowance.place v.counts.waits 0 18446744073709551615 ∷ (Ended v.allowance.place v.counts.waits ∷ []))
-reclaim_gone {v = v} {w = w} back = record {
+pub reclaim_advanced : {k : Shape} {v w : View} {listed : List ℕ} → HasReclaimed k v listed w
+    → HasAdvanced v w (Began v.allowance.place v.counts.waits 0 18446744073709551615 ∷ (Ended v.allowance.place v.counts.waits ∷ []))
+reclaim_advanced {v = v} {w = w} back = record {
   steps =
       let last = (back.waits).2 in
       let mid : View = (back.waits).0 in

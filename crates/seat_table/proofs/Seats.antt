@@ -24,7 +24,7 @@ use mathlib.Core.List.{IsPrefix}
 use Rattle.std.proofs.Math.Seq.{take-append_seam}
 use Rattle.core_state.specs.declared.view.StepMade.{StepMade}
 use Rattle.core_state.specs.declared.view.Waiting.{Waiting}
-use Rattle.seat_table.specs.Sections.{IsQuietReader, HasEntered, HasBegun}
+use Rattle.seat_table.specs.Sections.{IsQuietButSection, HasEntered, HasBegun}
 use Rattle.seat_table.specs.Waits.{HasLooked, IsOver}
 use Rattle.std.proofs.lemmas.Bool.{cases_eq}
 use Rattle.std.proofs.lemmas.List.{drop_more, drop-append-le, length-append}
@@ -242,7 +242,7 @@ over_quiet {k} {s} {t} over listed quiet =
 abbrev outside : SeatAt → SeatAt
 outside s = record s { view = record s.view { section = None } }
 
-pub entered_quiet : {s t : SeatAt} {key : ℕ} → HasEntered s.view key t.view → t.listed ≡ s.listed → IsQuietSeat s → IsQuietReader t
+pub entered_quiet : {s t : SeatAt} {key : ℕ} → HasEntered s.view key t.view → t.listed ≡ s.listed → IsQuietSeat s → IsQuietButSection t
 entered_quiet {s} {t} entered listed quiet =
     let e = entered.others in
     record {

@@ -67,7 +67,7 @@ is_exit K34 = true
 is_exit _ = false
 
 -- The seat is quiet but for a section that may be open.
-pub record IsQuietReader (s : SeatAt) : Type 0 where
+pub record IsQuietButSection (s : SeatAt) : Type 0 where
   pub quiet : IsQuietSeat (record s { view = record s.view { section = None } })
 
 -- A section with this key was entered at the seat's place, and its search stands at the root. The last step shows that the seat reads.

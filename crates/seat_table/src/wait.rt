@@ -2,7 +2,7 @@
 ghost use Rattle.std.specs.Prelude.{◌≡◌, ◌≤◌, [], Some, None, IfErr, IfOk};
 ghost use Rattle.core_state.specs.declared.view.Section.{Section};
 ghost use Rattle.seat_table.specs.Seats.{IsQuietSeat, shape_of, way_of};
-ghost use Rattle.seat_table.specs.Sections.{HasEntered, EntersBy, HasLeft, HasBegun, IsQuietReader, HasMade};
+ghost use Rattle.seat_table.specs.Sections.{HasEntered, EntersBy, HasLeft, HasBegun, IsQuietButSection, HasMade};
 ghost use Rattle.seat_table.specs.Looks.{LooksAt, IsOnward, IsWithin, LooksOnce};
 ghost use Rattle.seat_table.specs.Waits.{IsLatestOf, Polled, HasWaited, reached, start};
 
@@ -66,7 +66,7 @@ pub trait WaitPart: WaitWords {
         ensures seat { (seat.new.table ≡ seat.old.table) × (seat.new.listed ≡ seat.old.listed) }
         ensures entered { HasEntered seat.old.view key seat.new.view }
         ensures steps { EntersBy (way_of Self.WAY) seat.old.view key seat.new.view }
-        ensures quiet { IsQuietSeat seat.old → IsQuietReader seat.new };
+        ensures quiet { IsQuietSeat seat.old → IsQuietButSection seat.new };
 
     /// Leaves the open section.
     fn leave(table: &CitrusTable<Self>, seat: &mut Seat<Self>)
@@ -74,7 +74,7 @@ pub trait WaitPart: WaitWords {
         requires inside { (section : Section) × (seat.old.view.section ≡ Some section) }
         ensures seat { (seat.new.table ≡ seat.old.table) × (seat.new.listed ≡ seat.old.listed) }
         ensures left { HasLeft seat.old.view seat.new.view }
-        ensures quiet { IsQuietReader seat.old → IsQuietSeat seat.new };
+        ensures quiet { IsQuietButSection seat.old → IsQuietSeat seat.new };
 
     /// Begins a wait for the readers with one of these keys. An earlier grace of the seat isn't its latest any more.
     fn begin(table: &CitrusTable<Self>, seat: &mut Seat<Self>, keys: Keys) -> Grace<Self>

@@ -23,7 +23,7 @@ use mathlib.Core.List.{IsPrefix}
 use Rattle.prcu_model.proofs.ListFacts.{prefix_trans, all_append}
 use Rattle.core_state.specs.declared.view.StepMade.{StepMade}
 use Rattle.core_state.specs.Steps.{first_of}
-use Rattle.seat_table.specs.Sections.{HasEntered, HasLeft, IsQuietReader}
+use Rattle.seat_table.specs.Sections.{HasEntered, HasLeft, IsQuietButSection}
 use Rattle.seat_table.specs.Waits.{HasWaited}
 use Rattle.seat_table.proofs.SeveralSteps.{seen_more}
 use Rattle.node_slots.specs.Reclaiming.{HasReclaimed}
@@ -44,7 +44,7 @@ use Rattle.exact_list.specs.declared.alone.Exact.{Exact}
 use Rattle.tree_handles.specs.Tidying.{Finishes, MayTidy, Output, Tidies, LiftsNext, LevelledTo, StopsAt, MakesSlots, Levels, IsOfTidy, LeavesNoUpdates, TidiesMakeNoUpdate}
 use Rattle.std.specs.List.{AllByRecursion}
 use Rattle.prcu_marks.specs.declared.mark.Mark.{Mark}
-use Rattle.tree_points.proofs.Locks.{gone_on, gone_same}
+use Rattle.tree_points.proofs.Locks.{advanced_on, advanced_same}
 use Rattle.exact_list.specs.Pairs.{Pair}
 use Rattle.tree_lift.specs.declared.lifting.Stop.{Stop}
 use Rattle.tree_handles.specs.declared.tidying.Tally.{Tally}
@@ -166,7 +166,7 @@ module _ {k : Shape} {cookie : Option CookieAt} where
   cookie_looked : {v w : View} {key : ℕ} {answer : Option ℕ} → Looked v key answer w → HasCookie k cookie v → HasCookie k cookie w
   cookie_looked {v} {w} looked has =
       let goes = goes_looked looked in
-      stays_good (keeps_latest v w goes.gone.same goes.gone.begins goes.waits goes.wait) has
+      stays_good (keeps_latest v w goes.advanced.same goes.advanced.begins goes.waits goes.wait) has
 
   pub cookie_held : {v w : View} (key : ℕ) (answer : Option ℕ) → HoldsOrNot v key answer w → HasCookie k cookie v → HasCookie k cookie w
   cookie_held key (Some value) holding has = cookie_holding holding has
@@ -240,7 +240,7 @@ inside_some (Some key) None inside e = absurd inside
 inside_some (Some key) (Some section) inside e = (section, refl)
 
 -- a caller whose seat tells a key is in a section
-pub stays_inside : (c : CallerAt) (o : Option ℕ) → c.lost ≡ false → c.seat.table ≡ c.table → IsQuietReader c.seat
+pub stays_inside : (c : CallerAt) (o : Option ℕ) → c.lost ≡ false → c.seat.table ≡ c.table → IsQuietButSection c.seat
     → IsInsideOf o c.seat.view.section → is_some o ≡ true → StaysInside c c
 stays_inside c o kept seat quiet inside e = record {
   same = refl;
@@ -291,17 +291,17 @@ of_key place key [] each = tt
 of_key place key (m ∷ marks) each = ((key, each.0), of_key place key marks each.1)
 
 plain_none : (v w : View) → w ≡ v → LeavesNoUpdates v w
-plain_none v w same = subst (LeavesNoUpdates v) (sym same) (record { marks = []; gone = gone_same; each = tt })
+plain_none v w same = subst (LeavesNoUpdates v) (sym same) (record { marks = []; advanced = advanced_same; each = tt })
 
 plain_one : (key : ℕ) (v w : View) → LeavesNoUpdate v key w → LeavesNoUpdates v w
-plain_one key v w left = record { marks = left.marks; gone = left.gone; each = of_key v.allowance.place key left.marks left.each }
+plain_one key v w left = record { marks = left.marks; advanced = left.advanced; each = of_key v.allowance.place key left.marks left.each }
 
 plain_on : (u v w : View) → LeavesNoUpdates u v → LeavesNoUpdates v w → LeavesNoUpdates u w
 plain_on u v w a b = record {
   marks = a.marks ++ b.marks;
-  gone = gone_on a.gone b.gone;
+  advanced = advanced_on a.advanced b.advanced;
   each = all_append (IsOfTidy u.allowance.place) a.marks b.marks a.each
-      (subst (λ p. AllByRecursion (IsOfTidy p) b.marks) a.gone.same b.each);
+      (subst (λ p. AllByRecursion (IsOfTidy p) b.marks) a.advanced.same b.each);
 }
 
 -- the marks of a list's tries
@@ -312,7 +312,7 @@ of_tries place section key (t ∷ tries) = ((key, (refl, refl)), ((key, refl), o
 plain_tried : (v : View) (key : ℕ) (tries : List Try) (w : View) → HasTried v key tries w → LeavesNoUpdates v w
 plain_tried v key tries w tried = record {
   marks = marks_from v.allowance.place v.counts.sections key tries;
-  gone = record {
+  advanced = record {
     steps = (tried.made.steps, sym (ap (λ t. t.steps) tried.made.trail));
     same = ap (λ (z : View). z.allowance.place) tried.others;
     allowance = record { rest = allowance_same };
@@ -331,7 +331,7 @@ plain_tried v key tries w tried = record {
 plain_front : (v w : View) → w.allowance ≡ v.allowance → w.seen ≡ v.seen → IsPrefix v.trail.steps w.trail.steps → LeavesNoUpdates v w
 plain_front v w allowance seen steps = record {
   marks = [];
-  gone = record {
+  advanced = record {
     steps = steps;
     same = ap (λ a. a.place) allowance;
     allowance = record { rest = subst (λ a. a ≡ record v.allowance { tickets = a.tickets }) (sym allowance) refl };

@@ -7,7 +7,7 @@ use Rattle.prcu_model.specs.Dictionary.{map_of}
 use Rattle.core_state.specs.declared.view.Section.{Section}
 use Rattle.core_state.specs.Steps.{first_of, second_of}
 use Rattle.seat_table.specs.Seats.{fresh_seat, SeatAt, TableAt, IsQuietSeat}
-use Rattle.seat_table.specs.Sections.{IsQuietReader}
+use Rattle.seat_table.specs.Sections.{IsQuietButSection}
 use Rattle.grace_cookie.specs.Cookies.{CookieAt}
 use Rattle.tree_handles.specs.declared.status.Status.{Status}
 use Rattle.tree_handles.specs.declared.status.Status.TheVariants.{Closed, Done, Unchanged, Full, More, Moved, New, Different, BadArgument, NoMemory, Spent, Lost, Holds}
@@ -46,7 +46,7 @@ pub record MayGoOn (c : CallerAt) : Type 0 where
 pub record IsInside (c : CallerAt) : Type 0 where
   pub kept : c.lost ≡ false
   pub seat : c.seat.table ≡ c.table
-  pub quiet : IsQuietReader c.seat
+  pub quiet : IsQuietButSection c.seat
   pub inside : (section : Section) × (c.seat.view.section ≡ Some section)
 
 -- how many pairs always fit: the slots, less what each place but one may keep from it, its room for retired slots and four

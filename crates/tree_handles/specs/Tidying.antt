@@ -7,7 +7,7 @@ use Rattle.prcu_marks.specs.declared.mark.Mark.{Mark}
 use Rattle.core_state.specs.declared.view.View.{View}
 use Rattle.seat_table.specs.Seats.{shape_of}
 use Rattle.node_slots.specs.Reclaiming.{HasReclaimed}
-use Rattle.tree_points.specs.Points.{HasGone}
+use Rattle.tree_points.specs.Points.{HasAdvanced}
 use Rattle.citrus_tree.specs.Going.{IsOfTry, KeepsSeat}
 use Rattle.tree_lift.specs.declared.lifting.Aim.{Aim}
 use Rattle.tree_lift.specs.declared.lifting.Lifted.{Lifted}
@@ -167,7 +167,7 @@ IsOfTidy place mark = (key : ℕ) × IsOfTry place key mark
 -- Of its place no marks were left but those of sections entered and left, and of waits for everybody: so none of an update.
 pub record LeavesNoUpdates (v w : View) : Type 0 where
   pub marks : List Mark
-  pub gone : HasGone v w marks
+  pub advanced : HasAdvanced v w marks
   pub each : AllByRecursion (IsOfTidy v.allowance.place) marks
 
 -- A tidy makes no update, whatever it answers, and so no pair changes by it.

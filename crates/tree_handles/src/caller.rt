@@ -2,7 +2,7 @@
 ghost use Rattle.std.specs.Prelude.{◌≡◌, ◌≤◌, ◌<◌, ◌+◌, false, true, MatchBool, IfOk, IfErr, IfNone, IfSome};
 ghost use Rattle.prcu_model.specs.declared.operation.Op.TheVariants.{Get, Put, Set};
 ghost use Rattle.seat_table.specs.Seats.{IsQuietSeat};
-ghost use Rattle.seat_table.specs.Sections.{IsQuietReader};
+ghost use Rattle.seat_table.specs.Sections.{IsQuietButSection};
 ghost use Rattle.core_state.specs.Steps.{first_of, second_of};
 ghost use Rattle.seat_table.specs.Gains.{IsInformed};
 ghost use Rattle.core_state.specs.Memory.{most_places};
@@ -80,7 +80,7 @@ impl<W: WaitPart> Model for Caller<W> {
     ghost use Rattle.std.specs.Prelude.{◌≡◌, false};
     ghost use Rattle.std.specs.Arc.{arc_value};
     ghost use Rattle.seat_table.specs.Seats.{shape_of};
-    ghost use Rattle.seat_table.specs.Sections.{IsQuietReader};
+    ghost use Rattle.seat_table.specs.Sections.{IsQuietButSection};
     ghost use Rattle.core_state.specs.Memory.{most_places};
     ghost use Rattle.tree_handles.specs.Holds.{HasCookie};
     ghost use Rattle.tree_handles.specs.Callers.{CallerAt};
@@ -89,7 +89,7 @@ impl<W: WaitPart> Model for Caller<W> {
 
     ghost view = { λ c. record { way = W.WAY; table = arc_value c.shared; salt = c.salt; seat = c.seat; lost = c.lost; cookie = c.cookie } };
 
-    ghost invariant = { λ c. (c.seat.table ≡ arc_value c.shared) × (c.lost ≡ false → IsQuietReader c.seat)
+    ghost invariant = { λ c. (c.seat.table ≡ arc_value c.shared) × (c.lost ≡ false → IsQuietButSection c.seat)
         × (c.lost ≡ false → HasCookie (shape_of W.WAY (arc_value c.shared)) c.cookie c.seat.view) };
 }
 
@@ -114,7 +114,7 @@ impl<W: WaitPart> Drop for Caller<W> {
 // All that a close does with its seat before others may have it: an open section is left, and no other step is made.
 fn outside<W: WaitPart>(table: &CitrusTable<W>, mut seat: Seat<W>) -> Seat<W>
     requires table { seat.table ≡ table.now }
-    requires quiet { IsQuietReader seat }
+    requires quiet { IsQuietButSection seat }
     ensures table { result.table ≡ seat.table }
     ensures left { EndsOutside seat result }
     ensures quiet { IsQuietSeat result }

@@ -15,10 +15,10 @@ use Rattle.seat_table.specs.Gains.{IsInformed}
 use Rattle.seat_table.specs.Seats.{SeatAt, IsQuietSeat, AreListed}
 use Rattle.node_slots.specs.Reclaiming.{HasReclaimed}
 use Rattle.node_slots.specs.Slots.{PutsBack}
-use Rattle.node_slots.proofs.Points.{MayReclaim, gives_all, reclaim_gone, reclaim_retired}
-use Rattle.tree_points.specs.Points.{HasGone}
+use Rattle.node_slots.proofs.Points.{MayReclaim, gives_all, reclaim_advanced, reclaim_retired}
+use Rattle.tree_points.specs.Points.{HasAdvanced}
 use Rattle.tree_points.proofs.Passing.{none_raised}
-use Rattle.tree_points.proofs.Locks.{gone_on, gone_same}
+use Rattle.tree_points.proofs.Locks.{advanced_on, advanced_same}
 use Rattle.citrus_tree.specs.Going.{Goes, IsOfTry, retired_marks, KeepsSeat}
 use Rattle.core_state.specs.Views.{unraised_among}
 use Rattle.citrus_tree.proofs.Leavings.{goes_on, slots_goes, slots_more, slots_on, slots_reclaimed, slots_self, none_begun, none_yet, reclaimed_first, wait_on}
@@ -38,23 +38,23 @@ use Rattle.tree_lift.proofs.Slots.{goes_back, put_back_quiet}
 same_place : (key : ℕ) {p q : ℕ} → q ≡ p → (ms : List Mark) → AllByRecursion (IsOfTry q key) ms → AllByRecursion (IsOfTry p key) ms
 same_place key e ms = subst (λ z. AllByRecursion (IsOfTry z key) ms) e
 
-pub left_none : {v w : View} (key : ℕ) → HasGone v w [] → LeavesNoUpdate v key w
-left_none key gone = record { marks = []; gone = gone; each = tt }
+pub left_none : {v w : View} (key : ℕ) → HasAdvanced v w [] → LeavesNoUpdate v key w
+left_none key advanced = record { marks = []; advanced = advanced; each = tt }
 
 pub left_on : {u v w : View} {key : ℕ} → LeavesNoUpdate u key v → LeavesNoUpdate v key w → LeavesNoUpdate u key w
 left_on {u} {v} {w} {key} a b = record {
   marks = a.marks ++ b.marks;
-  gone = gone_on a.gone b.gone;
-  each = all_append (IsOfTry u.allowance.place key) a.marks b.marks a.each (same_place key a.gone.same b.marks b.each);
+  advanced = advanced_on a.advanced b.advanced;
+  each = all_append (IsOfTry u.allowance.place key) a.marks b.marks a.each (same_place key a.advanced.same b.marks b.each);
 }
 
 pub left_reclaimed : {k : Shape} {v w : View} {listed : List ℕ} (key : ℕ) → HasReclaimed k v listed w → LeavesNoUpdate v key w
-left_reclaimed key back = record { marks = _; gone = reclaim_gone back; each = ((refl, refl, refl), (refl, tt)) }
+left_reclaimed key back = record { marks = _; advanced = reclaim_advanced back; each = ((refl, refl, refl), (refl, tt)) }
 
 -- the parts of an attempt
 pub proceeds_same : (key : ℕ) (hard : Bool) (s : SeatAt) → Proceeds key hard s s
 proceeds_same key hard s = record {
-  updates = left_none key gone_same;
+  updates = left_none key advanced_same;
   wait = inl (none_yet s.view);
   slots = slots_self s;
   unwaited = λ no. refl;
@@ -73,8 +73,8 @@ proceeds_on key hard r s t a b = record {
 proceeds_goes : (key : ℕ) (hard : Bool) (s t : SeatAt) (ms : List Mark) → Goes s.view t.view ms → AllByRecursion (IsOfTry s.view.allowance.place key) ms
     → t.listed ≡ s.listed → (IsInformed s.view → IsInformed t.view) → Proceeds key hard s t
 proceeds_goes key hard s t ms goes each listed informed = record {
-  updates = record { marks = ms; gone = goes.gone; each = each };
-  wait = inl (none_begun goes.gone goes.waits goes.wait);
+  updates = record { marks = ms; advanced = goes.advanced; each = each };
+  wait = inl (none_begun goes.advanced goes.waits goes.wait);
   slots = slots_goes s t ms goes listed;
   unwaited = λ no. goes.waits;
   informed = informed;
@@ -123,9 +123,9 @@ waits_still : {k : Shape} {hard : Bool} {u v w : View} → WaitsForRoom k hard u
 waits_still (waits_none none all) same kept = waits_none (same ∙ none) (kept ∙ all)
 waits_still (waits_once hard many one back) same kept = waits_once hard many (same ∙ one) (kept ∙ back)
 
-between_none : {k : Shape} {key : ℕ} {hard : Bool} {v w : View} → HasGone v w [] → w.counts.waits ≡ v.counts.waits
+between_none : {k : Shape} {key : ℕ} {hard : Bool} {v w : View} → HasAdvanced v w [] → w.counts.waits ≡ v.counts.waits
     → w.hands.retired ≡ v.hands.retired → ComesBetween k key hard v w
-between_none {k} {key} gone waits retired = record { updates = left_none key gone; waits = waits_none waits retired }
+between_none {k} {key} advanced waits retired = record { updates = left_none key advanced; waits = waits_none waits retired }
 
 -- What an attempt knows once there is room: two more slots may be retired, and it has three tickets left, or two and a spare.
 pub record HasRoom (k : Shape) (key : ℕ) (hard : Bool) (s t : SeatAt) : Type 0 where
@@ -168,7 +168,7 @@ back_keeps k s t back none quiet = record {
   wait = inr (reclaimed_first back);
   slots = slots_reclaimed s t back;
   tickets = (let e = ap (λ (z : View). z.allowance.tickets) back.rest in omega arith);
-  allowance = (reclaim_gone back).allowance;
+  allowance = (reclaim_advanced back).allowance;
 }
 
 room_reclaimed : (k : Shape) (key : ℕ) (hard : Bool) (s t : SeatAt) → Reclaims k hard s t → (IsInformed s.view → IsInformed t.view)
@@ -194,7 +194,7 @@ pub room_lacking : (k : Shape) (aim : Aim) (s t : SeatAt) → MakesRoom k aim.ha
     → HasAttempted k aim s (EndedBy NoRoom) t
 room_lacking k aim s t none q = subst (HasAttempted k aim s (EndedBy NoRoom)) (sym none.0) (record {
   proceeds = proceeds_same aim.key aim.hard s;
-  attempts = (between_none gone_same refl refl, (none.1, none.2), (λ e. absurd (let other : NoRoom ≡ Spent = e in cc)));
+  attempts = (between_none advanced_same refl refl, (none.1, none.2), (λ e. absurd (let other : NoRoom ≡ Spent = e in cc)));
   tickets = omega arith;
   quiet = q;
 })
@@ -293,13 +293,13 @@ module _ (k : Shape) (key : ℕ) (hard : Bool) (s t : SeatAt) (room : HasRoom k 
         listed_takes taken = record { each = (takes.both taken).quiet.quiet.listed.each }
 
         -- The turn was made.
-        module _ (y : SeatAt) (gone : HasGone x.view y.view []) where
+        module _ (y : SeatAt) (advanced : HasAdvanced x.view y.view []) where
           proceeds_turned : HasTurned x.view turn y.view → y.listed ≡ x.listed ++ turn.node ∷ (turn.child ∷ []) → IsInformed y.view
               → Proceeds key hard x y
           proceeds_turned turned retires informed =
               let e = turned.rest in record {
-                updates = left_none key gone;
-                wait = inl (none_begun gone (ap (λ (z : View). z.counts.waits) e) (ap (λ (z : View). z.wait) e));
+                updates = left_none key advanced;
+                wait = inl (none_begun advanced (ap (λ (z : View). z.counts.waits) e) (ap (λ (z : View). z.wait) e));
                 slots = slots_more x y
                     (map (λ (r : Retired). (r.slot, r.unlinked, r.waited)) (turned.node_gone ∷ (turned.child_gone ∷ [])))
                     (turn.node ∷ (turn.child ∷ []))
@@ -336,7 +336,7 @@ module _ (k : Shape) (key : ℕ) (hard : Bool) (s t : SeatAt) (room : HasRoom k 
             module _ (z : SeatAt) (slot : ℕ) (back : PutsBack y.view slot z.view) (last : z.listed ≡ y.listed) (told : IsInformed z.view) where
               none_goes : Goes x.view y.view []
               none_goes = record {
-                gone = gone;
+                advanced = advanced;
                 retired = ap (λ (z : View). z.hands.retired) none.rest;
                 wait = ap (λ (z : View). z.wait) none.rest;
                 waits = ap (λ (z : View). z.counts.waits) none.rest;
@@ -349,7 +349,7 @@ module _ (k : Shape) (key : ℕ) (hard : Bool) (s t : SeatAt) (room : HasRoom k 
               pub lost_behind : RestsBehind key y.view z.view
               lost_behind =
                   let goes = goes_back back in
-                  record { updates = left_none key goes.gone; waits = goes.waits; retired = goes.retired }
+                  record { updates = left_none key goes.advanced; waits = goes.waits; retired = goes.retired }
 
               pub lost_quiet : IsQuietSeat z
               lost_quiet = put_back_quiet y z back last still
@@ -407,46 +407,46 @@ module _ (k : Shape) (aim : Aim) (s t : SeatAt) (room : HasRoom k aim.key aim.ha
       pub listed_there : AreListed x
       listed_there = listed_takes k aim.key aim.hard s t room u found.0 found.1 listed true x takes same turn aim.salt found.2 refl
 
-      module _ (y : SeatAt) (gone : HasGone x.view y.view []) where
+      module _ (y : SeatAt) (advanced : HasAdvanced x.view y.view []) where
         pub turned_attempt : HasTurned x.view turn y.view → y.listed ≡ x.listed ++ turn.node ∷ (turn.child ∷ []) → IsInformed y.view
             → IsQuietSeat y → HasAttempted k aim s (Tried true) y
         turned_attempt turned retires informed quiet = record {
-          proceeds = all_turned k aim.key aim.hard s t room u found.0 found.1 listed true x takes same turn aim.salt found.2 y gone turned
+          proceeds = all_turned k aim.key aim.hard s t room u found.0 found.1 listed true x takes same turn aim.salt found.2 y advanced turned
               retires informed;
           attempts = record {
             turn = record { turn = turn; reading = found.0; made = true; before = x.view; after = y.view };
             made = refl;
             before = between_takes k aim.key aim.hard s t room u found.0 found.1 listed true x takes same;
-            tried = was_tried k aim.key aim.hard s t room u found.0 found.1 listed true x takes same turn aim.salt found.2 y gone true turned;
-            behind = record { updates = left_none aim.key gone_same; waits = refl; retired = refl };
+            tried = was_tried k aim.key aim.hard s t room u found.0 found.1 listed true x takes same turn aim.salt found.2 y advanced true turned;
+            behind = record { updates = left_none aim.key advanced_same; waits = refl; retired = refl };
           };
-          tickets = turned_tickets k aim.key aim.hard s t room u found.0 found.1 listed true x takes same turn aim.salt found.2 y gone turned;
+          tickets = turned_tickets k aim.key aim.hard s t room u found.0 found.1 listed true x takes same turn aim.salt found.2 y advanced turned;
           quiet = quiet;
         }
 
         module _ (none : HasTurnedNone x.view turn y.view) (still : IsQuietButHand y) (same_list : y.listed ≡ x.listed) where
           pub held_there : (held : Held) × (y.view.hands.hand ≡ Some held) × (held.raised ≡ false)
-          held_there = held_still k aim.key aim.hard s t room u found.0 found.1 listed true x takes same turn aim.salt found.2 y gone none
+          held_there = held_still k aim.key aim.hard s t room u found.0 found.1 listed true x takes same turn aim.salt found.2 y advanced none
               still same_list refl
 
           pub lost_attempt : (z : SeatAt) → PutsBack y.view held_there.0.slot z.view → z.listed ≡ y.listed → IsInformed z.view
               → HasAttempted k aim s (Tried false) z
           lost_attempt z back last told =
-              let on = all_lost k aim.key aim.hard s t room u found.0 found.1 listed true x takes same turn aim.salt found.2 y gone none
+              let on = all_lost k aim.key aim.hard s t room u found.0 found.1 listed true x takes same turn aim.salt found.2 y advanced none
               still same_list z held_there.0.slot back last told in record {
                 proceeds = on;
                 attempts = record {
                   turn = record { turn = turn; reading = found.0; made = false; before = x.view; after = y.view };
                   made = refl;
                   before = between_takes k aim.key aim.hard s t room u found.0 found.1 listed true x takes same;
-                  tried = was_tried k aim.key aim.hard s t room u found.0 found.1 listed true x takes same turn aim.salt found.2 y gone
+                  tried = was_tried k aim.key aim.hard s t room u found.0 found.1 listed true x takes same turn aim.salt found.2 y advanced
                       false none;
-                  behind = lost_behind k aim.key aim.hard s t room u found.0 found.1 listed true x takes same turn aim.salt found.2 y gone
+                  behind = lost_behind k aim.key aim.hard s t room u found.0 found.1 listed true x takes same turn aim.salt found.2 y advanced
                       none still same_list z held_there.0.slot back last told;
                 };
-                tickets = lost_tickets k aim.key aim.hard s t room u found.0 found.1 listed true x takes same turn aim.salt found.2 y gone
+                tickets = lost_tickets k aim.key aim.hard s t room u found.0 found.1 listed true x takes same turn aim.salt found.2 y advanced
                     none still same_list z held_there.0.slot back last told;
-                quiet = lost_quiet k aim.key aim.hard s t room u found.0 found.1 listed true x takes same turn aim.salt found.2 y gone none
+                quiet = lost_quiet k aim.key aim.hard s t room u found.0 found.1 listed true x takes same turn aim.salt found.2 y advanced none
                     still same_list z held_there.0.slot back last told;
               }
 
@@ -491,7 +491,7 @@ tried_none k aim v = record {
   tried = [];
   many = refl;
   turned = refl;
-  were = record { updates = left_none aim.key gone_same; waits = refl; retired = refl };
+  were = record { updates = left_none aim.key advanced_same; waits = refl; retired = refl };
 }
 
 made_one : (turned : Bool) (t : TurnTried) → t.made ≡ turned → cond t.made 1 0 ≡ from_bool turned
@@ -516,7 +516,7 @@ pub spent_lift : (k : Shape) (aim : Aim) (turns i : ℕ) (v w : View) → HasTri
     → HasLifted k aim (record { turns = turns; tried = aim.attempts; stop = Spent }) v w
 spent_lift k aim turns i v w has all = record {
   tried = has.tried;
-  were = tries_end k aim v w w has.tried has.were (between_none gone_same refl refl);
+  were = tries_end k aim v w w has.tried has.were (between_none advanced_same refl refl);
   many = has.many ∙ all;
   few = (let many = has.many in omega arith);
   turns = has.turned;
@@ -539,7 +539,7 @@ lift_keeps proceeds tickets quiet = record {
   wait = proceeds.wait;
   slots = proceeds.slots;
   tickets = tickets;
-  allowance = proceeds.updates.gone.allowance;
+  allowance = proceeds.updates.advanced.allowance;
 }
 
 pub ended_lift : (k : Shape) (aim : Aim) (turns i : ℕ) (stop : Stop) (s t u : SeatAt) → Proceeds aim.key aim.hard s t

@@ -21,7 +21,7 @@ use Rattle.citrus_tree.proofs.Clients.{try_left, try_waits, no_updates, made_ans
 use Rattle.prcu_model.specs.declared.operation.Op.TheVariants.{Put, Get, Del, Set}
 use Rattle.core_state.specs.declared.shape.Shape.{Shape}
 use Rattle.core_state.specs.declared.view.View.{View}
-use Rattle.tree_points.proofs.Locks.{gone_same}
+use Rattle.tree_points.proofs.Locks.{advanced_same}
 use Rattle.citrus_tree.specs.Replies.{ClientAt, caller_of, IsTold, room_of}
 use Rattle.tree_lift.specs.Lifts.{LeavesNoUpdate, IsToldThenLifts, HasCalled, ChainsMeetFronts}
 
@@ -177,7 +177,7 @@ pub told_alone : (k : Shape) (v : View) (op : Op) (told : Told) (w : View) → I
 told_alone k v (Put key value) told w puts = record {
   answered = w;
   puts = puts;
-  lift = record { marks = []; gone = gone_same; each = tt };
+  lift = record { marks = []; advanced = advanced_same; each = tt };
 }
 told_alone k v _ told w is = is
 
@@ -194,11 +194,11 @@ caller_at v = record { place = v.allowance.place; own = own_of v.allowance.place
 lifted_answers : (explains : Dictionary → Op → Reply → Type 0) (before : Caller) (op : Op) (told : Told) (u w : View)
     → LeavesNoUpdate u (key_of op) w → HasAnswered explains before op told (caller_at u) → HasAnswered explains before op told (caller_at w)
 lifted_answers explains before op told u w lift answered =
-    let gone = lift.gone in
+    let advanced = lift.advanced in
     let plain = tries_plain before.place (key_of op) (updates_of w.seen) lift.marks
     (subst (λ p. AllByRecursion (IsOfTry p (key_of op)) lift.marks) answered.place lift.each) in
-    answered_longer explains before (caller_at u) (caller_at w) op told lift.marks answered plain.none gone.begins gone.same
-    (ap (λ p. own_of p w.seen) gone.same ∙ gone.own) plain.keyed plain.waits (met_its_own w)
+    answered_longer explains before (caller_at u) (caller_at w) op told lift.marks answered plain.none advanced.begins advanced.same
+    (ap (λ p. own_of p w.seen) advanced.same ∙ advanced.own) plain.keyed plain.waits (met_its_own w)
 
 pub told_answers : (k : Shape) (v w : View) (op : Op) (told : Told) → IsToldThenLifts k v op told w
     → HasAnswered (Explains (room_of k)) (caller_at v) op told (caller_at w)

@@ -17,7 +17,7 @@ use Rattle.seat_table.specs.Gains.{IsInformed, IsAsked, Told}
 use Rattle.seat_table.specs.Seats.{SeatAt, IsQuietSeat}
 use Rattle.node_slots.specs.Slots.{PutsBack, aged, next_life}
 use Rattle.node_slots.specs.Taking.{FoundNone, HasTaken}
-use Rattle.node_slots.proofs.Points.{back_gone, back_retired, taken_in_hand}
+use Rattle.node_slots.proofs.Points.{back_advanced, back_retired, taken_in_hand}
 use Rattle.tree_points.proofs.Locks.{stays}
 use Rattle.citrus_tree.specs.Going.{Goes}
 use Rattle.citrus_tree.proofs.Leavings.{goes_on, goes_same}
@@ -160,7 +160,7 @@ put_back_quiet s t back listed q =
 
 pub goes_back : {v w : View} {slot : ℕ} → PutsBack v slot w → Goes v w []
 goes_back b = record {
-  gone = back_gone b;
+  advanced = back_advanced b;
   retired = back_retired b;
   wait = ap (λ (z : View). z.wait) b.rest;
   waits = ap (λ (z : View). z.counts.waits) b.rest;
@@ -168,7 +168,7 @@ goes_back b = record {
 
 goes_kept : {k : Shape} {v w : View} {slot n : ℕ} → Told k v (acts.KeepAsSpare slot) n w → Goes v w []
 goes_kept {slot = slot} t = record {
-  gone = stays (acts.KeepAsSpare slot) refl t;
+  advanced = stays (acts.KeepAsSpare slot) refl t;
   retired = ap (λ (z : View). z.hands.retired) t.goes;
   wait = ap (λ (z : View). z.wait) t.goes;
   waits = ap (λ (z : View). z.counts.waits) t.goes;

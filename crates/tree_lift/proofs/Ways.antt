@@ -449,7 +449,7 @@ module _ {v w : View} {key : ℕ} {r : Reading} (l : HasRead v key r w) where
   goes_read =
       let p : ℕ = v.allowance.place in
       let before : own_of p v.seen ≡ own_of p l.before = l.sees.own p (works_there v l.sees.works) in record {
-        gone = record {
+        advanced = record {
           steps = further_by v w _ l.made.trail refl;
           same = ap (λ (z : View). z.allowance.place) l.others;
           allowance = allowed l.others refl;

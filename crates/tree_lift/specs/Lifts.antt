@@ -12,7 +12,7 @@ use Rattle.std.specs.List.{AllByRecursion}
 use Rattle.prcu_marks.specs.declared.mark.Mark.{Mark}
 use Rattle.core_state.specs.declared.view.Reading.{Reading}
 use Rattle.list_laws.specs.Counts.{IsIn}
-use Rattle.tree_points.specs.Points.{HasGone}
+use Rattle.tree_points.specs.Points.{HasAdvanced}
 use Rattle.tree_turn.specs.declared.turn.Turn.{Turn}
 use Rattle.tree_lift.specs.declared.lifting.Aim.{Aim}
 use Rattle.tree_lift.specs.declared.lifting.Attempt.{Attempt}
@@ -100,7 +100,7 @@ pub record TakesSlots (k : Shape) (s : SeatAt) (some : Bool) (t : SeatAt) : Type
 -- Of its place no marks were left but those of sections with the key, and of waits for everybody: so none of an update.
 pub record LeavesNoUpdate (v : View) (key : ℕ) (w : View) : Type 0 where
   pub marks : List Mark
-  pub gone : HasGone v w marks
+  pub advanced : HasAdvanced v w marks
   pub each : AllByRecursion (IsOfTry v.allowance.place key) marks
 
 -- What each part of a lift leaves. Where it isn't to stand still it begins no wait.

@@ -24,7 +24,7 @@ use Rattle.seat_table.specs.Gains.{Sees, Told, TellsNow}
 use Rattle.seat_table.specs.Sections.{HasBegun, HasEntered, HasLeft, Leaves}
 use Rattle.seat_table.specs.Waits.{HasWaited, IsOver}
 use Rattle.core_state.specs.declared.view.Waiting.{Waiting}
-use Rattle.tree_points.specs.Points.{HasGone, KeepsAllowance, HasLocks, IsAt, IsDone}
+use Rattle.tree_points.specs.Points.{HasAdvanced, KeepsAllowance, HasLocks, IsAt, IsDone}
 use Rattle.core_state.specs.declared.view.Held.{Held}
 use Rattle.core_state.specs.declared.act.Act.{Act}
 use Rattle.core_state.specs.declared.act.Part.{Part}
@@ -83,8 +83,8 @@ place_of : {v w : View} → KeepsAllowance v w → w.allowance.place ≡ v.allow
 place_of keeps = ap (λ (z : Allowance). z.place) keeps.rest
 
 -- Marks one after another.
-pub gone_none : {v w : View} → IsPrefix v.trail.steps w.trail.steps → KeepsAllowance v w → w.seen ≡ v.seen → HasGone v w []
-gone_none {v} {w} steps keeps e = record {
+pub advanced_none : {v w : View} → IsPrefix v.trail.steps w.trail.steps → KeepsAllowance v w → w.seen ≡ v.seen → HasAdvanced v w []
+advanced_none {v} {w} steps keeps e = record {
   steps = steps;
   same = place_of keeps;
   allowance = keeps;
@@ -92,9 +92,9 @@ gone_none {v} {w} steps keeps e = record {
   own = ap (own_of v.allowance.place) e ∙ sym (append-nil (own_of v.allowance.place v.seen));
 }
 
-pub gone_with : {v w : View} (h ms : List Mark) → IsPrefix v.trail.steps w.trail.steps → Sees v h → KeepsAllowance v w → w.seen ≡ h ++ ms
-    → HasGone v w (own_of v.allowance.place ms)
-gone_with {v} {w} h ms steps sees keeps e =
+pub advanced_with : {v w : View} (h ms : List Mark) → IsPrefix v.trail.steps w.trail.steps → Sees v h → KeepsAllowance v w → w.seen ≡ h ++ ms
+    → HasAdvanced v w (own_of v.allowance.place ms)
+advanced_with {v} {w} h ms steps sees keeps e =
     let more = sees.begins in
     record {
       steps = steps;
@@ -106,12 +106,12 @@ gone_with {v} {w} h ms steps sees keeps e =
     }
 
 -- where a step saw all marks, or left some that are no place's
-pub gone_all : {v w : View} (h : List Mark) → IsPrefix v.trail.steps w.trail.steps → Sees v h → KeepsAllowance v w → w.seen ≡ h
-    → HasGone v w []
-gone_all {v} {w} h steps sees keeps e = gone_with h [] steps sees keeps (e ∙ sym (append-nil h))
+pub advanced_all : {v w : View} (h : List Mark) → IsPrefix v.trail.steps w.trail.steps → Sees v h → KeepsAllowance v w → w.seen ≡ h
+    → HasAdvanced v w []
+advanced_all {v} {w} h steps sees keeps e = advanced_with h [] steps sees keeps (e ∙ sym (append-nil h))
 
-pub gone_on : {u v w : View} {first second : List Mark} → HasGone u v first → HasGone v w second → HasGone u w (first ++ second)
-gone_on {u} {v} {w} {first} {second} m n = record {
+pub advanced_on : {u v w : View} {first second : List Mark} → HasAdvanced u v first → HasAdvanced v w second → HasAdvanced u w (first ++ second)
+advanced_on {u} {v} {w} {first} {second} m n = record {
   steps = prefix_trans u.trail.steps v.trail.steps w.trail.steps m.steps n.steps;
   same = n.same ∙ m.same;
   allowance = allowed_on m.allowance n.allowance;
@@ -123,58 +123,58 @@ gone_on {u} {v} {w} {first} {second} m n = record {
 }
 
 -- nothing more, first or afterwards
-pub gone_stays : {u v w : View} {first : List Mark} → HasGone u v first → HasGone v w [] → HasGone u w first
-gone_stays {u} {v} {w} {first} m n = subst (HasGone u w) (append-nil first) (gone_on m n)
+pub advanced_stays : {u v w : View} {first : List Mark} → HasAdvanced u v first → HasAdvanced v w [] → HasAdvanced u w first
+advanced_stays {u} {v} {w} {first} m n = subst (HasAdvanced u w) (append-nil first) (advanced_on m n)
 
-pub gone_same : {v : View} → HasGone v v []
-gone_same {v} = gone_none (no_further v v refl) (record { rest = refl }) refl
+pub advanced_same : {v : View} → HasAdvanced v v []
+advanced_same {v} = advanced_none (no_further v v refl) (record { rest = refl }) refl
 
 -- by a mark of the waiter's calls
-gone_leaves : {v w : View} (mark : Mark) → IsPrefix v.trail.steps w.trail.steps → KeepsAllowance v w → Leaves v mark w
-    → HasGone v w (own_of v.allowance.place (mark ∷ []))
-gone_leaves mark steps keeps leaves = gone_with leaves.before (mark ∷ []) steps leaves.seen keeps leaves.marked
+advanced_leaves : {v w : View} (mark : Mark) → IsPrefix v.trail.steps w.trail.steps → KeepsAllowance v w → Leaves v mark w
+    → HasAdvanced v w (own_of v.allowance.place (mark ∷ []))
+advanced_leaves mark steps keeps leaves = advanced_with leaves.before (mark ∷ []) steps leaves.seen keeps leaves.marked
 
-pub gone_entered : {v w : View} {key : ℕ} → HasEntered v key w → HasGone v w (Entered v.allowance.place v.counts.sections key ∷ [])
-gone_entered {v} {w} {key} e =
-    subst (HasGone v w) (ap (λ z. cond z (Entered v.allowance.place v.counts.sections key ∷ []) [])
+pub advanced_entered : {v w : View} {key : ℕ} → HasEntered v key w → HasAdvanced v w (Entered v.allowance.place v.counts.sections key ∷ [])
+advanced_entered {v} {w} {key} e =
+    subst (HasAdvanced v w) (ap (λ z. cond z (Entered v.allowance.place v.counts.sections key ∷ []) [])
     (eq-eqb v.allowance.place v.allowance.place refl))
-    (gone_leaves (Entered v.allowance.place v.counts.sections key) (further_by v w _ e.made.trail refl) (allowed e.others refl) e.leaves)
+    (advanced_leaves (Entered v.allowance.place v.counts.sections key) (further_by v w _ e.made.trail refl) (allowed e.others refl) e.leaves)
 
-pub gone_left : {v w : View} (e : HasLeft v w) → HasGone v w (LeftMark v.allowance.place e.section.count ∷ [])
-gone_left {v} {w} e =
-    subst (HasGone v w) (ap (λ z. cond z (LeftMark v.allowance.place e.section.count ∷ []) [])
+pub advanced_left : {v w : View} (e : HasLeft v w) → HasAdvanced v w (LeftMark v.allowance.place e.section.count ∷ [])
+advanced_left {v} {w} e =
+    subst (HasAdvanced v w) (ap (λ z. cond z (LeftMark v.allowance.place e.section.count ∷ []) [])
     (eq-eqb v.allowance.place v.allowance.place refl))
-    (gone_leaves (LeftMark v.allowance.place e.section.count) (further_by v w _ e.made.trail refl) (allowed e.others refl) e.leaves)
+    (advanced_leaves (LeftMark v.allowance.place e.section.count) (further_by v w _ e.made.trail refl) (allowed e.others refl) e.leaves)
 
-pub gone_begun : {v w : View} {low high : ℕ} → HasBegun v low high w → HasGone v w (Began v.allowance.place v.counts.waits low high ∷ [])
-gone_begun {v} {w} {low} {high} began =
-    subst (HasGone v w) (ap (λ z. cond z (Began v.allowance.place v.counts.waits low high ∷ []) [])
+pub advanced_begun : {v w : View} {low high : ℕ} → HasBegun v low high w → HasAdvanced v w (Began v.allowance.place v.counts.waits low high ∷ [])
+advanced_begun {v} {w} {low} {high} began =
+    subst (HasAdvanced v w) (ap (λ z. cond z (Began v.allowance.place v.counts.waits low high ∷ []) [])
     (eq-eqb v.allowance.place v.allowance.place refl))
-    (gone_leaves (Began v.allowance.place v.counts.waits low high) (further_by v w _ began.made refl)
+    (advanced_leaves (Began v.allowance.place v.counts.waits low high) (further_by v w _ began.made refl)
     (allowed began.others refl) began.leaves)
 
-pub gone_over : {k : Shape} {v w : View} (over : IsOver k v w) → HasGone v w (Ended v.allowance.place over.wait.count ∷ [])
-gone_over {k} {v} {w} over =
-    subst (HasGone v w) (ap (λ z. cond z (Ended v.allowance.place over.wait.count ∷ []) [])
+pub advanced_over : {k : Shape} {v w : View} (over : IsOver k v w) → HasAdvanced v w (Ended v.allowance.place over.wait.count ∷ [])
+advanced_over {k} {v} {w} over =
+    subst (HasAdvanced v w) (ap (λ z. cond z (Ended v.allowance.place over.wait.count ∷ []) [])
     (eq-eqb v.allowance.place v.allowance.place refl))
-    (gone_leaves (Ended v.allowance.place over.wait.count) (further_by v w _ (over.ended).makes refl) (allowed (over.ended).others refl)
+    (advanced_leaves (Ended v.allowance.place over.wait.count) (further_by v w _ (over.ended).makes refl) (allowed (over.ended).others refl)
     (over.ended).leaves)
 
-pub gone_waited : {k : Shape} {v w : View} {low high : ℕ} → HasWaited k v low high w
-    → HasGone v w (Began v.allowance.place v.counts.waits low high ∷ (Ended v.allowance.place v.counts.waits ∷ []))
-gone_waited {k} {v} {w} {low} {high} (mid, began, over) =
+pub advanced_waited : {k : Shape} {v w : View} {low high : ℕ} → HasWaited k v low high w
+    → HasAdvanced v w (Began v.allowance.place v.counts.waits low high ∷ (Ended v.allowance.place v.counts.waits ∷ []))
+advanced_waited {k} {v} {w} {low} {high} (mid, began, over) =
     let place : mid.allowance.place ≡ v.allowance.place = ap (λ (z : View). z.allowance.place) began.others in
     let one : Some over.wait ≡ Some (new_wait v low high began.clock began.leaves.before) = sym over.was ∙ began.wait_is in
     let count : over.wait.count ≡ v.counts.waits = ap (λ (z : Option Waiting). count_of z) one in
-    gone_on
-    (subst (HasGone v mid) (ap (λ z. cond z (Began v.allowance.place v.counts.waits low high ∷ []) [])
+    advanced_on
+    (subst (HasAdvanced v mid) (ap (λ z. cond z (Began v.allowance.place v.counts.waits low high ∷ []) [])
     (eq-eqb v.allowance.place v.allowance.place refl))
-    (gone_leaves (Began v.allowance.place v.counts.waits low high) (further_by v mid _ began.made refl)
+    (advanced_leaves (Began v.allowance.place v.counts.waits low high) (further_by v mid _ began.made refl)
     (allowed began.others refl) began.leaves))
-    (subst (λ (z : ℕ × ℕ). HasGone mid w (Ended z.0 z.1 ∷ [])) (λ i. (place i, count i))
-    (subst (HasGone mid w) (ap (λ z. cond z (Ended mid.allowance.place over.wait.count ∷ []) [])
+    (subst (λ (z : ℕ × ℕ). HasAdvanced mid w (Ended z.0 z.1 ∷ [])) (λ i. (place i, count i))
+    (subst (HasAdvanced mid w) (ap (λ z. cond z (Ended mid.allowance.place over.wait.count ∷ []) [])
     (eq-eqb mid.allowance.place mid.allowance.place refl))
-    (gone_leaves (Ended mid.allowance.place over.wait.count) (further_by mid w _ (over.ended).makes refl) (allowed (over.ended).others refl)
+    (advanced_leaves (Ended mid.allowance.place over.wait.count) (further_by mid w _ (over.ended).makes refl) (allowed (over.ended).others refl)
     (over.ended).leaves)))
   where
     count_of : Option Waiting → ℕ
@@ -221,23 +221,23 @@ noting_same v s field n by_store =
 -- Which marks of the place a step leaves, and steps that leave its locks and slots alone.
 
 -- A step leaves the marks of its act: of these the place has its own, and it has seen all before them.
-pub gone_by : {k : Shape} {v w : View} {n : ℕ} (a : Act) → Told k v a n w
-    → HasGone v w (own_of v.allowance.place (marks_of (noted v a n) a n))
-gone_by {k} {v} {w} {n} a t =
+pub advanced_by : {k : Shape} {v w : View} {n : ℕ} (a : Act) → Told k v a n w
+    → HasAdvanced v w (own_of v.allowance.place (marks_of (noted v a n) a n))
+advanced_by {k} {v} {w} {n} a t =
     let made : List Mark = marks_of (noted v a n) a n in
     let keeps = allowed t.goes (stays_at_work (noted v a n) t.marks n a).allowance in
     let seen = ap (λ (z : View). z.seen) t.goes in
     let steps : IsPrefix v.trail.steps w.trail.steps = further v _ t.goes (stays_at_work (noted v a n) t.marks n a).steps in
     ⊎_elim
     (λ (none : (made ≡ []) × ((after (noted v a n) a t.marks n).seen ≡ v.seen)).
-    subst (HasGone v w) (sym (ap (own_of v.allowance.place) none.0)) (gone_none steps keeps (seen ∙ none.1)))
-    (λ all. gone_with t.marks made steps t.sees keeps (seen ∙ all))
+    subst (HasAdvanced v w) (sym (ap (own_of v.allowance.place) none.0)) (advanced_none steps keeps (seen ∙ none.1)))
+    (λ all. advanced_with t.marks made steps t.sees keeps (seen ∙ all))
     (has_seen (noted v a n) t.marks n a)
 
 -- so none, where the act leaves none of a place
 pub stays : {k : Shape} {v w : View} {n : ℕ} (a : Act) → own_of v.allowance.place (marks_of (noted v a n) a n) ≡ [] → Told k v a n w
-    → HasGone v w []
-stays {k} {v} {w} {n} a none t = subst (HasGone v w) none (gone_by a t)
+    → HasAdvanced v w []
+stays {k} {v} {w} {n} a none t = subst (HasAdvanced v w) none (advanced_by a t)
 
 -- A load under a lock leaves the place's locks and slots alone.
 pub same_locked : {k : Shape} {v w : View} {n slot : ℕ} {p : Part} → Told k v (acts.LockedLoad slot p) n w → IsSame v w

@@ -9,7 +9,7 @@ use Rattle.core_state.specs.declared.view.Known.{Known}
 use Rattle.core_state.specs.Parts.{map_now}
 use Rattle.core_points.specs.Facts.{one_lock, read_at, set_known}
 use Rattle.core_points.proofs.Notes.{one_locked}
-use Rattle.tree_points.specs.Points.{HasGone, HasUpdated, KeepsAllowance, IsAt}
+use Rattle.tree_points.specs.Points.{HasAdvanced, HasUpdated, KeepsAllowance, IsAt}
 use Rattle.prcu_marks.specs.declared.mark.Side.{Side}
 use Rattle.prcu_model.specs.declared.operation.Op.{Op}
 use Rattle.prcu_model.specs.declared.operation.Op.TheVariants.{Put, Set}
@@ -29,7 +29,7 @@ use Rattle.core_state.specs.declared.words.Field.TheVariants.{Life, Link, Value}
 use Rattle.core_state.specs.Views.{known_in, known_of, known_under, lock_of}
 use Rattle.core_points.proofs.Locks.{slots_in}
 use Rattle.seat_table.specs.Seats.{IsSlotOf}
-use Rattle.tree_points.proofs.Locks.{slot_in_hand, slot_of, allowed, further, gone_with, noting_same, own_spare}
+use Rattle.tree_points.proofs.Locks.{slot_in_hand, slot_of, allowed, further, advanced_with, noting_same, own_spare}
 use Rattle.core_points.specs.declared.stage.Update.{Update as Making}
 use Rattle.core_points.specs.declared.stage.Update.TheVariants as update
 use Rattle.core_points.specs.declared.stage.Stage.TheVariants as at
@@ -39,16 +39,16 @@ use Rattle.core_state.specs.declared.act.Act.TheVariants as acts
 -- held after it.
 
 -- a step after all marks, of which the first is the place's
-one_gone : {v w : View} (h more : List Mark) (op : Op) → (own_of v.allowance.place more ≡ []) → IsPrefix v.trail.steps w.trail.steps
+one_advanced : {v w : View} (h more : List Mark) (op : Op) → (own_of v.allowance.place more ≡ []) → IsPrefix v.trail.steps w.trail.steps
     → Sees v h
     → KeepsAllowance v w
     → w.seen ≡ h ++ Done (record { caller = v.allowance.place; op = op }) ∷ more
-    → HasGone v w (Done (record { caller = v.allowance.place; op = op }) ∷ [])
-one_gone {v} {w} h more op none steps sees keeps seen =
+    → HasAdvanced v w (Done (record { caller = v.allowance.place; op = op }) ∷ [])
+one_advanced {v} {w} h more op none steps sees keeps seen =
     let p : ℕ = v.allowance.place in
     let first : Mark = Done (record { caller = p; op = op }) in
-    subst (HasGone v w) (ap (λ z. cond z (first ∷ own_of p more) (own_of p more)) (eq-eqb p p refl) ∙ ap (λ l. first ∷ l) none)
-    (gone_with h (first ∷ more) steps sees keeps seen)
+    subst (HasAdvanced v w) (ap (λ z. cond z (first ∷ own_of p more) (own_of p more)) (eq-eqb p p refl) ∙ ap (λ l. first ∷ l) none)
+    (advanced_with h (first ∷ more) steps sees keeps seen)
 
 abbrev updated : {v w : View} (h more : List Mark) (op : Op) (front : ℕ) → (own_of v.allowance.place more ≡ []) → updates_of more ≡ []
     → IsPrefix v.trail.steps w.trail.steps → Sees v h → KeepsAllowance v w
@@ -59,7 +59,7 @@ updated {v} {w} h more op front none no_update steps sees keeps seen found = rec
   sees = sees;
   more = more;
   seen = seen;
-  gone = one_gone h more op none steps sees keeps seen;
+  advanced = one_advanced h more op none steps sees keeps seen;
   counted =
       let u : Update = record { caller = v.allowance.place; op = op } in
       let all : length (updates_of w.seen) ≡ length (updates_of h ++ u ∷ updates_of more) =
@@ -98,15 +98,15 @@ module _ {k : Shape} {kept n : ℕ} {v w : View} where
     (t.gains).was old (the_value v s ((a.fits).point).0 old (((a.fits).point).1).locks_are),
   )
 
-  pub gone_store_leaf : {key value leaf front : ℕ} {spot : Spot} → IsAt k (Put key value) kept (at.Store (update.Leaf spot) front) v
+  pub advanced_store_leaf : {key value leaf front : ℕ} {spot : Spot} → IsAt k (Put key value) kept (at.Store (update.Leaf spot) front) v
       → Told k v (acts.LinkLeaf spot.slot spot.side leaf key value) n w
-      → HasGone v w (Done (record { caller = v.allowance.place; op = Put key value }) ∷ [])
-  gone_store_leaf a t = (updated_leaf a t).gone
+      → HasAdvanced v w (Done (record { caller = v.allowance.place; op = Put key value }) ∷ [])
+  advanced_store_leaf a t = (updated_leaf a t).advanced
 
-  pub gone_store_value : {key value s old front : ℕ} → IsAt k (Set key value) kept (at.Store (update.Value s old) front) v
+  pub advanced_store_value : {key value s old front : ℕ} → IsAt k (Set key value) kept (at.Store (update.Value s old) front) v
       → Told k v (acts.ReplaceValue s key value) n w
-      → HasGone v w (Done (record { caller = v.allowance.place; op = Set key value }) ∷ [])
-  gone_store_value a t = ((updated_value a t).0).gone
+      → HasAdvanced v w (Done (record { caller = v.allowance.place; op = Set key value }) ∷ [])
+  advanced_store_value a t = ((updated_value a t).0).advanced
 
 -- What the table asks for each of them is given, and the front is made even next.
 pub needs_store_bypass : {k : Shape} {op : Op} {kept : ℕ} {v : View} {d : Node} {child : ℕ} {front : ℕ}

@@ -57,7 +57,7 @@ pub record KeepsAllowance (v w : View) : Type 0 where
 
 -- At the same place the seat has made more steps, has seen more, and of its own exactly these marks. Of what it may work with only its
 -- tickets changed.
-pub record HasGone (v w : View) (marks : List Mark) : Type 0 where
+pub record HasAdvanced (v w : View) (marks : List Mark) : Type 0 where
   pub steps : IsPrefix v.trail.steps w.trail.steps
   pub same : w.allowance.place ≡ v.allowance.place
   pub allowance : KeepsAllowance v w
@@ -71,7 +71,7 @@ pub record HasUpdated (v : View) (op : Op) (front : ℕ) (w : View) : Type 0 whe
   pub sees : Sees v before
   pub more : List Mark
   pub seen : w.seen ≡ before ++ Done (record { caller = v.allowance.place; op = op }) ∷ more
-  pub gone : HasGone v w (Done (record { caller = v.allowance.place; op = op }) ∷ [])
+  pub advanced : HasAdvanced v w (Done (record { caller = v.allowance.place; op = op }) ∷ [])
   pub counted : front ≡ 2 * length (updates_of before)
 
 -- All of the place's retired slots were given back, by one wait and with one ticket at most; the place has a spare. What a call knows of

@@ -14,8 +14,8 @@ use Rattle.core_state.specs.Views.{held_list}
 use Rattle.seat_table.specs.Gains.{IsInformed}
 use Rattle.seat_table.specs.Seats.{SeatAt, TableAt, IsQuietSeat}
 use Rattle.seat_table.specs.Waits.{IsOver}
-use Rattle.tree_points.specs.Points.{HasGone}
-use Rattle.tree_points.proofs.Locks.{allowed, further_by, gone_none, gone_on, no_further, gone_stays, gone_same, gone_begun, gone_over}
+use Rattle.tree_points.specs.Points.{HasAdvanced}
+use Rattle.tree_points.proofs.Locks.{allowed, further_by, advanced_none, advanced_on, no_further, advanced_stays, advanced_same, advanced_begun, advanced_over}
 use Rattle.node_slots.specs.Reclaiming.{return_marks}
 use Rattle.node_slots.proofs.Takes.{each_begins, each_own, returned_nobodys}
 use Rattle.grace_cookie.specs.declared.answers.Ask.{Ask}
@@ -36,11 +36,11 @@ use Rattle.tree_lift.specs.Lifts.{IsToldThenLifts}
 use Rattle.tree_lift.specs.Lifts as tree
 
 -- what the seat knows after slots went back: as many waits, and no mark of its place more
-pub back_gone : (c : CookieAt) (s : SeatAt) (number : ℕ) (t : SeatAt) → HasGivenBack c s number t
-    → HasGone s.view t.view [] × (t.view.allowance ≡ s.view.allowance) × (t.view.counts.waits ≡ s.view.counts.waits)
-back_gone c s number t back = ⊎_elim
+pub back_advanced : (c : CookieAt) (s : SeatAt) (number : ℕ) (t : SeatAt) → HasGivenBack c s number t
+    → HasAdvanced s.view t.view [] × (t.view.allowance ≡ s.view.allowance) × (t.view.counts.waits ≡ s.view.counts.waits)
+back_advanced c s number t back = ⊎_elim
     (λ (none : GivesNone c s number t). let e = ap (λ (z : SeatAt). z.view) none.same in (
-      gone_none (no_further s.view t.view (ap (λ (z : View). z.trail.steps) e)) (allowed e refl) (ap (λ (z : View). z.seen) e),
+      advanced_none (no_further s.view t.view (ap (λ (z : View). z.trail.steps) e)) (allowed e refl) (ap (λ (z : View). z.seen) e),
       ap (λ (z : View). z.allowance) e,
       ap (λ (z : View). z.counts.waits) e,
     ))
@@ -62,7 +62,7 @@ back_gone c s number t back = ⊎_elim
 -- the marks that asking leaves, at most the end of the wait of the cookie that was held
 record AskLeaves (cookie : Option CookieAt) (v w : View) : Type 0 where
   pub ended : List Mark
-  pub gone : HasGone v w ended
+  pub advanced : HasAdvanced v w ended
   pub ends : (ended ≡ []) ⊎ ((c : CookieAt) × (cookie ≡ Some c) × (ended ≡ Ended v.allowance.place c.count ∷ []))
   pub allowance : w.allowance ≡ v.allowance
   pub waits : w.counts.waits ≡ v.counts.waits
@@ -73,7 +73,7 @@ nothing_left : (cookie : Option CookieAt) (v w : View) → IsPrefix v.trail.step
 nothing_left cookie v w steps allowance waits seen =
     record {
       ended = [];
-      gone = gone_none steps (record
+      advanced = advanced_none steps (record
           { rest = allowance ∙ ap (λ n. record v.allowance { tickets = n }) (sym (ap (λ (a : Allowance). a.tickets) allowance)) }) seen;
       ends = inl refl;
       allowance = allowance;
@@ -91,12 +91,12 @@ module _ (k : Shape) (c : CookieAt) (s : SeatAt) (going : c.over ≡ false) (of 
       let same : Some over.wait ≡ Some on.0 = sym over.was ∙ on.1 in
       let is : over.wait ≡ on.0 = cc in
       let count : over.wait.count ≡ c.count = ap (λ (z : Waiting). z.count) is ∙ on.2 in
-      let later = back_gone now mid number t back in
-      let first : HasGone s.view mid.view (Ended s.view.allowance.place c.count ∷ []) =
-      subst (λ n. HasGone s.view mid.view (Ended s.view.allowance.place n ∷ [])) count (gone_over over) in
+      let later = back_advanced now mid number t back in
+      let first : HasAdvanced s.view mid.view (Ended s.view.allowance.place c.count ∷ []) =
+      subst (λ n. HasAdvanced s.view mid.view (Ended s.view.allowance.place n ∷ [])) count (advanced_over over) in
       record {
         ended = Ended s.view.allowance.place c.count ∷ [];
-        gone = gone_stays first later.0;
+        advanced = advanced_stays first later.0;
         ends = inr (c, refl, refl);
         allowance = later.1 ∙ ap (λ (z : View). z.allowance) over.ended.others;
         waits = later.2 ∙ ap (λ (z : View). z.counts.waits) over.ended.others;
@@ -132,7 +132,7 @@ record IsStillHeld (cookie : Option CookieAt) (v : View) (d : CookieAt) (w : Vie
   pub c : CookieAt
   pub was : cookie ≡ Some c
   pub count : d.count ≡ c.count
-  pub gone : HasGone v w []
+  pub advanced : HasAdvanced v w []
   pub allowance : w.allowance ≡ v.allowance
   pub waits : w.counts.waits ≡ v.counts.waits
 
@@ -149,7 +149,7 @@ still_going k c s d t (NotYet why) now mid same asked goes =
       c = c;
       was = refl;
       count = ap (λ (z : CookieAt). z.count) (is ∙ same);
-      gone = gone_none (further_by s.view t.view _ (ap (λ (z : View). z.trail) there ∙ (asked.3).looked.makes) refl)
+      advanced = advanced_none (further_by s.view t.view _ (ap (λ (z : View). z.trail) there ∙ (asked.3).looked.makes) refl)
           (allowed (there ∙ e) refl) (ap (λ (z : View). z.seen) (there ∙ e));
       allowance = ap (λ (z : View). z.allowance) (there ∙ e);
       waits = ap (λ (z : View). z.counts.waits) (there ∙ e);
@@ -171,7 +171,7 @@ still_on k cookie s (h ∷ earlier) d t asks =
       c = first.c;
       was = first.was;
       count = next.count ∙ sym (ap (λ (z : CookieAt). z.count) is) ∙ first.count;
-      gone = gone_stays first.gone next.gone;
+      advanced = advanced_stays first.advanced next.advanced;
       allowance = next.allowance ∙ first.allowance;
       waits = next.waits ∙ first.waits;
     }
@@ -184,7 +184,7 @@ asks_on_leave k cookie s (h ∷ earlier) left t good asks =
     let first = still_on k cookie s earlier h.cookie h.seat asks.0 in
     let last = asks_leave k (Some h.cookie) h.seat left t asks.1 asks.2 in record {
       ended = last.ended;
-      gone = gone_on first.gone last.gone;
+      advanced = advanced_on first.advanced last.advanced;
       ends = ⊎_elim (λ (e : last.ended ≡ []). inl e)
           (λ (e : (c : CookieAt) × (Some h.cookie ≡ Some c) × (last.ended ≡ Ended h.seat.view.allowance.place c.count ∷ [])).
           let held = e.1 in
@@ -214,7 +214,7 @@ module _ (k : Shape) (op : Op) (cookie : Option CookieAt) (s : SeatAt) (left : O
   leaves = room_leaves k op cookie s left t good room
 
   pub room_ends : LeavesEnd cookie s.view t.view
-  room_ends = record { ended = leaves.ended; gone = leaves.gone; ends = leaves.ends }
+  room_ends = record { ended = leaves.ended; advanced = leaves.advanced; ends = leaves.ends }
 
   pub room_allows : t.view.allowance ≡ s.view.allowance
   room_allows = leaves.allowance
@@ -239,13 +239,13 @@ asked_out k cookie s now t (Some d) u since asks none = absurd (cc)
 -- the marks that starting leaves, at most the beginning of a wait for everybody
 record StartLeaves (v w : View) : Type 0 where
   pub began : List Mark
-  pub gone : HasGone v w began
+  pub advanced : HasAdvanced v w began
   pub begins : (began ≡ []) ⊎ (began ≡ Began v.allowance.place v.counts.waits 0 greatest_key ∷ [])
   pub tickets : v.allowance.tickets ≤ w.allowance.tickets + 1
 
 none_started : (s t : SeatAt) → t ≡ s → StartLeaves s.view t.view
 none_started s t same = subst (λ (z : SeatAt). StartLeaves s.view z.view) (sym same)
-    (record { began = []; gone = gone_same; begins = inl refl; tickets = omega arith })
+    (record { began = []; advanced = advanced_same; begins = inl refl; tickets = omega arith })
 
 starts_leave : (left : Option CookieAt) (s : SeatAt) (held : Option CookieAt) (t : SeatAt) → Starts left s held t
     → StartLeaves s.view t.view
@@ -253,7 +253,7 @@ starts_leave (Some c) s held t starts = none_started s t starts.1
 starts_leave None s None t starts = none_started s t starts.1
 starts_leave None s (Some c) t starts = record {
   began = Began s.view.allowance.place s.view.counts.waits 0 greatest_key ∷ [];
-  gone = gone_begun starts.begun;
+  advanced = advanced_begun starts.begun;
   begins = inr refl;
   tickets = let e = ap (λ (z : View). z.allowance.tickets) starts.begun.others in omega arith;
 }
@@ -270,7 +270,7 @@ module _ (k : Shape) (cookie : Option CookieAt) (s : SeatAt) (held : Option Cook
   settles_leave = record {
     ended = asking.ended;
     began = starting.began;
-    gone = gone_on asking.gone starting.gone;
+    advanced = advanced_on asking.advanced starting.advanced;
     ends = asking.ends;
     begins = subst (λ (z : ℕ × ℕ). (starting.began ≡ []) ⊎ (starting.began ≡ Began z.0 z.1 0 greatest_key ∷ []))
         (λ i. ((asking.allowance i).place, asking.waits i)) starting.begins;
@@ -331,7 +331,7 @@ called_answers before op told after call =
     let answered = call_answers (record before.tree { seat = call.ready }) op told (record before.tree { seat = call.called }) call.call in
     let ends = call.ends in
     let settled = call.waits in
-    let gone = settled.gone in
+    let advanced = settled.advanced in
     let place : m.allowance.place ≡ r.allowance.place = answered.place in
     let first = ends_plain v.allowance.place key us before.cookie ends.ended ends.ends in
     let last = both_plain r.allowance.place key us settled.ended settled.began
@@ -342,11 +342,11 @@ called_answers before op told after call =
     (subst (λ p. (settled.began ≡ []) ⊎ (settled.began ≡ Began p m.counts.waits 0 greatest_key ∷ [])) place settled.begins)) in
     let until = answered_longer explains (caller_of (record before.tree { seat = call.ready }))
     (caller_of (record before.tree { seat = call.called })) (caller_of after.tree) op told
-    (settled.ended ++ settled.began) answered last.none gone.begins
-    gone.same (ap (λ p. own_of p w.seen) gone.same ∙ gone.own) last.keyed last.waits (met_its_own w) in
+    (settled.ended ++ settled.began) answered last.none advanced.begins
+    advanced.same (ap (λ p. own_of p w.seen) advanced.same ∙ advanced.own) last.keyed last.waits (met_its_own w) in
     answered_earlier explains (caller_of before.tree) (caller_of (record before.tree { seat = call.ready }))
-    (caller_of after.tree) op told ends.ended first.none ends.gone.same ends.gone.begins until
-    (ap (λ p. own_of p r.seen) ends.gone.same ∙ ends.gone.own) first.keyed first.waits
+    (caller_of after.tree) op told ends.ended first.none ends.advanced.same ends.advanced.begins until
+    (ap (λ p. own_of p r.seen) ends.advanced.same ∙ ends.advanced.own) first.keyed first.waits
 
 -- A call of the tree beside a cookie, and calls one after another.
 

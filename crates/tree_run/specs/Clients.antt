@@ -11,7 +11,7 @@ use Rattle.core_state.specs.declared.view.View.{View}
 use Rattle.core_state.specs.Marks.{Grace, Reuse}
 use Rattle.seat_table.specs.Seats.{SeatAt, IsQuietSeat}
 use Rattle.seat_table.specs.Sections.{HasBegun}
-use Rattle.tree_points.specs.Points.{HasGone}
+use Rattle.tree_points.specs.Points.{HasAdvanced}
 use Rattle.grace_cookie.specs.declared.answers.Ask.{Ask}
 use Rattle.grace_cookie.specs.declared.answers.Ask.TheVariants.{Over, NotYet, GivenUp}
 use Rattle.grace_cookie.specs.Cookies.{CookieAt, everybody, IsOf, HasKept, IsSameCookie, Asked, HasGivenBack}
@@ -75,7 +75,7 @@ pub record Settles (k : Shape) (cookie : Option CookieAt) (s : SeatAt) (held : O
 pub record LeavesWaits (cookie : Option CookieAt) (v w : View) : Type 0 where
   pub ended : List Mark
   pub began : List Mark
-  pub gone : HasGone v w (ended ++ began)
+  pub advanced : HasAdvanced v w (ended ++ began)
   pub ends : (ended ≡ []) ⊎ ((c : CookieAt) × (cookie ≡ Some c) × (ended ≡ Ended v.allowance.place c.count ∷ []))
   pub begins : (began ≡ []) ⊎ (began ≡ Began v.allowance.place v.counts.waits 0 greatest_key ∷ [])
 
@@ -121,7 +121,7 @@ MakesRoom k op cookie s left t = ((LacksRoom op s → ⊥) × (left ≡ cookie) 
 -- What asking leaves of marks at the place: at most the end of the wait of the cookie that was held.
 pub record LeavesEnd (cookie : Option CookieAt) (v w : View) : Type 0 where
   pub ended : List Mark
-  pub gone : HasGone v w ended
+  pub advanced : HasAdvanced v w ended
   pub ends : (ended ≡ []) ⊎ ((c : CookieAt) × (cookie ≡ Some c) × (ended ≡ Ended v.allowance.place c.count ∷ []))
 
 -- Clients of the tree that hold a cookie.

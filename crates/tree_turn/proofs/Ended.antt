@@ -22,8 +22,8 @@ use Rattle.list_laws.specs.Counts.{times, IsIn}
 use Rattle.list_laws.proofs.Lists.{times_append, times_here, times_other}
 use Rattle.seat_table.specs.Gains.{Sees, TellsApart}
 use Rattle.seat_table.specs.Seats.{SeatAt, AreListed, IsQuietSeat, IsSlotOf}
-use Rattle.tree_points.specs.Points.{HasGone}
-use Rattle.tree_points.proofs.Locks.{allowed, gone_none, gone_with}
+use Rattle.tree_points.specs.Points.{HasAdvanced}
+use Rattle.tree_points.proofs.Locks.{allowed, advanced_none, advanced_with}
 use Rattle.node_slots.specs.Taking.{MakesSteps}
 use Rattle.node_slots.proofs.Returns.{listed_length, not_in}
 use Rattle.tree_turn.proofs.Standing.{steps_both}
@@ -294,15 +294,15 @@ turned_none {v} {w} {t} has =
     omega arith
 
 -- No mark of the place was left.
-pub turned_gone : {v w : View} {t : Turn} → HasTurned v t w → HasGone v w []
-turned_gone {v} {w} {t} has = gone_with has.before (rotate_marks t.node t.child)
+pub turned_advanced : {v w : View} {t : Turn} → HasTurned v t w → HasAdvanced v w []
+turned_advanced {v} {w} {t} has = advanced_with has.before (rotate_marks t.node t.child)
     (turn_steps t has.words has.bottom.slot has.top.slot, sym (ap (λ (z : Trail). z.steps) has.made)) has.sees (allowed has.rest refl)
     (ap (λ (z : View). z.seen) has.rest)
 
-pub refused_gone : {v w : View} {t : Turn} → HasTurnedNone v t w → HasGone v w []
-refused_gone {v} {w} {t} has =
+pub refused_advanced : {v w : View} {t : Turn} → HasTurnedNone v t w → HasAdvanced v w []
+refused_advanced {v} {w} {t} has =
     let none = makes_none has in
-    gone_none (none.0, sym (ap (λ (z : Trail). z.steps) none.1)) (allowed has.rest refl) (ap (λ (z : View). z.seen) has.rest)
+    advanced_none (none.0, sym (ap (λ (z : Trail). z.steps) none.1)) (allowed has.rest refl) (ap (λ (z : View). z.seen) has.rest)
 
 -- the retired slots
 abbrev slots_retired : View → List ℕ

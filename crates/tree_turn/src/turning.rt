@@ -3,7 +3,7 @@ ghost use Rattle.std.specs.Prelude.{◌≡◌, ◌+◌, Some, true, false, [], �
 ghost use Rattle.core_state.specs.Views.{steps_made};
 ghost use Rattle.seat_table.specs.Gains.{IsInformed};
 ghost use Rattle.seat_table.specs.Seats.{AreListed, IsQuietSeat, IsSlotOf, shape_of};
-ghost use Rattle.tree_points.specs.Points.{HasGone};
+ghost use Rattle.tree_points.specs.Points.{HasAdvanced};
 ghost use Rattle.tree_turn.specs.Turns.{HasRecorded, IsReadyToTurn, IsQuietButHand, HasTurned, HasTurnedNone, is_rotation, stands_aside};
 
 use crate::loads::{is_as_recorded, load_words};
@@ -27,7 +27,7 @@ pub fn make_turn<W: WaitWords>(table: &CitrusTable<W>, seat: &mut Seat<W>, turn:
     ensures refused { result ≡ false → HasTurnedNone seat.old.view turn seat.new.view }
     ensures once { result ≡ true → steps_made is_rotation seat.new.view ≡ steps_made is_rotation seat.old.view + 1 }
     ensures none { result ≡ false → steps_made is_rotation seat.new.view ≡ steps_made is_rotation seat.old.view }
-    ensures gone { HasGone seat.old.view seat.new.view [] }
+    ensures gone { HasAdvanced seat.old.view seat.new.view [] }
     ensures retires { result ≡ true → seat.new.listed ≡ seat.old.listed ++ turn.node ∷ (turn.child ∷ []) }
     ensures same_list { result ≡ false → seat.new.listed ≡ seat.old.listed }
     ensures listed { AreListed seat.new }

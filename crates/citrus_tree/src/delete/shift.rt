@@ -12,7 +12,7 @@ ghost use Rattle.seat_table.specs.Gains.{IsInformed};
 ghost use Rattle.seat_table.specs.Sections.{HasMade};
 ghost use Rattle.seat_table.specs.Seats.{AreListed, IsSlotOf, shape_of};
 ghost use Rattle.seat_table.specs.Waits.{HasWaited};
-ghost use Rattle.tree_points.specs.Points.{HasLocks, IsAt, IsDone, HasGone};
+ghost use Rattle.tree_points.specs.Points.{HasLocks, IsAt, IsDone, HasAdvanced};
 ghost use Rattle.citrus_tree.specs.Deletes.{StandsAt, Comes, KeepsAll, KeepsRest, KeepsWaits, HasDeleted, HasCopied, AreLivesSmall, KeepsValue, RetiresIf, TakesValue, locked_slots, retired_slots};
 ghost use Rattle.citrus_tree.specs.Going.{KeepsSlots, KeepsWait};
 ghost use Rattle.citrus_tree.specs.Replies.{IsUnlinkedSince};
@@ -194,7 +194,7 @@ fn finish<P: Patience, W: WaitPart, G: Gate>(
     ensures table { seat.new.table ≡ seat.old.table }
     ensures done { IfOk result (λ _. (kept : ℕ) → IsAt (shape_of W.WAY table.now) (Del key) kept
         (at.Begin (waits.Move moving)) seat.old.view → IsDone (shape_of W.WAY table.now) (Del key) kept seat.new.view) }
-    ensures waited { IfOk result (λ _. HasGone seat.old.view seat.new.view
+    ensures waited { IfOk result (λ _. HasAdvanced seat.old.view seat.new.view
         (Began seat.old.view.allowance.place seat.old.view.counts.waits (key + 1) moving.next_key
         ∷ (Ended seat.old.view.allowance.place seat.old.view.counts.waits ∷ []))) }
     ensures waits { IfOk result (λ _. KeepsWait seat.old.view seat.new.view) }
@@ -228,7 +228,7 @@ fn unlink_old<W: WaitPart>(table: &CitrusTable<W>, seat: &mut Seat<W>, moving: M
     ensures seat { (seat.new.table ≡ seat.old.table) × (seat.new.listed ≡ seat.old.listed) }
     ensures at { Comes (shape_of W.WAY table.now) (at.OldMark moving) seat.old.view (at.Unlock (last.Gone moving.number)) seat.new.view }
     ensures locked { HasLocks (move_locks moving) seat.new.view }
-    ensures gone { HasGone seat.old.view seat.new.view [] }
+    ensures gone { HasAdvanced seat.old.view seat.new.view [] }
     ensures unlinked { IsUnlinkedSince seat.old.view.seen moving.successor.slot seat.new.view.seen }
     ensures retired { retired_slots seat.new.view ≡ retired_slots seat.old.view ++ moving.successor.slot ∷ [] }
     ensures waits { KeepsWaits seat.old.view seat.new.view }

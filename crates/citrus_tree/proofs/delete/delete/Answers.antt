@@ -120,7 +120,7 @@ loop-round-preserved g c = record {
       let found = c.find_target.ensures.stepped in
       let rest = subst (λ (r : Option Deleted). IfNone r
       (KeepsRest c.find_target.new.seat.view c.delete_node.new.seat.view)) c.in_default-2.is c.in_ok-taken.ensures.same in
-      let tried = prefix_steps c.find_target.new.seat.view c.delete_node.new.seat.view rest.gone.steps in
+      let tried = prefix_steps c.find_target.new.seat.view c.delete_node.new.seat.view rest.advanced.steps in
       omega (arith, made, found, tried);
 }
 

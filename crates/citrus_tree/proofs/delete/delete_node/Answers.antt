@@ -6,7 +6,7 @@ use Rattle.core_points.specs.declared.stage.Stage.TheVariants as at
 use Rattle.seat_table.specs.Gains.{IsInformed}
 use Rattle.seat_table.specs.Seats.{shape_of}
 use Rattle.tree_points.specs.Points.{IsAt, IsDone}
-use Rattle.tree_points.proofs.Locks.{gone_on}
+use Rattle.tree_points.proofs.Locks.{advanced_on}
 use Rattle.citrus_tree.specs.Deletes.{AreLivesSmall, Comes, HasDeleted, KeepsRest, RetiresIf, TakesValue}
 use Rattle.citrus_tree.specs.Going.{KeepsWait}
 use Rattle.citrus_tree.proofs.DeleteUpdates.{keeps_rest, rest_of, told_taken}
@@ -99,8 +99,8 @@ returns-in_ok-number-in-None-clause-done g c = λ kept a. (c.in_ok-number-in-Non
 pub returns-in_ok-number-in-None-clause-deleted : goal.returns-in_ok-number-in-None-clause-deleted
 returns-in_ok-number-in-None-clause-deleted g c =
     let a = c.requires.at in
-    deleted_later _ _ _ c.args.key c.in_ok-number-in-None.number (gone_on
-    (gone_on c.lock_target.ensures.same.gone c.validate.ensures.same.gone) c.value_where-value.ensures.same.gone)
+    deleted_later _ _ _ c.args.key c.in_ok-number-in-None.number (advanced_on
+    (advanced_on c.lock_target.ensures.same.advanced c.validate.ensures.same.advanced) c.value_where-value.ensures.same.advanced)
     (bypass_deletes _ _ c.args.key c.in-Some.node.node c.in_ok-number-in-None.number (c.in_ok-number-in-None.ensures.done a.0 (subst
     (λ o. IsAt (shape_of g.W.WaitWords.WAY c.args.table.now) (Del c.args.key) a.0
     (deleting c.in-Some.node o) c.value_where-value.new.seat.view) c.in-None.is
@@ -109,7 +109,7 @@ returns-in_ok-number-in-None-clause-deleted g c =
 
 pub returns-in_ok-number-in-None-clause-value : goal.returns-in_ok-number-in-None-clause-value
 returns-in_ok-number-in-None-clause-value g c e = told_taken c.value_where-value.result
-    (gone_on (gone_on c.lock_target.ensures.same.gone c.validate.ensures.same.gone) c.value_where-value.ensures.same.gone)
+    (advanced_on (advanced_on c.lock_target.ensures.same.advanced c.validate.ensures.same.advanced) c.value_where-value.ensures.same.advanced)
     (c.value_where-value.ensures.asked ∙ e) c.value_where-value.ensures.value c.in_ok-number-in-None.ensures.took
 
 pub shift-requires-clause-at : goal.shift-requires-clause-at
@@ -135,13 +135,13 @@ returns-in-Some-2-clause-done g c = λ kept a.
 pub returns-in-Some-2-clause-deleted : goal.returns-in-Some-2-clause-deleted
 returns-in-Some-2-clause-deleted g c =
     deleted_later _ _ _ c.args.key c.in-Some-2.number
-    (gone_on (gone_on c.lock_target.ensures.same.gone c.validate.ensures.same.gone) c.value_where-value.ensures.same.gone)
+    (advanced_on (advanced_on c.lock_target.ensures.same.advanced c.validate.ensures.same.advanced) c.value_where-value.ensures.same.advanced)
     (subst (λ (r : Option ℕ). IfSome r (λ number. HasDeleted c.value_where-value.new.seat.view c.args.key number
     c.shift.new.seat.view)) c.in-Some-2.is c.in_ok-number-in-Some-successor.ensures.deleted)
 
 pub returns-in-Some-2-clause-value : goal.returns-in-Some-2-clause-value
 returns-in-Some-2-clause-value g c e = told_taken c.value_where-value.result
-    (gone_on (gone_on c.lock_target.ensures.same.gone c.validate.ensures.same.gone) c.value_where-value.ensures.same.gone)
+    (advanced_on (advanced_on c.lock_target.ensures.same.advanced c.validate.ensures.same.advanced) c.value_where-value.ensures.same.advanced)
     (c.value_where-value.ensures.asked ∙ e) c.value_where-value.ensures.value
     (subst (λ (r : Option ℕ). IfSome r (λ number. TakesValue c.value_where-value.new.seat.view c.in-Some.node.node c.args.key number
     c.shift.new.seat.view)) c.in-Some-2.is c.in_ok-number-in-Some-successor.ensures.took)
@@ -230,8 +230,8 @@ returns-in_ok-number-in-None-clause-waits g c =
     (deleting c.in-Some.node o) c.value_where-value.new.seat.view) c.in-None.is
     (c.value_where-value.ensures.at (Del c.args.key) a.0 (c.in-Some.ensures.holds (Del c.args.key) a.0
     (c.lock_target.ensures.got c.if-not-lock_target.false (Del c.args.key) a.0 a.1))))).1 in
-    inl (none_begun (gone_on (gone_on (gone_on c.lock_target.ensures.same.gone c.validate.ensures.same.gone)
-    c.value_where-value.ensures.same.gone) done.gone)
+    inl (none_begun (advanced_on (advanced_on (advanced_on c.lock_target.ensures.same.advanced c.validate.ensures.same.advanced)
+    c.value_where-value.ensures.same.advanced) done.advanced)
     (past.count ∙ valued.waits.count ∙ judged.waits.count ∙ locked.waits.count)
     (past.wait ∙ valued.waits.wait ∙ judged.waits.wait ∙ locked.waits.wait))
 
@@ -240,8 +240,8 @@ returns-in-Some-2-clause-waits g c =
     let locked = c.lock_target.ensures.same in
     let judged = c.validate.ensures.same in
     let valued = c.value_where-value.ensures.same in
-    wait_later (none_begun (gone_on (gone_on c.lock_target.ensures.same.gone c.validate.ensures.same.gone)
-    c.value_where-value.ensures.same.gone) (valued.waits.count ∙ judged.waits.count ∙ locked.waits.count)
+    wait_later (none_begun (advanced_on (advanced_on c.lock_target.ensures.same.advanced c.validate.ensures.same.advanced)
+    c.value_where-value.ensures.same.advanced) (valued.waits.count ∙ judged.waits.count ∙ locked.waits.count)
     (valued.waits.wait ∙ judged.waits.wait ∙ locked.waits.wait))
     (subst (λ (r : Option ℕ). IfSome r (λ number. KeepsWait c.value_where-value.new.seat.view c.shift.new.seat.view)) c.in-Some-2.is
     c.in_ok-number-in-Some-successor.ensures.waits)
@@ -254,16 +254,16 @@ returns-in_ok-number-in-None-clause-retires g c =
     (deleting c.in-Some.node o) c.value_where-value.new.seat.view) c.in-None.is
     (c.value_where-value.ensures.at (Del c.args.key) a.0 (c.in-Some.ensures.holds (Del c.args.key) a.0
     (c.lock_target.ensures.got c.if-not-lock_target.false (Del c.args.key) a.0 a.1))))).1 in
-    retires_before c.args.seat.now c.value_where-value.new.seat c.bypass.new.seat c.args.key c.in_ok-number-in-None.number (gone_on
-    (gone_on c.lock_target.ensures.same.gone c.validate.ensures.same.gone) c.value_where-value.ensures.same.gone) (inl
+    retires_before c.args.seat.now c.value_where-value.new.seat c.bypass.new.seat c.args.key c.in_ok-number-in-None.number (advanced_on
+    (advanced_on c.lock_target.ensures.same.advanced c.validate.ensures.same.advanced) c.value_where-value.ensures.same.advanced) (inl
     (c.value_where-value.ensures.seat.1 ∙ c.validate.ensures.seat.1 ∙ c.lock_target.ensures.seat.1))
     (one_retired c.value_where-value.new.seat c.bypass.new.seat c.args.key c.in-Some.node.node c.in_ok-number-in-None.number done
     c.in_ok-number-in-None.ensures.listing)
 
 pub returns-in-Some-2-clause-retires : goal.returns-in-Some-2-clause-retires
 returns-in-Some-2-clause-retires g c =
-    retires_before c.args.seat.now c.value_where-value.new.seat c.shift.new.seat c.args.key c.in-Some-2.number (gone_on
-    (gone_on c.lock_target.ensures.same.gone c.validate.ensures.same.gone) c.value_where-value.ensures.same.gone) (inl
+    retires_before c.args.seat.now c.value_where-value.new.seat c.shift.new.seat c.args.key c.in-Some-2.number (advanced_on
+    (advanced_on c.lock_target.ensures.same.advanced c.validate.ensures.same.advanced) c.value_where-value.ensures.same.advanced) (inl
     (c.value_where-value.ensures.seat.1 ∙ c.validate.ensures.seat.1 ∙ c.lock_target.ensures.seat.1))
     (subst (λ (r : Option ℕ). RetiresIf c.value_where-value.new.seat c.args.key r c.shift.new.seat) c.in-Some-2.is
     c.in_ok-number-in-Some-successor.ensures.retires)

@@ -15,7 +15,7 @@ returns-clause-tells g c =
       dels = all;
       begins = record { ready = c.make_room.new.seat.view; room = made.room; at_once = made.at_once; lookup = removed.begins };
       retires = λ e. retires_before c.args.seat.now c.make_room.new.seat c.delete.new.seat c.args.key told.number
-          made.room.gone made.kept (when_gone e removed.retires);
+          made.room.advanced made.kept (when_gone e removed.retires);
       keeps = keeps_seat
           (ends_keeps c.args.seat.now.view made.at c.ranges.key.fits c.requires.tickets removed.done
           (keeps_wait made.room c.args.key c.delete.new.seat.view removed.wait)

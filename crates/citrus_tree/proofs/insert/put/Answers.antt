@@ -148,7 +148,7 @@ loop-round-preserved g c = record {
       let found = c.find_spot.ensures.stepped in
       let taken = room_steps c.in_ok-leaf.ensures.room in
       let tried = prefix_steps c.leaf_in_hand.new.seat.view c.link_leaf.new.seat.view (c.in_ok-number.ensures.again
-      c.in_default-3.is).gone.steps in
+      c.in_default-3.is).advanced.steps in
       omega (arith, made, found, taken, tried);
 }
 
@@ -174,5 +174,5 @@ returns-in_err-pause-clause-tired g c =
     let found = c.find_spot.ensures.stepped in
     let taken = room_steps c.in_ok-leaf.ensures.room in
     let tried = prefix_steps c.leaf_in_hand.new.seat.view c.link_leaf.new.seat.view (c.in_ok-number.ensures.again
-    c.in_default-3.is).gone.steps in
+    c.in_default-3.is).advanced.steps in
     rw p.1 (omega (arith, few, found, taken, tried))

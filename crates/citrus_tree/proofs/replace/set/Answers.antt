@@ -76,7 +76,7 @@ loop-round-preserved g c = record {
       let made = c.loop-round.invariant.made in
       let found = c.find_holder.ensures.stepped in
       let tried = prefix_steps c.find_holder.new.seat.view c.store_value.new.seat.view (c.in_ok-done.ensures.again
-      c.in_default-2.is).gone.steps in
+      c.in_default-2.is).advanced.steps in
       omega (arith, made, found, tried);
 }
 

@@ -8,7 +8,7 @@ use Rattle.list_laws.specs.Counts.{times, IsIn}
 use Rattle.seat_table.specs.Gains.{TellsApart, IsInformed}
 use Rattle.seat_table.specs.Seats.{TableAt}
 use Rattle.tree_turn.specs.Turns.{HasTurned}
-use Rattle.tree_turn.proofs.Ended.{turned_once, turned_none, turned_gone, refused_gone, turned_quiet, refused_quiet, refused_listed, node_retired, child_retired, node_unlisted, child_unlisted, both_listed, few_listed, turned_free, no_lock}
+use Rattle.tree_turn.proofs.Ended.{turned_once, turned_none, turned_advanced, refused_advanced, turned_quiet, refused_quiet, refused_listed, node_retired, child_retired, node_unlisted, child_unlisted, both_listed, few_listed, turned_free, no_lock}
 use Rattle.tree_turn.proofs.turning.make_turn.Goals as goal
 
 pub list_retired-requires-clause-retired : goal.list_retired-requires-clause-retired
@@ -72,7 +72,7 @@ returns-then-not-attempt-clause-none g c =
 pub returns-then-not-attempt-clause-gone : goal.returns-then-not-attempt-clause-gone
 returns-then-not-attempt-clause-gone g c =
     let n = c.attempt.ensures.refused c.if-not-attempt.true in
-    refused_gone n
+    refused_advanced n
 
 pub returns-then-not-attempt-clause-same_list : goal.returns-then-not-attempt-clause-same_list
 returns-then-not-attempt-clause-same_list g c = λ _. c.attempt.ensures.seat.1
@@ -118,7 +118,7 @@ pub returns-clause-gone : goal.returns-clause-gone
 returns-clause-gone g c =
     let t = c.attempt.ensures.turned c.if-not-attempt.false in
     let u = subst (HasTurned c.args.seat.now.view c.args.turn) (sym (c.list_retired-2.ensures.seat.1 ∙ c.list_retired.ensures.seat.1)) t in
-    turned_gone u
+    turned_advanced u
 
 pub returns-clause-retires : goal.returns-clause-retires
 returns-clause-retires g c =

@@ -67,7 +67,7 @@ returns-clause-done g c = λ kept a.
     subst (λ (x : View). IsDone k (Del c.args.key) kept x
     × HasDone c.args.seat.now.view (Del c.args.key) c.args.node.node [] c.in_ok-number.number x) (sym (c.list_retired.ensures.seat).1) (
       passes_unlock_gone p.1 p.0 c.unlock-2.ensures.told,
-      done_still _ _ _ (Del c.args.key) c.args.node.node [] _ (c.in_ok-number.ensures.done kept a) rest.gone,
+      done_still _ _ _ (Del c.args.key) c.args.node.node [] _ (c.in_ok-number.ensures.done kept a) rest.advanced,
     ))
 
 pub returns-clause-listed : goal.returns-clause-listed
@@ -107,4 +107,4 @@ returns-clause-took g c =
     (rest_unlock k _ _ _ _ c.unlock.ensures.told) (rest_unlock k _ _ _ _ c.unlock-2.ensures.told) in
     subst (λ (x : View). TakesValue c.args.seat.now.view c.args.node.node c.args.key c.in_ok-number.number x)
     (sym (c.list_retired.ensures.seat).1)
-    (takes_more c.unlock-2.new.seat.view rest.gone.begins c.in_ok-number.ensures.took)
+    (takes_more c.unlock-2.new.seat.view rest.advanced.begins c.in_ok-number.ensures.took)

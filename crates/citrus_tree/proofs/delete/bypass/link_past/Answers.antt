@@ -31,7 +31,7 @@ close_commit-number-requires-clause-odd g c =
     let child = child_is c.args.node c.slot_of-child.ensures c.only_child.ensures (c.requires.at).1 c.mark.ensures.told in
     let u = update.Bypass c.args.node c.slot_of-child.result in
     let a = passes_store_bypass (c.in_ok-front.ensures.at _ _ 0 u
-        (marked c.args.node c.slot_of-child.result child (c.requires.at).1 c.mark.ensures.told)) c.bypass.ensures.told in
+    (marked c.args.node c.slot_of-child.result child (c.requires.at).1 c.mark.ensures.told)) c.bypass.ensures.told in
     ((a.fits.point).0).turn_is
 
 pub returns-clause-retired : goal.returns-clause-retired
@@ -101,7 +101,7 @@ returns-clause-done g c = λ kept a.
     subst (λ n. HasDone c.args.seat.now.view (Del c.args.key) c.args.node.node [] n c.settle_side.new.seat.view)
     (half_two c.in_ok-front.front ∙ sym c.close_commit-number.ensures.number)
     (done_still _ _ _ (Del c.args.key) c.args.node.node [] _ (done_later _ _ _ (Del c.args.key) c.args.node.node [] _ first made)
-    later.gone))
+    later.advanced))
 
 pub returns-clause-locked : goal.returns-clause-locked
 returns-clause-locked g c =
@@ -138,8 +138,8 @@ returns-clause-took g c =
     c.close_commit-number.ensures.closed) c.settle_side.ensures.same in
     subst (λ n. TakesValue c.args.seat.now.view c.args.node.node c.args.key n c.settle_side.new.seat.view)
     (half_two c.in_ok-front.front ∙ sym c.close_commit-number.ensures.number)
-    (takes_more _ later.gone.begins
-    (takes_since first.gone (value_on (value_mark c.args.node.node _ c.args.node.node c.mark.ensures.told)
+    (takes_more _ later.advanced.begins
+    (takes_since first.advanced (value_on (value_mark c.args.node.node _ c.args.node.node c.mark.ensures.told)
     (value_opened c.args.node.node c.in_ok-front.front _ _ c.in_ok-front.ensures.opened))
     (bypass_takes k c.args.key a.0 c.args.node c.slot_of-child.result c.in_ok-front.front _ c.open_commit.new.seat.view
     c.bypass.new.seat.view stored c.bypass.ensures.told)))

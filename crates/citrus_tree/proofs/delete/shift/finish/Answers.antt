@@ -6,8 +6,8 @@ use Rattle.list_laws.specs.Counts.{times, IsIn}
 use Rattle.core_state.specs.declared.view.View.{View}
 use Rattle.seat_table.specs.Gains.{TellsApart}
 use Rattle.seat_table.specs.Seats.{shape_of}
-use Rattle.tree_points.specs.Points.{IsDone, HasGone}
-use Rattle.tree_points.proofs.Locks.{gone_on, gone_waited}
+use Rattle.tree_points.specs.Points.{IsDone, HasAdvanced}
+use Rattle.tree_points.proofs.Locks.{advanced_on, advanced_waited}
 use Rattle.tree_points.proofs.Waits.{waits_move}
 use Rattle.citrus_tree.specs.Deletes.{retired_slots}
 use Rattle.citrus_tree.proofs.DeleteUpdates.{no_lock}
@@ -113,12 +113,12 @@ returns-clause-done g c = λ kept a.
 
 pub returns-clause-waited : goal.returns-clause-waited
 returns-clause-waited g c =
-    let later = gone_on c.unlink_old.ensures.gone c.unlock_all.ensures.same.gone in
-    subst (λ (x : View). HasGone c.args.seat.now.view x
+    let later = advanced_on c.unlink_old.ensures.advanced c.unlock_all.ensures.same.advanced in
+    subst (λ (x : View). HasAdvanced c.args.seat.now.view x
     (Began c.args.seat.now.view.allowance.place c.args.seat.now.view.counts.waits (c.args.key + 1) c.args.moving.next_key
     ∷ (Ended c.args.seat.now.view.allowance.place c.args.seat.now.view.counts.waits ∷ [])))
     (sym ((c.list_retired-2.ensures.seat).1 ∙ (c.list_retired.ensures.seat).1))
-    (gone_on (gone_waited (waited_for (c.args.key
+    (advanced_on (advanced_waited (waited_for (c.args.key
     + 1) c.args.moving.next_key c.between.ensures c.in_ok-wait_in_grace.ensures.waited)) later)
 
 pub returns-clause-listed : goal.returns-clause-listed
@@ -138,7 +138,7 @@ returns-clause-listed g c = record {
 pub returns-clause-waits : goal.returns-clause-waits
 returns-clause-waits g c =
     let same = (c.list_retired-2.ensures.seat).1 ∙ (c.list_retired.ensures.seat).1 in
-    let later = gone_on c.unlink_old.ensures.gone c.unlock_all.ensures.same.gone in
+    let later = advanced_on c.unlink_old.ensures.advanced c.unlock_all.ensures.same.advanced in
     inr (first_stays (waited_first (waited_for (c.args.key
     + 1) c.args.moving.next_key c.between.ensures c.in_ok-wait_in_grace.ensures.waited))
     (subst (λ (x : View). IsPrefix c.wait_in_grace.new.seat.view.seen x.seen) (sym same) later.begins)
@@ -165,9 +165,9 @@ pub returns-clause-unlinked : goal.returns-clause-unlinked
 returns-clause-unlinked g c =
     subst (λ (x : View). IsUnlinkedSince c.args.seat.now.view.seen c.args.moving.successor.slot x.seen)
     (sym ((c.list_retired-2.ensures.seat).1 ∙ (c.list_retired.ensures.seat).1))
-    (unlinked_on (gone_waited (waited_for (c.args.key
+    (unlinked_on (advanced_waited (waited_for (c.args.key
     + 1) c.args.moving.next_key c.between.ensures c.in_ok-wait_in_grace.ensures.waited)).begins c.unlink_old.ensures.unlinked
-    c.unlock_all.ensures.same.gone.begins)
+    c.unlock_all.ensures.same.advanced.begins)
 
 pub returns-clause-listing : goal.returns-clause-listing
 returns-clause-listing g c =

@@ -32,8 +32,8 @@ link_copy-requires-clause-asks g c =
 pub close_commit-requires-clause-odd : goal.close_commit-requires-clause-odd
 close_commit-requires-clause-odd g c =
     let a = passes_store_copy
-        (c.in_ok-front.ensures.at _ _ 0 (update.Copy c.args.node c.args.successor c.args.next_key c.args.copy)
-        (passes_copy_mark c.requires.spare (c.requires.at).1 c.mark.ensures.told 0 refl)) c.link_copy.ensures.told in
+    (c.in_ok-front.ensures.at _ _ 0 (update.Copy c.args.node c.args.successor c.args.next_key c.args.copy)
+    (passes_copy_mark c.requires.spare (c.requires.at).1 c.mark.ensures.told 0 refl)) c.link_copy.ensures.told in
     ((a.fits.point).0).turn_is
 
 pub returns-clause-at : goal.returns-clause-at
@@ -64,7 +64,7 @@ returns-clause-done g c = λ kept a.
     (half_two c.in_ok-front.front ∙ sym c.close_commit.ensures.number)
     (copied_still _ _ _ c.args.key c.args.next_key c.args.node.node
     _ (copied_later _ _ _ c.args.key c.args.next_key c.args.node.node _ first made)
-    (closed_keeps c.link_copy.new.seat.view c.close_commit.new.seat.view c.close_commit.ensures.closed).gone))
+    (closed_keeps c.link_copy.new.seat.view c.close_commit.new.seat.view c.close_commit.ensures.closed).advanced))
 
 pub returns-clause-locked : goal.returns-clause-locked
 returns-clause-locked g c =
@@ -84,8 +84,8 @@ returns-clause-took g c =
     (opened_keeps c.mark.new.seat.view c.open_commit.new.seat.view c.in_ok-front.front c.in_ok-front.ensures.opened) in
     subst (λ n. TakesValue c.args.seat.now.view c.args.node.node c.args.key n c.close_commit.new.seat.view)
     (half_two c.in_ok-front.front ∙ sym c.close_commit.ensures.number)
-    (takes_more _ (closed_keeps c.link_copy.new.seat.view c.close_commit.new.seat.view c.close_commit.ensures.closed).gone.begins
-    (takes_since first.gone (value_on (value_mark c.args.node.node _ c.args.node.node c.mark.ensures.told)
+    (takes_more _ (closed_keeps c.link_copy.new.seat.view c.close_commit.new.seat.view c.close_commit.ensures.closed).advanced.begins
+    (takes_since first.advanced (value_on (value_mark c.args.node.node _ c.args.node.node c.mark.ensures.told)
     (value_opened c.args.node.node c.in_ok-front.front _ _ c.in_ok-front.ensures.opened))
     (copy_takes k c.args.key a.0 c.args.node c.args.successor c.args.next_key c.args.copy c.in_ok-front.front _
     c.open_commit.new.seat.view c.link_copy.new.seat.view stored c.link_copy.ensures.told)))

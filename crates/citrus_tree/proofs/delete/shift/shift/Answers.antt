@@ -4,7 +4,7 @@ use Rattle.list_laws.specs.Counts.{times}
 use Rattle.core_points.specs.DeleteFacts.{all_locks}
 use Rattle.core_points.specs.Facts.{SameLocks}
 use Rattle.seat_table.specs.Seats.{shape_of}
-use Rattle.tree_points.proofs.Locks.{needs_copy_lock, passes_copy_lock_free, passes_copy_lock_busy, locks_copy_lock, gone_on}
+use Rattle.tree_points.proofs.Locks.{needs_copy_lock, passes_copy_lock_free, passes_copy_lock_busy, locks_copy_lock, advanced_on}
 use Rattle.citrus_tree.proofs.DeleteUpdates.{keeps_rest, locks_busy, rest_lock, rest_of, spare_lock, copy_aside, takes_more, takes_since, value_lock, value_on}
 use Rattle.citrus_tree.proofs.DeleteMoves.{few_moved, has_spare, one_listed, move_deletes, retires_before, two_retired}
 use Rattle.citrus_tree.proofs.Leavings.{slots_later, slots_rest, none_begun, wait_later}
@@ -116,7 +116,7 @@ returns-clause-deleted g c =
     let k = (shape_of g.W.WaitWords.WAY c.args.table.now) in
     let a = c.requires.at in
     move_deletes _ _ _ _ c.args.key c.fill_copy-next_key.result c.args.node.node c.in_ok-number.number
-    (gone_on c.fill_copy-next_key.ensures.same.gone (rest_lock k _ _ _ _ c.lock.ensures.told).gone)
+    (advanced_on c.fill_copy-next_key.ensures.same.advanced (rest_lock k _ _ _ _ c.lock.ensures.told).advanced)
     (c.in_ok-number.ensures.done a.0 (passes_copy_lock_free c.if-lock-ne0.false c.fill_copy-next_key.ensures.spare
     (c.fill_copy-next_key.ensures.at (Del c.args.key) a.0 a.1) c.lock.ensures.told)) c.in_ok-finish.ensures.waited
 
@@ -151,7 +151,7 @@ returns-clause-waits g c =
     let linked = c.in_ok-number.ensures in
     let copied = linked.done a.0 (passes_copy_lock_free c.if-lock-ne0.false c.fill_copy-next_key.ensures.spare
     (c.fill_copy-next_key.ensures.at (Del c.args.key) a.0 a.1) c.lock.ensures.told) in
-    wait_later (none_begun (gone_on (gone_on filled.gone locked.gone) copied.done.gone)
+    wait_later (none_begun (advanced_on (advanced_on filled.advanced locked.advanced) copied.done.advanced)
     (linked.waits.count ∙ locked.waits.count ∙ filled.waits.count)
     (linked.waits.wait ∙ locked.waits.wait ∙ filled.waits.wait)) c.in_ok-finish.ensures.waits
 
@@ -165,7 +165,7 @@ returns-clause-retires g c =
     let copied = c.in_ok-number.ensures.done a.0 (passes_copy_lock_free c.if-lock-ne0.false c.fill_copy-next_key.ensures.spare
     (c.fill_copy-next_key.ensures.at (Del c.args.key) a.0 a.1) c.lock.ensures.told) in
     retires_before c.args.seat.now c.lock.new.seat c.finish.new.seat c.args.key c.in_ok-number.number
-    (gone_on c.fill_copy-next_key.ensures.same.gone (rest_lock k _ _ _ _ c.lock.ensures.told).gone)
+    (advanced_on c.fill_copy-next_key.ensures.same.advanced (rest_lock k _ _ _ _ c.lock.ensures.told).advanced)
     (inl (c.lock.ensures.seat.1 ∙ c.fill_copy-next_key.ensures.seat.1))
     (two_retired c.lock.new.seat c.link_copy.new.seat c.finish.new.seat c.args.key c.args.node.node c.args.successor.slot
     c.in_ok-number.number copied.done c.link_copy.ensures.seat.1 c.in_ok-finish.ensures.unlinked c.in_ok-finish.ensures.listing)
@@ -177,5 +177,5 @@ returns-clause-took g c =
     let filled = c.fill_copy-next_key.ensures in
     let apart = copy_aside c.args.node c.args.successor (filled.at (Del c.args.key) a.0 a.1) filled.spare in
     takes_more _ c.in_ok-finish.ensures.waited.begins
-    (takes_since (gone_on filled.same.gone (rest_lock k _ _ _ _ c.lock.ensures.told).gone)
+    (takes_since (advanced_on filled.same.advanced (rest_lock k _ _ _ _ c.lock.ensures.told).advanced)
     (value_on filled.value (value_lock _ c.args.node.node apart c.lock.ensures.told)) c.in_ok-number.ensures.took)

@@ -1,7 +1,7 @@
 use Rattle.std.proofs.Common.{[], ◌∷◌, ◌++◌, ap, ◌∙◌, eq-eqb, ne_eqb, refl}
 use Rattle.seat_table.specs.Seats.{shape_of}
 use Rattle.tree_points.proofs.Passing.{needs, passes}
-use Rattle.tree_points.proofs.Locks.{needs_unlink_copy, needs_unlink_parent, passes_unlink_copy, passes_unlink_parent, gone_on}
+use Rattle.tree_points.proofs.Locks.{needs_unlink_copy, needs_unlink_parent, passes_unlink_copy, passes_unlink_parent, advanced_on}
 use Rattle.citrus_tree.proofs.DeleteUpdates.{keeps_on, keeps_locked_load, keeps_mark, same_locks}
 use Rattle.citrus_tree.proofs.DeleteMoves.{unlinking, copy_unlinks, parent_unlinks, unlinked_on}
 use Rattle.citrus_tree.proofs.delete.shift.unlink_old.Goals as goal
@@ -82,14 +82,14 @@ returns-then-successor-node-clause-gone g c =
     let k = (shape_of g.W.WaitWords.WAY c.args.table.now) in
     let first = keeps_on _ _ _ (keeps_mark k _ _ _ _ _ c.mark.ensures.told)
     (keeps_locked_load k _ _ _ _ _ c.locked_load-right.ensures.told) in
-    gone_on first.gone (gone_on (copy_unlinks k _ _ _ _ _ _ c.unlink_right.ensures.told).gone (c.settle_side.ensures.same).gone)
+    advanced_on first.advanced (advanced_on (copy_unlinks k _ _ _ _ _ _ c.unlink_right.ensures.told).advanced (c.settle_side.ensures.same).advanced)
 
 pub returns-clause-gone : goal.returns-clause-gone
 returns-clause-gone g c =
     let k = (shape_of g.W.WaitWords.WAY c.args.table.now) in
     let first = keeps_on _ _ _ (keeps_mark k _ _ _ _ _ c.mark.ensures.told)
     (keeps_locked_load k _ _ _ _ _ c.locked_load-right.ensures.told) in
-    gone_on first.gone (gone_on (parent_unlinks k _ _ _ _ _ _ c.unlink_left.ensures.told).gone (c.settle_side-2.ensures.same).gone)
+    advanced_on first.advanced (advanced_on (parent_unlinks k _ _ _ _ _ _ c.unlink_left.ensures.told).advanced (c.settle_side-2.ensures.same).advanced)
 
 pub returns-then-successor-node-clause-retired : goal.returns-then-successor-node-clause-retired
 returns-then-successor-node-clause-retired g c =
@@ -112,12 +112,12 @@ returns-then-successor-node-clause-unlinked g c =
     let k = (shape_of g.W.WaitWords.WAY c.args.table.now) in
     let first = keeps_on _ _ _ (keeps_mark k _ _ _ _ _ c.mark.ensures.told)
     (keeps_locked_load k _ _ _ _ _ c.locked_load-right.ensures.told) in
-    unlinked_on first.gone.begins (copy_unlinks k _ _ _ _ _ _ c.unlink_right.ensures.told).unlinked (c.settle_side.ensures.same).gone.begins
+    unlinked_on first.advanced.begins (copy_unlinks k _ _ _ _ _ _ c.unlink_right.ensures.told).unlinked (c.settle_side.ensures.same).advanced.begins
 
 pub returns-clause-unlinked : goal.returns-clause-unlinked
 returns-clause-unlinked g c =
     let k = (shape_of g.W.WaitWords.WAY c.args.table.now) in
     let first = keeps_on _ _ _ (keeps_mark k _ _ _ _ _ c.mark.ensures.told)
     (keeps_locked_load k _ _ _ _ _ c.locked_load-right.ensures.told) in
-    unlinked_on first.gone.begins (parent_unlinks k _ _ _ _ _ _ c.unlink_left.ensures.told).unlinked
-    (c.settle_side-2.ensures.same).gone.begins
+    unlinked_on first.advanced.begins (parent_unlinks k _ _ _ _ _ _ c.unlink_left.ensures.told).unlinked
+    (c.settle_side-2.ensures.same).advanced.begins
