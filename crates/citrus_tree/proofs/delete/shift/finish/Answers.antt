@@ -113,7 +113,7 @@ returns-clause-done g c = λ kept a.
 
 pub returns-clause-waited : goal.returns-clause-waited
 returns-clause-waited g c =
-    let later = advanced_on c.unlink_old.ensures.advanced c.unlock_all.ensures.same.advanced in
+    let later = advanced_on c.unlink_old.ensures.gone c.unlock_all.ensures.same.advanced in
     subst (λ (x : View). HasAdvanced c.args.seat.now.view x
     (Began c.args.seat.now.view.allowance.place c.args.seat.now.view.counts.waits (c.args.key + 1) c.args.moving.next_key
     ∷ (Ended c.args.seat.now.view.allowance.place c.args.seat.now.view.counts.waits ∷ [])))
@@ -138,7 +138,7 @@ returns-clause-listed g c = record {
 pub returns-clause-waits : goal.returns-clause-waits
 returns-clause-waits g c =
     let same = (c.list_retired-2.ensures.seat).1 ∙ (c.list_retired.ensures.seat).1 in
-    let later = advanced_on c.unlink_old.ensures.advanced c.unlock_all.ensures.same.advanced in
+    let later = advanced_on c.unlink_old.ensures.gone c.unlock_all.ensures.same.advanced in
     inr (first_stays (waited_first (waited_for (c.args.key
     + 1) c.args.moving.next_key c.between.ensures c.in_ok-wait_in_grace.ensures.waited))
     (subst (λ (x : View). IsPrefix c.wait_in_grace.new.seat.view.seen x.seen) (sym same) later.begins)
