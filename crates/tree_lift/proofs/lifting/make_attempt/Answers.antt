@@ -158,7 +158,7 @@ returns-then-make_turn-clause-attempted g c =
     let kept = c.take_slots.ensures.seat.1 in
     let e = c.make_turn.ensures in
     let yes = c.if-make_turn.true in
-    turned_attempt k c.args.aim s t room u same turn found x takes kept c.make_turn.new.seat e.advanced (e.turned yes) (e.retires yes)
+    turned_attempt k c.args.aim s t room u same turn found x takes kept c.make_turn.new.seat e.gone (e.turned yes) (e.retires yes)
     (e.informed yes) (e.quiet yes (takes.both refl).quiet)
 
 pub put_back-requires-clause-paid : goal.put_back-requires-clause-paid
@@ -197,7 +197,7 @@ put_back-requires-clause-hand g c =
     let kept = c.take_slots.ensures.seat.1 in
     let e = c.make_turn.ensures in
     let no = c.if-make_turn.false in
-    held_there k c.args.aim s t room u same turn found x takes kept c.make_turn.new.seat e.advanced (e.refused no)
+    held_there k c.args.aim s t room u same turn found x takes kept c.make_turn.new.seat e.gone (e.refused no)
     (e.still no (takes.both refl).quiet) (e.same_list no)
 
 pub returns-clause-attempted : goal.returns-clause-attempted
@@ -217,8 +217,8 @@ returns-clause-attempted g c =
     let kept = c.take_slots.ensures.seat.1 in
     let e = c.make_turn.ensures in
     let no = c.if-make_turn.false in
-    let held = held_there k c.args.aim s t room u same turn found x takes kept c.make_turn.new.seat e.advanced (e.refused no)
+    let held = held_there k c.args.aim s t room u same turn found x takes kept c.make_turn.new.seat e.gone (e.refused no)
     (e.still no (takes.both refl).quiet) (e.same_list no) in
-    lost_attempt k c.args.aim s t room u same turn found x takes kept c.make_turn.new.seat e.advanced (e.refused no)
+    lost_attempt k c.args.aim s t room u same turn found x takes kept c.make_turn.new.seat e.gone (e.refused no)
     (e.still no (takes.both refl).quiet) (e.same_list no) c.put_back.new.seat (c.put_back.ensures.view held.0 held.1)
     c.put_back.ensures.seat.1 c.put_back.ensures.informed
