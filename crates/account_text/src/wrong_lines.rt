@@ -1,10 +1,10 @@
 //! Which line of the scripts an account has wrong.
-ghost use Rattle.std.specs.Prelude.{◌≡◌, ◌<◌, ◌≤◌, ◌+◌, ◌↔◌, [], if◌then◌else◌, IsTrue, IfOk, IfNone, IfSome, length, slice_index_or};
+ghost use Rattle.std.specs.Prelude.{◌≡◌, ◌<◌, ◌≤◌, ◌+◌, ◌↔◌, ℕ, [], All, if◌then◌else◌, IsTrue, IfOk, IfNone, IfSome, length, map, slice_index_or};
 ghost use Rattle.prcu_model.specs.Dictionary.{tells_update};
 ghost use Rattle.prcu_model.specs.Fronts.{told_lines};
 ghost use Rattle.prcu_model.specs.Scripts.{entries_of};
 ghost use Rattle.account_text.specs.Judging.{line_of};
-ghost use Rattle.account_text.specs.WrongLines.{IsRight, AreRight, IsWrongAt};
+ghost use Rattle.account_text.specs.WrongLines.{IsRight, AreRight, IsWrongAt, IsScriptRight, IsFirstWrong, course_of};
 
 use crate::judging::{are_all_answered, are_callers_below, is_told};
 use crate::timeline::Timeline;
@@ -92,9 +92,12 @@ pub fn first_wrong_line(
 ) -> Result<Option<Place>, NoMemory>
     ensures within { IfOk result (λ found. IfSome found (λ place. (place.script < length scripts.now)
         × (place.line < length (slice_index_or scripts.now place.script [])))) }
-    ensures wrong { IfOk result (λ found. IfSome found (λ place.
-        IsWrongAt (record { room = record { scripts = length scripts.now; slots = slots }; history = history.now }) place.script 0 0
-        (told_lines (slice_index_or scripts.now place.script []) (slice_index_or (entries_of told.now) place.script [])) place.line)) }
+    ensures limit { IfOk result (λ found. IfSome found (λ place. place.line < 1048576)) }
+    ensures wrong { IfOk result (λ found. IfSome found (IsFirstWrong scripts.now (entries_of told.now) history.now slots)) }
+    ensures right { IfOk result (λ found. IfNone found (map length (entries_of told.now) ≡ map length scripts.now
+        → All (λ update. update.caller < length scripts.now) history.now
+        → (i : ℕ) → i < length scripts.now
+        → IsScriptRight (course_of scripts.now history.now slots) scripts.now (entries_of told.now) i)) }
 {
     if !are_all_answered(scripts, told) || !are_callers_below(history, scripts.count()) {
         return Ok(None);

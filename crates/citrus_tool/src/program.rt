@@ -1,5 +1,5 @@
 //! The program, but for where its words and bytes come from and go.
-ghost use Rattle.std.specs.Prelude.{◌≡◌, ◌≤◌, ◌⊎◌, ◌↔◌, ℕ, List, Some, map, length, string_bytes};
+ghost use Rattle.std.specs.Prelude.{◌≡◌, ◌≤◌, ◌⊎◌, ◌↔◌, ◌++◌, ℕ, List, Some, map, length, string_bytes};
 ghost use Rattle.io_edge.specs.Edge.{Rose, Appends, AppendsFront, TakesToLimit, ReadsToEnd};
 ghost use Rattle.command_words.specs.declared.commands.Command as command;
 ghost use Rattle.citrus_tool.specs.declared.outcome.Ran.{Ran};
