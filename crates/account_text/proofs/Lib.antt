@@ -3,3 +3,4 @@ pub mod Accounts
 pub mod Replays
 pub mod Changes
 pub mod JudgedScripts
+pub mod WrongLines

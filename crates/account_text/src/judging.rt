@@ -19,7 +19,7 @@ pub fn is_legal(alloc: Global, history: &[Update]) -> Result<bool, NoMemory>
 }
 
 // Whether each script has an answer for each operation, and no more.
-fn are_all_answered(scripts: &Scripts, told: &[ToldList]) -> bool
+pub(crate) fn are_all_answered(scripts: &Scripts, told: &[ToldList]) -> bool
     ensures { IsTrue result ↔ (map length (entries_of told.now) ≡ map length scripts.now) }
 {
     if told.len() != scripts.count() as usize {
@@ -34,14 +34,21 @@ fn are_all_answered(scripts: &Scripts, told: &[ToldList]) -> bool
 }
 
 // Whether each update is of one of the first so many callers.
-fn are_callers_below(history: &[Update], count: u32) -> bool
+pub(crate) fn are_callers_below(history: &[Update], count: u32) -> bool
     ensures { IsTrue result ↔ All (λ update. update.caller < count) history.now }
 {
     history.iter().all(|update| update.caller < count)
 }
 
 // Whether the line tells of the caller's update after so many others of its own, and the reply fits it.
-fn is_told(caller: u32, turn: u64, op: Op, told: Told, timeline: &Timeline, turns: &Turns) -> bool
+pub(crate) fn is_told(
+    caller: u32,
+    turn: u64,
+    op: Op,
+    told: Told,
+    timeline: &Timeline,
+    turns: &Turns,
+) -> bool
     requires { turns.now.history ≡ timeline.now.history }
     ensures { IsTrue result ↔ IsTold timeline.now.history caller turn (line_of op told) }
 {

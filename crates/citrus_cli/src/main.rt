@@ -1,7 +1,7 @@
 //! `citrus`: the words of the command line and standard input to standard output, standard error and the exit status.
 #![tactic(auto)]
 
-use citrus_tool::{Status, run_words, tell};
+use citrus_tool::{Detail, Status, run_words, tell};
 use io_edge::{StdSink, StdSource};
 use prcu_marks::OpenGate;
 use std::io::ErrorKind;
@@ -23,7 +23,7 @@ fn main(rt: HostRuntime) -> ExitCode {
             &OpenGate,
         ),
         Err(status) => {
-            tell(status, &mut errors);
+            tell(status, Detail::Nothing, &mut errors);
             status
         }
     };

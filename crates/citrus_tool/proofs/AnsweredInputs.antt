@@ -33,7 +33,7 @@ length-lines_of (byte ∷ bytes) =
     ]
 
 -- so the number of a bad line isn't larger
-first_bad-within : (most : ℕ) (text : List ℕ) (number : ℕ) → IsFirstBadUpTo most text number → number ≤ length text
+pub first_bad-within : (most : ℕ) (text : List ℕ) (number : ℕ) → IsFirstBadUpTo most text number → number ≤ length text
 first_bad-within most text number bad =
     let there = below_from_slice_get (lines_of text) (number - 1) bad.line bad.there in
     let counted = bad.counted in

@@ -1,2 +1,3 @@
 pub mod Leavings
 pub mod Answers
+pub mod Details

@@ -1,6 +1,7 @@
 //! The top call: words and input to output and status.
 #![tactic(auto)]
 
+mod details;
 pub mod laws;
 mod outcome;
 mod program;
@@ -9,7 +10,7 @@ mod top;
 mod tree_runs;
 mod watching;
 
-pub use command_words::{Command, Mode, Status, tell};
+pub use command_words::{Command, Detail, Mode, Status, tell};
 /// The client that `run --cookies` runs.
 pub use outcome::{Outcome, Ran};
 pub use program::run_words;

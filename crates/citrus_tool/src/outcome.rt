@@ -1,7 +1,7 @@
 //! What the top call answers.
 
 use class_hash::{HashSeat, HashTable};
-use command_words::Status;
+use command_words::{Detail, Status};
 use seat_table::{CitrusTable, Seat};
 use waiters::{Deer, Domain, Eer};
 
@@ -32,10 +32,11 @@ pub enum Ran {
     },
 }
 
-/// How a call of `tool` ended, and what its run leaves.
+/// How a call of `tool` ended, what is told of it beside that, and what its run leaves.
 #[derive(Drop)]
 pub struct Outcome {
     pub status: Status,
+    pub detail: Detail,
     pub ran: Ran,
 }
 
@@ -45,10 +46,12 @@ impl Outcome {
     // That of a call whose run leaves nothing.
     pub fn nothing(status: Status) -> Outcome
         ensures status { result.status ≡ status }
+        ensures detail { result.detail ≡ Detail.Nothing }
         ensures ran { result.ran ≡ Ran.Nothing }
     {
         Outcome {
             status,
+            detail: Detail::Nothing,
             ran: Ran::Nothing,
         }
     }

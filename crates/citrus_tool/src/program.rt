@@ -1,11 +1,13 @@
 //! The program, but for where its words and bytes come from and go.
-ghost use Rattle.std.specs.Prelude.{◌≡◌, ◌≤◌, ◌⊎◌, ◌↔◌, ℕ, List, Some, map, length, string_bytes};
+ghost use Rattle.std.specs.Prelude.{◌≡◌, ◌≤◌, ◌⊎◌, ◌↔◌, ◌++◌, ℕ, List, Some, map, length, string_bytes};
 ghost use Rattle.io_edge.specs.Edge.{Rose, Appends, AppendsFront, TakesToLimit, ReadsToEnd};
 ghost use Rattle.command_words.specs.declared.commands.Command as command;
 ghost use Rattle.citrus_tool.specs.declared.outcome.Ran.{Ran};
 ghost use Rattle.citrus_tool.specs.Answers.{Answered, AnsweredInPart, IsAnswerable, WritesNothing};
 ghost use Rattle.command_words.specs.Commands.{Asks, IsCommand, Reads, limit_of};
-ghost use Rattle.command_words.specs.Statuses.{WritesWhole, status_line};
+ghost use Rattle.command_words.specs.declared.statuses.Detail as detail;
+ghost use Rattle.command_words.specs.Statuses.{WritesWhole, status_line, detail_line};
+ghost use Rattle.citrus_tool.specs.Details.{IsDetailed};
 
 use crate::top::tool;
 use command_words::{Status, tell};
@@ -59,13 +61,15 @@ pub fn run_words<R: Threads + Wait + Sync, S: Source, K: Sink, E: Sink, G: Gate 
         → (Rose (S.faults source.old) (S.faults source.new) → ⊥) → (Rose (K.faults sink.old) (K.faults sink.new) → ⊥)
         → (result ≡ Status.Done) ⊎ (result ≡ Status.Refused) ⊎ (result ≡ Status.NoMemory) }
 
-    // What is told is the status that is given.
+    // What is told is the status that is given, and what more is known of what was read.
     ensures told { (Rose (E.faults errors.old) (E.faults errors.new) → ⊥)
-        → Appends (E.bytes errors.old) (E.bytes errors.new) (status_line result) }
+        → (detail : detail.Detail) × IsDetailed (map string_bytes words.now) result (S.rest source.old) (S.rest source.new) detail
+        × Appends (E.bytes errors.old) (E.bytes errors.new) (status_line result ++ detail_line detail) }
     ensures told_on { (Rose (E.faults errors.old) (E.faults errors.new) → ⊥) → E.passed_on errors.new }
-    ensures front { AppendsFront (E.bytes errors.old) (E.bytes errors.new) (status_line result) }
+    ensures front { (detail : detail.Detail) × IsDetailed (map string_bytes words.now) result (S.rest source.old) (S.rest source.new) detail
+        × AppendsFront (E.bytes errors.old) (E.bytes errors.new) (status_line result ++ detail_line detail) }
 {
-    let status = tool(rt, alloc, words, source, sink, gate).status;
-    tell(status, errors);
-    status
+    let outcome = tool(rt, alloc, words, source, sink, gate);
+    tell(outcome.status, outcome.detail, errors);
+    outcome.status
 }

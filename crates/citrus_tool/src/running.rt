@@ -24,7 +24,7 @@ use tree_run::RunWith;
 use workload::make;
 
 // How many scripts may be watched: the lists are made at the last of 64 places.
-const MOST_WATCHED: u32 = 63;
+pub(crate) const MOST_WATCHED: u32 = 63;
 
 /// The text that answers an input, the status with which it is written whole, and what the run leaves.
 #[derive(Drop)]

@@ -3,9 +3,11 @@ ghost use Rattle.std.specs.Prelude.{◌≡◌, ◌≤◌, ◌⊎◌, ◌↔◌, 
 ghost use Rattle.io_edge.specs.Edge.{Rose, Takes, IsAtEnd, TakesToLimit, ReadsToEnd};
 ghost use Rattle.command_words.specs.declared.commands.Command as command;
 ghost use Rattle.citrus_tool.specs.Answers.{Answered, AnsweredInPart, AnsweredBy, AnsweredInPartBy, IsAnswerable, WritesNothing};
+ghost use Rattle.citrus_tool.specs.Details.{IsDetailed, IsDetailedBy};
 ghost use Rattle.command_words.specs.Commands.{Asks, IsCommand, IsInRange, Reads, limit_of};
 ghost use Rattle.command_words.specs.Statuses.{WritesWhole};
 
+use crate::details::detail_of;
 use crate::outcome::{Outcome, Ran};
 use crate::running::answer_to;
 use command_words::{Command, Status, command_of};
@@ -70,6 +72,8 @@ pub fn tool<R: Threads + Wait + Sync, S: Source, K: Sink, G: Gate + Sync>(
         → S.rest source.old ≡ Some input → IsAnswerable command input → length input ≤ limit_of command
         → (Rose (S.faults source.old) (S.faults source.new) → ⊥) → (Rose (K.faults sink.old) (K.faults sink.new) → ⊥)
         → (result.status ≡ Status.Done) ⊎ (result.status ≡ Status.Refused) ⊎ (result.status ≡ Status.NoMemory) }
+    // What is told beside the status is true of what was read.
+    ensures detail { IsDetailed (map string_bytes words.now) result.status (S.rest source.old) (S.rest source.new) result.detail }
     // Nothing is left where the text wasn't written whole.
     ensures left { (result.status ≡ Status.Done → ⊥) → result.ran ≡ Ran.Nothing }
 {
@@ -109,6 +113,7 @@ fn answer_from<R: Threads + Wait + Sync, S: Source, K: Sink, G: Gate + Sync>(
     ensures passed_on { WritesWhole result.status → K.passed_on sink.new }
     ensures a_command { result.status ≡ Status.Usage → ⊥ }
     ensures reads_nothing { (Reads command → ⊥) → source.new ≡ source.old }
+    ensures detail { IsDetailedBy command result.status (S.rest source.old) (S.rest source.new) result.detail }
     ensures left { (result.status ≡ Status.Done → ⊥) → result.ran ≡ Ran.Nothing }
 {
     let input = match input_of(alloc, command, source) {
@@ -123,6 +128,7 @@ fn answer_from<R: Threads + Wait + Sync, S: Source, K: Sink, G: Gate + Sync>(
     match write_all(sink, &answer.text) {
         Ok(()) => Outcome {
             status: answer.status,
+            detail: detail_of(alloc, command, answer.status, &input),
             ran: answer.ran,
         },
         Err(_) => Outcome::nothing(Status::WriteFault),

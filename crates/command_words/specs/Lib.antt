@@ -1,3 +1,4 @@
 pub mod Statuses
 pub mod Arguments
 pub mod Commands
+pub mod LineFaults

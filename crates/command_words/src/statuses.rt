@@ -1,9 +1,11 @@
 //! How a call ended, and what is told of it.
-ghost use Rattle.std.specs.Prelude.{◌≡◌};
+ghost use Rattle.std.specs.Prelude.{◌≡◌, ◌≤◌, ◌++◌, OnOk, OnErr, decimal};
 ghost use Rattle.io_edge.specs.Edge.{Rose, Appends, AppendsFront};
-ghost use Rattle.command_words.specs.Statuses.{status_line};
+ghost use Rattle.command_words.specs.Statuses.{status_line, detail_line};
 
-use io_edge::{Sink, write_all};
+use crate::line_faults::LineFault;
+use io_edge::{Sink, WriteFault, write_all};
+use itoa::Buffer;
 
 /// How a call of the tool ended. The numbers are the program's exit statuses.
 #[derive(Clone, Copy, Debug, PartialEq, Eq)]
@@ -54,13 +56,65 @@ impl Status {
     }
 }
 
-/// Writes the line that tells how the call ended, and has it passed on. Where `errors` fails, a front of it was written.
-pub fn tell<E: Sink>(status: Status, errors: &mut E)
+/// What is told of a call's end beside its status.
+#[derive(Clone, Copy, Debug, PartialEq, Eq)]
+pub enum Detail {
+    /// Nothing.
+    Nothing,
+    /// What is wrong with the first bad line.
+    BadLine { fault: LineFault },
+    /// The first line of the input, counted from 1, that nothing explains.
+    Unexplained { line: u64 },
+}
+
+/// Writes the lines that tell how the call ended, and has them passed on. Where `errors` fails, a front of them was written.
+pub fn tell<E: Sink>(status: Status, detail: Detail, errors: &mut E)
     ensures told { (Rose (E.faults errors.old) (E.faults errors.new) → ⊥)
-        → Appends (E.bytes errors.old) (E.bytes errors.new) (status_line status) }
+        → Appends (E.bytes errors.old) (E.bytes errors.new) (status_line status ++ detail_line detail) }
     ensures passed_on { (Rose (E.faults errors.old) (E.faults errors.new) → ⊥) → E.passed_on errors.new }
-    ensures front { AppendsFront (E.bytes errors.old) (E.bytes errors.new) (status_line status) }
+    ensures front { AppendsFront (E.bytes errors.old) (E.bytes errors.new) (status_line status ++ detail_line detail) }
 {
     // Where nothing is taken, the status still tells it.
-    let _ = write_all(errors, status.line());
+    let _ = write_report(status, detail, errors);
+}
+
+// Writes both lines.
+fn write_report<E: Sink>(status: Status, detail: Detail, errors: &mut E) -> Result<(), WriteFault>
+    ensures whole { OnOk result (Appends (E.bytes errors.old) (E.bytes errors.new) (status_line status ++ detail_line detail)) }
+    ensures passed { OnOk result (E.passed_on errors.new) }
+    ensures fault { OnErr result (Rose (E.faults errors.old) (E.faults errors.new)) }
+    ensures front { OnErr result (AppendsFront (E.bytes errors.old) (E.bytes errors.new) (status_line status ++ detail_line detail)) }
+{
+    write_all(errors, status.line())?;
+    write_detail(detail, errors)
+}
+
+// Writes the line that tells more than the status.
+fn write_detail<E: Sink>(detail: Detail, errors: &mut E) -> Result<(), WriteFault>
+    ensures whole { OnOk result (Appends (E.bytes errors.old) (E.bytes errors.new) (detail_line detail)) }
+    ensures passed { OnOk result (E.passed_on errors.new) }
+    ensures fault { OnErr result (Rose (E.faults errors.old) (E.faults errors.new)) }
+    ensures front { OnErr result (AppendsFront (E.bytes errors.old) (E.bytes errors.new) (detail_line detail)) }
+    ensures counted { E.faults errors.old ≤ E.faults errors.new }
+{
+    match detail {
+        Detail::Nothing => write_all(errors, b""),
+        Detail::BadLine { fault } => write_all(errors, fault.line()),
+        Detail::Unexplained { line } => {
+            write_all(errors, b"nothing explains line ")?;
+            write_number(line, errors)?;
+            write_all(errors, b" of the input\n")
+        }
+    }
+}
+
+// Writes the number in decimal.
+fn write_number<E: Sink>(number: u64, errors: &mut E) -> Result<(), WriteFault>
+    ensures whole { OnOk result (Appends (E.bytes errors.old) (E.bytes errors.new) (decimal number)) }
+    ensures fault { OnErr result (Rose (E.faults errors.old) (E.faults errors.new)) }
+    ensures front { OnErr result (AppendsFront (E.bytes errors.old) (E.bytes errors.new) (decimal number)) }
+    ensures counted { E.faults errors.old ≤ E.faults errors.new }
+{
+    let mut buffer = Buffer::new();
+    write_all(errors, buffer.format(number).as_bytes())
 }

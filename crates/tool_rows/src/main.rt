@@ -44,7 +44,7 @@ fn text_of<R: Threads + Wait + Sync>(
     let words = words_of(alloc, line)?;
     let mut source = source_of(alloc, row)?;
     let mut sink = sink_with(alloc, number_at(row, 4, 100_000))?;
-    let mut errors = sink_with(alloc, 100)?;
+    let mut errors = sink_with(alloc, 200)?;
     let status = run_words(
         rt,
         alloc,

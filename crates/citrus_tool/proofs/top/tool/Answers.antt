@@ -1,4 +1,4 @@
-use Rattle.std.proofs.Common.{◌≡◌, Some, sym, subst}
+use Rattle.std.proofs.Common.{◌≡◌, Some, inl, inr, sym, subst}
 use Rattle.io_edge.specs.Edge.{TakesToLimit}
 use Rattle.command_words.specs.declared.statuses.Status.TheVariants.{BadScript, TooLong}
 use Rattle.citrus_tool.specs.Answers.{AnsweredBy}
@@ -50,3 +50,9 @@ returns-in-Some-clause-last g c = λ whole command asked reads.
     let found = c.in-Some.ensures.only command asked in
     let same : c.in-Some.command ≡ command = cc in
     c.answer_from.ensures.last whole (subst Reads (sym same) reads)
+
+pub returns-in-Some-clause-detail : goal.returns-in-Some-clause-detail
+returns-in-Some-clause-detail g c = inr (c.in-Some.command, c.in-Some.ensures.asked, c.answer_from.ensures.detail)
+
+pub returns-in-None-clause-detail : goal.returns-in-None-clause-detail
+returns-in-None-clause-detail g c = inl c.nothing.ensures.detail
