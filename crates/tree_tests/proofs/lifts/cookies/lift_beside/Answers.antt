@@ -7,8 +7,8 @@ returns-clause-keeps g c =
     let slots = lifted.keeps.slots in
     record {
       latest = record {
-        place = lifted.updates.gone.same;
-        seen = lifted.updates.gone.begins;
+        place = lifted.updates.advanced.same;
+        seen = lifted.updates.advanced.begins;
         waits = slots.waits;
         wait = slots.wait;
       };

@@ -5,5 +5,5 @@ use Rattle.tree_tests.proofs.tree.cookies.get_beside.Goals as goal
 pub returns-clause-keeps : goal.returns-clause-keeps
 returns-clause-keeps c =
     let goes = goes_looked c.get-reply.ensures.gets.2 in
-    keeps_all c.args.seat.now c.get-reply.new.seat goes.gone.same goes.gone.begins goes.waits goes.wait goes.retired
+    keeps_all c.args.seat.now c.get-reply.new.seat goes.advanced.same goes.advanced.begins goes.waits goes.wait goes.retired
     c.get-reply.ensures.listed
