@@ -216,8 +216,8 @@ CITRUS_STATUS_MATTERS int32_t citrus_share(citrus_handle *handle, uint32_t handl
 CITRUS_STATUS_MATTERS int32_t citrus_left(citrus_handle *handle, uint32_t *handles, uint64_t *tickets);
 
 /* What a handle knows of itself and of its index, for a page of metrics. The size comes first, as in citrus_options. */
-struct citrus_stats {
-    size_t size;      /* sizeof(struct citrus_stats), set by the caller */
+typedef struct {
+    size_t size;      /* sizeof(citrus_numbers), set by the caller */
     uint64_t slots;   /* slots of the index: one for each pair that it was opened for, and 68 for each handle */
     uint64_t free;    /* how many of them were free when this handle last took one or gave one back; all, where it did neither yet. The others
                        * have a pair, or are kept back by a handle */
@@ -227,11 +227,11 @@ struct citrus_stats {
     uint64_t room;    /* how many it keeps back at most */
     uint32_t handles; /* how many handles the index can have at once */
     uint32_t unshared; /* how many more of them can be shared from this one */
-};
+} citrus_numbers;
 
 /* Tells these numbers. It takes no step on the tree, costs a few loads, and answers of a handle in a section, and of a lost one, too.
  * DONE, and *stats; CLOSED; BAD_ARGUMENT where stats->size is another. */
-CITRUS_STATUS_MATTERS int32_t citrus_stats(citrus_handle *handle, struct citrus_stats *stats);
+CITRUS_STATUS_MATTERS int32_t citrus_stats(citrus_handle *handle, citrus_numbers *stats);
 
 /* The even part of the handle's tickets for so many of the handles that are left to it, where it keeps one itself: what to share with these. It
  * is 0 of a closed handle. */

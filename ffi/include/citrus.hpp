@@ -217,8 +217,8 @@ public:
     }
 
     // What the handle knows of itself and of its index: the numbers of citrus.h. Throws closed.
-    struct citrus_stats stats() {
-        struct citrus_stats told{};
+    citrus_numbers stats() {
+        citrus_numbers told{};
         told.size = sizeof told;
         refuse_unless_done(citrus_stats(&at_, &told));
         return told;

@@ -263,7 +263,7 @@ static inline uint64_t citrus_debug_fair_share(citrus_handle *handle, uint32_t h
     return told;
 }
 
-static inline int32_t citrus_debug_stats(citrus_handle *handle, struct citrus_stats *stats) {
+static inline int32_t citrus_debug_stats(citrus_handle *handle, citrus_numbers *stats) {
     const struct citrus_debug_call mine = citrus_debug_begins("citrus_stats", handle);
     return citrus_debug_ended(mine, citrus_stats(handle, stats));
 }
@@ -362,8 +362,7 @@ static inline void citrus_debug_close_lanes(citrus_lanes *lanes) {
 #define citrus_tidy citrus_debug_tidy
 #define citrus_left citrus_debug_left
 #define citrus_fair_share citrus_debug_fair_share
-/* The record has the same name. */
-#define citrus_stats(handle, stats) citrus_debug_stats(handle, stats)
+#define citrus_stats citrus_debug_stats
 #define citrus_reopen citrus_debug_reopen
 #define citrus_get citrus_debug_get
 #define citrus_list citrus_debug_list

@@ -307,8 +307,8 @@ static void handles_and_tickets_are_shared(uint32_t waiter) {
     citrus_close(&first);
 }
 
-static struct citrus_stats stats_of(citrus_handle *handle) {
-    struct citrus_stats stats = {.size = sizeof stats};
+static citrus_numbers stats_of(citrus_handle *handle) {
+    citrus_numbers stats = {.size = sizeof stats};
     uint32_t unshared = 0;
     uint64_t tickets = 0;
     WANT(citrus_stats(handle, &stats), CITRUS_DONE);
@@ -321,7 +321,7 @@ static struct citrus_stats stats_of(citrus_handle *handle) {
 
 static void what_a_handle_knows(uint32_t waiter) {
     citrus_handle index = open_index(10, 3, waiter), other = CITRUS_CLOSED_HANDLE;
-    struct citrus_stats stats = {.size = sizeof stats - 8, .slots = UNTOUCHED};
+    citrus_numbers stats = {.size = sizeof stats - 8, .slots = UNTOUCHED};
     uint64_t told = UNTOUCHED;
     WANT(citrus_stats(&index, &stats), CITRUS_BAD_ARGUMENT);
     WANT(stats.slots, UNTOUCHED);

@@ -9,7 +9,7 @@ static void a_closed_handle_at_each_call(void) {
     uint32_t handles = 77, made = 9;
     size_t count = 9;
     citrus_pair pair = {UNTOUCHED, UNTOUCHED};
-    struct citrus_stats stats = {.size = sizeof stats, .slots = UNTOUCHED};
+    citrus_numbers stats = {.size = sizeof stats, .slots = UNTOUCHED};
     WANT(citrus_share(&closed, 1, 4, &other), CITRUS_CLOSED);
     WANT(citrus_reopen(&closed, &other), CITRUS_CLOSED);
     WANT(citrus_left(&closed, &handles, &told), CITRUS_CLOSED);

@@ -169,7 +169,7 @@ int32_t citrus_left(citrus_handle *handle, uint32_t *handles, uint64_t *tickets)
     return CITRUS_DONE;
 }
 
-int32_t citrus_stats(citrus_handle *handle, struct citrus_stats *stats) {
+int32_t citrus_stats(citrus_handle *handle, citrus_numbers *stats) {
     if (stats->size != sizeof *stats) return CITRUS_BAD_ARGUMENT;
     *stats = {sizeof *stats, 0, 0, 0, CITRUS_ALL_TICKETS, 0, KEPT_BACK, 0, opened(handle)->left};
     return CITRUS_DONE;

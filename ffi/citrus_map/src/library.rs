@@ -41,7 +41,7 @@ impl RawOptions {
     }
 }
 
-/// What C calls a `struct citrus_stats`, as the first version of its header has it.
+/// What C calls a `citrus_numbers`, as the first version of its header has it.
 #[repr(C)]
 #[derive(Clone, Copy, Default)]
 pub(crate) struct RawStats {
