@@ -64,10 +64,10 @@ pub fn run_words<R: Threads + Wait + Sync, S: Source, K: Sink, E: Sink, G: Gate 
     // What is told is the status that is given, and what more is known of what was read.
     ensures told { (Rose (E.faults errors.old) (E.faults errors.new) → ⊥)
         → (detail : detail.Detail) × IsDetailed (map string_bytes words.now) result (S.rest source.old) (S.rest source.new) detail
-        × Appends (E.bytes errors.old) (E.bytes errors.new) (status_line result ++ detail_line detail) }
+        × Appends (E.bytes errors.old) (E.bytes errors.new) (detail_line detail ++ status_line result) }
     ensures told_on { (Rose (E.faults errors.old) (E.faults errors.new) → ⊥) → E.passed_on errors.new }
     ensures front { (detail : detail.Detail) × IsDetailed (map string_bytes words.now) result (S.rest source.old) (S.rest source.new) detail
-        × AppendsFront (E.bytes errors.old) (E.bytes errors.new) (status_line result ++ detail_line detail) }
+        × AppendsFront (E.bytes errors.old) (E.bytes errors.new) (detail_line detail ++ status_line result) }
 {
     let outcome = tool(rt, alloc, words, source, sink, gate);
     tell(outcome.status, outcome.detail, errors);

@@ -67,26 +67,27 @@ pub enum Detail {
     Unexplained { line: u64 },
 }
 
-/// Writes the lines that tell how the call ended, and has them passed on. Where `errors` fails, a front of them was written.
+/// Writes the lines that tell how the call ended, the detail before the status, and has them passed on. Where `errors` fails, a front of them
+/// was written.
 pub fn tell<E: Sink>(status: Status, detail: Detail, errors: &mut E)
     ensures told { (Rose (E.faults errors.old) (E.faults errors.new) → ⊥)
-        → Appends (E.bytes errors.old) (E.bytes errors.new) (status_line status ++ detail_line detail) }
+        → Appends (E.bytes errors.old) (E.bytes errors.new) (detail_line detail ++ status_line status) }
     ensures passed_on { (Rose (E.faults errors.old) (E.faults errors.new) → ⊥) → E.passed_on errors.new }
-    ensures front { AppendsFront (E.bytes errors.old) (E.bytes errors.new) (status_line status ++ detail_line detail) }
+    ensures front { AppendsFront (E.bytes errors.old) (E.bytes errors.new) (detail_line detail ++ status_line status) }
 {
-    // Where nothing is taken, the status still tells it.
+    // Where nothing is taken, the exit status still tells it.
     let _ = write_report(status, detail, errors);
 }
 
-// Writes both lines.
+// Writes both lines: who reads the last line alone reads the status.
 fn write_report<E: Sink>(status: Status, detail: Detail, errors: &mut E) -> Result<(), WriteFault>
-    ensures whole { OnOk result (Appends (E.bytes errors.old) (E.bytes errors.new) (status_line status ++ detail_line detail)) }
+    ensures whole { OnOk result (Appends (E.bytes errors.old) (E.bytes errors.new) (detail_line detail ++ status_line status)) }
     ensures passed { OnOk result (E.passed_on errors.new) }
     ensures fault { OnErr result (Rose (E.faults errors.old) (E.faults errors.new)) }
-    ensures front { OnErr result (AppendsFront (E.bytes errors.old) (E.bytes errors.new) (status_line status ++ detail_line detail)) }
+    ensures front { OnErr result (AppendsFront (E.bytes errors.old) (E.bytes errors.new) (detail_line detail ++ status_line status)) }
 {
-    write_all(errors, status.line())?;
-    write_detail(detail, errors)
+    write_detail(detail, errors)?;
+    write_all(errors, status.line())
 }
 
 // Writes the line that tells more than the status.
