@@ -45,6 +45,7 @@
 #ifndef CITRUS_H
 #define CITRUS_H
 
+#include <sched.h>
 #include <stddef.h>
 #include <stdint.h>
 #include <time.h>
@@ -114,6 +115,7 @@ enum {
                                  get through; poll: the wait is no longer the handle's latest, or its end was told */
     CITRUS_NEW = 5,           /* upsert: the pair was added */
     CITRUS_DIFFERENT = 6,     /* compare: the key's value isn't the expected one */
+    CITRUS_BUSY = 7,          /* citrus_insert_once and its like: other threads were in the way, and no pair was changed. Yield, and call again */
     CITRUS_CLOSED = -1,       /* the handle is closed, or the lanes are */
     CITRUS_BAD_ARGUMENT = -2, /* a number is out of its range; reopen: the other handle is open; open_lanes: the lanes are */
     CITRUS_NO_MEMORY = -3,    /* malloc gave none; open, share, reopen, list, tidy, open_lanes and get_many alone take memory */
@@ -133,6 +135,7 @@ static inline const char *citrus_status_name(int32_t status) {
     case CITRUS_MOVED: return "CITRUS_MOVED";
     case CITRUS_NEW: return "CITRUS_NEW";
     case CITRUS_DIFFERENT: return "CITRUS_DIFFERENT";
+    case CITRUS_BUSY: return "CITRUS_BUSY";
     case CITRUS_CLOSED: return "CITRUS_CLOSED";
     case CITRUS_BAD_ARGUMENT: return "CITRUS_BAD_ARGUMENT";
     case CITRUS_NO_MEMORY: return "CITRUS_NO_MEMORY";
@@ -262,11 +265,12 @@ CITRUS_STATUS_MATTERS int32_t citrus_reopen(citrus_handle *handle, citrus_handle
 CITRUS_STATUS_MATTERS int32_t citrus_get(citrus_handle *handle, uint64_t key, uint64_t *value);
 
 /* The updates. Each searches as a get does, locks the few nodes that it changes, and begins again if another thread changed them first. If
- * another thread holds one of these locks it spins, since the library can't yield the processor: have no more threads that update than there
- * are processors, or let updates take turns by a mutex of yours. A thread that is in a section must never wait for that mutex, since whoever
- * has it may wait for the section. An update waits for a list that keeps updates off, and for readers, which are inside a call or a section,
- * only as said below. It needs 4 tickets and uses 4 at most, an insert that turns nodes up to 72 more; and so does each replace and insert
- * of an upsert.
+ * another thread is in its way it spins for some hundred turns, and then, if it holds nothing itself, it yields the processor and begins anew.
+ * The library can't yield: there such a call ends as CITRUS_BUSY, with no lock, no slot and no section, and these functions yield and call it
+ * again. Whoever has something better to do meanwhile calls citrus_insert_once and its like. A call that holds locks spins until it is through:
+ * while another thread's update is being stored, and as said of a remove. An update waits for a list that keeps updates off, and for readers,
+ * which are inside a call or a section, only as said below. Each time that it is made it needs 4 tickets and uses 4 at most, an insert that turns
+ * nodes up to 72 more; and so does each replace and insert of an upsert.
  *
  * One reader that stays stops writers, whatever their keys and the waiter: a thread that holds a value, or that the system stopped inside a
  * get. After some 50 removes or 60 inserts of ascending keys, or sooner if a call waits for just this reader with locks held, each thread that
@@ -278,30 +282,60 @@ CITRUS_STATUS_MATTERS int32_t citrus_get(citrus_handle *handle, uint64_t key, ui
  * the way is deeper by a third or more than it should be, and the handle keeps back 63 slots or more.
  * DONE, and after a loss at a turn too: then the next call is LOST; UNCHANGED where the key is there; FULL; CLOSED; HOLDS; SPENT;
  * LOST. */
-CITRUS_STATUS_MATTERS int32_t citrus_insert(citrus_handle *handle, uint64_t key, uint64_t value);
+CITRUS_STATUS_MATTERS int32_t citrus_insert_once(citrus_handle *handle, uint64_t key, uint64_t value);
+
+CITRUS_STATUS_MATTERS static inline int32_t citrus_insert(citrus_handle *handle, uint64_t key, uint64_t value) {
+    int32_t status;
+    while ((status = citrus_insert_once(handle, key, value)) == CITRUS_BUSY) sched_yield();
+    return status;
+}
 
 /* Gives the key another value, if it is present. It waits for no reader.
  * DONE, and the value before in *old; UNCHANGED where the key is absent; CLOSED; HOLDS; SPENT; LOST. */
-CITRUS_STATUS_MATTERS int32_t citrus_replace(citrus_handle *handle, uint64_t key, uint64_t value, uint64_t *old);
+CITRUS_STATUS_MATTERS int32_t citrus_replace_once(citrus_handle *handle, uint64_t key, uint64_t value, uint64_t *old);
+
+CITRUS_STATUS_MATTERS static inline int32_t citrus_replace(citrus_handle *handle, uint64_t key, uint64_t value, uint64_t *old) {
+    int32_t status;
+    while ((status = citrus_replace_once(handle, key, value, old)) == CITRUS_BUSY) sched_yield();
+    return status;
+}
 
 /* Gives the key another value, if its value is `expected` at that moment. It waits for no reader. If it first finds another value it locks
  * nothing, and costs what a get costs; the code is so, though no clause says it. To raise a counter, call it again with *found as `expected`
  * while it is DIFFERENT: another thread won each round that is lost. For values that are pointers see below.
  * DONE where one update replaced `expected`; DIFFERENT where the key had the value *found, which isn't `expected`, at a moment of the call;
  * UNCHANGED where the key is absent; CLOSED; HOLDS; SPENT; LOST. */
-CITRUS_STATUS_MATTERS int32_t citrus_compare(citrus_handle *handle, uint64_t key, uint64_t expected, uint64_t value, uint64_t *found);
+CITRUS_STATUS_MATTERS int32_t citrus_compare_once(citrus_handle *handle, uint64_t key, uint64_t expected, uint64_t value, uint64_t *found);
+
+CITRUS_STATUS_MATTERS static inline int32_t citrus_compare(citrus_handle *handle, uint64_t key, uint64_t expected, uint64_t value, uint64_t *found) {
+    int32_t status;
+    while ((status = citrus_compare_once(handle, key, expected, value, found)) == CITRUS_BUSY) sched_yield();
+    return status;
+}
 
 /* Gives the key this value: a replace or else an insert, by turns, until one of the two made an update.
  * DONE, and the value before in *old, where the key was present; NEW where the pair was added; FULL; MOVED where other threads put the key
  * in and took it out in each of 1,000 rounds; CLOSED; HOLDS; SPENT; LOST. */
-CITRUS_STATUS_MATTERS int32_t citrus_upsert(citrus_handle *handle, uint64_t key, uint64_t value, uint64_t *old);
+CITRUS_STATUS_MATTERS int32_t citrus_upsert_once(citrus_handle *handle, uint64_t key, uint64_t value, uint64_t *old);
+
+CITRUS_STATUS_MATTERS static inline int32_t citrus_upsert(citrus_handle *handle, uint64_t key, uint64_t value, uint64_t *old) {
+    int32_t status;
+    while ((status = citrus_upsert_once(handle, key, value, old)) == CITRUS_BUSY) sched_yield();
+    return status;
+}
 
 /* Takes the pair out, if the key is present. If its node has two children it waits for the readers whose key is above this key and at most the
  * next one. Before that, and if the key is absent too, it may wait for all readers, lists too, to give back the slots that the handle keeps
  * back, one or two of each remove and two of each turn of an insert: if these are 63; or if the index has no free slot, and a remove of a
  * node with two children or a turn used the one that the handle has at hand.
  * DONE, and the value in *old; UNCHANGED where the key is absent; CLOSED; HOLDS; SPENT; LOST. */
-CITRUS_STATUS_MATTERS int32_t citrus_remove(citrus_handle *handle, uint64_t key, uint64_t *old);
+CITRUS_STATUS_MATTERS int32_t citrus_remove_once(citrus_handle *handle, uint64_t key, uint64_t *old);
+
+CITRUS_STATUS_MATTERS static inline int32_t citrus_remove(citrus_handle *handle, uint64_t key, uint64_t *old) {
+    int32_t status;
+    while ((status = citrus_remove_once(handle, key, old)) == CITRUS_BUSY) sched_yield();
+    return status;
+}
 
 /* Lists of a key range, and the pairs nearest to a key: each as it was at one moment of the call. Beside writers none fails. They need no
  * tickets and lock no node.

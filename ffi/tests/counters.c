@@ -15,6 +15,17 @@ struct stage {
 /* What a thread does between its get and its compare. */
 enum between { NOTHING, YIELD, WAIT_FOR_ALL };
 
+/* The first thread makes each compare once at a time, and yields by itself where it is busy: then nothing is written. */
+static int32_t compare(struct member *me, uint64_t key, uint64_t expected, uint64_t value, uint64_t *found) {
+    int32_t status;
+    if (me->number) return citrus_compare(&me->handle, key, expected, value, found);
+    while ((status = citrus_compare_once(&me->handle, key, expected, value, found)) == CITRUS_BUSY) {
+        member_wants(me, "what a busy compare writes, of counter", key, *found, UNTOUCHED);
+        sched_yield();
+    }
+    return status;
+}
+
 /* Counters only rise: so a compare that is refused tells a greater value than the expected one. */
 static void raise_it(struct member *me, struct stage *stage, uint64_t key, enum between between) {
     uint64_t value = 0, found = UNTOUCHED;
@@ -22,7 +33,7 @@ static void raise_it(struct member *me, struct stage *stage, uint64_t key, enum 
     member_wants(me, "a get of counter", key, status, CITRUS_DONE);
     if (between == YIELD) sched_yield();
     if (between == WAIT_FOR_ALL) pthread_barrier_wait(&stage->loaded);
-    while ((status = citrus_compare(&me->handle, key, value, value + 1, &found)) == CITRUS_DIFFERENT && !me->wrong) {
+    while ((status = compare(me, key, value, value + 1, &found)) == CITRUS_DIFFERENT && !me->wrong) {
         member_wants(me, "whether a compare is refused for a greater value, of counter", key, found > value, 1);
         value = found;
         found = UNTOUCHED;

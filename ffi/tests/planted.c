@@ -5,10 +5,10 @@
 #include <string.h>
 
 int32_t __real_citrus_get(citrus_handle *, uint64_t, uint64_t *);
-int32_t __real_citrus_insert(citrus_handle *, uint64_t, uint64_t);
-int32_t __real_citrus_compare(citrus_handle *, uint64_t, uint64_t, uint64_t, uint64_t *);
-int32_t __real_citrus_upsert(citrus_handle *, uint64_t, uint64_t, uint64_t *);
-int32_t __real_citrus_remove(citrus_handle *, uint64_t, uint64_t *);
+int32_t __real_citrus_insert_once(citrus_handle *, uint64_t, uint64_t);
+int32_t __real_citrus_compare_once(citrus_handle *, uint64_t, uint64_t, uint64_t, uint64_t *);
+int32_t __real_citrus_upsert_once(citrus_handle *, uint64_t, uint64_t, uint64_t *);
+int32_t __real_citrus_remove_once(citrus_handle *, uint64_t, uint64_t *);
 int32_t __real_citrus_list(citrus_handle *, uint64_t, uint64_t, citrus_pair *, size_t, size_t *, uint64_t *);
 int32_t __real_citrus_first(citrus_handle *, uint64_t, uint64_t *, uint64_t *);
 int32_t __real_citrus_last(citrus_handle *, uint64_t, uint64_t, uint64_t *, uint64_t *);
@@ -52,45 +52,46 @@ int32_t __wrap_citrus_get(citrus_handle *handle, uint64_t key, uint64_t *value) 
 }
 
 /* Looks, and then gives the key the value whether it is there or not. */
-int32_t __wrap_citrus_insert(citrus_handle *handle, uint64_t key, uint64_t value) {
+int32_t __wrap_citrus_insert_once(citrus_handle *handle, uint64_t key, uint64_t value) {
     uint64_t old;
-    if (!is_wrong("insert")) return __real_citrus_insert(handle, key, value);
+    if (!is_wrong("insert")) return __real_citrus_insert_once(handle, key, value);
     const int32_t status = __real_citrus_get(handle, key, &old);
     if (status != CITRUS_UNCHANGED) return status == CITRUS_DONE ? CITRUS_UNCHANGED : status;
     linger();
-    const int32_t put = __real_citrus_upsert(handle, key, value, &old);
+    const int32_t put = __real_citrus_upsert_once(handle, key, value, &old);
     return put == CITRUS_NEW ? CITRUS_DONE : put;
 }
 
 /* Looks, and then replaces whatever value is there. */
-int32_t __wrap_citrus_compare(citrus_handle *handle, uint64_t key, uint64_t expected, uint64_t value, uint64_t *found) {
+int32_t __wrap_citrus_compare_once(citrus_handle *handle, uint64_t key, uint64_t expected, uint64_t value, uint64_t *found) {
     uint64_t now, old;
-    if (!is_wrong("compare")) return __real_citrus_compare(handle, key, expected, value, found);
+    if (!is_wrong("compare")) return __real_citrus_compare_once(handle, key, expected, value, found);
     const int32_t status = __real_citrus_get(handle, key, &now);
     if (status == CITRUS_DONE && now != expected) return *found = now, CITRUS_DIFFERENT;
     linger();
-    return status == CITRUS_DONE ? citrus_replace(handle, key, value, &old) : status;
+    return status == CITRUS_DONE ? citrus_replace_once(handle, key, value, &old) : status;
 }
 
 /* Takes the pair out and puts another in. */
-int32_t __wrap_citrus_upsert(citrus_handle *handle, uint64_t key, uint64_t value, uint64_t *old) {
+int32_t __wrap_citrus_upsert_once(citrus_handle *handle, uint64_t key, uint64_t value, uint64_t *old) {
     uint64_t between;
-    if (!is_wrong("upsert")) return __real_citrus_upsert(handle, key, value, old);
-    const int32_t gone = __real_citrus_remove(handle, key, old);
+    if (!is_wrong("upsert")) return __real_citrus_upsert_once(handle, key, value, old);
+    const int32_t gone = __real_citrus_remove_once(handle, key, old);
     if (gone != CITRUS_DONE && gone != CITRUS_UNCHANGED) return gone;
     linger();
-    const int32_t put = __real_citrus_upsert(handle, key, value, &between);
+    int32_t put;
+    while ((put = __real_citrus_upsert_once(handle, key, value, &between)) == CITRUS_BUSY) sched_yield();
     if (put != CITRUS_DONE && put != CITRUS_NEW) return put;
     return gone == CITRUS_DONE ? CITRUS_DONE : CITRUS_NEW;
 }
 
 /* Tells the value that it finds before. */
-int32_t __wrap_citrus_remove(citrus_handle *handle, uint64_t key, uint64_t *old) {
+int32_t __wrap_citrus_remove_once(citrus_handle *handle, uint64_t key, uint64_t *old) {
     uint64_t value;
-    if (!is_wrong("remove")) return __real_citrus_remove(handle, key, old);
+    if (!is_wrong("remove")) return __real_citrus_remove_once(handle, key, old);
     const int32_t found = __real_citrus_get(handle, key, &value);
     linger();
-    const int32_t gone = __real_citrus_remove(handle, key, old);
+    const int32_t gone = __real_citrus_remove_once(handle, key, old);
     if (found == CITRUS_DONE && gone == CITRUS_DONE) *old = value;
     return gone;
 }

@@ -187,29 +187,29 @@ int32_t citrus_reopen(citrus_handle *, citrus_handle *) { return CITRUS_UNCHANGE
 
 int32_t citrus_get(citrus_handle *handle, uint64_t key, uint64_t *value) { return told(opened(handle)->tree().get(opened(handle)->seat, key), value); }
 
-int32_t citrus_insert(citrus_handle *handle, uint64_t key, uint64_t value) {
+int32_t citrus_insert_once(citrus_handle *handle, uint64_t key, uint64_t value) {
     return opened(handle)->tree().put(opened(handle)->seat, key, value) ? CITRUS_DONE : CITRUS_UNCHANGED;
 }
 
-int32_t citrus_replace(citrus_handle *handle, uint64_t key, uint64_t value, uint64_t *old) {
+int32_t citrus_replace_once(citrus_handle *handle, uint64_t key, uint64_t value, uint64_t *old) {
     return told(opened(handle)->tree().set(opened(handle)->seat, key, value, std::nullopt), old);
 }
 
-int32_t citrus_compare(citrus_handle *handle, uint64_t key, uint64_t expected, uint64_t value, uint64_t *found) {
+int32_t citrus_compare_once(citrus_handle *handle, uint64_t key, uint64_t expected, uint64_t value, uint64_t *found) {
     const Found before = opened(handle)->tree().set(opened(handle)->seat, key, value, expected);
     if (!before || *before == expected) return before ? CITRUS_DONE : CITRUS_UNCHANGED;
     *found = *before;
     return CITRUS_DIFFERENT;
 }
 
-int32_t citrus_upsert(citrus_handle *handle, uint64_t key, uint64_t value, uint64_t *old) {
+int32_t citrus_upsert_once(citrus_handle *handle, uint64_t key, uint64_t value, uint64_t *old) {
     for (;;) {
         if (citrus_replace(handle, key, value, old) == CITRUS_DONE) return CITRUS_DONE;
         if (citrus_insert(handle, key, value) == CITRUS_DONE) return CITRUS_NEW;
     }
 }
 
-int32_t citrus_remove(citrus_handle *handle, uint64_t key, uint64_t *old) { return told(opened(handle)->tree().remove(opened(handle)->seat, key), old); }
+int32_t citrus_remove_once(citrus_handle *handle, uint64_t key, uint64_t *old) { return told(opened(handle)->tree().remove(opened(handle)->seat, key), old); }
 
 int32_t citrus_list(citrus_handle *handle, uint64_t low, uint64_t high, citrus_pair *pairs, size_t room, size_t *count, uint64_t *next) {
     const Pairs found = opened(handle)->tree().list(opened(handle)->seat, low, high);

@@ -19,6 +19,7 @@ static void each_status_has_its_name(void) {
     IS_NAMED(CITRUS_MOVED);
     IS_NAMED(CITRUS_NEW);
     IS_NAMED(CITRUS_DIFFERENT);
+    IS_NAMED(CITRUS_BUSY);
     IS_NAMED(CITRUS_CLOSED);
     IS_NAMED(CITRUS_BAD_ARGUMENT);
     IS_NAMED(CITRUS_NO_MEMORY);
@@ -26,7 +27,7 @@ static void each_status_has_its_name(void) {
     IS_NAMED(CITRUS_LOST);
     IS_NAMED(CITRUS_HOLDS);
     /* A status that is new here gets a name too. */
-    for (int32_t status = CITRUS_HOLDS; status <= CITRUS_DIFFERENT; status++) WANT(strncmp(citrus_status_name(status), "CITRUS_", 7), 0);
+    for (int32_t status = CITRUS_HOLDS; status <= CITRUS_BUSY; status++) WANT(strncmp(citrus_status_name(status), "CITRUS_", 7), 0);
     WANT(strcmp(citrus_status_name(CITRUS_HOLDS - 1), "no status of citrus"), 0);
     WANT(strcmp(citrus_status_name(INT32_MAX), "no status of citrus"), 0);
 }

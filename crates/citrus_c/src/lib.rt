@@ -113,7 +113,12 @@ pub extern "C" fn citrus_get(alloc: Global, handle: &mut Handle, key: u64, value
 
 /// [`Handle::insert`].
 #[unsafe(no_mangle)]
-pub extern "C" fn citrus_insert(alloc: Global, handle: &mut Handle, key: u64, value: u64) -> i32
+pub extern "C" fn citrus_insert_once(
+    alloc: Global,
+    handle: &mut Handle,
+    key: u64,
+    value: u64,
+) -> i32
     ensures inserted { Says result (λ status. Makes (λ c d. Inserts c key value status d)
         handle.old.held status handle.new.held) }
 {
@@ -122,7 +127,7 @@ pub extern "C" fn citrus_insert(alloc: Global, handle: &mut Handle, key: u64, va
 
 /// [`Handle::replace`].
 #[unsafe(no_mangle)]
-pub extern "C" fn citrus_replace(
+pub extern "C" fn citrus_replace_once(
     alloc: Global,
     handle: &mut Handle,
     key: u64,
@@ -138,7 +143,7 @@ pub extern "C" fn citrus_replace(
 
 /// [`Handle::compare`].
 #[unsafe(no_mangle)]
-pub extern "C" fn citrus_compare(
+pub extern "C" fn citrus_compare_once(
     alloc: Global,
     handle: &mut Handle,
     key: u64,
@@ -155,7 +160,7 @@ pub extern "C" fn citrus_compare(
 
 /// [`Handle::upsert`].
 #[unsafe(no_mangle)]
-pub extern "C" fn citrus_upsert(
+pub extern "C" fn citrus_upsert_once(
     alloc: Global,
     handle: &mut Handle,
     key: u64,
@@ -171,7 +176,12 @@ pub extern "C" fn citrus_upsert(
 
 /// [`Handle::remove`].
 #[unsafe(no_mangle)]
-pub extern "C" fn citrus_remove(alloc: Global, handle: &mut Handle, key: u64, old: &mut u64) -> i32
+pub extern "C" fn citrus_remove_once(
+    alloc: Global,
+    handle: &mut Handle,
+    key: u64,
+    old: &mut u64,
+) -> i32
     ensures removed { Says result (λ status. Makes (λ c d. Removes c key old.old status old.new d)
         handle.old.held status handle.new.held) }
     ensures closed { handle.old.held ≡ None → old.new ≡ old.old }

@@ -24,7 +24,7 @@ use Rattle.tree_points.proofs.Passing.{begins_delete, begins_room, begins_spare,
 use Rattle.tree_points.proofs.Locks.{advanced_on, advanced_same, advanced_stays, stays}
 use Rattle.tree_points.proofs.Waits.{reclaims_room, reclaims_spare}
 use Rattle.citrus_tree.specs.Going.{IsSeated, NeededRoom, NeededSlots, MayBegin, AreTries, IsOfTry, KeepsWait, waits_in}
-use Rattle.citrus_tree.specs.Deletes.{HasMadeRoom, HasWaitedForRoom, IsReadyToDelete, KeepsWaits, BeginsByLookup, DelsAtOnce, HasDeleted, HasSearched, KeepsRest, retired_slots, TellsTaken}
+use Rattle.citrus_tree.specs.Deletes.{GaveWayAtOnce, HasMadeRoom, HasWaitedForRoom, IsReadyToDelete, KeepsWaits, BeginsByLookup, DelsAtOnce, HasDeleted, HasSearched, KeepsRest, retired_slots, TellsTaken}
 use Rattle.citrus_tree.proofs.Linking.{at_least_one, needed_on}
 use Rattle.citrus_tree.proofs.Replacing.{may_begin, waits_in-append}
 use Rattle.citrus_tree.proofs.Leavings.{none_begun, none_yet, reclaimed_first, wait_later, MayHaveBegun, begins_later, begins_searched, wait_on, KeepsView}
@@ -35,7 +35,7 @@ use Rattle.prcu_marks.proofs.Marks.{entered_for-append}
 use Rattle.prcu_model.specs.declared.operation.Reply.{Reply}
 use Rattle.prcu_model.specs.declared.operation.Reply.TheVariants.{Absent, Gone}
 use Rattle.prcu_model.specs.declared.operation.Told.{Told}
-use Rattle.citrus_tree.specs.Replies.{Dels, DelsBy, IsMoveWait, RetiresInOrder, TellsValue, TookOut, WasAnswered}
+use Rattle.citrus_tree.specs.Replies.{Dels, DelsBy, GaveWay, IsMoveWait, RetiresInOrder, TellsValue, TookOut, WasAnswered}
 use Rattle.citrus_tree.proofs.DeleteMoves.{retires_before}
 use Rattle.citrus_tree.proofs.DeleteSearches.{answered_before}
 use Rattle.std.specs.FinMap as finite
@@ -299,6 +299,18 @@ module _ {k : Shape} {key : ℕ} {v w x : View} (t : TriesToDelete k key v w) (s
     ready = λ kept a. may_begin (again kept (t.ready kept a));
   }
 
+  -- nor is it tried again
+  module _ {y : View} (rest : KeepsRest x y) where
+    pub rests_way : GaveWayAtOnce v key y
+    rests_way = record {
+      tries = t.marks ++ (Entered w.allowance.place s.count key ∷ (LeftMark w.allowance.place s.left ∷ []));
+      tried = record { tried = tries; own = advanced_stays advanced rest.advanced };
+      none = none;
+    }
+
+    pub rests_begins : BeginsByLookup v key y
+    rests_begins = begins_later absent_begins rest.advanced
+
   -- or it was
   pub gone_dels : {y : View} {number : ℕ} → HasDeleted x key number y → IsInformed y
       → DelsAtOnce v key (record { reply = Gone; number = number }) y
@@ -426,6 +438,17 @@ module _ {k : Shape} {v u : View} (room : HasMadeRoom k v u) (key : ℕ) where
         (let f : waits_in room.marks ≡ 0 = ap waits_in e in let split = waits_in-append room.marks ms in omega arith))
         (λ (f : HasWaitedForRoom k v room.marks u). needed_later (dels_gone u w key told.number ms told.reply by).1.begins f.why) room.waited,
   )
+
+  -- others were in its way
+  pub del_way : {w : View} → GaveWayAtOnce u key w → GaveWay k v (Del key) w
+  del_way {w} g = record {
+    tries = room.marks ++ g.tries;
+    tried = record { tried = all_tries g.tries g.none g.tried.tried; own = advanced_on room.advanced g.tried.own };
+    needed = λ some. ⊎_elim (λ (e : room.marks ≡ []). absurd
+        (let f : waits_in room.marks ≡ 0 = ap waits_in e in let split = waits_in-append room.marks g.tries in
+        let n = g.none in omega arith))
+        (λ (f : HasWaitedForRoom k v room.marks u). needed_later g.tried.own.begins f.why) room.waited;
+  }
 
   pub keeps_wait : (w : View) → KeepsWait u w → KeepsWait v w
   keeps_wait w later = wait_on room.waits room.latest later

@@ -25,7 +25,7 @@ use Rattle.core_points.specs.Facts.{HasSpot, is_put, table_of}
 use Rattle.core_points.specs.Fits.{owed_op}
 use Rattle.core_points.specs.declared.stage.Spot.{Spot}
 use Rattle.tree_points.specs.Points.{IsAt, HasAdvanced}
-use Rattle.tree_points.proofs.Passing.{begins_put, has_kept, is_quiet, moves_on}
+use Rattle.tree_points.proofs.Passing.{begins_put, has_kept, is_quiet, moves_on, outside_enter}
 use Rattle.tree_points.proofs.Locks.{advanced_on, advanced_same, slot_in_hand}
 use Rattle.citrus_tree.specs.Deletes.{BeginsByLookup, Comes, StandsAt}
 use Rattle.citrus_tree.proofs.Leavings.{MayHaveBegun, begins_later, begins_looked, first_later, first_stays, none_begun, none_on, none_yet, answered_on, goes_looked, was_answered, KeepsView}
@@ -33,7 +33,7 @@ use Rattle.citrus_tree.specs.declared.insert.Reached.{Reached}
 use Rattle.citrus_tree.specs.Going.{Goes, MayBegin, Searched, Since, Unwaited, Waited, leaf_stage, AreTries, HasBegunNone, IsOfTry, KeepsWait, NeededRoom, waits_in, Links, MakesRoom, Reused, filled_stage, linked_stage, old_stage}
 use Rattle.citrus_tree.specs.Hops.{Records}
 use Rattle.citrus_tree.specs.Lookups.{Looked}
-use Rattle.citrus_tree.specs.Replies.{IsFullNow, Puts}
+use Rattle.citrus_tree.specs.Replies.{GaveWay, IsFullNow, Puts}
 use Rattle.citrus_tree.proofs.Linking.{needed_on}
 use Rattle.citrus_tree.proofs.Replacing.{may_begin, waits_in-append}
 use Rattle.std.specs.FinMap as finite
@@ -71,6 +71,24 @@ module _ {k : Shape} {kept key value : ℕ} {v : View} (a : IsAt k (Put key valu
         tickets = (let t = a.fits.tickets in omega arith);
         unraised = a.fits.unraised;
         point = (refl, (held.slot, own_hand (Some held) e), (a.fits.point).1, ap is_put a.op_is);
+      })
+
+  -- it may be given up, as where the key is there
+  pub rest_at : IsAt k (Put key value) kept (old_stage v.hands.hand) v
+  rest_at = by v.hands.hand refl
+    where
+      by : (h : Option Held) → v.hands.hand ≡ h → IsAt k (Put key value) kept (old_stage h) v
+      by None e = moves_on a a.own refl (record {
+        owns = a.fits.owns;
+        tickets = (let t = a.fits.tickets in omega arith);
+        unraised = a.fits.unraised;
+        point = (outside_enter a, ((a.fits.point).1).bare, e);
+      })
+      by (Some held) e = moves_on a a.own refl (record {
+        owns = a.fits.owns;
+        tickets = (let t = a.fits.tickets in omega arith);
+        unraised = a.fits.unraised;
+        point = (outside_enter a, (held.slot, own_hand (Some held) e), (a.fits.point).1, ap is_put a.op_is);
       })
 
   -- it isn't, and the empty side is recorded
@@ -379,6 +397,39 @@ module _ {k : Shape} {key value : ℕ} {v : View} where
             ready = λ kept enough. may_begin (subst (λ r. IsAt k (Put key value) kept (linked_stage r) z) none
                 (again kept (locking kept enough)));
           }
+
+          -- nor is it tried again: the leaf is put back
+          module _ {z : View} {number : Option ℕ} (g : Goes y z []) (none : number ≡ None)
+              (again : (c : ℕ) → IsAt k (Put key value) c (at.LeafLock spot) y → IsAt k (Put key value) c (linked_stage number) z) where
+            resting : (kept : ℕ) → kept + 4 ≤ v.allowance.tickets → IsAt k (Put key value) kept (old_stage z.hands.hand) z
+            resting kept enough = rest_at (subst (λ r. IsAt k (Put key value) kept (linked_stage r) z) none
+                (again kept (locking kept enough)))
+
+            pub may_rest : StandsAt k (old_stage z.hands.hand) z
+            may_rest = (Put key value, 0, resting 0 few)
+
+            module _ {o : View} (back : Goes z o []) where
+              rested : Since k v key tried o
+              rested = since_stays (since_stays since g) back
+
+              pub rests_way : GaveWay k v (Put key value) o
+              rests_way = record {
+                tries = tried;
+                tried = record { tried = are_tries rested entered; own = rested.advanced };
+                needed = needs_room rested (no_more o.seen);
+              }
+
+              pub rests_begins : BeginsByLookup v key o
+              rests_begins = begins_later (begins_later full_begins g.advanced) back.advanced
+
+              pub rests_keeps : Comes k (old_stage z.hands.hand) z at.Finished o → KeepsView 4 v o
+              rests_keeps ends = record {
+                quiet = is_quiet (ends (Put key value) 0 (resting 0 few));
+                wait = keeps_wait rested o (none_yet o);
+                tickets = (let left = has_kept (ends (Put key value) (v.allowance.tickets - 4)
+                    (resting (v.allowance.tickets - 4) (omega arith))) in omega arith);
+                allowance = rested.advanced.allowance;
+              }
 
           -- it was linked
           module _ {z : View} {answered : Option ℕ} {number : ℕ} (one : answered ≡ Some number)

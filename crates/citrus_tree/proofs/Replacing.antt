@@ -36,7 +36,7 @@ use Rattle.prcu_marks.specs.Callers.{entered_for}
 use Rattle.prcu_model.specs.declared.operation.Reply.TheVariants.{Absent, Was}
 use Rattle.prcu_model.specs.declared.operation.Told.{Told as Reply}
 use Rattle.citrus_tree.specs.Deletes.{BeginsByLookup}
-use Rattle.citrus_tree.specs.Replies.{HasTried, Sets, WasAnswered, Compares, SoughtValue}
+use Rattle.citrus_tree.specs.Replies.{GaveWay, HasTried, Sets, WasAnswered, Compares, SoughtValue}
 use Rattle.citrus_tree.specs.declared.comparing.Compared.TheVariants.{Replaced as Exchanged, Differs, Absent as Missing}
 use Rattle.citrus_tree.specs.declared.comparing.Seen.{Seen}
 use Rattle.core_points.specs.declared.stage.Last.TheVariants as last
@@ -286,6 +286,22 @@ waits_in-append (_ ∷ a) b = waits_in-append a b
 pub may_begin : {k : Shape} {op : Op} {kept : ℕ} {v : View} → IsAt k op kept at.EnterClock v → MayBegin k op kept v
 may_begin a = record { outside = outside_enter a; unlocked = unlocked_enter a; at = λ seated. a }
 
+-- A call with no slot in hand is quiet where it would try again: it may be given up there.
+pub rests_at : {k : Shape} {op : Op} {kept : ℕ} {v : View} → is_put op ≡ false → IsAt k op kept at.EnterClock v → IsDone k op kept v
+rests_at {k} {op} {kept} {v} bare a =
+    let calm = (a.fits.point).1 in
+    let none : a.own.hand ≡ None = (calm.ready).empty (ap is_put a.op_is ∙ bare) in
+    moves_on a a.own refl (record {
+      owns = a.fits.owns;
+      tickets = (let t = a.fits.tickets in omega arith);
+      unraised = a.fits.unraised;
+      point = (
+        outside_enter a,
+        calm.bare,
+        subst (λ h. HandFits h a.own.hand_life (key_now a.own) (value_in a.own.op) v.hands.hand) none calm.hand,
+      );
+    })
+
 -- So far there were only sections with the key, and the call may begin its next try.
 pub record Trying (k : Shape) (op : Op) (v w : View) : Type 0 where
   pub marks : List Mark
@@ -421,6 +437,36 @@ module _ {k : Shape} {key value : ℕ} {v : View} where
         ready = λ kept enough. may_begin (subst (λ r. IsAt k (Set key value) kept (set_stage r) y) unmade
             (again kept (locking kept enough)));
       }
+
+      -- nor is it tried again
+      module _ {y : View} {done : Option Replaced} (g : Goes x y []) (unmade : done ≡ None)
+          (again : (b : ℕ) → IsAt k (Set key value) b (at.SetLock holder.slot holder.generation) x
+          → IsAt k (Set key value) b (set_stage done) y) where
+        pub rests_goes : Goes v y (t.marks ++ (Entered w.allowance.place w.counts.sections key
+            ∷ (LeftMark w.allowance.place w.counts.sections ∷ [])))
+        rests_goes = goes_stays (goes found.looked) g
+
+        pub rests_way : GaveWay k v (Set key value) y
+        rests_way = record {
+          tries = t.marks ++ (Entered w.allowance.place w.counts.sections key ∷ (LeftMark w.allowance.place w.counts.sections ∷ []));
+          tried = record { tried = tries found.looked; own = rests_goes.advanced };
+          needed = λ some. absurd (let n = none found.looked in omega arith);
+        }
+
+        rested : (kept : ℕ) → kept + 4 ≤ v.allowance.tickets → IsDone k (Set key value) kept y
+        rested kept enough = rests_at refl (subst (λ r. IsAt k (Set key value) kept (set_stage r) y) unmade
+            (again kept (locking kept enough)))
+
+        pub rests_keeps : KeepsView 4 v y
+        rests_keeps = record {
+          quiet = is_quiet (rested 0 few);
+          wait = inl (none_begun rests_goes.advanced rests_goes.waits rests_goes.wait);
+          tickets = (let left = has_kept (rested (v.allowance.tickets - 4) (omega arith)) in omega arith);
+          allowance = rests_goes.advanced.allowance;
+        }
+
+        pub rests_begins : BeginsByLookup v key y
+        rests_begins = begins_later (begins_looked t.first found.looked) g.advanced
 
       -- it was made
       module _ {y : View} {answered : Option Replaced} {done_as : Replaced} (one : answered ≡ Some done_as)

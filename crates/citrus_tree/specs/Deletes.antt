@@ -28,7 +28,7 @@ use Rattle.seat_table.specs.Gains.{IsInformed}
 use Rattle.seat_table.specs.Seats.{SeatAt}
 use Rattle.seat_table.specs.Sections.{Makes}
 use Rattle.citrus_tree.specs.Lookups.{is_load, is_of_lookup}
-use Rattle.citrus_tree.specs.Replies.{Dels, DelsBy, IsMoveWait, RetiresInOrder, TookOut}
+use Rattle.citrus_tree.specs.Replies.{Dels, DelsBy, GaveWay, HasTried, IsMoveWait, RetiresInOrder, TookOut}
 use Rattle.core_points.specs.declared.stage.Last.TheVariants as last
 use Rattle.core_points.specs.declared.stage.Stage.TheVariants as at
 
@@ -143,6 +143,12 @@ pub record HasMadeRoom (k : Shape) (v w : View) : Type 0 where
 abbrev pub DelsAtOnce : View → ℕ → Told → View → Type 0
 DelsAtOnce v key told w = (tries : List Mark) × DelsBy v key tries told.reply told.number w × (waits_in tries ≡ 0)
 
+-- A delete found others in its way, with no wait for everybody.
+pub record GaveWayAtOnce (v : View) (key : ℕ) (w : View) : Type 0 where
+  pub tries : List Mark
+  pub tried : HasTried v key tries w
+  pub none : waits_in tries ≡ 0
+
 -- What a delete that was told this has retired, and what one that took nothing out leaves listed.
 abbrev pub RetiresBy : SeatAt → ℕ → Reply → ℕ → SeatAt → Type 0
 RetiresBy s key Gone number t = RetiresInOrder s key number t
@@ -200,6 +206,12 @@ pub record DelTells (k : Shape) (s : SeatAt) (key : ℕ) (told : Told) (t : Seat
   pub retires : told.reply ≡ Gone → RetiresInOrder s key told.number t
   pub keeps : KeepsSeat 4 s t
   pub informed : IsInformed t.view
+
+-- A del found others in its way: with what it began, and what it leaves of the seat.
+pub record DelGaveWay (k : Shape) (s : SeatAt) (key : ℕ) (t : SeatAt) : Type 0 where
+  pub gave : GaveWay k s.view (Del key) t.view
+  pub begins : BeginsOnceReady k s.view key t.view
+  pub keeps : KeepsSeat 4 s t
 
 -- with what the call of an operation begins; a get is a lookup and nothing else
 abbrev pub Begins : Shape → View → Op → View → Type 0

@@ -58,6 +58,19 @@ pub record HasTried (v : View) (key : ℕ) (tries : List Mark) (w : View) : Type
   pub tried : AreTries v.allowance.place key tries
   pub own : HasAdvanced v w tries
 
+-- For what a call of the operation may have begun a wait for everybody: a put needed a slot, a del a spare, or room for two more retired
+-- slots. No other begins one.
+abbrev pub NeededBy : Shape → View → Op → View → Type 0
+NeededBy k v (Put key value) w = NeededRoom k v w
+NeededBy k v (Del key) w = NeededSlots k v w
+NeededBy k v _ w = ⊥
+
+-- The call found others in its way, and is to be made again: it made no update. These are the marks that its place left.
+pub record GaveWay (k : Shape) (v : View) (op : Op) (w : View) : Type 0 where
+  pub tries : List Mark
+  pub tried : HasTried v (key_of op) tries w
+  pub needed : 1 ≤ waits_in tries → NeededBy k v op w
+
 -- The last step found the free count 0, with nothing retired at the place. So the dictionary, with as many slots as each other place may
 -- keep from it, its room for retired ones and four, fills the slots.
 pub record IsFullNow (k : Shape) (w : View) : Type 0 where

@@ -1,10 +1,11 @@
 //! A value is replaced where it is an expected one.
 ghost use Rattle.std.specs.Prelude.{◌≡◌, ◌≤◌, [], None, IfOk, IfErr};
+ghost use Rattle.prcu_model.specs.declared.operation.Op.TheVariants.{Set};
 ghost use Rattle.seat_table.specs.Gains.{IsInformed};
 ghost use Rattle.seat_table.specs.Sections.{HasMade, HasStepped};
 ghost use Rattle.seat_table.specs.Seats.{IsQuietSeat, shape_of};
 ghost use Rattle.citrus_tree.specs.Deletes.{BeginsByLookup};
-ghost use Rattle.citrus_tree.specs.Replies.{Compares, SoughtValue};
+ghost use Rattle.citrus_tree.specs.Replies.{Compares, GaveWay, SoughtValue};
 ghost use Rattle.citrus_tree.specs.Going.{KeepsSeat};
 
 use crate::descent::{Descent, descend};
@@ -34,7 +35,7 @@ pub(crate) struct Seen {
 
 /// Gives the key another value, where its value is the expected one: `Replaced` with the update's position. Else it changes nothing:
 /// `Differs` with the value that the key had at some time of the call, and `Absent` as at `get`. It waits as a set does, for the holder of
-/// the node's lock and for other updates, and for no reader.
+/// the node's lock and for other updates, and for no reader. Busy comes as at a set.
 ///
 /// A value that is replaced and put back between the search and the lock isn't told from one that stayed: it is the expected one at the
 /// update, and that is what is said.
@@ -46,27 +47,29 @@ pub fn compare<P: Patience, W: WaitPart, G: Gate>(
     key: u64,
     expected: u64,
     value: u64,
-) -> Result<Compared, P::Tired>
+) -> Result<Result<Compared, P::Busy>, P::Tired>
     requires table { seat.old.table ≡ table.now }
     requires quiet { IsQuietSeat seat.old }
     requires tickets { 4 ≤ seat.old.view.allowance.tickets }
     ensures table { seat.new.table ≡ seat.old.table }
-    ensures compares { IfOk result (λ answer. Compares seat.old.view key expected value answer seat.new.view) }
+    ensures compares { IfOk result (λ answer. IfOk answer (λ compared. Compares seat.old.view key expected value compared seat.new.view)) }
+    ensures busy { IfOk result (λ answer. IfErr answer
+        (λ _. GaveWay (shape_of W.WAY table.now) seat.old.view (Set key value) seat.new.view)) }
     ensures begins { IfOk result (λ _. BeginsByLookup seat.old.view key seat.new.view) }
     ensures keeps { IfOk result (λ _. KeepsSeat 4 seat.old seat.new) }
-    ensures informed { IfOk result (λ _. IsInformed seat.new.view) }
+    ensures informed { IfOk result (λ answer. IfOk answer (λ _. IsInformed seat.new.view)) }
     ensures tired { IfErr result (λ _. HasMade (P.least patience.now) seat.new.view) }
 {
     let mut pauses = patience.pauses();
     for round in 0..u64::MAX {
         let Some(seen) = find_value(table, seat, gate, key) else {
             gate.pass(Point::Answered, seat.place());
-            return Ok(Compared::Absent);
+            return Ok(Ok(Compared::Absent));
         };
         let found = seen.value;
         if found != expected {
             gate.pass(Point::Answered, seat.place());
-            return Ok(Compared::Differs { found });
+            return Ok(Ok(Compared::Differs { found }));
         }
         gate.pass(Point::BeforeLock, seat.place());
         // Where the value is another one by now, the next search tells which.
@@ -80,11 +83,13 @@ pub fn compare<P: Patience, W: WaitPart, G: Gate>(
             value,
         )? {
             gate.pass(Point::Answered, seat.place());
-            return Ok(Compared::Replaced {
+            return Ok(Ok(Compared::Replaced {
                 number: done.number,
-            });
+            }));
         }
-        patience.pause(&mut pauses)?;
+        if let Err(busy) = patience.rest(&mut pauses) {
+            return Ok(Err(busy));
+        }
     }
     Err(patience.tired())
 }

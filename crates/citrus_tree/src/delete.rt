@@ -10,7 +10,7 @@ ghost use Rattle.seat_table.specs.Gains.{IsInformed};
 ghost use Rattle.seat_table.specs.Sections.{HasMade};
 ghost use Rattle.seat_table.specs.Seats.{AreListed, IsQuietSeat, shape_of};
 ghost use Rattle.tree_points.specs.Points.{IsAt, IsDone};
-ghost use Rattle.citrus_tree.specs.Deletes.{BeginsByLookup, KeepsRest, HasDeleted, HasMadeRoom, IsReadyToDelete, DelsAtOnce, RetiresBy, StandsAt, Comes, KeepsAll, TellsTaken, DelTells};
+ghost use Rattle.citrus_tree.specs.Deletes.{BeginsByLookup, KeepsRest, HasDeleted, HasMadeRoom, IsReadyToDelete, DelsAtOnce, DelGaveWay, GaveWayAtOnce, RetiresBy, StandsAt, Comes, KeepsAll, TellsTaken, DelTells};
 ghost use Rattle.citrus_tree.specs.Going.{MayBegin, KeepsSlots, KeepsWait};
 ghost use Rattle.citrus_tree.specs.Replies.{RetiresInOrder, TellsValue};
 
@@ -51,22 +51,27 @@ struct Deleted {
 /// and behind it the old successor, where the node had two children. `Absent` as at `get`. It waits for the holders of the locks of the
 /// nodes that it touches, and for other updates. Where the node has two children it waits too, after its update, for the open sections
 /// whose keys lie above the key and up to the next one. Before its first search it may wait for all open sections, but only where its place
-/// has room for one more retired slot at most at the call, or has no spare then and no slot is free for one.
+/// has room for one more retired slot at most at the call, or has no spare then and no slot is free for one. It answers busy where a lock is
+/// taken, or a node isn't as the search left it, and its patience would rather be called again: then it made no update.
 pub fn del<P: Patience, W: WaitPart, G: Gate>(
     patience: &P,
     table: &CitrusTable<W>,
     seat: &mut Seat<W>,
     gate: &G,
     key: u64,
-) -> Result<Told, P::Tired>
+) -> Result<Result<Told, P::Busy>, P::Tired>
     requires table { seat.old.table ≡ table.now }
     requires quiet { IsQuietSeat seat.old }
     requires tickets { 4 ≤ seat.old.view.allowance.tickets }
     ensures table { seat.new.table ≡ seat.old.table }
-    ensures tells { IfOk result (λ answer. DelTells (shape_of W.WAY table.now) seat.old key answer seat.new) }
+    ensures tells { IfOk result (λ answer. IfOk answer (λ told. DelTells (shape_of W.WAY table.now) seat.old key told seat.new)) }
+    ensures busy { IfOk result (λ answer. IfErr answer (λ _. DelGaveWay (shape_of W.WAY table.now) seat.old key seat.new)) }
     ensures tired { IfErr result (λ _. HasMade (P.least patience.now) seat.new.view) }
 {
-    Ok(delete_telling(patience, table, seat, gate, key, false)?.told)
+    match delete_telling(patience, table, seat, gate, key, false)? {
+        Ok(removed) => Ok(Ok(removed.told)),
+        Err(busy) => Ok(Err(busy)),
+    }
 }
 
 /// Takes the key's pair out as `del` does, and tells its value too. For that it makes one step more, a load under the node's lock just
@@ -77,13 +82,14 @@ pub fn remove<P: Patience, W: WaitPart, G: Gate>(
     seat: &mut Seat<W>,
     gate: &G,
     key: u64,
-) -> Result<Removed, P::Tired>
+) -> Result<Result<Removed, P::Busy>, P::Tired>
     requires table { seat.old.table ≡ table.now }
     requires quiet { IsQuietSeat seat.old }
     requires tickets { 4 ≤ seat.old.view.allowance.tickets }
     ensures table { seat.new.table ≡ seat.old.table }
-    ensures tells { IfOk result (λ answer. DelTells (shape_of W.WAY table.now) seat.old key answer.told seat.new) }
-    ensures value { IfOk result (λ answer. TellsValue seat.old.view key answer.told answer.value seat.new.view) }
+    ensures tells { IfOk result (λ answer. IfOk answer (λ removed. DelTells (shape_of W.WAY table.now) seat.old key removed.told seat.new)) }
+    ensures value { IfOk result (λ answer. IfOk answer (λ removed. TellsValue seat.old.view key removed.told removed.value seat.new.view)) }
+    ensures busy { IfOk result (λ answer. IfErr answer (λ _. DelGaveWay (shape_of W.WAY table.now) seat.old key seat.new)) }
     ensures tired { IfErr result (λ _. HasMade (P.least patience.now) seat.new.view) }
 {
     delete_telling(patience, table, seat, gate, key, true)
@@ -97,20 +103,26 @@ fn delete_telling<P: Patience, W: WaitPart, G: Gate>(
     gate: &G,
     key: u64,
     tells_value: bool,
-) -> Result<Removed, P::Tired>
+) -> Result<Result<Removed, P::Busy>, P::Tired>
     requires table { seat.old.table ≡ table.now }
     requires quiet { IsQuietSeat seat.old }
     requires tickets { 4 ≤ seat.old.view.allowance.tickets }
     ensures table { seat.new.table ≡ seat.old.table }
-    ensures tells { IfOk result (λ answer. DelTells (shape_of W.WAY table.now) seat.old key answer.told seat.new) }
-    ensures value { IfOk result (λ answer. tells_value ≡ true → TellsValue seat.old.view key answer.told answer.value seat.new.view) }
+    ensures tells { IfOk result (λ answer. IfOk answer (λ removed. DelTells (shape_of W.WAY table.now) seat.old key removed.told seat.new)) }
+    ensures value { IfOk result (λ answer. IfOk answer
+        (λ removed. tells_value ≡ true → TellsValue seat.old.view key removed.told removed.value seat.new.view)) }
+    ensures busy { IfOk result (λ answer. IfErr answer (λ _. DelGaveWay (shape_of W.WAY table.now) seat.old key seat.new)) }
     ensures tired { IfErr result (λ _. HasMade (P.least patience.now) seat.new.view) }
 {
     // Before the first search: inside a section of its own a wait for everybody would wait for itself.
     make_room(patience, table, seat)?;
-    let removed = delete(patience, table, seat, gate, key, tells_value)?;
-    gate.pass(Point::Answered, seat.place());
-    Ok(removed)
+    match delete(patience, table, seat, gate, key, tells_value)? {
+        Ok(removed) => {
+            gate.pass(Point::Answered, seat.place());
+            Ok(Ok(removed))
+        }
+        Err(busy) => Ok(Err(busy)),
+    }
 }
 
 // Sees to it that the place has a spare, for a copy, and that two more slots can be retired. Where all retired slots were given back, the
@@ -184,45 +196,50 @@ fn delete<P: Patience, W: WaitPart, G: Gate>(
     gate: &G,
     key: u64,
     tells_value: bool,
-) -> Result<Removed, P::Tired>
+) -> Result<Result<Removed, P::Busy>, P::Tired>
     requires table { seat.old.table ≡ table.now }
     requires at { (kept : ℕ) × MayBegin (shape_of W.WAY table.now) (Del key) kept seat.old.view }
     requires listed { AreListed seat.old }
     ensures table { seat.new.table ≡ seat.old.table }
     ensures done { IfOk result (λ _. (kept : ℕ) → MayBegin (shape_of W.WAY table.now) (Del key) kept seat.old.view
         → IsDone (shape_of W.WAY table.now) (Del key) kept seat.new.view) }
-    ensures dels { IfOk result (λ answer. DelsAtOnce seat.old.view key answer.told seat.new.view) }
-    ensures value { IfOk result (λ answer. tells_value ≡ true → TellsValue seat.old.view key answer.told answer.value seat.new.view) }
+    ensures dels { IfOk result (λ answer. IfOk answer (λ removed. DelsAtOnce seat.old.view key removed.told seat.new.view)) }
+    ensures value { IfOk result (λ answer. IfOk answer
+        (λ removed. tells_value ≡ true → TellsValue seat.old.view key removed.told removed.value seat.new.view)) }
+    ensures busy { IfOk result (λ answer. IfErr answer (λ _. GaveWayAtOnce seat.old.view key seat.new.view)) }
     ensures begins { IfOk result (λ _. BeginsByLookup seat.old.view key seat.new.view) }
-    ensures retires { IfOk result (λ answer. RetiresBy seat.old key answer.told.reply answer.told.number seat.new) }
+    ensures retires { IfOk result (λ answer. IfOk answer
+        (λ removed. RetiresBy seat.old key removed.told.reply removed.told.number seat.new)) }
     ensures wait { IfOk result (λ _. KeepsWait seat.old.view seat.new.view) }
     ensures slots { IfOk result (λ _. KeepsSlots seat.old seat.new) }
     ensures listed { IfOk result (λ _. AreListed seat.new) }
-    ensures informed { IfOk result (λ _. IsInformed seat.new.view) }
+    ensures informed { IfOk result (λ answer. IfOk answer (λ _. IsInformed seat.new.view)) }
     ensures tired { IfErr result (λ _. HasMade (P.least patience.now) seat.new.view) }
 {
     let mut pauses = patience.pauses();
     for round in 0..u64::MAX {
         let Some(target) = find_target(table, seat, gate, key) else {
-            return Ok(Removed {
+            return Ok(Ok(Removed {
                 told: Told {
                     reply: Reply::Absent,
                     number: 0,
                 },
                 value: None,
-            });
+            }));
         };
         gate.pass(Point::BeforeLock, seat.place());
         if let Some(taken) = delete_node(patience, table, seat, gate, key, &target, tells_value)? {
-            return Ok(Removed {
+            return Ok(Ok(Removed {
                 told: Told {
                     reply: Reply::Gone,
                     number: taken.number,
                 },
                 value: taken.value,
-            });
+            }));
         }
-        patience.pause(&mut pauses)?;
+        if let Err(busy) = patience.rest(&mut pauses) {
+            return Ok(Err(busy));
+        }
     }
     Err(patience.tired())
 }

@@ -20,7 +20,7 @@ ghost use Rattle.seat_table.specs.Seats.{AreListed, IsQuietSeat, IsSlotOf, shape
 ghost use Rattle.tree_points.specs.Points.{HasLocks, IsAt};
 ghost use Rattle.citrus_tree.specs.Deletes.{StandsAt, Comes, BeginsByLookup};
 ghost use Rattle.citrus_tree.specs.Going.{Goes, Searched, leaf_stage, KeepsSlots, old_stage, taken_stage, filled_stage, held_stage, linked_stage, MakesRoom, Links, KeepsSeat};
-ghost use Rattle.citrus_tree.specs.Replies.{IsFullNow, Puts};
+ghost use Rattle.citrus_tree.specs.Replies.{GaveWay, IsFullNow, Puts};
 
 use crate::answer::{Called, answered};
 use crate::commit::{close_commit, open_commit};
@@ -45,6 +45,8 @@ pub(crate) struct Reached {
 /// Adds the pair, where the key is absent: `New` with the update's position. `Old` where the key is present, as at `get`, and `Full`
 /// where it is absent, no slot is free, and the caller has none to give back. It waits for the holder of the lock of the node above, for
 /// other updates, and, where no slot is free, for all open sections. The depth is that of its last search, and 0 where no pair was added.
+/// It answers busy where the lock is taken, or the side isn't as the search left it, and its patience would rather be called again: then it
+/// made no update, and no slot is in hand.
 pub fn put<P: Patience, W: WaitPart, G: Gate>(
     patience: &P,
     table: &CitrusTable<W>,
@@ -52,15 +54,18 @@ pub fn put<P: Patience, W: WaitPart, G: Gate>(
     gate: &G,
     key: u64,
     value: u64,
-) -> Result<Called, P::Tired>
+) -> Result<Result<Called, P::Busy>, P::Tired>
     requires table { seat.old.table ≡ table.now }
     requires quiet { IsQuietSeat seat.old }
     requires tickets { 4 ≤ seat.old.view.allowance.tickets }
     ensures table { seat.new.table ≡ seat.old.table }
-    ensures puts { IfOk result (λ answer. Puts (shape_of W.WAY table.now) seat.old.view key value answer.told seat.new.view) }
+    ensures puts { IfOk result (λ answer. IfOk answer
+        (λ called. Puts (shape_of W.WAY table.now) seat.old.view key value called.told seat.new.view)) }
+    ensures busy { IfOk result (λ answer. IfErr answer
+        (λ _. GaveWay (shape_of W.WAY table.now) seat.old.view (Put key value) seat.new.view)) }
     ensures begins { IfOk result (λ _. BeginsByLookup seat.old.view key seat.new.view) }
     ensures keeps { IfOk result (λ _. KeepsSeat 4 seat.old seat.new) }
-    ensures informed { IfOk result (λ _. IsInformed seat.new.view) }
+    ensures informed { IfOk result (λ answer. IfOk answer (λ _. IsInformed seat.new.view)) }
     ensures tired { IfErr result (λ _. HasMade (P.least patience.now) seat.new.view) }
 {
     // Without end, for all that a thread lives to see; the longer others are in the way, the longer the pauses.
@@ -68,26 +73,30 @@ pub fn put<P: Patience, W: WaitPart, G: Gate>(
     for round in 0..u64::MAX {
         let Some(Reached { spot, depth }) = find_spot(table, seat, gate, key) else {
             give_up_leaf(table, seat);
-            return Ok(Called {
+            return Ok(Ok(Called {
                 told: answered(gate, seat, Reply::Old, 0),
                 depth: 0,
-            });
+            }));
         };
         let Some(leaf) = leaf_in_hand(patience, table, seat, spot.slot, key, value)? else {
-            return Ok(Called {
+            return Ok(Ok(Called {
                 told: answered(gate, seat, Reply::Full, 0),
                 depth: 0,
-            });
+            }));
         };
         // A gate is the caller's: a test holds a thread back here, and any other caller lets it through.
         gate.pass(Point::BeforeLock, seat.place());
         if let Some(number) = link_leaf(patience, table, seat, spot, leaf, key, value)? {
-            return Ok(Called {
+            return Ok(Ok(Called {
                 told: answered(gate, seat, Reply::New, number),
                 depth,
-            });
+            }));
         }
-        patience.pause(&mut pauses)?;
+        // No lock is held here. A call that ends keeps no slot from the others either.
+        if let Err(busy) = patience.rest(&mut pauses) {
+            give_up_leaf(table, seat);
+            return Ok(Err(busy));
+        }
     }
     Err(patience.tired())
 }

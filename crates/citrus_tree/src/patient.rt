@@ -1,10 +1,11 @@
-//! The calls, for callers with a patience of their own: where it ends, so does the call, and the seat may hold locks or stand in a section.
+//! The calls, for callers with a patience of their own. Where it ends, so does the call, and the seat may hold locks or stand in a section.
+//! Where it would rather be called again than wait, and the call holds nothing, the call answers busy: it made no update, and the seat is quiet.
 ghost use Rattle.std.specs.Prelude.{◌≡◌, ◌≤◌, IfOk, IfErr};
 ghost use Rattle.seat_table.specs.Gains.{IsInformed};
 ghost use Rattle.seat_table.specs.Sections.{HasMade};
 ghost use Rattle.seat_table.specs.Seats.{IsQuietSeat, shape_of};
 ghost use Rattle.citrus_tree.specs.Deletes.{Begins};
-ghost use Rattle.citrus_tree.specs.Replies.{IsTold};
+ghost use Rattle.citrus_tree.specs.Replies.{GaveWay, IsTold};
 ghost use Rattle.citrus_tree.specs.Going.{KeepsSeat};
 
 use crate::answer::Called;
@@ -19,7 +20,7 @@ use prcu_model::Op;
 use seat_table::{CitrusTable, Seat, WaitPart};
 
 /// Makes the operation by its own call: `put`, `get`, `del` or `set`. There it is said what it waits for. The depth is `put`'s, and 0
-/// of the others.
+/// of the others. A get is never busy.
 // A call would hand the operation and its answer through memory.
 #[inline(always)]
 pub fn call<P: Patience, W: WaitPart, G: Gate>(
@@ -28,36 +29,34 @@ pub fn call<P: Patience, W: WaitPart, G: Gate>(
     seat: &mut Seat<W>,
     gate: &G,
     op: Op,
-) -> Result<Called, P::Tired>
+) -> Result<Result<Called, P::Busy>, P::Tired>
     requires table { seat.old.table ≡ table.now }
     requires quiet { IsQuietSeat seat.old }
     requires tickets { 4 ≤ seat.old.view.allowance.tickets }
     ensures table { seat.new.table ≡ seat.old.table }
-    ensures told { IfOk result (λ answer. IsTold (shape_of W.WAY table.now) seat.old.view op answer.told seat.new.view) }
+    ensures told { IfOk result (λ answer. IfOk answer
+        (λ called. IsTold (shape_of W.WAY table.now) seat.old.view op called.told seat.new.view)) }
+    ensures busy { IfOk result (λ answer. IfErr answer (λ _. GaveWay (shape_of W.WAY table.now) seat.old.view op seat.new.view)) }
     ensures begins { IfOk result (λ _. Begins (shape_of W.WAY table.now) seat.old.view op seat.new.view) }
     ensures keeps { IfOk result (λ _. KeepsSeat 4 seat.old seat.new) }
-    ensures informed { IfOk result (λ _. IsInformed seat.new.view) }
+    ensures informed { IfOk result (λ answer. IfOk answer (λ _. IsInformed seat.new.view)) }
     ensures tired { IfErr result (λ _. HasMade (P.least patience.now) seat.new.view) }
 {
     match op {
         Op::Put { key, value } => put(patience, table, seat, gate, key, value),
         Op::Get { key } => {
-            Ok(Called {
+            Ok(Ok(Called {
                 told: get(table, seat, gate, key),
                 depth: 0,
-            })
+            }))
         }
-        Op::Del { key } => {
-            Ok(Called {
-                told: del(patience, table, seat, gate, key)?,
-                depth: 0,
-            })
-        }
-        Op::Set { key, value } => {
-            Ok(Called {
-                told: set(patience, table, seat, gate, key, value)?,
-                depth: 0,
-            })
-        }
+        Op::Del { key } => match del(patience, table, seat, gate, key)? {
+            Ok(told) => Ok(Ok(Called { told, depth: 0 })),
+            Err(busy) => Ok(Err(busy)),
+        },
+        Op::Set { key, value } => match set(patience, table, seat, gate, key, value)? {
+            Ok(told) => Ok(Ok(Called { told, depth: 0 })),
+            Err(busy) => Ok(Err(busy)),
+        },
     }
 }

@@ -9,7 +9,7 @@ ghost use Rattle.tree_points.specs.Points.{IsAt};
 ghost use Rattle.citrus_tree.specs.declared.replace.Replaced.{Replaced};
 ghost use Rattle.citrus_tree.specs.Deletes.{BeginsByLookup};
 ghost use Rattle.citrus_tree.specs.Going.{Goes, IsOther, Sought, Stores, set_stage, KeepsSeat};
-ghost use Rattle.citrus_tree.specs.Replies.{Sets};
+ghost use Rattle.citrus_tree.specs.Replies.{GaveWay, Sets};
 
 use crate::answer::answered;
 use crate::commit::{close_commit, open_commit};
@@ -36,7 +36,8 @@ pub(crate) struct Replaced {
 }
 
 /// Gives the key another value, where it is present: `Was` with the old value and the update's position. `Absent` as at `get`. It waits
-/// for the holder of the node's lock and for other updates, and for no reader.
+/// for the holder of the node's lock and for other updates, and for no reader. It answers busy where the lock is taken, or the node was
+/// deleted since the search, and its patience would rather be called again: then it made no update.
 pub fn set<P: Patience, W: WaitPart, G: Gate>(
     patience: &P,
     table: &CitrusTable<W>,
@@ -44,27 +45,31 @@ pub fn set<P: Patience, W: WaitPart, G: Gate>(
     gate: &G,
     key: u64,
     value: u64,
-) -> Result<Told, P::Tired>
+) -> Result<Result<Told, P::Busy>, P::Tired>
     requires table { seat.old.table ≡ table.now }
     requires quiet { IsQuietSeat seat.old }
     requires tickets { 4 ≤ seat.old.view.allowance.tickets }
     ensures table { seat.new.table ≡ seat.old.table }
-    ensures sets { IfOk result (λ answer. Sets seat.old.view key value answer seat.new.view) }
+    ensures sets { IfOk result (λ answer. IfOk answer (λ told. Sets seat.old.view key value told seat.new.view)) }
+    ensures busy { IfOk result (λ answer. IfErr answer
+        (λ _. GaveWay (shape_of W.WAY table.now) seat.old.view (Set key value) seat.new.view)) }
     ensures begins { IfOk result (λ _. BeginsByLookup seat.old.view key seat.new.view) }
     ensures keeps { IfOk result (λ _. KeepsSeat 4 seat.old seat.new) }
-    ensures informed { IfOk result (λ _. IsInformed seat.new.view) }
+    ensures informed { IfOk result (λ answer. IfOk answer (λ _. IsInformed seat.new.view)) }
     ensures tired { IfErr result (λ _. HasMade (P.least patience.now) seat.new.view) }
 {
     let mut pauses = patience.pauses();
     for round in 0..u64::MAX {
         let Some(holder) = find_holder(table, seat, gate, key) else {
-            return Ok(answered(gate, seat, Reply::Absent, 0));
+            return Ok(Ok(answered(gate, seat, Reply::Absent, 0)));
         };
         gate.pass(Point::BeforeLock, seat.place());
         if let Some(done) = store_value(patience, table, seat, holder, key, None, value)? {
-            return Ok(answered(gate, seat, Reply::Was { value: done.old }, done.number));
+            return Ok(Ok(answered(gate, seat, Reply::Was { value: done.old }, done.number)));
         }
-        patience.pause(&mut pauses)?;
+        if let Err(busy) = patience.rest(&mut pauses) {
+            return Ok(Err(busy));
+        }
     }
     Err(patience.tired())
 }

@@ -37,7 +37,8 @@ pub fn put<R: Wait, W: WaitPart, G: Gate>(
     ensures informed { IsInformed seat.new.view }
 {
     match patient::put(&Steadfast::new(rt), table, seat, gate, key, value) {
-        Ok(called) => called.told,
+        Ok(Ok(called)) => called.told,
+        Ok(Err(never)) => match never {},
         Err(never) => match never {},
     }
 }
@@ -62,7 +63,8 @@ pub fn set<R: Wait, W: WaitPart, G: Gate>(
     ensures informed { IsInformed seat.new.view }
 {
     match patient::set(&Steadfast::new(rt), table, seat, gate, key, value) {
-        Ok(told) => told,
+        Ok(Ok(told)) => told,
+        Ok(Err(never)) => match never {},
         Err(never) => match never {},
     }
 }
@@ -89,7 +91,8 @@ pub fn compare<R: Wait, W: WaitPart, G: Gate>(
     ensures informed { IsInformed seat.new.view }
 {
     match patient::compare(&Steadfast::new(rt), table, seat, gate, key, expected, value) {
-        Ok(compared) => compared,
+        Ok(Ok(compared)) => compared,
+        Ok(Err(never)) => match never {},
         Err(never) => match never {},
     }
 }
@@ -113,7 +116,8 @@ pub fn del<R: Wait, W: WaitPart, G: Gate>(
     ensures tells { DelTells (shape_of W.WAY table.now) seat.old key result seat.new }
 {
     match patient::del(&Steadfast::new(rt), table, seat, gate, key) {
-        Ok(told) => told,
+        Ok(Ok(told)) => told,
+        Ok(Err(never)) => match never {},
         Err(never) => match never {},
     }
 }
@@ -135,7 +139,8 @@ pub fn remove<R: Wait, W: WaitPart, G: Gate>(
     ensures value { TellsValue seat.old.view key result.told result.value seat.new.view }
 {
     match patient::remove(&Steadfast::new(rt), table, seat, gate, key) {
-        Ok(removed) => removed,
+        Ok(Ok(removed)) => removed,
+        Ok(Err(never)) => match never {},
         Err(never) => match never {},
     }
 }
@@ -161,7 +166,8 @@ pub fn call<R: Wait, W: WaitPart, G: Gate>(
     ensures informed { IsInformed seat.new.view }
 {
     match patient::call(&Steadfast::new(rt), table, seat, gate, op) {
-        Ok(called) => called,
+        Ok(Ok(called)) => called,
+        Ok(Err(never)) => match never {},
         Err(never) => match never {},
     }
 }

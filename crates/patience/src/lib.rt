@@ -1,5 +1,6 @@
 //! How long a loop goes on that others may hold up, and what it does meanwhile. A call that may not return takes the runtime; a call of a
-//! static library, where there is none, has to come to an end: so it gives up after more rounds than a machine makes in a century.
+//! static library, where there is none, has to come to an end: so it gives up after more rounds than a machine makes in a century. It can't
+//! yield the processor either: where it holds nothing it ends sooner, as it was, and its caller yields and calls again.
 #![tactic(auto)]
 
 ghost use Rattle.std.specs.Prelude.{ℕ, ◌≤◌, IfErr};
@@ -13,6 +14,9 @@ pub trait Patience {
     /// What a call answers that has given up. `Infallible` where none ever does.
     type Tired: Drop;
 
+    /// What a call answers that others are in the way of, and that holds nothing: it is to be made again. `Infallible` where it waits itself.
+    type Busy: Drop;
+
     /// What one loop counts its pauses with.
     type Pauses: Drop;
 
@@ -25,6 +29,9 @@ pub trait Patience {
     /// After a round that came to nothing: lets others go on, or gives up.
     fn pause(&self, pauses: &mut Self::Pauses) -> Result<(), Self::Tired>
         ensures { IfErr result (λ _. least self.now ≤ 1) };
+
+    /// The same where the call holds nothing that others wait for: lets them go on, or ends the call, to be made again.
+    fn rest(&self, pauses: &mut Self::Pauses) -> Result<(), Self::Busy>;
 
     /// After 2^64 - 1 rounds.
     fn tired(&self) -> Self::Tired
@@ -47,6 +54,8 @@ impl<'a, R: Wait> Steadfast<'a, R> {
 impl<'a, R: Wait> Patience for Steadfast<'a, R> {
     type Tired = Infallible;
 
+    type Busy = Infallible;
+
     type Pauses = Backoff;
 
     ghost least = { λ _. 18446744073709551615 };
@@ -56,6 +65,11 @@ impl<'a, R: Wait> Patience for Steadfast<'a, R> {
     }
 
     fn pause(&self, pauses: &mut Backoff) -> Result<(), Infallible> {
+        pauses.snooze();
+        Ok(())
+    }
+
+    fn rest(&self, pauses: &mut Backoff) -> Result<(), Infallible> {
         pauses.snooze();
         Ok(())
     }

@@ -1,12 +1,12 @@
 -- What the calls of a caller come to: its answers, its cookie, its sections and its tidies.
 -- A caller whose call was answered by the tree's, with nothing behind that.
-use Rattle.std.proofs.Common.{◌≤◌, refl, inl, ◌≡◌, ℕ, ◌+◌, ◌-◌, ◌*◌, inr, arith, subst, sym, ◌∙◌, true, false, Bool, List, [], Option, Some, None, ap, ⊎_elim, append-nil, zero, suc, is_some, length, ◌∷◌, ◌++◌}
+use Rattle.std.proofs.Common.{◌≤◌, refl, inl, ◌≡◌, ℕ, ◌+◌, ◌-◌, ◌*◌, inr, arith, subst, sym, ◌∙◌, true, false, Bool, List, [], Option, Some, None, ap, ⊎_elim, append-nil, zero, suc, is_some, length, ◌∷◌, ◌++◌, ◌≢◌}
 use Rattle.prcu_model.specs.declared.operation.Op.{Op}
 use Rattle.prcu_model.specs.declared.operation.Told.{Told}
 use Rattle.tree_handles.specs.Callers.{CallerAt, IsSameCaller, MayGoOn, pairs_that_fit, IsFilled, AreOfOneIndex}
-use Rattle.tree_handles.specs.Calls.{TreeTells, IsCalled, ComesBehind, IsAnswered, IsCalledAndKept, CallsMeetFronts, StaysInside, IsLost}
+use Rattle.tree_handles.specs.Calls.{TreeTells, IsCalled, ComesBehind, IsAnswered, IsCalledAndKept, CallsMeetFronts, StaysInside, IsLost, WereBusy, CausedBy, Inserts, MissesOnceMore, Upserts}
 use Rattle.prcu_marks.specs.Marks.{updates_of, own_of}
-use Rattle.prcu_model.specs.Dictionary.{map_of, Explains}
+use Rattle.prcu_model.specs.Dictionary.{key_of, map_of, Explains}
 use Rattle.prcu_model.specs.declared.operation.Op.TheVariants.{Put}
 use Rattle.prcu_model.specs.declared.operation.Reply.{Reply}
 use Rattle.prcu_model.specs.declared.operation.Reply.TheVariants.{Full as FullReply, New as NewReply}
@@ -18,7 +18,7 @@ use Rattle.prcu_marks.specs.Callers.{HasAnswered}
 use Rattle.core_state.specs.declared.shape.Shape.{Shape}
 use Rattle.citrus_tree.proofs.Clients.{chain_told}
 use Rattle.tree_lift.specs.Lifts.{IsToldThenLifts, GivesAllBack, LeavesNoUpdate}
-use Rattle.tree_lift.proofs.Calls.{told_alone, told_lifted, told_answers}
+use Rattle.tree_lift.proofs.Calls.{answered_earlier, tries_plain, told_alone, told_lifted, told_answers}
 use mathlib.Core.List.{IsPrefix}
 use Rattle.prcu_model.proofs.ListFacts.{prefix_trans, all_append}
 use Rattle.core_state.specs.declared.view.StepMade.{StepMade}
@@ -39,12 +39,13 @@ use Rattle.tree_handles.specs.Lists.{IsLeft, Lists}
 use Rattle.key_interval.specs.Keys.{Interval}
 use Rattle.core_state.specs.declared.view.Section.{Section}
 use Rattle.tree_handles.specs.declared.status.Status.{Status}
-use Rattle.tree_handles.specs.declared.status.Status.TheVariants.{Done, Full, More, Lost}
+use Rattle.tree_handles.specs.declared.status.Status.TheVariants.{Done, Full, More, Lost, Busy}
 use Rattle.exact_list.specs.declared.alone.Exact.{Exact}
 use Rattle.tree_handles.specs.Tidying.{Finishes, MayTidy, Output, Tidies, LiftsNext, LevelledTo, StopsAt, MakesSlots, Levels, IsOfTidy, LeavesNoUpdates, TidiesMakeNoUpdate}
 use Rattle.std.specs.List.{AllByRecursion}
 use Rattle.prcu_marks.specs.declared.mark.Mark.{Mark}
 use Rattle.tree_points.proofs.Locks.{advanced_on, advanced_same}
+use Rattle.tree_points.specs.Points.{HasAdvanced}
 use Rattle.exact_list.specs.Pairs.{Pair}
 use Rattle.tree_lift.specs.declared.lifting.Stop.{Stop}
 use Rattle.tree_handles.specs.declared.tidying.Tally.{Tally}
@@ -108,13 +109,40 @@ comes_behind c op told d called kept (inr (key, added, inr lost)) = absurd (let 
 same_shape : (c : CallerAt) (op : Op) (told : Told) (d : CallerAt) → IsCalled c op told d → shape_of d.way d.table ≡ shape_of c.way c.table
 same_shape c op told d called = λ i. shape_of (called.index.way i) (called.index.table i)
 
+-- what busy calls left: the same index, and no mark of an update
+record LeftTries (op : Op) (c d : CallerAt) : Type 0 where
+  pub shape : shape_of d.way d.table ≡ shape_of c.way c.table
+  pub marks : List Mark
+  pub advanced : HasAdvanced c.seat.view d.seat.view marks
+  pub each : AllByRecursion (IsOfTry c.seat.view.allowance.place (key_of op)) marks
+
+left_tries : (calls : ℕ) (op : Op) (c d : CallerAt) → WereBusy calls op c d → LeftTries op c d
+left_tries zero op c d same = subst (LeftTries op c) (sym same) (record { shape = refl; marks = []; advanced = advanced_same; each = tt })
+left_tries (suc calls) op c d (a, busy, last) =
+    let before = left_tries calls op c a busy in
+    let tries = last.gave.tried in record {
+      shape = (λ i. shape_of (last.index.way i) (last.index.table i)) ∙ before.shape;
+      marks = before.marks ++ last.gave.tries;
+      advanced = advanced_on before.advanced tries.own;
+      each = all_append (IsOfTry c.seat.view.allowance.place (key_of op)) before.marks last.gave.tries before.each
+          (subst (λ p. AllByRecursion (IsOfTry p (key_of op)) last.gave.tries) before.advanced.same tries.tried.each);
+    }
+
 answers : (c : CallerAt) (op : Op) (told : Told) (d : CallerAt) → IsCalledAndKept c op told d
     → ((client_of d).shape ≡ (client_of c).shape)
     × HasAnswered (Explains (room_of (client_of c).shape)) (caller_of (client_of c)) op told (caller_of (client_of d))
-answers c op told d (called, kept) = (
-  same_shape c op told d called,
-  told_answers (shape_of c.way c.table) c.seat.view d.seat.view op told (comes_behind c op told d called kept called.behind),
-)
+answers c op told d x =
+    let a = x.first in
+    let left = left_tries x.calls op c a x.busy in
+    let plain = tries_plain c.seat.view.allowance.place (key_of op) (updates_of d.seat.view.seen) left.marks left.each in
+    let told_last = told_answers (shape_of a.way a.table) a.seat.view d.seat.view op told
+    (comes_behind a op told d x.called x.kept x.called.behind) in (
+      same_shape a op told d x.called ∙ left.shape,
+      answered_earlier (Explains (room_of (shape_of c.way c.table))) (caller_of (client_of c)) (caller_of (client_of a))
+          (caller_of (client_of d)) op told left.marks plain.none left.advanced.same left.advanced.begins
+          (subst (λ k. HasAnswered (Explains (room_of k)) (caller_of (client_of a)) op told (caller_of (client_of d))) left.shape told_last)
+          (ap (λ p. own_of p a.seat.view.seen) left.advanced.same ∙ left.advanced.own) plain.keyed plain.waits,
+    )
 
 pub calls_meet : CallsMeetFronts
 calls_meet ops tolds before after none chain =
@@ -246,6 +274,11 @@ stays_inside c o kept seat quiet inside e = record {
   same = refl;
   inside = record { kept = kept; seat = seat; quiet = quiet; inside = inside_some o c.seat.view.section inside e };
 }
+
+-- what hinders a call with four tickets is why an update isn't made
+pub hinders_update : (op : Op) (status : Status) (c d : CallerAt) → IsHinderedBy 4 status c d → CausedBy op status c d
+hinders_update op Busy c d h = absurd h
+hinders_update op _ c d h = h
 
 -- Lifts of ways one after another.
 

@@ -10,7 +10,7 @@ use Rattle.seat_table.specs.Seats.{fresh_seat, SeatAt, TableAt, IsQuietSeat}
 use Rattle.seat_table.specs.Sections.{IsQuietButSection}
 use Rattle.grace_cookie.specs.Cookies.{CookieAt}
 use Rattle.tree_handles.specs.declared.status.Status.{Status}
-use Rattle.tree_handles.specs.declared.status.Status.TheVariants.{Closed, Done, Unchanged, Full, More, Moved, New, Different, BadArgument, NoMemory, Spent, Lost, Holds}
+use Rattle.tree_handles.specs.declared.status.Status.TheVariants.{Closed, Done, Unchanged, Full, More, Moved, New, Different, Busy, BadArgument, NoMemory, Spent, Lost, Holds}
 use Rattle.std.specs.FinMap as finite
 
 -- what a clause sees of a caller: the number of its waiter, its table, the salt by which the index's nodes rise, its seat, whether a call of
@@ -120,6 +120,7 @@ code_of More = pos 3
 code_of Moved = pos 4
 code_of New = pos 5
 code_of Different = pos 6
+code_of Busy = pos 7
 code_of Closed = negsuc 0
 code_of BadArgument = negsuc 1
 code_of NoMemory = negsuc 2

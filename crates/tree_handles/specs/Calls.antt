@@ -12,14 +12,14 @@ use Rattle.seat_table.specs.Seats.{SeatAt, shape_of}
 use Rattle.citrus_tree.specs.declared.comparing.Compared.{Compared}
 use Rattle.citrus_tree.specs.Deletes.{Begins, BeginsByLookup}
 use Rattle.citrus_tree.specs.Hops.{EndsWithin}
-use Rattle.citrus_tree.specs.Replies.{IsTold, Compares, TellsValue, room_of}
+use Rattle.citrus_tree.specs.Replies.{GaveWay, IsTold, Compares, TellsValue, room_of}
 use Rattle.citrus_tree.specs.Going.{KeepsSeat}
 use Rattle.tree_lift.specs.declared.lifting.Aim.{Aim}
 use Rattle.tree_lift.specs.declared.lifting.Lifted.{Lifted}
 use Rattle.tree_lift.specs.Lifts.{LeavesNoUpdate, HasLifted as TriesTurns}
 use Rattle.tree_handles.specs.Callers.{CallerAt, AreOfOneIndex, IsSameCaller, IsFilled, IsInside, MayGoOn}
 use Rattle.tree_handles.specs.declared.status.Status.{Status}
-use Rattle.tree_handles.specs.declared.status.Status.TheVariants.{Done, Unchanged, Full, Moved, New, Different, Spent, Lost, Holds}
+use Rattle.tree_handles.specs.declared.status.Status.TheVariants.{Done, Unchanged, Full, Moved, New, Different, Busy, Spent, Lost, Holds}
 use Rattle.prcu_marks.specs.Callers.{MeetsFronts, IsChain}
 use Rattle.prcu_marks.specs.Marks.{updates_of}
 use Rattle.prcu_model.specs.Fronts.{told_lines, own_updates}
@@ -121,9 +121,21 @@ abbrev pub IsHinderedBy : ℕ → Status → CallerAt → CallerAt → Type 0
 IsHinderedBy needed Spent c d = IsSpent needed c d
 IsHinderedBy needed status c d = IsStoppedBy status c d
 
--- the same of a get or an update, which need four
-abbrev pub CausedBy : Status → CallerAt → CallerAt → Type 0
-CausedBy status c d = IsHinderedBy 4 status c d
+-- The call of the operation found others in its way, and is to be made again: it made no update. The caller may go on, with at most four
+-- tickets less.
+pub record IsBusy (op : Op) (c d : CallerAt) : Type 0 where
+  pub index : IsSameCaller c d
+  pub before : MayGoOn c
+  pub enough : 4 ≤ c.seat.view.allowance.tickets
+  pub gave : GaveWay (shape_of c.way c.table) c.seat.view op d.seat.view
+  pub begins : Begins (shape_of c.way c.table) c.seat.view op d.seat.view
+  pub keeps : KeepsSeat 4 c.seat d.seat
+  pub may : MayGoOn d
+
+-- the same of an update, which needs four, and may find others in its way
+abbrev pub CausedBy : Op → Status → CallerAt → CallerAt → Type 0
+CausedBy op Busy c d = IsBusy op c d
+CausedBy op status c d = IsHinderedBy 4 status c d
 
 -- Whatever others did, the call made at most three steps for each slot of the table, and four.
 abbrev pub IsWaitFree : CallerAt → CallerAt → Type 0
@@ -133,7 +145,7 @@ IsWaitFree c d = EndsWithin (shape_of c.way c.table) 4 c.seat.view d.seat.view
 abbrev pub Gets : CallerAt → ℕ → ℕ → Status → ℕ → CallerAt → Type 0
 Gets c key was Done value d = IsAnswered c (Get key) (reply.Val value) d × IsWaitFree c d
 Gets c key was Unchanged value d = IsAnswered c (Get key) reply.Absent d × IsWaitFree c d × (value ≡ was)
-Gets c key was status value d = CausedBy status c d × (d ≡ c) × (value ≡ was)
+Gets c key was status value d = IsHinderedBy 4 status c d × (d ≡ c) × (value ≡ was)
 
 -- What an insert answers. To `IsAnswered` it adds the status for each reply, and why no call was made. It is Full only where as many pairs are
 -- there as always fit.
@@ -141,12 +153,12 @@ abbrev pub Inserts : CallerAt → ℕ → ℕ → Status → CallerAt → Type 0
 Inserts c key value Done d = IsAnswered c (Put key value) reply.New d
 Inserts c key value Unchanged d = IsAnswered c (Put key value) reply.Old d
 Inserts c key value Full d = IsAnswered c (Put key value) reply.Full d × IsFilled d
-Inserts c key value status d = CausedBy status c d
+Inserts c key value status d = CausedBy (Put key value) status c d
 
 abbrev pub Replaces : CallerAt → ℕ → ℕ → ℕ → Status → ℕ → CallerAt → Type 0
 Replaces c key value was Done old d = IsAnswered c (Set key value) (reply.Was old) d
 Replaces c key value was Unchanged old d = IsAnswered c (Set key value) reply.Absent d × (old ≡ was)
-Replaces c key value was status old d = CausedBy status c d × (old ≡ was)
+Replaces c key value was status old d = CausedBy (Set key value) status c d × (old ≡ was)
 
 -- The tree's call took the key's pair out, and told its value; or the key was absent, and there is none.
 abbrev pub IsRemoved : CallerAt → ℕ → Option ℕ → CallerAt → Type 0
@@ -155,7 +167,7 @@ IsRemoved c key value d = (told : Told) × IsCalled c (Del key) told d × TellsV
 abbrev pub Removes : CallerAt → ℕ → ℕ → Status → ℕ → CallerAt → Type 0
 Removes c key was Done old d = IsRemoved c key (Some old) d
 Removes c key was Unchanged old d = IsRemoved c key None d × (old ≡ was)
-Removes c key was status old d = CausedBy status c d × (old ≡ was)
+Removes c key was status old d = CausedBy (Del key) status c d × (old ≡ was)
 
 -- The caller, which had four tickets or more, made a compare, which was answered so by the tree's, and began by a lookup of the key. Nothing
 -- comes behind it.
@@ -174,7 +186,7 @@ abbrev pub ComparesOut : CallerAt → ℕ → ℕ → ℕ → ℕ → Status →
 ComparesOut c key expected value was Done found d = (number : ℕ) × IsCompared c key expected value (compared.Replaced number) d × (found ≡ was)
 ComparesOut c key expected value was Different found d = IsCompared c key expected value (compared.Differs found) d
 ComparesOut c key expected value was Unchanged found d = IsCompared c key expected value compared.Absent d × (found ≡ was)
-ComparesOut c key expected value was status found d = CausedBy status c d × (found ≡ was)
+ComparesOut c key expected value was status found d = CausedBy (Set key value) status c d × (found ≡ was)
 
 -- So many rounds of an upsert made no update: each time the key was absent at the set, and there at the put.
 abbrev pub Misses : CallerAt → ℕ → ℕ → ℕ → CallerAt → Type 0
@@ -198,15 +210,24 @@ Upserts c key value was Full old d = (a : CallerAt) × MissesOnceMore c key valu
     × (old ≡ was)
 Upserts c key value was Moved old d = (rounds : ℕ) × (rounds ≡ 1000) × Misses c key value rounds d × (old ≡ was)
 Upserts c key value was Holds old d = StaysInside c d × (old ≡ was)
-Upserts c key value was status old d = (a : CallerAt) × (MissesSome c key value a ⊎ MissesOnceMore c key value a) × CausedBy status a d
-    × (old ≡ was)
+Upserts c key value was status old d = (a : CallerAt) × ((MissesSome c key value a × CausedBy (Set key value) status a d)
+    ⊎ (MissesOnceMore c key value a × CausedBy (Put key value) status a d)) × (old ≡ was)
 
 -- Calls of a handle, one after another.
 -- Source: docs/ACCOUNTS.md, "Clients".
 
--- The caller made the operation and was told this, and it isn't lost.
-abbrev pub IsCalledAndKept : CallerAt → Op → Told → CallerAt → Type 0
-IsCalledAndKept c op told d = IsCalled c op told d × (d.lost ≡ false)
+-- So many calls of the operation, one after another, found others in their way.
+abbrev pub WereBusy : ℕ → Op → CallerAt → CallerAt → Type 0
+WereBusy zero op c d = d ≡ c
+WereBusy (suc calls) op c d = (a : CallerAt) × WereBusy calls op c a × IsBusy op a d
+
+-- The caller made the operation, again and again while others were in its way. At last it was told this, and it isn't lost.
+pub record IsCalledAndKept (c : CallerAt) (op : Op) (told : Told) (d : CallerAt) : Type 0 where
+  pub calls : ℕ
+  pub first : CallerAt
+  pub busy : WereBusy calls op c first
+  pub called : IsCalled first op told d
+  pub kept : d.lost ≡ false
 
 -- Of a caller whose place had made no update, the calls so far tell of lines that fit the updates that it has seen.
 abbrev pub CallsMeetFronts : Type 0

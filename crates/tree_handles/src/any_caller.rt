@@ -1,6 +1,6 @@
 //! What a handle leads to, whatever its waiter.
 ghost use Rattle.std.specs.Prelude.{◌≡◌, ◌≤◌, ◌<◌, ◌+◌, false, MatchBool, IfOk, IfErr, IfNone, IfSome};
-ghost use Rattle.prcu_model.specs.declared.operation.Op.TheVariants.{Get, Put, Set};
+ghost use Rattle.prcu_model.specs.declared.operation.Op.TheVariants.{Del, Get, Put, Set};
 ghost use Rattle.core_state.specs.Memory.{most_places};
 ghost use Rattle.tree_handles.specs.Holds.{HasStarted, Polls, HasHeld, HasOutwaited, IsEntered, LeavesSection};
 ghost use Rattle.tree_handles.specs.Callers.{MayGoOn, IsFresh, IsShared, IsReopened};
@@ -126,7 +126,7 @@ impl AnyCaller {
     pub(crate) fn get(&mut self, key: u64) -> Result<Told, Status>
         ensures called { IfOk result (λ told. IsCalled self.old (Get key) told self.new) }
         ensures soon { IfOk result (λ _. IsWaitFree self.old self.new) }
-        ensures cause { IfErr result (λ status. CausedBy status self.old self.new) }
+        ensures cause { IfErr result (λ status. IsHinderedBy 4 status self.old self.new) }
         ensures same { IfErr result (λ _. self.new ≡ self.old) }
     {
         match &mut self.caller {
@@ -136,11 +136,11 @@ impl AnyCaller {
         }
     }
 
-    /// Adds the pair, where the key is absent. While it waits for other threads it spins.
+    /// Adds the pair, where the key is absent. Where others are in its way it spins, or is busy.
     #[inline(always)]
     pub(crate) fn put(&mut self, key: u64, value: u64) -> Result<Told, Status>
         ensures called { IfOk result (λ told. IsCalled self.old (Put key value) told self.new) }
-        ensures cause { IfErr result (λ status. CausedBy status self.old self.new) }
+        ensures cause { IfErr result (λ status. CausedBy (Put key value) status self.old self.new) }
     {
         match &mut self.caller {
             ByWaiter::Eer(caller) => caller.put(key, value),
@@ -149,11 +149,11 @@ impl AnyCaller {
         }
     }
 
-    /// Gives the key another value, where it is present. While it waits for other threads it spins.
+    /// Gives the key another value, where it is present. Where others are in its way it spins, or is busy.
     #[inline(always)]
     pub(crate) fn set(&mut self, key: u64, value: u64) -> Result<Told, Status>
         ensures called { IfOk result (λ told. IsCalled self.old (Set key value) told self.new) }
-        ensures cause { IfErr result (λ status. CausedBy status self.old self.new) }
+        ensures cause { IfErr result (λ status. CausedBy (Set key value) status self.old self.new) }
     {
         match &mut self.caller {
             ByWaiter::Eer(caller) => caller.set(key, value),
@@ -162,10 +162,10 @@ impl AnyCaller {
         }
     }
 
-    /// Takes the key's pair out, where it is present, and tells its value. While it waits for other threads it spins.
+    /// Takes the key's pair out, where it is present, and tells its value. Where others are in its way it spins, or is busy.
     pub(crate) fn remove(&mut self, key: u64) -> Result<Option<u64>, Status>
         ensures taken { IfOk result (λ value. IsRemoved self.old key value self.new) }
-        ensures cause { IfErr result (λ status. CausedBy status self.old self.new) }
+        ensures cause { IfErr result (λ status. CausedBy (Del key) status self.old self.new) }
     {
         match &mut self.caller {
             ByWaiter::Eer(caller) => caller.remove(key),
@@ -174,7 +174,7 @@ impl AnyCaller {
         }
     }
 
-    /// Gives the key another value, where its value is the expected one. While it waits for other threads it spins.
+    /// Gives the key another value, where its value is the expected one. Where others are in its way it spins, or is busy.
     pub(crate) fn compare(
         &mut self,
         key: u64,
@@ -182,7 +182,7 @@ impl AnyCaller {
         value: u64,
     ) -> Result<Compared, Status>
         ensures compared { IfOk result (λ answer. IsCompared self.old key expected value answer self.new) }
-        ensures cause { IfErr result (λ status. CausedBy status self.old self.new) }
+        ensures cause { IfErr result (λ status. CausedBy (Set key value) status self.old self.new) }
     {
         match &mut self.caller {
             ByWaiter::Eer(caller) => caller.compare(key, expected, value),

@@ -1,6 +1,6 @@
 //! What a handle leads to, by its waiter: a seat, and what it shares with the other callers of the index.
 ghost use Rattle.std.specs.Prelude.{◌≡◌, ◌≤◌, ◌<◌, ◌+◌, false, true, MatchBool, IfOk, IfErr, IfNone, IfSome};
-ghost use Rattle.prcu_model.specs.declared.operation.Op.TheVariants.{Get, Put, Set};
+ghost use Rattle.prcu_model.specs.declared.operation.Op.TheVariants.{Del, Get, Put, Set};
 ghost use Rattle.seat_table.specs.Seats.{IsQuietSeat};
 ghost use Rattle.seat_table.specs.Sections.{IsQuietButSection};
 ghost use Rattle.core_state.specs.Steps.{first_of, second_of};
@@ -16,7 +16,7 @@ ghost use Rattle.tree_handles.specs.Tidying.{GivesBack, HasNoneBack, LiftsWay};
 
 use crate::lane_seats::LaneSeats;
 use crate::shared::Shared;
-use crate::spinning::{GaveUp, Spinning};
+use crate::spinning::{GaveUp, InTheWay, Spinning};
 use crate::stats::Stats;
 use crate::status::Status;
 use crate::tidying::attempts_for;
@@ -249,7 +249,7 @@ impl<W: WaitPart> Caller<W> {
     pub(crate) fn get(&mut self, key: u64) -> Result<Told, Status>
         ensures called { IfOk result (λ told. IsCalled self.old (Get key) told self.new) }
         ensures soon { IfOk result (λ _. IsWaitFree self.old self.new) }
-        ensures cause { IfErr result (λ status. CausedBy status self.old self.new) }
+        ensures cause { IfErr result (λ status. IsHinderedBy 4 status self.old self.new) }
         ensures same { IfErr result (λ _. self.new ≡ self.old) }
     {
         if let Some(status) = self.hindrance(TICKETS) {
@@ -258,21 +258,22 @@ impl<W: WaitPart> Caller<W> {
         Ok(get(self.shared.table(), &mut self.seat, &OpenGate, key))
     }
 
-    /// Adds the pair, where the key is absent, and lifts nodes on its way where that was deep. While it waits for other threads it spins.
+    /// Adds the pair, where the key is absent, and lifts nodes on its way where that was deep. Where others are in its way it spins, or is busy.
     #[inline(always)]
     pub(crate) fn put(&mut self, key: u64, value: u64) -> Result<Told, Status>
         ensures called { IfOk result (λ told. IsCalled self.old (Put key value) told self.new) }
-        ensures cause { IfErr result (λ status. CausedBy status self.old self.new) }
+        ensures cause { IfErr result (λ status. CausedBy (Put key value) status self.old self.new) }
     {
         if let Some(status) = self.hindrance(TICKETS) {
             return Err(status);
         }
         let table = self.shared.table();
         match put(&Spinning, table, &mut self.seat, &OpenGate, key, value) {
-            Ok(called) => {
+            Ok(Ok(called)) => {
                 self.lift_behind(Op::Put { key, value }, called);
                 Ok(called.told)
             }
+            Ok(Err(InTheWay)) => Err(Status::Busy),
             Err(GaveUp) => {
                 self.lost = true;
                 Err(Status::Lost)
@@ -280,18 +281,19 @@ impl<W: WaitPart> Caller<W> {
         }
     }
 
-    /// Gives the key another value, where it is present. While it waits for other threads it spins.
+    /// Gives the key another value, where it is present. Where others are in its way it spins, or is busy.
     #[inline(always)]
     pub(crate) fn set(&mut self, key: u64, value: u64) -> Result<Told, Status>
         ensures called { IfOk result (λ told. IsCalled self.old (Set key value) told self.new) }
-        ensures cause { IfErr result (λ status. CausedBy status self.old self.new) }
+        ensures cause { IfErr result (λ status. CausedBy (Set key value) status self.old self.new) }
     {
         if let Some(status) = self.hindrance(TICKETS) {
             return Err(status);
         }
         let table = self.shared.table();
         match set(&Spinning, table, &mut self.seat, &OpenGate, key, value) {
-            Ok(told) => Ok(told),
+            Ok(Ok(told)) => Ok(told),
+            Ok(Err(InTheWay)) => Err(Status::Busy),
             Err(GaveUp) => {
                 self.lost = true;
                 Err(Status::Lost)
@@ -332,17 +334,18 @@ impl<W: WaitPart> Caller<W> {
         }
     }
 
-    /// Takes the key's pair out, where it is present, and tells its value. While it waits for other threads it spins.
+    /// Takes the key's pair out, where it is present, and tells its value. Where others are in its way it spins, or is busy.
     pub(crate) fn remove(&mut self, key: u64) -> Result<Option<u64>, Status>
         ensures taken { IfOk result (λ value. IsRemoved self.old key value self.new) }
-        ensures cause { IfErr result (λ status. CausedBy status self.old self.new) }
+        ensures cause { IfErr result (λ status. CausedBy (Del key) status self.old self.new) }
     {
         if let Some(status) = self.hindrance(TICKETS) {
             return Err(status);
         }
         let table = self.shared.table();
         match remove(&Spinning, table, &mut self.seat, &OpenGate, key) {
-            Ok(removed) => Ok(removed.value),
+            Ok(Ok(removed)) => Ok(removed.value),
+            Ok(Err(InTheWay)) => Err(Status::Busy),
             Err(GaveUp) => {
                 self.lost = true;
                 Err(Status::Lost)
@@ -350,7 +353,7 @@ impl<W: WaitPart> Caller<W> {
         }
     }
 
-    /// Gives the key another value, where its value is the expected one. While it waits for other threads it spins.
+    /// Gives the key another value, where its value is the expected one. Where others are in its way it spins, or is busy.
     pub(crate) fn compare(
         &mut self,
         key: u64,
@@ -358,7 +361,7 @@ impl<W: WaitPart> Caller<W> {
         value: u64,
     ) -> Result<Compared, Status>
         ensures compared { IfOk result (λ answer. IsCompared self.old key expected value answer self.new) }
-        ensures cause { IfErr result (λ status. CausedBy status self.old self.new) }
+        ensures cause { IfErr result (λ status. CausedBy (Set key value) status self.old self.new) }
     {
         if let Some(status) = self.hindrance(TICKETS) {
             return Err(status);
@@ -373,7 +376,8 @@ impl<W: WaitPart> Caller<W> {
             expected,
             value,
         ) {
-            Ok(answer) => Ok(answer),
+            Ok(Ok(answer)) => Ok(answer),
+            Ok(Err(InTheWay)) => Err(Status::Busy),
             Err(GaveUp) => {
                 self.lost = true;
                 Err(Status::Lost)

@@ -128,7 +128,7 @@ impl Handle {
     /// Adds the pair, where the key is absent.
     ///
     /// `Done`; `Unchanged` where the key is present; `Full` where no slot is free, and then at least as many pairs are there as were asked
-    /// for at the open; `Closed`; `Lost`; `Holds`; `Spent`.
+    /// for at the open; `Busy` where others were in its way, and it is to be made again; `Closed`; `Lost`; `Holds`; `Spent`.
     pub fn insert(&mut self, alloc: Global, key: u64, value: u64) -> Status
         ensures inserted { Makes (λ c d. Inserts c key value result d) self.old.held result self.new.held }
     {
@@ -142,7 +142,8 @@ impl Handle {
 
     /// Gives the key another value, where it is present, and tells the one before.
     ///
-    /// `Done`; `Unchanged` where the key is absent; `Closed`; `Lost`; `Holds`; `Spent`. Only at `Done` the old value is written.
+    /// `Done`; `Unchanged` where the key is absent; `Busy` as of an insert; `Closed`; `Lost`; `Holds`; `Spent`. Only at `Done` the old value is
+    /// written.
     pub fn replace(&mut self, alloc: Global, key: u64, value: u64, old: &mut u64) -> Status
         ensures replaced { Makes (λ c d. Replaces c key value old.old result old.new d) self.old.held result self.new.held }
         ensures closed { self.old.held ≡ None → old.new ≡ old.old }
@@ -159,7 +160,7 @@ impl Handle {
     /// have had another value meanwhile, or have been absent.
     ///
     /// `Done`; `Different` where the key had another value at a moment of the call, which is told; `Unchanged` where the key is absent;
-    /// `Closed`; `Lost`; `Holds`; `Spent`. At each answer but `Done` no pair has changed. Only at `Different` the value
+    /// `Busy` as of an insert; `Closed`; `Lost`; `Holds`; `Spent`. At each answer but `Done` no pair has changed. Only at `Different` the value
     /// found is written.
     pub fn compare(
         &mut self,
@@ -183,7 +184,8 @@ impl Handle {
     /// Gives the key this value, whether or not it is present: a replace, else an insert, until one of the two makes an update.
     ///
     /// `Done` where a value was replaced, which is told; `New` where the pair was added; `Full` as of an insert; `Moved` where others put the
-    /// key in and took it out in each of 1,000 rounds; `Closed`; `Lost`; `Holds`; `Spent`. Only at `Done` the old value is written.
+    /// key in and took it out in each of 1,000 rounds; `Busy` as of an insert; `Closed`; `Lost`; `Holds`; `Spent`. Only at `Done` the old value
+    /// is written.
     pub fn upsert(&mut self, alloc: Global, key: u64, value: u64, old: &mut u64) -> Status
         ensures upserted { Makes (λ c d. Upserts c key value old.old result old.new d) self.old.held result self.new.held }
         ensures closed { self.old.held ≡ None → old.new ≡ old.old }
@@ -198,7 +200,8 @@ impl Handle {
 
     /// Takes the pair out, where the key is present, and tells its value.
     ///
-    /// `Done`; `Unchanged` where the key is absent; `Closed`; `Lost`; `Holds`; `Spent`. Only at `Done` the old value is written.
+    /// `Done`; `Unchanged` where the key is absent; `Busy` as of an insert; `Closed`; `Lost`; `Holds`; `Spent`. Only at `Done` the old value is
+    /// written.
     pub fn remove(&mut self, alloc: Global, key: u64, old: &mut u64) -> Status
         ensures removed { Makes (λ c d. Removes c key old.old result old.new d) self.old.held result self.new.held }
         ensures closed { self.old.held ≡ None → old.new ≡ old.old }

@@ -20,6 +20,8 @@ pub enum Status {
     New,
     /// The key has another value than the expected one: nothing has changed.
     Different,
+    /// Other threads were in the call's way, and it holds nothing: no pair has changed. It is to be made again, once others had the processor.
+    Busy,
     /// The handle is closed.
     Closed,
     /// An argument is out of its range: nothing has changed.
@@ -47,6 +49,7 @@ impl Status {
             Status::Moved => 4,
             Status::New => 5,
             Status::Different => 6,
+            Status::Busy => 7,
             Status::Closed => -1,
             Status::BadArgument => -2,
             Status::NoMemory => -3,

@@ -112,6 +112,7 @@ pub(crate) mod status {
     pub(crate) const MOVED: i32 = 4;
     pub(crate) const NEW: i32 = 5;
     pub(crate) const DIFFERENT: i32 = 6;
+    pub(crate) const BUSY: i32 = 7;
     pub(crate) const NO_MEMORY: i32 = -3;
     pub(crate) const SPENT: i32 = -4;
     pub(crate) const LOST: i32 = -5;
@@ -126,11 +127,11 @@ extern "C" {
     pub(crate) fn citrus_stats(handle: *mut RawHandle, stats: *mut RawStats) -> i32;
     pub(crate) fn citrus_close(handle: *mut RawHandle);
     pub(crate) fn citrus_get(handle: *mut RawHandle, key: u64, value: *mut u64) -> i32;
-    pub(crate) fn citrus_insert(handle: *mut RawHandle, key: u64, value: u64) -> i32;
-    pub(crate) fn citrus_replace(handle: *mut RawHandle, key: u64, value: u64, old: *mut u64) -> i32;
-    pub(crate) fn citrus_compare(handle: *mut RawHandle, key: u64, expected: u64, value: u64, found: *mut u64) -> i32;
-    pub(crate) fn citrus_upsert(handle: *mut RawHandle, key: u64, value: u64, old: *mut u64) -> i32;
-    pub(crate) fn citrus_remove(handle: *mut RawHandle, key: u64, old: *mut u64) -> i32;
+    pub(crate) fn citrus_insert_once(handle: *mut RawHandle, key: u64, value: u64) -> i32;
+    pub(crate) fn citrus_replace_once(handle: *mut RawHandle, key: u64, value: u64, old: *mut u64) -> i32;
+    pub(crate) fn citrus_compare_once(handle: *mut RawHandle, key: u64, expected: u64, value: u64, found: *mut u64) -> i32;
+    pub(crate) fn citrus_upsert_once(handle: *mut RawHandle, key: u64, value: u64, old: *mut u64) -> i32;
+    pub(crate) fn citrus_remove_once(handle: *mut RawHandle, key: u64, old: *mut u64) -> i32;
     pub(crate) fn citrus_list(
         handle: *mut RawHandle,
         low: u64,

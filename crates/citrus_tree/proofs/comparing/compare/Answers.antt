@@ -1,7 +1,7 @@
 use Rattle.std.proofs.Common.{◌≡◌, ℕ, ◌≢◌, refl, ◌∙◌, arith}
 use mathlib.Core.Logic.{dite}
 use native.Mathlib.Decide.{ℕ_discrete}
-use Rattle.citrus_tree.proofs.Replacing.{absent_begins, absent_goes, outside, unlocked, begins, goes_all, may_store, tries_again, stored_begins, absent_value, found_value, absent_compares, differs_compares, stored_compares, absent_keeps, stored_keeps}
+use Rattle.citrus_tree.proofs.Replacing.{absent_begins, absent_goes, outside, unlocked, begins, goes_all, may_store, tries_again, rests_begins, rests_goes, rests_keeps, rests_way, stored_begins, absent_value, found_value, absent_compares, differs_compares, stored_compares, absent_keeps, stored_keeps}
 use Rattle.citrus_tree.proofs.Leavings.{keeps_goes}
 use Rattle.seat_table.proofs.SeveralSteps.{prefix_steps}
 use Rattle.citrus_tree.proofs.comparing.compare.Goals as goal
@@ -104,3 +104,24 @@ loop-round-preserved g c = record {
       c.in_default-2.is).advanced.steps in
       omega (arith, made, found, tried);
 }
+
+pub returns-in-Err-clause-busy : goal.returns-in-Err-clause-busy
+returns-in-Err-clause-busy g c = rests_way c.loop-round.invariant.tries c.requires.tickets c.find_value.ensures.place _ refl
+    (found_value _ _ _ _ c.in-Some.is c.find_value.ensures.sought).0
+    (c.in_ok-done.ensures.again c.in_default-2.is) c.in_default-2.is c.in_ok-done.ensures.at
+
+pub returns-in-Err-clause-begins : goal.returns-in-Err-clause-begins
+returns-in-Err-clause-begins g c = rests_begins c.loop-round.invariant.tries c.requires.tickets c.find_value.ensures.place _ refl
+    (found_value _ _ _ _ c.in-Some.is c.find_value.ensures.sought).0
+    (c.in_ok-done.ensures.again c.in_default-2.is) c.in_default-2.is c.in_ok-done.ensures.at
+
+pub returns-in-Err-clause-keeps : goal.returns-in-Err-clause-keeps
+returns-in-Err-clause-keeps g c =
+    let tries = c.loop-round.invariant.tries in
+    let place = c.find_value.ensures.place in
+    let found = (found_value _ _ _ _ c.in-Some.is c.find_value.ensures.sought).0 in
+    let done = c.in_ok-done.ensures in
+    let again = done.again c.in_default-2.is in
+    keeps_goes (rests_keeps tries c.requires.tickets place _ refl found again c.in_default-2.is done.at)
+    (rests_goes tries c.requires.tickets place _ refl found again c.in_default-2.is done.at)
+    (c.store_value.ensures.seat.1 ∙ c.find_value.ensures.seat.1 ∙ c.loop-round.invariant.listed) c.requires.quiet.listed

@@ -12,7 +12,8 @@ use Rattle.tree_points.specs.Points.{IsAt, IsDone}
 use Rattle.seat_table.specs.Seats.{shape_of}
 use Rattle.std.specs.declared.option.Option.{Option}
 use Rattle.std.proofs.Common.{refl, ◌∙◌, subst, ℕ, ◌≡◌, true, arith}
-use Rattle.citrus_tree.proofs.DeleteTries.{absent_begins, absent_dels, absent_wait, gone_begins, gone_dels, gone_wait, listed_still, tried_retires, tries_again, tries_first, tells_gone}
+use Rattle.citrus_tree.proofs.DeleteTries.{absent_begins, absent_dels, absent_wait, gone_begins, gone_dels, gone_wait, listed_still, rests_begins, rests_way, tried_retires, tries_again, tries_first, tells_gone}
+use Rattle.citrus_tree.proofs.Replacing.{rests_at}
 use Rattle.citrus_tree.proofs.Leavings.{searched_slots, slots_on, slots_self}
 use Rattle.seat_table.proofs.SeveralSteps.{prefix_steps}
 use Rattle.citrus_tree.proofs.delete.delete.Goals as goal
@@ -165,3 +166,25 @@ returns-in-Some-2-clause-begins g c = gone_begins c.loop-round.invariant.tries c
     (subst (λ (r : Option Deleted). IfSome r
     (λ taken. HasDeleted c.find_target.new.seat.view c.args.key taken.number c.delete_node.new.seat.view)) c.in-Some-2.is
     c.in_ok-taken.ensures.deleted)
+
+pub returns-in-Err-clause-busy : goal.returns-in-Err-clause-busy
+returns-in-Err-clause-busy g c = rests_way c.loop-round.invariant.tries c.find_target.ensures.searched
+    (subst (λ (r : Option Deleted). IfNone r (KeepsRest c.find_target.new.seat.view c.delete_node.new.seat.view)) c.in_default-2.is
+    c.in_ok-taken.ensures.same)
+
+pub returns-in-Err-clause-begins : goal.returns-in-Err-clause-begins
+returns-in-Err-clause-begins g c = rests_begins c.loop-round.invariant.tries c.find_target.ensures.searched
+    (subst (λ (r : Option Deleted). IfNone r (KeepsRest c.find_target.new.seat.view c.delete_node.new.seat.view)) c.in_default-2.is
+    c.in_ok-taken.ensures.same)
+
+pub returns-in-Err-clause-done : goal.returns-in-Err-clause-done
+returns-in-Err-clause-done g c kept a = rests_at refl ((subst (λ (r : Option Deleted). IfNone r
+    ((kept : ℕ) → IsAt (shape_of g.W.WaitWords.WAY c.args.table.now) (Del c.args.key) kept
+    (at.TargetLock c.in-Some.target 0) c.find_target.new.seat.view
+    → IsAt (shape_of g.W.WaitWords.WAY c.args.table.now)
+    (Del c.args.key) kept at.EnterClock c.delete_node.new.seat.view)) c.in_default-2.is c.in_ok-taken.ensures.again) kept
+    ((subst (λ (r : Option Target). IfSome r (λ target. (kept : ℕ)
+    → MayBegin (shape_of g.W.WaitWords.WAY c.args.table.now) (Del c.args.key) kept c.loop-round.seat.view
+    → IsAt (shape_of g.W.WaitWords.WAY c.args.table.now) (Del c.args.key) kept
+    (at.TargetLock target 0) c.find_target.new.seat.view)) c.in-Some.is c.find_target.ensures.found) kept
+    (c.loop-round.invariant.tries.ready kept a)))

@@ -1,8 +1,7 @@
 use Rattle.std.proofs.Common.{[], refl, ◌∙◌, arith}
-use Rattle.citrus_tree.proofs.Inserting.{begins, outside, unlocked, may_give_up, old_found, old_looked, old_puts, old_begins, may_take_leaf, spot_looked, full_puts, full_begins, may_link, tries_again, new_goes, new_puts, new_begins, old_keeps, full_keeps, new_keeps}
+use Rattle.citrus_tree.proofs.Inserting.{begins, outside, unlocked, may_give_up, old_found, old_looked, old_puts, old_begins, may_take_leaf, spot_looked, full_puts, full_begins, may_link, may_rest, rests_begins, rests_keeps, rests_way, tries_again, new_goes, new_puts, new_begins, old_keeps, full_keeps, new_keeps}
 use Rattle.citrus_tree.proofs.Leavings.{goes_slots, slots_on, slots_self, room_steps, keeps_seat, listed_on}
 use Rattle.seat_table.proofs.SeveralSteps.{prefix_steps}
-use Rattle.std.proofs.lemmas.Result.{err_from_is_err_and}
 use Rattle.citrus_tree.proofs.insert.put.Goals as goal
 
 pub loop-round-init : goal.loop-round-init
@@ -167,12 +166,38 @@ returns-in-Some-3-clause-begins g c = new_begins c.loop-round.invariant.tries c.
     c.find_spot.ensures.searched c.in_ok-leaf.ensures.room
     c.in-Some-2.is c.in_ok-leaf.ensures.at c.in-Some-3.is c.in_ok-number.ensures.linked
 
-pub returns-in_err-pause-clause-tired : goal.returns-in_err-pause-clause-tired
-returns-in_err-pause-clause-tired g c =
-    let p = err_from_is_err_and c.from_residual-in_err-pause.result c.from_residual-in_err-pause.ensures.1 in
-    let few = c.in_err-pause.ensures in
-    let found = c.find_spot.ensures.stepped in
-    let taken = room_steps c.in_ok-leaf.ensures.room in
-    let tried = prefix_steps c.leaf_in_hand.new.seat.view c.link_leaf.new.seat.view (c.in_ok-number.ensures.again
-    c.in_default-3.is).advanced.steps in
-    rw p.1 (omega (arith, few, found, taken, tried))
+pub give_up_leaf-requires-in-Err-clause-at : goal.give_up_leaf-requires-in-Err-clause-at
+give_up_leaf-requires-in-Err-clause-at g c = may_rest c.loop-round.invariant.tries c.requires.tickets c.find_spot.ensures.place _
+    c.in-Some.is c.find_spot.ensures.searched c.in_ok-leaf.ensures.room c.in-Some-2.is c.in_ok-leaf.ensures.at
+    (c.in_ok-number.ensures.again c.in_default-3.is) c.in_default-3.is c.in_ok-number.ensures.at
+
+pub returns-in-Err-clause-busy : goal.returns-in-Err-clause-busy
+returns-in-Err-clause-busy g c = rests_way c.loop-round.invariant.tries c.requires.tickets c.find_spot.ensures.place _
+    c.in-Some.is c.find_spot.ensures.searched c.in_ok-leaf.ensures.room c.in-Some-2.is c.in_ok-leaf.ensures.at
+    (c.in_ok-number.ensures.again c.in_default-3.is) c.in_default-3.is c.in_ok-number.ensures.at c.give_up_leaf-in-Err.ensures.goes
+
+pub returns-in-Err-clause-begins : goal.returns-in-Err-clause-begins
+returns-in-Err-clause-begins g c = rests_begins c.loop-round.invariant.tries c.requires.tickets c.find_spot.ensures.place _
+    c.in-Some.is c.find_spot.ensures.searched c.in_ok-leaf.ensures.room c.in-Some-2.is c.in_ok-leaf.ensures.at
+    (c.in_ok-number.ensures.again c.in_default-3.is) c.in_default-3.is c.in_ok-number.ensures.at c.give_up_leaf-in-Err.ensures.goes
+
+pub returns-in-Err-clause-keeps : goal.returns-in-Err-clause-keeps
+returns-in-Err-clause-keeps g c =
+    let tries = c.loop-round.invariant.tries in
+    let place = c.find_spot.ensures.place in
+    let searched = c.find_spot.ensures.searched in
+    let leaf = c.in_ok-leaf.ensures in
+    let number = c.in_ok-number.ensures in
+    let again = number.again c.in_default-3.is in
+    let back = c.give_up_leaf-in-Err.ensures in
+    keeps_seat
+    (rests_keeps tries c.requires.tickets place _ c.in-Some.is searched leaf.room c.in-Some-2.is leaf.at again c.in_default-3.is number.at
+    back.goes back.at)
+    (listed_on c.leaf_in_hand.new.seat c.give_up_leaf-in-Err.new.seat (back.seat.1 ∙ c.link_leaf.ensures.seat.1)
+    (back.goes.retired ∙ again.retired) leaf.listed)
+    (goes_slots c.args.seat.now c.link_leaf.new.seat c.give_up_leaf-in-Err.new.seat []
+    (goes_slots c.args.seat.now c.leaf_in_hand.new.seat c.link_leaf.new.seat []
+    (slots_on c.args.seat.now c.find_spot.new.seat c.leaf_in_hand.new.seat
+    (goes_slots c.args.seat.now c.loop-round.seat c.find_spot.new.seat _ c.loop-round.invariant.slots
+    (spot_looked tries c.requires.tickets place _ c.in-Some.is searched) c.find_spot.ensures.seat.1) leaf.slots) again
+    c.link_leaf.ensures.seat.1) back.goes back.seat.1)

@@ -4,7 +4,7 @@ use Rattle.core_state.specs.declared.view.View.{View}
 use Rattle.citrus_tree.specs.declared.replace.Holder.{Holder}
 use Rattle.citrus_tree.specs.Going.{Sought}
 use Rattle.citrus_tree.specs.Lookups.{Looked}
-use Rattle.citrus_tree.proofs.Replacing.{absent_begins, absent_goes, outside, unlocked, begins, absent_sets, goes_all, may_store, tries_again, stored_begins, stored_sets, absent_keeps, stored_keeps}
+use Rattle.citrus_tree.proofs.Replacing.{absent_begins, absent_goes, outside, unlocked, begins, absent_sets, goes_all, may_store, tries_again, rests_begins, rests_goes, rests_keeps, rests_way, stored_begins, stored_sets, absent_keeps, stored_keeps}
 use Rattle.citrus_tree.proofs.Leavings.{keeps_goes}
 use Rattle.seat_table.proofs.SeveralSteps.{prefix_steps}
 use Rattle.citrus_tree.proofs.replace.set.Goals as goal
@@ -88,3 +88,22 @@ pub returns-in-Some-2-clause-begins : goal.returns-in-Some-2-clause-begins
 returns-in-Some-2-clause-begins g c =
     stored_begins c.loop-round.invariant.tries c.requires.tickets c.find_holder.ensures.place _ c.in-Some.is
     c.find_holder.ensures.sought c.in-Some-2.is c.in_ok-done.ensures.stored c.in_ok-done.ensures.at
+
+pub returns-in-Err-clause-busy : goal.returns-in-Err-clause-busy
+returns-in-Err-clause-busy g c = rests_way c.loop-round.invariant.tries c.requires.tickets c.find_holder.ensures.place _ c.in-Some.is
+    c.find_holder.ensures.sought (c.in_ok-done.ensures.again c.in_default-2.is) c.in_default-2.is c.in_ok-done.ensures.at
+
+pub returns-in-Err-clause-begins : goal.returns-in-Err-clause-begins
+returns-in-Err-clause-begins g c = rests_begins c.loop-round.invariant.tries c.requires.tickets c.find_holder.ensures.place _ c.in-Some.is
+    c.find_holder.ensures.sought (c.in_ok-done.ensures.again c.in_default-2.is) c.in_default-2.is c.in_ok-done.ensures.at
+
+pub returns-in-Err-clause-keeps : goal.returns-in-Err-clause-keeps
+returns-in-Err-clause-keeps g c =
+    let tries = c.loop-round.invariant.tries in
+    let place = c.find_holder.ensures.place in
+    let sought = c.find_holder.ensures.sought in
+    let done = c.in_ok-done.ensures in
+    let again = done.again c.in_default-2.is in
+    keeps_goes (rests_keeps tries c.requires.tickets place _ c.in-Some.is sought again c.in_default-2.is done.at)
+    (rests_goes tries c.requires.tickets place _ c.in-Some.is sought again c.in_default-2.is done.at)
+    (c.store_value.ensures.seat.1 ∙ c.find_holder.ensures.seat.1 ∙ c.loop-round.invariant.listed) c.requires.quiet.listed

@@ -3,8 +3,8 @@ use Rattle.tree_handles.proofs.Callers.{cookie_called}
 use Rattle.tree_handles.proofs.caller.Caller.put.Goals as goal
 
 -- the seat as the put left it, and what came behind
-pub returns-in-Ok-clause-called : goal.returns-in-Ok-clause-called
-returns-in-Ok-clause-called g c = record {
+pub returns-in-Ok-Ok-clause-called : goal.returns-in-Ok-Ok-clause-called
+returns-in-Ok-Ok-clause-called g c = record {
   index = search rules;
   before = search rules;
   enough = search rules;
@@ -15,5 +15,9 @@ returns-in-Ok-clause-called g c = record {
 
 -- the cookie is good still
 pub invariant_of-self : goal.invariant_of-self
-invariant_of-self g c = let e = c.in-Ok.ensures in
+invariant_of-self g c = let e = c.in-Ok-Ok.ensures in
+    (search rules, search rules, λ kept. cookie_called e.keeps (c.self.invariant.2 kept))
+
+pub invariant_of-self-in-Ok-Err : goal.invariant_of-self-in-Ok-Err
+invariant_of-self-in-Ok-Err g c = let e = c.in-Ok-Err.ensures in
     (search rules, search rules, λ kept. cookie_called e.keeps (c.self.invariant.2 kept))

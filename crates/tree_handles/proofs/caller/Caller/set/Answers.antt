@@ -2,11 +2,15 @@ use Rattle.std.proofs.Common.{rules}
 use Rattle.tree_handles.proofs.Callers.{nothing_behind, cookie_called}
 use Rattle.tree_handles.proofs.caller.Caller.set.Goals as goal
 
-pub returns-in-Ok-clause-called : goal.returns-in-Ok-clause-called
-returns-in-Ok-clause-called g c =
+pub returns-in-Ok-Ok-clause-called : goal.returns-in-Ok-Ok-clause-called
+returns-in-Ok-Ok-clause-called g c =
     nothing_behind (search rules) (search rules) (search rules) (search rules) (search rules)
 
 -- the cookie is good still
 pub invariant_of-self : goal.invariant_of-self
-invariant_of-self g c = let e = c.in-Ok.ensures in
+invariant_of-self g c = let e = c.in-Ok-Ok.ensures in
+    (search rules, search rules, λ kept. cookie_called e.keeps (c.self.invariant.2 kept))
+
+pub invariant_of-self-in-Ok-Err : goal.invariant_of-self-in-Ok-Err
+invariant_of-self-in-Ok-Err g c = let e = c.in-Ok-Err.ensures in
     (search rules, search rules, λ kept. cookie_called e.keeps (c.self.invariant.2 kept))
