@@ -3,13 +3,13 @@
 use Rattle.std.proofs.Common.{◌≤◌, refl, inl, ◌≡◌, ℕ, ◌+◌, ◌-◌, ◌*◌, inr, arith, subst, sym, ◌∙◌, true, false, Bool, List, [], Option, Some, None, ap, ⊎_elim, append-nil, zero, suc, is_some, length, ◌∷◌, ◌++◌, ◌≢◌}
 use Rattle.prcu_model.specs.declared.operation.Op.{Op}
 use Rattle.prcu_model.specs.declared.operation.Told.{Told}
-use Rattle.tree_handles.specs.Callers.{CallerAt, IsSameCaller, MayGoOn, pairs_that_fit, IsFilled, AreOfOneIndex}
-use Rattle.tree_handles.specs.Calls.{TreeTells, IsCalled, ComesBehind, IsAnswered, IsCalledAndKept, CallsMeetFronts, StaysInside, IsLost, WereBusy, CausedBy, Inserts, MissesOnceMore, Upserts}
+use Rattle.tree_handles.specs.Callers.{CallerAt, IsSameCaller, IsInside, MayGoOn, pairs_that_fit, IsFilled, AreOfOneIndex}
+use Rattle.tree_handles.specs.Calls.{TreeTells, IsCalled, ComesBehind, IsAnswered, IsCalledAndKept, CallsMeetFronts, StaysInside, IsLost, WereBusy, CausedBy, IsHinderedBy, Inserts, MissesOnceMore, Upserts}
 use Rattle.prcu_marks.specs.Marks.{updates_of, own_of}
 use Rattle.prcu_model.specs.Dictionary.{key_of, map_of, Explains}
 use Rattle.prcu_model.specs.declared.operation.Op.TheVariants.{Put}
 use Rattle.prcu_model.specs.declared.operation.Reply.{Reply}
-use Rattle.prcu_model.specs.declared.operation.Reply.TheVariants.{Full as FullReply, New as NewReply}
+use Rattle.prcu_model.specs.declared.operation.Reply.TheVariants.{Absent as AbsentReply, Full as FullReply, New as NewReply}
 use Rattle.core_state.specs.declared.view.View.{View}
 use Rattle.seat_table.specs.Seats.{SeatAt, TableAt, shape_of, IsInside as IsInsideOf}
 use Rattle.citrus_tree.specs.Replies.{Puts, PutsBy, ClientAt, caller_of, room_of}
@@ -39,7 +39,7 @@ use Rattle.tree_handles.specs.Lists.{IsLeft, Lists}
 use Rattle.key_interval.specs.Keys.{Interval}
 use Rattle.core_state.specs.declared.view.Section.{Section}
 use Rattle.tree_handles.specs.declared.status.Status.{Status}
-use Rattle.tree_handles.specs.declared.status.Status.TheVariants.{Done, Full, More, Lost, Busy}
+use Rattle.tree_handles.specs.declared.status.Status.TheVariants.{Done, Unchanged, Full, More, Moved, New, Busy, Lost, Holds}
 use Rattle.exact_list.specs.declared.alone.Exact.{Exact}
 use Rattle.tree_handles.specs.Tidying.{Finishes, MayTidy, Output, Tidies, LiftsNext, LevelledTo, StopsAt, MakesSlots, Levels, IsOfTidy, LeavesNoUpdates, TidiesMakeNoUpdate}
 use Rattle.std.specs.List.{AllByRecursion}
@@ -279,6 +279,27 @@ stays_inside c o kept seat quiet inside e = record {
 pub hinders_update : (op : Op) (status : Status) (c d : CallerAt) → IsHinderedBy 4 status c d → CausedBy op status c d
 hinders_update op Busy c d h = absurd h
 hinders_update op _ c d h = h
+
+-- a caller that may go on is in no section
+goes_outside : (c : CallerAt) → MayGoOn c → IsInside c → ⊥
+goes_outside c may inside = let e : Some inside.inside.0 ≡ None = sym inside.inside.1 ∙ may.quiet.view.section in cc
+
+-- no lift comes behind a call that found the key absent
+goes_on_absent : (op : Op) (told : Told) (s : SeatAt) (d : CallerAt) → told.reply ≡ AbsentReply → ComesBehind op told s d → MayGoOn d
+goes_on_absent op told s d absent (inl goes) = goes.may
+goes_on_absent op told s d absent (inr (key, added, behind)) = absurd (let e : NewReply ≡ AbsentReply = sym added.new ∙ absent in cc)
+
+-- an insert that ends an upsert, of which the set before found the key absent, but where it added the pair
+pub insert_ends : (c b d : CallerAt) (key value was old : ℕ) (status : Status) → MissesOnceMore c key value b → status ≢ Done
+    → status ≢ Unchanged → Inserts b key value status d → old ≡ was → Upserts c key value was status old d
+insert_ends c b d key value was old Done missed not_done not_unchanged inserts same = absurd (not_done refl)
+insert_ends c b d key value was old Unchanged missed not_done not_unchanged inserts same = absurd (not_unchanged refl)
+insert_ends c b d key value was old Full missed not_done not_unchanged inserts same = (b, missed, inserts.0, inserts.1, same)
+insert_ends c b d key value was old New missed not_done not_unchanged inserts same = absurd inserts
+insert_ends c b d key value was old Moved missed not_done not_unchanged inserts same = absurd inserts
+insert_ends c b d key value was old Holds missed not_done not_unchanged inserts same = absurd
+    (goes_outside b (goes_on_absent _ missed.2.0 missed.2.2.answered b missed.2.1 missed.2.2.behind) inserts.inside)
+insert_ends c b d key value was old _ missed not_done not_unchanged inserts same = (b, inr (missed, inserts), same)
 
 -- Lifts of ways one after another.
 
