@@ -62,6 +62,7 @@ link_objects() { g++ -pthread "${@:2}" -L"$prefix/lib" -lcitrus -o "$room/$1"; }
 compile_all() {
     compile_c answers && compile_c misuse && compile_c own_keys && compile_c moments && compile_c reopened && compile_c tidy && compile_c version && compile_c salts &&
         compile_c backtraces && compile_cpp index && compile_c always && compile_c many_handles && compile_c counters && compile_c lanes &&
+        compile_c busy && compile_c crowd &&
         compile_c memory -Wl,--wrap=malloc,--wrap=realloc,--wrap=free && compile_cpp answers && compile_cpp order && compile_cpp whole &&
         compile_c holds && compile_c begun && compile_c objects && compile_c prcu && compile_cpp map && compile_debug
 }
@@ -82,7 +83,7 @@ each_function_has_a_table() {
 # A debugger that looks at a call that hangs names who made it.
 gdb_names_the_caller() {
     gdb -nx -batch -ex 'handle SIGALRM nostop noprint pass' -ex run -ex 'thread apply all backtrace' --args "$room/backtraces" hang >"$room/report" 2>&1
-    grep -q ' citrus_\(insert\|remove\) ' "$room/report" && grep -q ' changes_behind_a_reader ' "$room/report" && grep -q ' main ' "$room/report"
+    grep -q ' citrus_\(insert\|remove\)_once ' "$room/report" && grep -q ' changes_behind_a_reader ' "$room/report" && grep -q ' main ' "$room/report"
 }
 
 has_debugger() { hash gdb 2>/dev/null && gdb -nx -batch -ex run --args true 2>&1 | grep -q 'exited normally'; }
@@ -161,6 +162,7 @@ threads_that_are_stopped() {
     stopped_cases_of "$room/own_keys" 2000
     stopped_cases_of "$room/moments" 2000
     stopped_cases_of "$room/counters" 2000
+    stopped_cases_of "$room/crowd" 200
     stopped_cases_of "$room/objects" 2000
     stopped_cases_of "$room/map_cpp" threads
     for waiter in 0 1 2; do
@@ -170,7 +172,7 @@ threads_that_are_stopped() {
 }
 
 # Faults that are planted: in front of the library, for which planted.c has one for each of these calls, and in a twin of the library.
-wrapped=(get insert_once compare_once upsert_once remove_once list first last wait poll)
+wrapped=(get insert_once compare_once upsert_once remove_once list first last begin poll)
 
 # A judge over both: `compile_judge NAME OBJECT`.
 compile_judge() {
@@ -180,11 +182,11 @@ compile_judge() {
 
 compile_judges() {
     local name
-    for name in planted own_keys moments counters objects; do
+    for name in planted own_keys moments counters objects crowd; do
         gcc -std=gnu11 "${strict[@]}" -c "$here/tests/$name.c" -o "$room/$name.o" || return
     done
     g++ -std=c++17 "${strict[@]}" -c "$here/tests/twin.cpp" -o "$room/twin.o" || return
-    for name in own_keys moments counters objects; do compile_judge "$name" "$name" || return; done
+    for name in own_keys moments counters objects crowd; do compile_judge "$name" "$name" || return; done
     for name in whole order map; do compile_judge "$name" "${name}_cpp" || return; done
 }
 
@@ -217,11 +219,12 @@ planted_faults() {
         case_is "a fault in front of the library is told of by one order of all calls: $fault" is_seen $fault whole_planted 400 1 0
     done
     for fault in list first last; do case_is "a fault in front of the library is told of by moments: $fault" is_seen $fault moments_planted 5000; done
-    for fault in wait poll; do case_is "a fault in front of the library is told of by objects: $fault" is_seen $fault objects_planted 2000; done
+    for fault in begin poll; do case_is "a fault in front of the library is told of by objects: $fault" is_seen $fault objects_planted 2000; done
     case_is 'a fault in front of the library is told of by who owns keys: get' is_seen get own_keys_planted 3000
     case_is 'a fault in front of the library is told of by an order for each key: get' is_seen get order_planted 0 4 4000 3 1
     case_is 'a fault in front of the library is told of by counters: compare' is_seen compare counters_planted 2000
-    case_is 'a fault in front of the library is told of by the C++ map: wait' is_seen wait map_planted 'threads read'
+    case_is 'a fault in front of the library is told of by a crowd: busy' is_seen busy crowd_planted 300
+    case_is 'a fault in front of the library is told of by the C++ map: begin' is_seen begin map_planted 'threads read'
     case_is 'the C++ map compiles with a fault' compile_unkept
     case_is 'a fault of the C++ map is told of: an address that comes back' is_seen none unkept_planted 'threads update'
     for fault in remove replace list; do
@@ -230,6 +233,7 @@ planted_faults() {
     case_is 'a fault in a twin of the library is told of by who owns keys: reclaim' is_seen reclaim own_keys_twin 3000
     case_is 'a fault in a twin of the library is told of by moments: list' is_seen list moments_twin 5000
     case_is 'a fault in a twin of the library is told of by objects: wait' is_seen wait objects_twin 2000
+    case_is 'a fault in a twin of the library is told of by a crowd: busy' is_seen busy crowd_twin 300
     case_is 'a twin of the library without a fault has one order of all calls' stopped 100 "$room/whole_twin" 1000 1 0
 }
 
@@ -244,7 +248,7 @@ has_sanitizer() {
 # The cases of prcu.c wait in a section's thread for keys that it hasn't, which CITRUS_DEBUG refuses.
 compile_sanitized() {
     local name
-    for name in freed objects; do
+    for name in freed objects busy crowd; do
         gcc -std=gnu11 "${strict[@]}" "${sanitized[@]}" -DCITRUS_DEBUG "$here/tests/$name.c" -L"$prefix/lib" -lcitrus -o "$room/${name}_sanitized" || return
     done
     gcc -std=gnu11 "${strict[@]}" "${sanitized[@]}" "$here/tests/prcu.c" -L"$prefix/lib" -lcitrus -o "$room/prcu_sanitized" || return
@@ -263,12 +267,14 @@ values_under_a_sanitizer() {
     case_is 'AddressSanitizer tells of a free without a wait' is_told_of freed hold none
     case_is 'AddressSanitizer tells of a get in place of a hold' is_told_of freed get wait
     case_is 'objects under AddressSanitizer' under_a_sanitizer objects 3000
+    case_is 'updates that are busy under AddressSanitizer' under_a_sanitizer busy
+    case_is 'a crowd under AddressSanitizer' under_a_sanitizer crowd 300
     case_is 'predicate RCU alone under AddressSanitizer' under_a_sanitizer prcu
     case_is 'the C++ map under AddressSanitizer' under_a_sanitizer map
 }
 
 # What a thread hands over by the index is in order for ThreadSanitizer, since the header says so; without those words it tells of a race.
-compile_published() { gcc -std=gnu11 -g "${strict[@]}" -fsanitize=thread "$here/tests/published.c" "${@:2}" -L"$prefix/lib" -lcitrus -o "$room/$1"; }
+compile_for_races() { gcc -std=gnu11 -g "${strict[@]}" -fsanitize=thread "$here/tests/$1.c" "${@:3}" -L"$prefix/lib" -lcitrus -o "$room/$2"; }
 is_told_of_a_race() { ! timeout 100 "${laid_out[@]}" "$room/published_unsaid" >"$room/report" 2>&1 && grep -q 'data race' "$room/report"; }
 
 # It takes addresses that some kernels give to others, unless those are always the same.
@@ -278,10 +284,12 @@ has_thread_sanitizer() {
 }
 
 hand_overs() {
-    case_is 'programs compile with ThreadSanitizer' compile_published published
+    case_is 'programs compile with ThreadSanitizer' compile_for_races published published
     case_is 'what is handed over by the index is no race for ThreadSanitizer' timeout 100 "${laid_out[@]}" "$room/published"
-    case_is 'programs compile with ThreadSanitizer and CITRUS_NO_TSAN' compile_published published_unsaid -DCITRUS_NO_TSAN
+    case_is 'programs compile with ThreadSanitizer and CITRUS_NO_TSAN' compile_for_races published published_unsaid -DCITRUS_NO_TSAN
     case_is 'ThreadSanitizer tells of a race where nobody tells it of the index' is_told_of_a_race
+    case_is 'a crowd compiles with ThreadSanitizer' compile_for_races crowd crowd_raced -DCITRUS_DEBUG
+    case_is 'a crowd has no race for ThreadSanitizer' timeout 100 "${laid_out[@]}" "$room/crowd_raced" 100
 }
 
 # The Rust crate's own tests, counted as cargo counts them. What compiles them has a time of its own.
@@ -369,7 +377,7 @@ case_is 'the cache in C++' example '5: five' g++ -std=c++17 -Wall -Wextra -Werro
 if hash pkg-config 2>/dev/null; then case_is "README's program by pkg-config" with_pkg_config; else echo 'left out: pkg-config'; fi
 case_is 'the tests compile' compile_all
 [ -x "$room/order_cpp" ] || end
-for program in answers misuse memory moments own_keys always many_handles counters reopened lanes tidy salts version backtraces answers_cpp index_cpp; do cases_of "$room/$program"; done
+for program in answers misuse memory moments own_keys always many_handles counters busy crowd reopened lanes tidy salts version backtraces answers_cpp index_cpp; do cases_of "$room/$program"; done
 for program in holds begun objects prcu debug map_cpp whole_cpp; do cases_of "$room/$program"; done
 if has_debugger; then case_is 'gdb names the caller of a call that hangs' gdb_names_the_caller; else echo 'left out: gdb'; fi
 threads_that_are_stopped

@@ -48,6 +48,7 @@
 #include <sched.h>
 #include <stddef.h>
 #include <stdint.h>
+#include <sys/select.h>
 #include <time.h>
 #if defined __linux__ && defined __has_include
 #if __has_include(<sys/random.h>)
@@ -81,8 +82,10 @@ typedef struct { void *at; } citrus_handle;
 
 /* A closed handle: the first to begin with, for a static variable too, and the second for an assignment. */
 #ifdef __cplusplus
+#define CITRUS_NULL nullptr
 #define CITRUS_CLOSED_HANDLE {}
 #else
+#define CITRUS_NULL NULL
 #define CITRUS_CLOSED_HANDLE { NULL }
 #endif
 
@@ -417,14 +420,9 @@ CITRUS_STATUS_MATTERS int32_t citrus_enter(citrus_handle *handle, uint64_t key);
  * DONE; UNCHANGED where the handle is in none; CLOSED; LOST. */
 int32_t citrus_release(citrus_handle *handle);
 
-/* Waits until every section with a key from low to high, both included, that any handle entered before has been left. To free many objects
- * after one wait take a range with all their keys, or 0 to UINT64_MAX: it waits for more readers then.
- * It spins, and ends only when they have all left. It uses a ticket.
- * DONE; CLOSED; HOLDS; BAD_ARGUMENT where low is above high; SPENT; LOST. */
-CITRUS_STATUS_MATTERS int32_t citrus_wait(citrus_handle *handle, uint64_t low, uint64_t high);
-
-/* Begins such a wait, and tells a cookie by which to ask whether it is over. A handle has one wait under way: a later begin or wait takes its
- * place, and so does a remove or an insert that waits. So give many waits handles of their own. It uses a ticket.
+/* Begins a wait until every section with a key from low to high, both included, that any handle entered before has been left; and tells a
+ * cookie by which to ask whether it is over. A handle has one wait under way: a later begin or wait takes its place, and so does a remove or an
+ * insert that waits. So give many waits handles of their own. It uses a ticket, and waits for nobody.
  * DONE, and *cookie; CLOSED; HOLDS; BAD_ARGUMENT where low is above high; SPENT; LOST. */
 CITRUS_STATUS_MATTERS int32_t citrus_begin(citrus_handle *handle, uint64_t low, uint64_t high, uint64_t *cookie);
 
@@ -432,6 +430,28 @@ CITRUS_STATUS_MATTERS int32_t citrus_begin(citrus_handle *handle, uint64_t low, 
  * DONE where it is over, which is told once; UNCHANGED where a reader is left; MOVED where its end was told, or another wait of the handle
  * took its place: then begin again; CLOSED; HOLDS; LOST. */
 CITRUS_STATUS_MATTERS int32_t citrus_poll(citrus_handle *handle, uint64_t cookie);
+
+/* What a wait does after so many polls. Of the calls that sleep this is the one that the C library declares in strict C too. */
+static inline void citrus_rest(uint64_t polls) {
+    struct timeval moment;
+    moment.tv_sec = 0;
+    moment.tv_usec = 100;
+    if (polls < 200) sched_yield();
+    else select(0, CITRUS_NULL, CITRUS_NULL, CITRUS_NULL, &moment);
+}
+
+/* Waits until every section with a key from low to high, both included, that any handle entered before has been left. To free many objects
+ * after one wait take a range with all their keys, or 0 to UINT64_MAX: it waits for more readers then.
+ * It is a begin with its polls, and ends only when they have all left. While one is left it yields the processor after each of 200 polls, and
+ * sleeps for 100 microseconds after each later one. It uses a ticket.
+ * DONE; CLOSED; HOLDS; BAD_ARGUMENT where low is above high; SPENT; LOST. */
+CITRUS_STATUS_MATTERS static inline int32_t citrus_wait(citrus_handle *handle, uint64_t low, uint64_t high) {
+    uint64_t cookie = 0, polls = 0;
+    int32_t status = citrus_begin(handle, low, high, &cookie);
+    if (status != CITRUS_DONE) return status;
+    while ((status = citrus_poll(handle, cookie)) == CITRUS_UNCHANGED) citrus_rest(polls++);
+    return status;
+}
 
 /* Many lookups at once.
  *

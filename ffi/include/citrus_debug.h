@@ -22,10 +22,7 @@
 #include <stdlib.h>
 
 #ifdef __cplusplus
-#define CITRUS_DEBUG_NULL nullptr
 extern "C" {
-#else
-#define CITRUS_DEBUG_NULL NULL
 #endif
 
 enum { CITRUS_DEBUG_SECTIONS = 64, CITRUS_DEBUG_CALLS = 1024, CITRUS_DEBUG_TRIES = 16, CITRUS_DEBUG_MEMBERS = 4096, CITRUS_DEBUG_SHIFT = 48 };
@@ -89,11 +86,11 @@ static inline void **citrus_debug_begins_at(const char *call, const void *stands
     unsigned i;
     for (i = 0; i < CITRUS_DEBUG_TRIES; i++) {
         void **const word = &citrus_debug_calls[(place + i) % CITRUS_DEBUG_CALLS];
-        void *found = CITRUS_DEBUG_NULL;
+        void *found = CITRUS_NULL;
         if (__atomic_compare_exchange_n(word, &found, at, 0, __ATOMIC_RELAXED, __ATOMIC_RELAXED)) return word;
         if (found == at) citrus_debug_abort(call, why);
     }
-    return CITRUS_DEBUG_NULL;
+    return CITRUS_NULL;
 }
 
 /* A call that is under way: the word of its handle among these, the handle's member, and the number that was taken off that. */
@@ -117,13 +114,13 @@ static inline struct citrus_debug_call citrus_debug_begins_by(const char *call, 
 
 static inline int32_t citrus_debug_ended(struct citrus_debug_call mine, int32_t status) {
     citrus_debug_gives(mine.member, mine.number);
-    if (mine.word) __atomic_store_n(mine.word, CITRUS_DEBUG_NULL, __ATOMIC_RELAXED);
+    if (mine.word) __atomic_store_n(mine.word, CITRUS_NULL, __ATOMIC_RELAXED);
     return status;
 }
 
 /* Of a call that may free what the member leads to: another handle may have the same one before it ends. It tells the number. */
 static inline uint64_t citrus_debug_only_begins(struct citrus_debug_call mine) {
-    if (mine.word) __atomic_store_n(mine.word, CITRUS_DEBUG_NULL, __ATOMIC_RELAXED);
+    if (mine.word) __atomic_store_n(mine.word, CITRUS_NULL, __ATOMIC_RELAXED);
     return mine.number;
 }
 
@@ -238,6 +235,37 @@ static inline int32_t citrus_debug_remove(citrus_handle *handle, uint64_t key, u
     return citrus_debug_ended(mine, citrus_remove(handle, key, old));
 }
 
+/* One try of each of these updates. */
+static inline int32_t citrus_debug_insert_once(citrus_handle *handle, uint64_t key, uint64_t value) {
+    const struct citrus_debug_call mine = citrus_debug_begins("citrus_insert_once", handle);
+    citrus_debug_may_wait("citrus_insert_once", handle);
+    return citrus_debug_ended(mine, citrus_insert_once(handle, key, value));
+}
+
+static inline int32_t citrus_debug_replace_once(citrus_handle *handle, uint64_t key, uint64_t value, uint64_t *old) {
+    const struct citrus_debug_call mine = citrus_debug_begins("citrus_replace_once", handle);
+    citrus_debug_may_wait("citrus_replace_once", handle);
+    return citrus_debug_ended(mine, citrus_replace_once(handle, key, value, old));
+}
+
+static inline int32_t citrus_debug_compare_once(citrus_handle *handle, uint64_t key, uint64_t expected, uint64_t value, uint64_t *found) {
+    const struct citrus_debug_call mine = citrus_debug_begins("citrus_compare_once", handle);
+    citrus_debug_may_wait("citrus_compare_once", handle);
+    return citrus_debug_ended(mine, citrus_compare_once(handle, key, expected, value, found));
+}
+
+static inline int32_t citrus_debug_upsert_once(citrus_handle *handle, uint64_t key, uint64_t value, uint64_t *old) {
+    const struct citrus_debug_call mine = citrus_debug_begins("citrus_upsert_once", handle);
+    citrus_debug_may_wait("citrus_upsert_once", handle);
+    return citrus_debug_ended(mine, citrus_upsert_once(handle, key, value, old));
+}
+
+static inline int32_t citrus_debug_remove_once(citrus_handle *handle, uint64_t key, uint64_t *old) {
+    const struct citrus_debug_call mine = citrus_debug_begins("citrus_remove_once", handle);
+    citrus_debug_may_wait("citrus_remove_once", handle);
+    return citrus_debug_ended(mine, citrus_remove_once(handle, key, old));
+}
+
 static inline int32_t citrus_debug_wait(citrus_handle *handle, uint64_t low, uint64_t high) {
     const struct citrus_debug_call mine = citrus_debug_begins("citrus_wait", handle);
     citrus_debug_may_wait("citrus_wait", handle);
@@ -333,15 +361,20 @@ static inline void citrus_debug_close_lanes(citrus_lanes *lanes) {
 #undef citrus_release
 #undef citrus_close
 #undef citrus_insert
+#undef citrus_insert_once
 #undef citrus_replace
+#undef citrus_replace_once
 #undef citrus_upsert
+#undef citrus_upsert_once
 #undef citrus_remove
+#undef citrus_remove_once
 #undef citrus_wait
 #undef citrus_get
 #undef citrus_list
 #undef citrus_first
 #undef citrus_last
 #undef citrus_compare
+#undef citrus_compare_once
 #undef citrus_poll
 #undef citrus_reopen
 #undef citrus_get_many
@@ -354,10 +387,15 @@ static inline void citrus_debug_close_lanes(citrus_lanes *lanes) {
 #define citrus_open_with citrus_debug_open_with
 #define citrus_share citrus_debug_share
 #define citrus_insert citrus_debug_insert
+#define citrus_insert_once citrus_debug_insert_once
 #define citrus_replace citrus_debug_replace
+#define citrus_replace_once citrus_debug_replace_once
 #define citrus_compare citrus_debug_compare
+#define citrus_compare_once citrus_debug_compare_once
 #define citrus_upsert citrus_debug_upsert
+#define citrus_upsert_once citrus_debug_upsert_once
 #define citrus_remove citrus_debug_remove
+#define citrus_remove_once citrus_debug_remove_once
 #define citrus_wait citrus_debug_wait
 #define citrus_tidy citrus_debug_tidy
 #define citrus_left citrus_debug_left

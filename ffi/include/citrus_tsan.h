@@ -44,41 +44,66 @@ static inline int32_t citrus_tsan_hold(citrus_handle *handle, uint64_t key, uint
     return status;
 }
 
+/* Whoever is told the value before has loaded it. */
+static inline int32_t citrus_tsan_gave(int32_t status, uint64_t key, const uint64_t *old) {
+    if (status == CITRUS_DONE) citrus_tsan_is_told(key, *old);
+    return status;
+}
+
+/* So has who replaced `expected`, or was told another value. */
+static inline int32_t citrus_tsan_compared(int32_t status, uint64_t key, uint64_t expected, const uint64_t *found) {
+    if (status == CITRUS_DONE) citrus_tsan_is_told(key, expected);
+    if (status == CITRUS_DIFFERENT) citrus_tsan_is_told(key, *found);
+    return status;
+}
+
 static inline int32_t citrus_tsan_insert(citrus_handle *handle, uint64_t key, uint64_t value) {
     citrus_tsan_puts(key, value);
     return citrus_insert(handle, key, value);
 }
 
 static inline int32_t citrus_tsan_replace(citrus_handle *handle, uint64_t key, uint64_t value, uint64_t *old) {
-    int32_t status;
     citrus_tsan_puts(key, value);
-    status = citrus_replace(handle, key, value, old);
-    if (status == CITRUS_DONE) citrus_tsan_is_told(key, *old);
-    return status;
+    return citrus_tsan_gave(citrus_replace(handle, key, value, old), key, old);
 }
 
-/* Who replaced `expected`, or was told another value, has loaded it. */
 static inline int32_t citrus_tsan_compare(citrus_handle *handle, uint64_t key, uint64_t expected, uint64_t value, uint64_t *found) {
-    int32_t status;
     citrus_tsan_puts(key, value);
-    status = citrus_compare(handle, key, expected, value, found);
-    if (status == CITRUS_DONE) citrus_tsan_is_told(key, expected);
-    if (status == CITRUS_DIFFERENT) citrus_tsan_is_told(key, *found);
-    return status;
+    return citrus_tsan_compared(citrus_compare(handle, key, expected, value, found), key, expected, found);
 }
 
 static inline int32_t citrus_tsan_upsert(citrus_handle *handle, uint64_t key, uint64_t value, uint64_t *old) {
-    int32_t status;
     citrus_tsan_puts(key, value);
-    status = citrus_upsert(handle, key, value, old);
-    if (status == CITRUS_DONE) citrus_tsan_is_told(key, *old);
-    return status;
+    return citrus_tsan_gave(citrus_upsert(handle, key, value, old), key, old);
 }
 
 static inline int32_t citrus_tsan_remove(citrus_handle *handle, uint64_t key, uint64_t *old) {
-    const int32_t status = citrus_remove(handle, key, old);
-    if (status == CITRUS_DONE) citrus_tsan_is_told(key, *old);
-    return status;
+    return citrus_tsan_gave(citrus_remove(handle, key, old), key, old);
+}
+
+/* One try of each: of one that is CITRUS_BUSY this tells of a pair that nobody is told. */
+static inline int32_t citrus_tsan_insert_once(citrus_handle *handle, uint64_t key, uint64_t value) {
+    citrus_tsan_puts(key, value);
+    return citrus_insert_once(handle, key, value);
+}
+
+static inline int32_t citrus_tsan_replace_once(citrus_handle *handle, uint64_t key, uint64_t value, uint64_t *old) {
+    citrus_tsan_puts(key, value);
+    return citrus_tsan_gave(citrus_replace_once(handle, key, value, old), key, old);
+}
+
+static inline int32_t citrus_tsan_compare_once(citrus_handle *handle, uint64_t key, uint64_t expected, uint64_t value, uint64_t *found) {
+    citrus_tsan_puts(key, value);
+    return citrus_tsan_compared(citrus_compare_once(handle, key, expected, value, found), key, expected, found);
+}
+
+static inline int32_t citrus_tsan_upsert_once(citrus_handle *handle, uint64_t key, uint64_t value, uint64_t *old) {
+    citrus_tsan_puts(key, value);
+    return citrus_tsan_gave(citrus_upsert_once(handle, key, value, old), key, old);
+}
+
+static inline int32_t citrus_tsan_remove_once(citrus_handle *handle, uint64_t key, uint64_t *old) {
+    return citrus_tsan_gave(citrus_remove_once(handle, key, old), key, old);
 }
 
 static inline int32_t citrus_tsan_first(citrus_handle *handle, uint64_t low, uint64_t *key, uint64_t *value) {
@@ -152,12 +177,17 @@ static inline int32_t citrus_tsan_poll(citrus_handle *handle, uint64_t cookie) {
 #define citrus_get citrus_tsan_get
 #define citrus_hold citrus_tsan_hold
 #define citrus_insert citrus_tsan_insert
+#define citrus_insert_once citrus_tsan_insert_once
 #define citrus_replace citrus_tsan_replace
+#define citrus_replace_once citrus_tsan_replace_once
 #define citrus_upsert citrus_tsan_upsert
+#define citrus_upsert_once citrus_tsan_upsert_once
 #define citrus_remove citrus_tsan_remove
+#define citrus_remove_once citrus_tsan_remove_once
 #define citrus_first citrus_tsan_first
 #define citrus_last citrus_tsan_last
 #define citrus_compare citrus_tsan_compare
+#define citrus_compare_once citrus_tsan_compare_once
 #define citrus_list citrus_tsan_list
 #define citrus_get_many citrus_tsan_get_many
 #define citrus_close_lanes citrus_tsan_close_lanes

@@ -55,6 +55,11 @@ static void replace_by_other(void) { citrus_replace(&second, 9, 1, &told); }
 static void compare_by_other(void) { citrus_compare(&second, 9, 90, 90, &told); }
 static void upsert_by_other(void) { citrus_upsert(&second, 9, 1, &told); }
 static void remove_by_other(void) { citrus_remove(&second, 9, &told); }
+static void insert_once_by_other(void) { citrus_insert_once(&second, 100, 1); }
+static void replace_once_by_other(void) { citrus_replace_once(&second, 9, 1, &told); }
+static void compare_once_by_other(void) { citrus_compare_once(&second, 9, 90, 90, &told); }
+static void upsert_once_by_other(void) { citrus_upsert_once(&second, 9, 1, &told); }
+static void remove_once_by_other(void) { citrus_remove_once(&second, 9, &told); }
 static void wait_by_other(void) { citrus_wait(&second, 9, 9); }
 
 static void tidy_by_other(void) {
@@ -62,8 +67,10 @@ static void tidy_by_other(void) {
     citrus_tidy(&second, 0, 9, 1, &made, &told);
 }
 
-static void (*const waiting_calls[])(void) = {insert_by_other, replace_by_other, compare_by_other, upsert_by_other,
-                                              remove_by_other, wait_by_other,    tidy_by_other};
+static void (*const waiting_calls[])(void) = {
+    insert_by_other,       replace_by_other,      compare_by_other,     upsert_by_other,      remove_by_other, wait_by_other, tidy_by_other,
+    insert_once_by_other,  replace_once_by_other, compare_once_by_other, upsert_once_by_other, remove_once_by_other,
+};
 
 static void what_may_wait_for_its_own_thread_aborts(uint32_t waiter) {
     open_both(waiter);
@@ -171,6 +178,7 @@ static void get_meanwhile(void) { citrus_get(&second, 9, &told); }
 static void left_meanwhile(void) { citrus_left(&second, &some_handles, &told); }
 static void begin_meanwhile(void) { citrus_begin(&second, 1, 1, &told); }
 static void insert_meanwhile(void) { citrus_insert(&second, 100, 1); }
+static void insert_once_meanwhile(void) { citrus_insert_once(&second, 100, 1); }
 static void first_meanwhile(void) { citrus_first(&second, 0, &told, &told); }
 static void close_meanwhile(void) { citrus_close(&second); }
 static void hold_by_the_third_meanwhile(void) {
@@ -191,7 +199,8 @@ static void call_meanwhile(void) {
 }
 
 static void one_handle_in_two_threads_aborts(uint32_t waiter) {
-    static void (*const calls[])(void) = {get_meanwhile, left_meanwhile, begin_meanwhile, insert_meanwhile, first_meanwhile, close_meanwhile};
+    static void (*const calls[])(void) = {get_meanwhile,         left_meanwhile,  begin_meanwhile, insert_meanwhile,
+                                          insert_once_meanwhile, first_meanwhile, close_meanwhile};
     open_both(waiter);
     for (size_t i = 0; i < COUNT_OF(calls); i++) {
         meanwhile = calls[i];

@@ -26,6 +26,7 @@ int hand_on(uint64_t key) {
     options.salt = key;
     if (status == CITRUS_DONE) status = citrus_open_with(&kept, &options);
     if (status == CITRUS_DONE) status = citrus_insert(&mine, key, 50);
+    while (status == CITRUS_DONE && (status = citrus_replace_once(&mine, key, 51, &value)) == CITRUS_BUSY) status = citrus_wait(&mine, 0, key);
     if (status == CITRUS_DONE) status = citrus_hold(&mine, key, &value);
     citrus_release(&mine);
     lanes = citrus_closed_lanes();

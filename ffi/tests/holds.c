@@ -257,6 +257,51 @@ static void a_wait_lasts_until_its_sections_are_left(uint32_t waiter) {
     citrus_close(&handles[0]);
 }
 
+static double seconds_of(clockid_t clock) {
+    struct timespec now;
+    clock_gettime(clock, &now);
+    return (double)now.tv_sec + (double)now.tv_nsec / 1e9;
+}
+
+/* A wait for a while, with the processor's time that it took its thread, and all the time. */
+struct long_wait {
+    citrus_handle handle;
+    int32_t status;
+    double processor, all;
+    _Atomic int is_begun;
+};
+
+static void *wait_and_measure(void *at) {
+    struct long_wait *wait = at;
+    const double processor = seconds_of(CLOCK_THREAD_CPUTIME_ID), all = seconds_of(CLOCK_MONOTONIC);
+    wait->is_begun = 1;
+    wait->status = citrus_wait(&wait->handle, 5, 5);
+    wait->processor = seconds_of(CLOCK_THREAD_CPUTIME_ID) - processor;
+    wait->all = seconds_of(CLOCK_MONOTONIC) - all;
+    return NULL;
+}
+
+/* It yields the processor, and then sleeps. */
+static void a_long_wait_leaves_the_processor_to_others(uint32_t waiter) {
+    const struct timespec long_time = {0, 300000000};
+    citrus_handle handles[2] = {CITRUS_CLOSED_HANDLE, CITRUS_CLOSED_HANDLE};
+    struct long_wait wait = {.status = CITRUS_LOST};
+    uint64_t told = UNTOUCHED;
+    pthread_t id;
+    open_handles(handles, 2, waiter);
+    wait.handle = handles[1];
+    WANT(citrus_hold(&handles[0], 5, &told), CITRUS_DONE);
+    if (pthread_create(&id, NULL, wait_and_measure, &wait)) abort();
+    while (!wait.is_begun) continue;
+    nanosleep(&long_time, NULL);
+    WANT(citrus_release(&handles[0]), CITRUS_DONE);
+    pthread_join(id, NULL);
+    WANT(wait.status, CITRUS_DONE);
+    WANT(wait.processor < wait.all / 2, 1);
+    citrus_close(&wait.handle);
+    citrus_close(&handles[0]);
+}
+
 static const struct waiter_case cases[] = {
     {"a value is held and released", a_value_is_held_and_released},
     {"an absent key isn't held", an_absent_key_isnt_held},
@@ -266,6 +311,7 @@ static const struct waiter_case cases[] = {
     {"what closes a handle leaves its section", what_closes_a_handle_leaves_its_section},
     {"tickets of waits", tickets_of_waits},
     {"a wait lasts until its sections are left", a_wait_lasts_until_its_sections_are_left},
+    {"a long wait leaves the processor to others", a_long_wait_leaves_the_processor_to_others},
 };
 
 int main(void) {

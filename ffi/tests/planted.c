@@ -1,5 +1,6 @@
 /* Faults in front of the library, to show that a test tells of each. A program is linked with this and with --wrap for each call below, and
- * PLANTED in the environment names the call that is wrong. What it does instead is right where one thread calls, but for `wait` and `poll`. */
+ * PLANTED in the environment names the call that is wrong. What it does instead is right where one thread calls, but for `busy`, `begin` and
+ * `poll`. */
 #include <citrus.h>
 #include <stdlib.h>
 #include <string.h>
@@ -12,7 +13,7 @@ int32_t __real_citrus_remove_once(citrus_handle *, uint64_t, uint64_t *);
 int32_t __real_citrus_list(citrus_handle *, uint64_t, uint64_t, citrus_pair *, size_t, size_t *, uint64_t *);
 int32_t __real_citrus_first(citrus_handle *, uint64_t, uint64_t *, uint64_t *);
 int32_t __real_citrus_last(citrus_handle *, uint64_t, uint64_t, uint64_t *, uint64_t *);
-int32_t __real_citrus_wait(citrus_handle *, uint64_t, uint64_t);
+int32_t __real_citrus_begin(citrus_handle *, uint64_t, uint64_t, uint64_t *);
 int32_t __real_citrus_poll(citrus_handle *, uint64_t);
 
 /* So many keys are looked up one by one. */
@@ -51,9 +52,17 @@ int32_t __wrap_citrus_get(citrus_handle *handle, uint64_t key, uint64_t *value) 
     return before.status;
 }
 
+/* Once in eight it says that it was busy, and has added its pair. */
+static int32_t insert_and_say_busy(citrus_handle *handle, uint64_t key, uint64_t value) {
+    static __thread uint64_t calls;
+    const int32_t status = __real_citrus_insert_once(handle, key, value);
+    return status == CITRUS_DONE && ++calls % 8 == 0 ? CITRUS_BUSY : status;
+}
+
 /* Looks, and then gives the key the value whether it is there or not. */
 int32_t __wrap_citrus_insert_once(citrus_handle *handle, uint64_t key, uint64_t value) {
     uint64_t old;
+    if (is_wrong("busy")) return insert_and_say_busy(handle, key, value);
     if (!is_wrong("insert")) return __real_citrus_insert_once(handle, key, value);
     const int32_t status = __real_citrus_get(handle, key, &old);
     if (status != CITRUS_UNCHANGED) return status == CITRUS_DONE ? CITRUS_UNCHANGED : status;
@@ -131,9 +140,10 @@ int32_t __wrap_citrus_last(citrus_handle *handle, uint64_t low, uint64_t high, u
     }
 }
 
-/* These two wait for nobody. */
-int32_t __wrap_citrus_wait(citrus_handle *handle, uint64_t low, uint64_t high) {
-    return is_wrong("wait") ? CITRUS_DONE : __real_citrus_wait(handle, low, high);
+/* These two wait for nobody, or for readers that aren't the wait's. */
+int32_t __wrap_citrus_begin(citrus_handle *handle, uint64_t low, uint64_t high, uint64_t *cookie) {
+    if (is_wrong("begin") && low <= high) low = high = UINT64_MAX;
+    return __real_citrus_begin(handle, low, high, cookie);
 }
 
 int32_t __wrap_citrus_poll(citrus_handle *handle, uint64_t cookie) {

@@ -31,16 +31,31 @@ static void read_at(const char *what, uint64_t value, uint64_t number) {
 }
 
 /* Each key has four objects, one for each call that puts one in. */
-static void *write_all(void *handle) {
-    citrus_handle *const mine = handle;
+static void write_key(citrus_handle *mine, uint64_t key) {
+    struct object *const its = &objects[WAYS * key];
     uint64_t old;
+    expect("insert", citrus_insert(mine, key, put(&its[0], key)), CITRUS_DONE);
+    expect("replace", citrus_replace(mine, key, put(&its[1], key), &old), CITRUS_DONE);
+    expect("upsert", citrus_upsert(mine, key, put(&its[2], key), &old), CITRUS_DONE);
+    read_at("the old value of an upsert", old, key);
+    expect("compare", citrus_compare(mine, key, (uint64_t)(uintptr_t)&its[2], put(&its[3], key), &old), CITRUS_DONE);
+}
+
+/* The same by calls that are made once. No other thread updates, so none is busy. */
+static void write_key_once(citrus_handle *mine, uint64_t key) {
+    struct object *const its = &objects[WAYS * key];
+    uint64_t old;
+    expect("insert once", citrus_insert_once(mine, key, put(&its[0], key)), CITRUS_DONE);
+    expect("replace once", citrus_replace_once(mine, key, put(&its[1], key), &old), CITRUS_DONE);
+    expect("upsert once", citrus_upsert_once(mine, key, put(&its[2], key), &old), CITRUS_DONE);
+    read_at("the old value of an upsert", old, key);
+    expect("compare once", citrus_compare_once(mine, key, (uint64_t)(uintptr_t)&its[2], put(&its[3], key), &old), CITRUS_DONE);
+}
+
+static void *write_all(void *handle) {
     for (uint64_t key = 0; key < ROUNDS; key++) {
-        struct object *const its = &objects[WAYS * key];
-        expect("insert", citrus_insert(mine, key, put(&its[0], key)), CITRUS_DONE);
-        expect("replace", citrus_replace(mine, key, put(&its[1], key), &old), CITRUS_DONE);
-        expect("upsert", citrus_upsert(mine, key, put(&its[2], key), &old), CITRUS_DONE);
-        read_at("the old value of an upsert", old, key);
-        expect("compare", citrus_compare(mine, key, (uint64_t)(uintptr_t)&its[2], put(&its[3], key), &old), CITRUS_DONE);
+        if (key % 2) write_key(handle, key);
+        else write_key_once(handle, key);
     }
     return NULL;
 }

@@ -5,6 +5,7 @@
 //   list      a list doesn't look whether an update came in between
 //   replace   a replace doesn't look, under the lock, whether the node was taken out
 //   wait      a wait for some keys, as a caller makes it, waits for nobody
+//   busy      an update that is busy was made
 #include "../../bench/cpp/same_tree.hpp"
 #include <citrus.h>
 #include <cstdlib>
@@ -14,7 +15,7 @@ static const char *const planted = getenv("TWIN_FAULT") ? getenv("TWIN_FAULT") :
 
 static const bool is_wrong_at_remove = strcmp(planted, "remove") == 0, is_wrong_at_reclaim = strcmp(planted, "reclaim") == 0,
                   is_wrong_at_list = strcmp(planted, "list") == 0, is_wrong_at_replace = strcmp(planted, "replace") == 0,
-                  is_wrong_at_wait = strcmp(planted, "wait") == 0;
+                  is_wrong_at_wait = strcmp(planted, "wait") == 0, is_wrong_at_busy = strcmp(planted, "busy") == 0;
 
 // The calling thread is in a wait of its program's.
 static thread_local bool is_callers_wait = false;
@@ -187,19 +188,32 @@ int32_t citrus_reopen(citrus_handle *, citrus_handle *) { return CITRUS_UNCHANGE
 
 int32_t citrus_get(citrus_handle *handle, uint64_t key, uint64_t *value) { return told(opened(handle)->tree().get(opened(handle)->seat, key), value); }
 
+// Its steps yield by themselves. So that its callers are busy too, one update in sixteen is before it begins.
+template <class Update> static int32_t busy_or(const Update &update) {
+    static thread_local uint64_t calls = 0;
+    const bool is_busy = ++calls % 16 == 0;
+    if (is_busy && !is_wrong_at_busy) return CITRUS_BUSY;
+    const int32_t status = update();
+    return is_busy ? CITRUS_BUSY : status;
+}
+
 int32_t citrus_insert_once(citrus_handle *handle, uint64_t key, uint64_t value) {
-    return opened(handle)->tree().put(opened(handle)->seat, key, value) ? CITRUS_DONE : CITRUS_UNCHANGED;
+    return busy_or([=] { return opened(handle)->tree().put(opened(handle)->seat, key, value) ? CITRUS_DONE : CITRUS_UNCHANGED; });
 }
 
 int32_t citrus_replace_once(citrus_handle *handle, uint64_t key, uint64_t value, uint64_t *old) {
-    return told(opened(handle)->tree().set(opened(handle)->seat, key, value, std::nullopt), old);
+    return busy_or([=] { return told(opened(handle)->tree().set(opened(handle)->seat, key, value, std::nullopt), old); });
 }
 
-int32_t citrus_compare_once(citrus_handle *handle, uint64_t key, uint64_t expected, uint64_t value, uint64_t *found) {
+static int32_t compare(citrus_handle *handle, uint64_t key, uint64_t expected, uint64_t value, uint64_t *found) {
     const Found before = opened(handle)->tree().set(opened(handle)->seat, key, value, expected);
     if (!before || *before == expected) return before ? CITRUS_DONE : CITRUS_UNCHANGED;
     *found = *before;
     return CITRUS_DIFFERENT;
+}
+
+int32_t citrus_compare_once(citrus_handle *handle, uint64_t key, uint64_t expected, uint64_t value, uint64_t *found) {
+    return busy_or([=] { return compare(handle, key, expected, value, found); });
 }
 
 int32_t citrus_upsert_once(citrus_handle *handle, uint64_t key, uint64_t value, uint64_t *old) {
@@ -209,7 +223,9 @@ int32_t citrus_upsert_once(citrus_handle *handle, uint64_t key, uint64_t value, 
     }
 }
 
-int32_t citrus_remove_once(citrus_handle *handle, uint64_t key, uint64_t *old) { return told(opened(handle)->tree().remove(opened(handle)->seat, key), old); }
+int32_t citrus_remove_once(citrus_handle *handle, uint64_t key, uint64_t *old) {
+    return busy_or([=] { return told(opened(handle)->tree().remove(opened(handle)->seat, key), old); });
+}
 
 int32_t citrus_list(citrus_handle *handle, uint64_t low, uint64_t high, citrus_pair *pairs, size_t room, size_t *count, uint64_t *next) {
     const Pairs found = opened(handle)->tree().list(opened(handle)->seat, low, high);
@@ -243,13 +259,6 @@ int32_t citrus_release(citrus_handle *handle) {
     return CITRUS_DONE;
 }
 
-int32_t citrus_wait(citrus_handle *handle, uint64_t low, uint64_t high) {
-    is_callers_wait = true;
-    opened(handle)->tree().wait(opened(handle)->seat, {low, high});
-    is_callers_wait = false;
-    return CITRUS_DONE;
-}
-
 int32_t citrus_begin(citrus_handle *handle, uint64_t low, uint64_t high, uint64_t *cookie) {
     Opened &mine = *opened(handle);
     mine.low = low;
@@ -262,5 +271,8 @@ int32_t citrus_poll(citrus_handle *handle, uint64_t cookie) {
     Opened &mine = *opened(handle);
     if (cookie != mine.cookie || mine.asked == cookie) return CITRUS_MOVED;
     mine.asked = cookie;
-    return citrus_wait(handle, mine.low, mine.high);
+    is_callers_wait = true;
+    mine.tree().wait(mine.seat, {mine.low, mine.high});
+    is_callers_wait = false;
+    return CITRUS_DONE;
 }

@@ -146,7 +146,6 @@ extern "C" {
     pub(crate) fn citrus_hold(handle: *mut RawHandle, key: u64, value: *mut u64) -> i32;
     pub(crate) fn citrus_enter(handle: *mut RawHandle, key: u64) -> i32;
     pub(crate) fn citrus_release(handle: *mut RawHandle) -> i32;
-    pub(crate) fn citrus_wait(handle: *mut RawHandle, low: u64, high: u64) -> i32;
     pub(crate) fn citrus_begin(handle: *mut RawHandle, low: u64, high: u64, cookie: *mut u64) -> i32;
     pub(crate) fn citrus_poll(handle: *mut RawHandle, cookie: u64) -> i32;
     pub(crate) fn citrus_tidy(handle: *mut RawHandle, low: u64, high: u64, turns: u32, made: *mut u32, next: *mut u64) -> i32;

@@ -2,6 +2,14 @@ use crate::handle::{ends, Handle};
 use crate::library::*;
 use crate::Error;
 use std::ops::RangeBounds;
+use std::thread;
+use std::time::Duration;
+
+/// So often a wait yields the processor, before it sleeps after each question whether it is over.
+const YIELDS: u32 = 200;
+
+/// So long it sleeps then.
+const MOMENT: Duration = Duration::from_micros(100);
 
 /// A wait for readers that a handle began: see [`Handle::begin`].
 #[derive(Clone, Copy, Debug, PartialEq, Eq, Hash)]
@@ -36,7 +44,8 @@ pub struct Tidied {
 /// Waits for readers.
 impl Handle {
     /// Waits until each section with a key of the range that was entered before the call has been left: lookups, and those of
-    /// [`hold`](Handle::hold) and [`enter`](Handle::enter).
+    /// [`hold`](Handle::hold) and [`enter`](Handle::enter). While one is left it yields the processor, and after 200 times it sleeps for
+    /// moments. It takes the place of a wait that was begun before.
     ///
     /// # Errors
     /// [`Error::Holds`], [`Error::Spent`], [`Error::Lost`]: then it isn't known that they have been left.
@@ -49,14 +58,22 @@ impl Handle {
     /// # Ok::<(), citrus_map::Error>(())
     /// ```
     pub fn wait(&self, keys: impl RangeBounds<u64>) -> Result<(), Error> {
-        let (low, high) = match ends(&keys) {
-            Some(ends) => ends,
-            None => return Ok(()),
-        };
-        // SAFETY: as in `get`.
-        match self.call_that_waits(|raw| unsafe { citrus_wait(raw, low, high) })? {
-            status::DONE => Ok(()),
-            status => Err(self.error(status)),
+        if ends(&keys).is_none() {
+            return Ok(());
+        }
+        self.may_wait()?;
+        let cookie = self.begin(keys)?;
+        let mut yields = 0;
+        loop {
+            match self.poll(cookie)? {
+                GracePeriod::Over => return Ok(()),
+                GracePeriod::UnderWay if yields < YIELDS => {
+                    yields += 1;
+                    thread::yield_now();
+                }
+                GracePeriod::UnderWay => thread::sleep(MOMENT),
+                GracePeriod::Displaced => panic!("the library citrus gave up the handle's latest wait, which citrus.h excludes"),
+            }
         }
     }
 

@@ -1,10 +1,12 @@
 //! Sections of an index: what is read in them, who waits for them, and what is refused meanwhile.
 
 use citrus_map::{Builder, Error, GracePeriod, Index, Tidied, Waiter};
+use std::fs::read_to_string;
 use std::mem::forget;
 use std::sync::atomic::{AtomicBool, Ordering::SeqCst};
+use std::sync::Barrier;
 use std::thread;
-use std::time::Duration;
+use std::time::{Duration, Instant};
 
 const WAITERS: [Waiter; 3] = [Waiter::Eer, Waiter::Domain, Waiter::Deer];
 
@@ -44,6 +46,36 @@ fn a_wait_is_over_once_the_sections_of_its_keys_are_left() {
             left.store(true, SeqCst);
             drop(held);
             waiting.join().unwrap();
+        });
+    }
+}
+
+/// How long the thread has had a processor, as Linux tells.
+fn processor_time() -> Duration {
+    let told = read_to_string("/proc/thread-self/schedstat").unwrap();
+    Duration::from_nanos(told.split_whitespace().next().unwrap().parse().unwrap())
+}
+
+#[test]
+fn a_long_wait_leaves_the_processor_to_others() {
+    for waiter in WAITERS {
+        let index = Index::builder(100, 2).waiter(waiter).build().unwrap();
+        let (mut reader, waits) = (index.handle().unwrap(), index.handle().unwrap());
+        let section = reader.enter(5).unwrap();
+        let begun = Barrier::new(2);
+        thread::scope(|scope| {
+            let begun = &begun;
+            let waiting = scope.spawn(move || {
+                let (before, clock) = (processor_time(), Instant::now());
+                begun.wait();
+                waits.wait(5..=5).unwrap();
+                (processor_time() - before, clock.elapsed())
+            });
+            begun.wait();
+            thread::sleep(Duration::from_millis(300));
+            drop(section);
+            let (processor, all) = waiting.join().unwrap();
+            assert!(processor < all / 2, "{processor:?} of {all:?}");
         });
     }
 }
