@@ -98,10 +98,14 @@ writers() {
         }' "$1"
 }
 
-# More threads than processors, medians.
+# The series with more threads than processors, and what heads their columns.
+crowded_series='C library first;C library first in turn;C++ first;TBB map;std::map under mutex;std::map under shared_mutex;BTreeMap under Mutex;BTreeMap under RwLock;BTreeMap under parking_lot Mutex;BTreeMap under parking_lot RwLock'
+crowded_heads=('the C library' 'updates in turn' 'C++, which yields' TBB 'std::map, mutex' shared_mutex 'BTreeMap, Mutex' RwLock 'parking_lot Mutex' RwLock)
+
+# Medians of an operation.
 crowded() {
-    head_of gets keys threads 'the C library' 'updates in turn' 'C++, which yields' TBB 'BTreeMap, parking_lot Mutex' RwLock
-    awk -F, '/^#/ || /^series/ { next }
+    head_of gets keys threads "${crowded_heads[@]}"
+    awk -F, -v series="$crowded_series" '/^#/ || /^series/ { next }
         {
             row = $2 "," $3 "," $4
             if (!(row in seen)) { seen[row]; order[++rows] = row }
@@ -109,11 +113,32 @@ crowded() {
         }
         function ns(name, row) { return (name, row) in median ? sprintf("%.0f", median[name, row]) : "-" }
         END {
-            split("C library first;C library first in turn;C++ first;TBB map;BTreeMap under parking_lot Mutex;BTreeMap under parking_lot RwLock", names, ";")
+            columns = split(series, names, ";")
             for (i = 1; i <= rows; i++) {
                 split(order[i], part, ",")
                 line = "| " part[1] " | " part[2] " | " part[3]
-                for (n = 1; n <= 6; n++) line = line " | " ns(names[n], order[i])
+                for (n = 1; n <= columns; n++) line = line " | " ns(names[n], order[i])
+                print line " |"
+            }
+        }' "$1"
+}
+
+# What half of the updates take, 999 of 1,000, and the longest: three rows of each mix and number of threads.
+crowded_updates() {
+    head_of gets keys threads 'updates, µs' "${crowded_heads[@]}"
+    awk -F, -v series="$crowded_series" '/^#/ || /^series/ { next }
+        {
+            row = $2 "," $3 "," $4
+            if (!(row in seen)) { seen[row]; order[++rows] = row }
+            for (f = 5; f <= 7; f++) ns[$1, row, f] = $f
+        }
+        function us(name, row, f) { return (name, row, f) in ns ? sprintf(f == 5 ? "%.2f" : "%.0f", ns[name, row, f] / 1000) : "-" }
+        END {
+            columns = split(series, names, ";"); split("half;999 of 1,000;the longest", whats, ";")
+            for (i = 1; i <= rows; i++) for (f = 5; f <= 7; f++) {
+                split(order[i], part, ",")
+                line = "| " part[1] " | " part[2] " | " part[3] " | " whats[f - 4]
+                for (n = 1; n <= columns; n++) line = line " | " us(names[n], order[i], f)
                 print line " |"
             }
         }' "$1"
@@ -374,7 +399,7 @@ if [ $# -gt 0 ]; then
 fi
 out=$top/bench/out
 mkdir -p "$out"
-for name in tree waits sections writers shapes depth threads text limits cookies embed many ratios latency crowded size handles stays rust_map server; do
+for name in tree waits sections writers shapes depth threads text limits cookies embed many ratios latency crowded crowded_updates size handles stays rust_map server; do
     [ -e "$results/$name.csv" ] || continue
     grep -qxF "<!-- $name -->" "$top/docs/BENCHMARKS.md" "$top/bench/TABLES.md" || continue
     { echo; table "$name"; echo; } >"$out/table"

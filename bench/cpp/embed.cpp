@@ -1,5 +1,5 @@
 // The C library, as a program that links it sees it: an index for each waiter, and a handle for each place. Where more threads than
-// processors are measured there is one more series, of updates that take turns.
+// processors are measured, and where single calls are, there is one more series, of updates that take turns.
 #include "handle_places.hpp"
 #include "measuring.hpp"
 #include <citrus_turns.hpp>
@@ -26,7 +26,8 @@ template <class Turns> void measure_waiter(const char *name, const Options &opti
 int main(int count, char **words) {
     const Options options = options_of(count, words);
     measure_waiter<NoTurns>(LIBRARY " first waiter", options, citrus::waiter::eer);
-    if (options.subject == Subject::Crowded) measure_waiter<citrus::turns>(LIBRARY " first waiter in turn", options, citrus::waiter::eer);
+    if (options.subject == Subject::Crowded || options.subject == Subject::Latency)
+        measure_waiter<citrus::turns>(LIBRARY " first waiter in turn", options, citrus::waiter::eer);
     measure_waiter<NoTurns>(LIBRARY " second waiter", options, citrus::waiter::domain);
     measure_waiter<NoTurns>(LIBRARY " third waiter", options, citrus::waiter::deer);
 }

@@ -1,7 +1,9 @@
 //! A `BTreeMap` under one lock: std's `Mutex` and `RwLock`, and with the feature `parking_lot` those of that crate.
-//! `btree [--operations N] [--seconds S] [--only SERIES] calls|keys|crowded` and `btree [--operations N] [--pairs N] [--threads N]
-//! [--only SERIES] size` write the lines that the programs of bench/cpp write.
+//! `btree [--operations N] [--seconds S] [--only SERIES] calls|keys|crowded`, `btree [--operations N] [--pairs N] [--threads N] [--only SERIES]
+//! size` and `btree [--mix GETS] [--operations N] [--pairs N] [--threads N] [--only SERIES] latency` write the lines that the programs of
+//! bench/cpp write.
 
+mod latency;
 mod maps;
 mod measuring;
 mod mixes;

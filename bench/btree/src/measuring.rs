@@ -1,12 +1,14 @@
 //! Threads that make drawn operations on one map, timed: a line for each cell of a subject.
 
+use crate::latency::measure_latency;
 use crate::mixes::{Draws, Load, Mix, MostlyGets, Op, Uniform};
 use crate::size::{measure_size, Size};
 use std::thread;
 use std::time::{Duration, Instant};
 
-/// Its words for one map of many pairs.
-pub const SIZE_USAGE: &str = "       [--operations N] [--pairs N] [--threads N] [--only SERIES] size";
+/// Its words for one map of many pairs, and for single calls.
+pub const SIZE_USAGE: &str = "       [--operations N] [--pairs N] [--threads N] [--only SERIES] size
+       [--mix GETS] [--operations N] [--pairs N] [--threads N] [--only SERIES] latency";
 
 /// A map that threads share.
 pub trait Map: Sync {
@@ -35,6 +37,7 @@ pub enum Subject {
     Keys,
     Crowded,
     Size,
+    Latency,
 }
 
 #[derive(Clone)]
@@ -46,6 +49,8 @@ pub struct Options {
     pub limit: Duration,
     /// The series that is measured, or all.
     pub only: Option<String>,
+    /// How many of 100 single calls are gets.
+    pub gets: u64,
     pub size: Size,
 }
 
@@ -56,6 +61,7 @@ impl Options {
             operations: 100_000,
             limit: Duration::from_secs(1),
             only: None,
+            gets: 100,
             size: Size { pairs: 1_000_000, threads: 1 },
         };
         while let Some(word) = words.next() {
@@ -63,12 +69,14 @@ impl Options {
                 "--operations" => options.operations = words.next()?.parse().ok()?,
                 "--seconds" => options.limit = Duration::try_from_secs_f64(words.next()?.parse().ok()?).ok()?,
                 "--only" => options.only = Some(words.next()?),
+                "--mix" => options.gets = words.next()?.parse().ok()?,
                 "--pairs" => options.size.pairs = words.next()?.parse().ok()?,
                 "--threads" => options.size.threads = words.next()?.parse().ok().filter(|threads| *threads > 0)?,
                 "calls" => options.subject = Subject::Calls,
                 "keys" => options.subject = Subject::Keys,
                 "crowded" => options.subject = Subject::Crowded,
                 "size" => options.subject = Subject::Size,
+                "latency" => options.subject = Subject::Latency,
                 _ => return None,
             }
         }
@@ -93,7 +101,7 @@ impl Done {
     }
 }
 
-fn fill(client: &mut impl Client, mix: impl Mix) {
+pub fn fill(client: &mut impl Client, mix: impl Mix) {
     let mut draws = Draws(12_345);
     for _ in 0..mix.first_puts() {
         let key = draws.draw() % mix.keys();
@@ -160,6 +168,7 @@ pub fn measure_all<M: Map>(options: &Options, name: &str, make: impl Fn(Room) ->
             }
         }
         Subject::Size => measure_size(options, name, make),
+        Subject::Latency => measure_latency(options, name, make),
     }
 }
 

@@ -70,6 +70,30 @@ impl Mix for MostlyGets {
     }
 }
 
+/// So many of 100 are gets, on so many keys, which aren't known before. A draw has 31 bits, and the upper ones choose: a division would take as
+/// long as a step of a search.
+#[derive(Clone, Copy)]
+pub struct Drawn {
+    pub gets: u64,
+    pub keys: u64,
+}
+
+impl Mix for Drawn {
+    fn name(self) -> String {
+        format!("{}/{}", self.gets, self.keys)
+    }
+
+    fn keys(self) -> u64 {
+        self.keys
+    }
+
+    fn draw(self, draws: &mut Draws, _place: u64) -> Op {
+        let kind = (draws.draw() * 100) >> 31;
+        let key = (draws.draw() * self.keys) >> 31;
+        op_of(self.gets, kind, key)
+    }
+}
+
 /// The operations of the command `load`: two of four are puts and one is a get, on 4,096 keys that each thread has for itself.
 #[derive(Clone, Copy)]
 pub struct Load;

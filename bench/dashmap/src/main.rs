@@ -2,6 +2,8 @@
 //! `dashmap_bench [--operations N] [--seconds S] [--only SERIES] calls|keys|crowded` and `dashmap_bench [--operations N] [--pairs N]
 //! [--threads N] [--only SERIES] size` write the lines that the programs of bench/cpp write.
 
+#[path = "../../btree/src/latency.rs"]
+mod latency;
 #[path = "../../btree/src/measuring.rs"]
 mod measuring;
 #[path = "../../btree/src/mixes.rs"]
