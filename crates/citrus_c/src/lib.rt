@@ -8,7 +8,7 @@
 
 ghost use Rattle.std.specs.Prelude.{◌≡◌, None};
 ghost use Rattle.tree_handles.specs.declared.status.Status.TheVariants.{Done};
-ghost use Rattle.tree_handles.specs.Holds.{Begins, Polls, HoldsValue, Enters, LeavesSection, Waits};
+ghost use Rattle.tree_handles.specs.Holds.{Begins, Polls, HoldsValue, Enters, LeavesSection};
 ghost use Rattle.tree_handles.specs.Calls.{ComparesOut, Gets, Inserts, Replaces, Upserts, Removes};
 ghost use Rattle.tree_handles.specs.Callers.{Makes};
 ghost use Rattle.tree_handles.specs.Lanes.{ManyGets, OpensLanes, lanes_in};
@@ -265,15 +265,6 @@ pub extern "C" fn citrus_release(alloc: Global, handle: &mut Handle) -> i32
     ensures released { Says result (λ status. Makes (λ c d. LeavesSection c status d) handle.old.held status handle.new.held) }
 {
     handle.release(alloc).code()
-}
-
-/// [`Handle::wait`].
-#[unsafe(no_mangle)]
-pub extern "C" fn citrus_wait(alloc: Global, handle: &mut Handle, low: u64, high: u64) -> i32
-    ensures waited { Says result (λ status. Makes (λ c d. Waits c (record { low = low; high = high }) status d)
-        handle.old.held status handle.new.held) }
-{
-    handle.wait(alloc, low, high).code()
 }
 
 /// [`Handle::begin`].
