@@ -172,7 +172,7 @@ threads_that_are_stopped() {
 }
 
 # Faults that are planted: in front of the library, for which planted.c has one for each of these calls, and in a twin of the library.
-wrapped=(get insert_once compare_once upsert_once remove_once list first last begin poll)
+wrapped=(get insert_once compare_once upsert_once remove_once list_once first_once last_once begin poll)
 
 # A judge over both: `compile_judge NAME OBJECT`.
 compile_judge() {

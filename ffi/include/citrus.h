@@ -118,7 +118,8 @@ enum {
                                  get through; poll: the wait is no longer the handle's latest, or its end was told */
     CITRUS_NEW = 5,           /* upsert: the pair was added */
     CITRUS_DIFFERENT = 6,     /* compare: the key's value isn't the expected one */
-    CITRUS_BUSY = 7,          /* citrus_insert_once and its like: other threads were in the way, and no pair was changed. Yield, and call again */
+    CITRUS_BUSY = 7,          /* citrus_insert_once and its like, of a list too: other threads were in the way, and nothing was changed or
+                                 listed. Yield, and call again */
     CITRUS_CLOSED = -1,       /* the handle is closed, or the lanes are */
     CITRUS_BAD_ARGUMENT = -2, /* a number is out of its range; reopen: the other handle is open; open_lanes: the lanes are */
     CITRUS_NO_MEMORY = -3,    /* malloc gave none; open, share, reopen, list, tidy, open_lanes and get_many alone take memory */
@@ -346,21 +347,40 @@ CITRUS_STATUS_MATTERS static inline int32_t citrus_remove(citrus_handle *handle,
  * What they cost others: if an update came in each of 4 tries, such a call keeps all updates off for one more walk, which loads each value
  * once, some 30 ns a pair, or for one way down. Lookups and sections go on meanwhile. So beside writers a list of 1,000,000 pairs holds each
  * update up for some 30 ms: if that is too long, list in pages. A thread that the system stops within that walk holds all updates up, as does
- * one that is stopped within an update. Lists and updates race for their turn; there is no queue. */
+ * one that is stopped within an update. Lists and updates race for their turn; there is no queue. If such a call doesn't get its turn soon
+ * it yields the processor, and begins anew: citrus_list_once and its like end as CITRUS_BUSY then, with nothing listed. */
 
 /* Lists the pairs with keys from low to high, both among them, keys ascending.
  * It fills pairs[0] to pairs[*count - 1], and *count is 0 except at DONE and MORE. It takes memory for `room` pairs, and gives it back.
  * DONE; MORE where there are more than `room` such pairs: these are the first ones, and the key after them is in *next; CLOSED;
  * HOLDS; BAD_ARGUMENT where low is above high, or room is 0 or above CITRUS_MAX_ROOM; NO_MEMORY; LOST. */
-CITRUS_STATUS_MATTERS int32_t citrus_list(citrus_handle *handle, uint64_t low, uint64_t high, citrus_pair *pairs, size_t room, size_t *count, uint64_t *next);
+CITRUS_STATUS_MATTERS int32_t citrus_list_once(citrus_handle *handle, uint64_t low, uint64_t high, citrus_pair *pairs, size_t room, size_t *count, uint64_t *next);
+
+CITRUS_STATUS_MATTERS static inline int32_t citrus_list(citrus_handle *handle, uint64_t low, uint64_t high, citrus_pair *pairs, size_t room, size_t *count, uint64_t *next) {
+    int32_t status;
+    while ((status = citrus_list_once(handle, low, high, pairs, room, count, next)) == CITRUS_BUSY) sched_yield();
+    return status;
+}
 
 /* Tells the pair with the least key at or above `low`. It costs what a get costs, and takes no memory.
  * DONE, and *key and *value; UNCHANGED where there is none; CLOSED; HOLDS; LOST. */
-CITRUS_STATUS_MATTERS int32_t citrus_first(citrus_handle *handle, uint64_t low, uint64_t *key, uint64_t *value);
+CITRUS_STATUS_MATTERS int32_t citrus_first_once(citrus_handle *handle, uint64_t low, uint64_t *key, uint64_t *value);
+
+CITRUS_STATUS_MATTERS static inline int32_t citrus_first(citrus_handle *handle, uint64_t low, uint64_t *key, uint64_t *value) {
+    int32_t status;
+    while ((status = citrus_first_once(handle, low, key, value)) == CITRUS_BUSY) sched_yield();
+    return status;
+}
 
 /* Tells the pair with the greatest key from low to high, both among them. It costs as much.
  * DONE, and *key and *value; UNCHANGED where there is none, as where low is above high; CLOSED; HOLDS; LOST. */
-CITRUS_STATUS_MATTERS int32_t citrus_last(citrus_handle *handle, uint64_t low, uint64_t high, uint64_t *key, uint64_t *value);
+CITRUS_STATUS_MATTERS int32_t citrus_last_once(citrus_handle *handle, uint64_t low, uint64_t high, uint64_t *key, uint64_t *value);
+
+CITRUS_STATUS_MATTERS static inline int32_t citrus_last(citrus_handle *handle, uint64_t low, uint64_t high, uint64_t *key, uint64_t *value) {
+    int32_t status;
+    while ((status = citrus_last_once(handle, low, high, key, value)) == CITRUS_BUSY) sched_yield();
+    return status;
+}
 
 /* Makes the tree shallow on the ways to the keys from low to high, without changing any pair: for an index that was filled and is only read
  * from then on, since otherwise inserts turn nodes where they went deep. It lists the first 256 of these keys and turns nodes on the way to
@@ -379,7 +399,13 @@ CITRUS_STATUS_MATTERS int32_t citrus_last(citrus_handle *handle, uint64_t low, u
  * turns were tried, tickets are short, there are more keys, or no slot was free for a turn and the handle gave slots back that it kept, behind
  * a wait for all readers; FULL where no slot is free and it keeps none, and *next; CLOSED; HOLDS; BAD_ARGUMENT where low is above high, or
  * turns is 0; SPENT; NO_MEMORY; LOST. */
-CITRUS_STATUS_MATTERS int32_t citrus_tidy(citrus_handle *handle, uint64_t low, uint64_t high, uint32_t turns, uint32_t *made, uint64_t *next);
+CITRUS_STATUS_MATTERS int32_t citrus_tidy_once(citrus_handle *handle, uint64_t low, uint64_t high, uint32_t turns, uint32_t *made, uint64_t *next);
+
+CITRUS_STATUS_MATTERS static inline int32_t citrus_tidy(citrus_handle *handle, uint64_t low, uint64_t high, uint32_t turns, uint32_t *made, uint64_t *next) {
+    int32_t status;
+    while ((status = citrus_tidy_once(handle, low, high, turns, made, next)) == CITRUS_BUSY) sched_yield();
+    return status;
+}
 
 /* Values that are pointers.
  *

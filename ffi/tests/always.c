@@ -15,14 +15,27 @@ struct stage {
     void (*look)(struct member *, struct stage *);
 };
 
+/* Every second list is made once at a time, and yields by itself where it is busy: then nothing is written, but that there are no pairs. */
+static int32_t list(struct member *me, uint64_t turn, citrus_pair *pairs, size_t *count, uint64_t *next) {
+    int32_t status;
+    if (turn % 2) return citrus_list(&me->handle, 0, 2 * PLACES - 1, pairs, ROOM, count, next);
+    pairs[0] = (citrus_pair){UNTOUCHED, UNTOUCHED};
+    while ((status = citrus_list_once(&me->handle, 0, 2 * PLACES - 1, pairs, ROOM, count, next)) == CITRUS_BUSY) {
+        member_wants(me, "the first key that a busy list writes, of list", turn, pairs[0].key, UNTOUCHED);
+        member_wants(me, "how many pairs a busy list tells, of list", turn, *count, 0);
+        sched_yield();
+    }
+    return status;
+}
+
 static void list_all(struct member *me, struct stage *stage) {
     static citrus_pair pairs[ROOM];
     uint64_t before[THREADS], latest[THREADS], next = UNTOUCHED, came = 0;
-    for (uint64_t list = 0; list < lists && !me->wrong; list++) {
-        size_t count = 0;
+    for (uint64_t turn = 0; turn < lists && !me->wrong; turn++) {
+        size_t count = UNTOUCHED;
         for (uint64_t i = 0; i < 10; i++) make_step(me, &stage->writers[0]);
         for (uint64_t thread = 0; thread < THREADS; thread++) before[thread] = stage->writers[thread].steps;
-        const int32_t status = citrus_list(&me->handle, 0, 2 * PLACES - 1, pairs, ROOM, &count, &next);
+        const int32_t status = list(me, turn, pairs, &count, &next);
         came += status == CITRUS_DONE;
         judge(me, pairs, count, latest);
         member_wants(me, "the own steps that are listed, of", before[0], latest[0], before[0]);

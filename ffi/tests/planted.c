@@ -10,9 +10,9 @@ int32_t __real_citrus_insert_once(citrus_handle *, uint64_t, uint64_t);
 int32_t __real_citrus_compare_once(citrus_handle *, uint64_t, uint64_t, uint64_t, uint64_t *);
 int32_t __real_citrus_upsert_once(citrus_handle *, uint64_t, uint64_t, uint64_t *);
 int32_t __real_citrus_remove_once(citrus_handle *, uint64_t, uint64_t *);
-int32_t __real_citrus_list(citrus_handle *, uint64_t, uint64_t, citrus_pair *, size_t, size_t *, uint64_t *);
-int32_t __real_citrus_first(citrus_handle *, uint64_t, uint64_t *, uint64_t *);
-int32_t __real_citrus_last(citrus_handle *, uint64_t, uint64_t, uint64_t *, uint64_t *);
+int32_t __real_citrus_list_once(citrus_handle *, uint64_t, uint64_t, citrus_pair *, size_t, size_t *, uint64_t *);
+int32_t __real_citrus_first_once(citrus_handle *, uint64_t, uint64_t *, uint64_t *);
+int32_t __real_citrus_last_once(citrus_handle *, uint64_t, uint64_t, uint64_t *, uint64_t *);
 int32_t __real_citrus_begin(citrus_handle *, uint64_t, uint64_t, uint64_t *);
 int32_t __real_citrus_poll(citrus_handle *, uint64_t);
 
@@ -106,32 +106,32 @@ int32_t __wrap_citrus_remove_once(citrus_handle *handle, uint64_t key, uint64_t 
 }
 
 /* Lists one half of the range after the other. */
-int32_t __wrap_citrus_list(citrus_handle *handle, uint64_t low, uint64_t high, citrus_pair *pairs, size_t room, size_t *count, uint64_t *next) {
+int32_t __wrap_citrus_list_once(citrus_handle *handle, uint64_t low, uint64_t high, citrus_pair *pairs, size_t room, size_t *count, uint64_t *next) {
     const uint64_t middle = low / 2 + high / 2;
     size_t more = 0;
-    if (!is_wrong("list") || low >= high) return __real_citrus_list(handle, low, high, pairs, room, count, next);
-    int32_t status = __real_citrus_list(handle, low, middle, pairs, room, count, next);
+    if (!is_wrong("list") || low >= high) return __real_citrus_list_once(handle, low, high, pairs, room, count, next);
+    int32_t status = __real_citrus_list_once(handle, low, middle, pairs, room, count, next);
     if (status != CITRUS_DONE) return status;
-    if (*count == room) return __real_citrus_list(handle, low, high, pairs, room, count, next);
+    if (*count == room) return __real_citrus_list_once(handle, low, high, pairs, room, count, next);
     linger();
-    status = __real_citrus_list(handle, middle + 1, high, pairs + *count, room - *count, &more, next);
+    while ((status = __real_citrus_list_once(handle, middle + 1, high, pairs + *count, room - *count, &more, next)) == CITRUS_BUSY) sched_yield();
     *count += more;
     return status;
 }
 
 /* Looks the next keys up one by one. */
-int32_t __wrap_citrus_first(citrus_handle *handle, uint64_t low, uint64_t *key, uint64_t *value) {
-    if (!is_wrong("first") || low > UINT64_MAX - NEAR) return __real_citrus_first(handle, low, key, value);
+int32_t __wrap_citrus_first_once(citrus_handle *handle, uint64_t low, uint64_t *key, uint64_t *value) {
+    if (!is_wrong("first") || low > UINT64_MAX - NEAR) return __real_citrus_first_once(handle, low, key, value);
     for (*key = low; *key < low + NEAR; ++*key) {
         const int32_t status = __real_citrus_get(handle, *key, value);
         if (status != CITRUS_UNCHANGED) return status;
         linger();
     }
-    return __real_citrus_first(handle, low + NEAR, key, value);
+    return __real_citrus_first_once(handle, low + NEAR, key, value);
 }
 
-int32_t __wrap_citrus_last(citrus_handle *handle, uint64_t low, uint64_t high, uint64_t *key, uint64_t *value) {
-    if (!is_wrong("last") || low > high || high - low > NEAR) return __real_citrus_last(handle, low, high, key, value);
+int32_t __wrap_citrus_last_once(citrus_handle *handle, uint64_t low, uint64_t high, uint64_t *key, uint64_t *value) {
+    if (!is_wrong("last") || low > high || high - low > NEAR) return __real_citrus_last_once(handle, low, high, key, value);
     for (uint64_t at = high;; at--) {
         const int32_t status = __real_citrus_get(handle, at, value);
         if (status == CITRUS_DONE) *key = at;

@@ -227,7 +227,7 @@ int32_t citrus_remove_once(citrus_handle *handle, uint64_t key, uint64_t *old) {
     return busy_or([=] { return told(opened(handle)->tree().remove(opened(handle)->seat, key), old); });
 }
 
-int32_t citrus_list(citrus_handle *handle, uint64_t low, uint64_t high, citrus_pair *pairs, size_t room, size_t *count, uint64_t *next) {
+int32_t citrus_list_once(citrus_handle *handle, uint64_t low, uint64_t high, citrus_pair *pairs, size_t room, size_t *count, uint64_t *next) {
     const Pairs found = opened(handle)->tree().list(opened(handle)->seat, low, high);
     *count = std::min(room, found.size());
     std::copy_n(found.begin(), *count, pairs);
@@ -236,15 +236,15 @@ int32_t citrus_list(citrus_handle *handle, uint64_t low, uint64_t high, citrus_p
     return CITRUS_MORE;
 }
 
-int32_t citrus_first(citrus_handle *handle, uint64_t low, uint64_t *key, uint64_t *value) {
+int32_t citrus_first_once(citrus_handle *handle, uint64_t low, uint64_t *key, uint64_t *value) {
     return told(opened(handle)->tree().list(opened(handle)->seat, low, UINT64_MAX), false, key, value);
 }
 
-int32_t citrus_last(citrus_handle *handle, uint64_t low, uint64_t high, uint64_t *key, uint64_t *value) {
+int32_t citrus_last_once(citrus_handle *handle, uint64_t low, uint64_t high, uint64_t *key, uint64_t *value) {
     return told(opened(handle)->tree().list(opened(handle)->seat, low, high), true, key, value);
 }
 
-int32_t citrus_tidy(citrus_handle *, uint64_t low, uint64_t, uint32_t, uint32_t *made, uint64_t *next) {
+int32_t citrus_tidy_once(citrus_handle *, uint64_t low, uint64_t, uint32_t, uint32_t *made, uint64_t *next) {
     *made = 0;
     *next = low;
     return CITRUS_DONE;

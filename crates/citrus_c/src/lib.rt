@@ -191,7 +191,7 @@ pub extern "C" fn citrus_remove_once(
 
 /// [`Handle::list`].
 #[unsafe(no_mangle)]
-pub extern "C" fn citrus_list(
+pub extern "C" fn citrus_list_once(
     alloc: Global,
     handle: &mut Handle,
     low: u64,
@@ -210,7 +210,7 @@ pub extern "C" fn citrus_list(
 
 /// [`Handle::first`].
 #[unsafe(no_mangle)]
-pub extern "C" fn citrus_first(
+pub extern "C" fn citrus_first_once(
     alloc: Global,
     handle: &mut Handle,
     low: u64,
@@ -226,7 +226,7 @@ pub extern "C" fn citrus_first(
 
 /// [`Handle::last`].
 #[unsafe(no_mangle)]
-pub extern "C" fn citrus_last(
+pub extern "C" fn citrus_last_once(
     alloc: Global,
     handle: &mut Handle,
     low: u64,
@@ -293,7 +293,7 @@ pub extern "C" fn citrus_poll(alloc: Global, handle: &mut Handle, cookie: u64) -
 
 /// [`Handle::tidy`].
 #[unsafe(no_mangle)]
-pub extern "C" fn citrus_tidy(
+pub extern "C" fn citrus_tidy_once(
     alloc: Global,
     handle: &mut Handle,
     low: u64,

@@ -22,7 +22,7 @@ use Rattle.seat_table.specs.Gains.{Told, IsAsked, IsListedNow}
 use Rattle.seat_table.specs.Sections.{Makes, is_entry, is_exit, HasEntered, HasLeft}
 use Rattle.seat_table.proofs.Seats.{still_quiet}
 use Rattle.seat_table.proofs.SeveralSteps.{made_none, made_more, made_both, seen_more, own_more}
-use Rattle.exact_list.specs.Tries.{Try, numbers_of, looks_of, looks_from, marks_from, is_load, is_look, is_of_list, HasTried, IsListing, HasLoaded, is_exchange, LosesFront, TakesFront, GivesFrontBack, HasMoved, Paged, IsWhole, IsPart, IsBetweenFronts, IsRecent, HasStood, EndAs, Gathers}
+use Rattle.exact_list.specs.Tries.{Try, numbers_of, looks_of, looks_from, marks_from, is_load, is_look, is_of_list, HasTried, IsListing, HasLoaded, is_exchange, LosesFront, TakesFront, GivesFrontBack, HasGivenWay, HasMoved, Paged, IsWhole, IsPart, IsBetweenFronts, IsRecent, HasStood, EndAs, Gathers}
 use Rattle.core_state.specs.declared.words.Kind.TheVariants.{K19}
 use Rattle.core_state.specs.Memory.{IsEven, IsOdd}
 use Rattle.std.proofs.Math.Seq.{take-append_seam}
@@ -722,3 +722,7 @@ module _ {v u : View} {key count : ℕ} (x : HasFailed v key count u) where
       → HasListed v key front most walk w
   comes_alone {w} {front} {most} {walk} all alone =
       inr (record { tries = x.made; failed = u; tried = x.tried; all = x.many ∙ all; moved = x.moved; alone = alone })
+
+  -- or gives way
+  pub gives_way : {w : View} {most : ℕ} → count ≡ most → LosesFront u w → HasGivenWay v key most w
+  gives_way all lost = record { tries = x.made; failed = u; tried = x.tried; all = x.many ∙ all; moved = x.moved; lost = lost }

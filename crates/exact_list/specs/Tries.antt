@@ -126,6 +126,16 @@ pub record GivesFrontBack (v : View) (front : ℕ) (w : View) : Type 0 where
   pub trail : w.trail ≡ (stepped v K39 Front front).trail
   pub others : w ≡ record v { commit = None; latest = record v.latest { front = Some front }; trail = w.trail }
 
+-- Just so many tries were made, with an update under way or made in each, and then the front wasn't taken. So the seat has no section open and
+-- hasn't the front, its place left no marks but those of the tries' sections, and but for these and the looks it knows what it knew.
+pub record HasGivenWay (v : View) (key most : ℕ) (w : View) : Type 0 where
+  pub tries : List Try
+  pub failed : View
+  pub tried : HasTried v key tries failed
+  pub all : length tries ≡ most
+  pub moved : Each tries HasMoved
+  pub lost : LosesFront failed w
+
 -- What a list answers.
 -- Source: docs/TREE_CALLS.md, "Lists of a key range".
 

@@ -1,9 +1,9 @@
 //! Lists that always come: where others update in each try, the list goes on alone, under a front that it holds.
-ghost use Rattle.std.specs.Prelude.{◌≡◌, ◌≤◌, IfOk, IfErr};
+ghost use Rattle.std.specs.Prelude.{◌≡◌, ◌≤◌, [], IfOk, IfErr};
 ghost use Rattle.seat_table.specs.Sections.{HasMade};
 ghost use Rattle.seat_table.specs.Seats.{IsQuietSeat};
 ghost use Rattle.exact_list.specs.Loads.{HasListed, HasListedAlone, HoldsExactly, IsOneWalk};
-ghost use Rattle.exact_list.specs.Tries.{IsBetweenFronts};
+ghost use Rattle.exact_list.specs.Tries.{HasGivenWay, IsBetweenFronts, LosesFront};
 
 use crate::front::take_front;
 use crate::listing::{Listed, list};
@@ -24,28 +24,34 @@ pub struct Exact {
 }
 
 // A list that no update comes between: the front is held for one walk. Others' updates wait meanwhile, and it waits for those that
-// have the front before it. Where the patience ends, the front isn't held.
+// have the front before it. Where the patience ends, or it is busy, the front isn't held.
 fn list_alone<P: Patience, W: WaitPart>(
     patience: &P,
     table: &CitrusTable<W>,
     seat: &mut Seat<W>,
     keys: &Keys,
     page: &mut Page,
-) -> Result<Exact, P::Tired>
+) -> Result<Result<Exact, P::Busy>, P::Tired>
     requires table { seat.old.table ≡ table.now }
     requires quiet { IsQuietSeat seat.old }
     ensures seat { (seat.new.table ≡ seat.old.table) × (seat.new.listed ≡ seat.old.listed) }
     ensures quiet { IsQuietSeat seat.new }
     ensures tickets { seat.new.view.allowance.tickets ≡ seat.old.view.allowance.tickets }
     ensures capacity { IfOk result (λ _. page.new.capacity ≡ page.old.capacity) }
-    ensures alone { IfOk result (λ answer. HasListedAlone seat.old.view keys.now.low answer.front (IsOneWalk page.new.pairs answer.next)
-        seat.new.view) }
-    ensures holds { IfOk result (λ answer. HoldsExactly answer keys.now seat.new.view.seen page.new) }
-    ensures recent { IfOk result (λ answer. IsBetweenFronts answer.front seat.old.view.seen seat.new.view.seen) }
+    ensures alone { IfOk result (λ answer. IfOk answer (λ exact. HasListedAlone seat.old.view keys.now.low exact.front
+        (IsOneWalk page.new.pairs exact.next) seat.new.view)) }
+    ensures holds { IfOk result (λ answer. IfOk answer (λ exact. HoldsExactly exact keys.now seat.new.view.seen page.new)) }
+    ensures recent { IfOk result (λ answer. IfOk answer
+        (λ exact. IsBetweenFronts exact.front seat.old.view.seen seat.new.view.seen)) }
+    ensures busy { IfOk result (λ answer. IfErr answer (λ _. LosesFront seat.old.view seat.new.view)) }
+    ensures unlisted { IfOk result (λ answer. IfErr answer (λ _. page.new.pairs ≡ [])) }
     ensures tired { IfErr result (λ _. HasMade (P.least patience.now) seat.new.view) }
 {
     page.clear();
-    let front = take_front(patience, table, seat)?;
+    let front = match take_front(patience, table, seat)? {
+        Ok(front) => front,
+        Err(busy) => return Ok(Err(busy)),
+    };
     // Not before: whoever waits for readers would wait as long as this one for the front.
     W::enter(table, seat, keys.low());
     steps::look_at_front(table, seat);
@@ -55,10 +61,10 @@ fn list_alone<P: Patience, W: WaitPart>(
     W::leave(table, seat);
     steps::give_front_back(table, seat, front);
     let next = gathered?;
-    Ok(Exact {
+    Ok(Ok(Exact {
         front: front_of(front),
         next,
-    })
+    }))
 }
 
 /// Lists the pairs with these keys on the page, keys ascending, as the dictionary had them after some number of updates: the front. It
@@ -67,8 +73,9 @@ fn list_alone<P: Patience, W: WaitPart>(
 ///
 /// Updates wait for it while it has the front: for one walk. That loads the value of each pair told once, the next one's too, and no other;
 /// it goes down from the root once, and again at most once for each 65 keys that it loads. It waits for the updates that have the front
-/// before it. Readers wait for nothing, and it waits for no reader. The front isn't before what the seat has seen. No memory is asked for,
-/// and no ticket is taken.
+/// before it, or answers busy where its patience would rather be called again: then it never had the front, and the page is empty. Readers
+/// wait for nothing, and it waits for no reader. The front isn't before what the seat has seen. No memory is asked for, and no ticket is
+/// taken.
 pub fn list_always<P: Patience, W: WaitPart>(
     patience: &P,
     table: &CitrusTable<W>,
@@ -76,7 +83,7 @@ pub fn list_always<P: Patience, W: WaitPart>(
     keys: Keys,
     page: &mut Page,
     tries: u32,
-) -> Result<Exact, P::Tired>
+) -> Result<Result<Exact, P::Busy>, P::Tired>
     requires table { seat.old.table ≡ table.now }
     requires quiet { IsQuietSeat seat.old }
     requires tries { 1 ≤ tries }
@@ -84,19 +91,22 @@ pub fn list_always<P: Patience, W: WaitPart>(
     ensures quiet { IsQuietSeat seat.new }
     ensures tickets { seat.new.view.allowance.tickets ≡ seat.old.view.allowance.tickets }
     ensures capacity { IfOk result (λ _. page.new.capacity ≡ page.old.capacity) }
-    ensures came { IfOk result (λ answer. HasListed seat.old.view keys.low answer.front tries (IsOneWalk page.new.pairs answer.next)
-        seat.new.view) }
-    ensures holds { IfOk result (λ answer. HoldsExactly answer keys seat.new.view.seen page.new) }
-    ensures recent { IfOk result (λ answer. IsBetweenFronts answer.front seat.old.view.seen seat.new.view.seen) }
+    ensures came { IfOk result (λ answer. IfOk answer (λ exact. HasListed seat.old.view keys.low exact.front tries
+        (IsOneWalk page.new.pairs exact.next) seat.new.view)) }
+    ensures holds { IfOk result (λ answer. IfOk answer (λ exact. HoldsExactly exact keys seat.new.view.seen page.new)) }
+    ensures recent { IfOk result (λ answer. IfOk answer
+        (λ exact. IsBetweenFronts exact.front seat.old.view.seen seat.new.view.seen)) }
+    ensures busy { IfOk result (λ answer. IfErr answer (λ _. HasGivenWay seat.old.view keys.low tries seat.new.view)) }
+    ensures unlisted { IfOk result (λ answer. IfErr answer (λ _. page.new.pairs ≡ [])) }
     ensures tired { IfErr result (λ _. HasMade (P.least patience.now) seat.new.view) }
 {
     let listed = list(patience, table, seat, keys, page, tries)?;
     match listed {
-        Listed::Whole { front } => Ok(Exact { front, next: None }),
-        Listed::Part { front, next } => Ok(Exact {
+        Listed::Whole { front } => Ok(Ok(Exact { front, next: None })),
+        Listed::Part { front, next } => Ok(Ok(Exact {
             front,
             next: Some(next),
-        }),
+        })),
         Listed::Moved { .. } => list_alone(patience, table, seat, &keys, page),
     }
 }

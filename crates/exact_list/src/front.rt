@@ -22,20 +22,21 @@ fn even_from(number: u64) -> u64
     }
 }
 
-/// Makes the front odd, and answers the even number that it was. It waits while another seat has it. From then on no other seat makes an
-/// update, until this one makes the front even again: by [`steps::close_commit`] after its own update, or without one by
-/// [`steps::give_front_back`].
+/// Makes the front odd, and answers the even number that it was. It waits while another seat has it, or answers busy where its patience would
+/// rather be called again: then it hasn't made it odd. From then on no other seat makes an update, until this one makes the front even again:
+/// by [`steps::close_commit`] after its own update, or without one by [`steps::give_front_back`].
 pub(crate) fn take_front<P: Patience, W: WaitWords>(
     patience: &P,
     table: &CitrusTable<W>,
     seat: &mut Seat<W>,
-) -> Result<u64, P::Tired>
+) -> Result<Result<u64, P::Busy>, P::Tired>
     requires table { seat.old.table ≡ table.now }
     requires settled { seat.old.view.moving ≡ None }
     requires paid { seat.old.view.commit ≡ None }
     ensures seat { (seat.new.table ≡ seat.old.table) × (seat.new.listed ≡ seat.old.listed) }
-    ensures few { IfOk result (λ answer. answer ≤ most_front) }
-    ensures taken { IfOk result (λ answer. TakesFront seat.old.view answer seat.new.view) }
+    ensures few { IfOk result (λ answer. IfOk answer (λ front. front ≤ most_front)) }
+    ensures taken { IfOk result (λ answer. IfOk answer (λ front. TakesFront seat.old.view front seat.new.view)) }
+    ensures busy { IfOk result (λ answer. IfErr answer (λ _. LosesFront seat.old.view seat.new.view)) }
     ensures lost { IfErr result (λ _. LosesFront seat.old.view seat.new.view) }
     ensures tired { IfErr result (λ _. HasMade (P.least patience.now) seat.new.view) }
 {
@@ -44,12 +45,14 @@ pub(crate) fn take_front<P: Patience, W: WaitWords>(
     for round in 0..u64::MAX {
         let found = steps::open_commit(table, seat, expected);
         if found == expected {
-            return Ok(found);
+            return Ok(Ok(found));
         }
         expected = even_from(found);
         // Where nobody has the front it tries again at once: beside a seat that never rests the number found is old after a pause.
         if linking(found) || round % AT_ONCE == AT_ONCE - 1 {
-            patience.pause(&mut pauses)?;
+            if let Err(busy) = patience.rest(&mut pauses) {
+                return Ok(Err(busy));
+            }
         }
     }
     Err(patience.tired())

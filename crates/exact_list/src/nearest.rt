@@ -4,7 +4,7 @@ ghost use Rattle.prcu_marks.specs.Marks.{updates_of};
 ghost use Rattle.seat_table.specs.Sections.{HasMade};
 ghost use Rattle.seat_table.specs.Seats.{IsQuietSeat};
 ghost use Rattle.exact_list.specs.Loads.{HasListed, HasListedAlone, IsOneWayDown, IsNearest, ComesBy, IsTold};
-ghost use Rattle.exact_list.specs.Tries.{IsBetweenFronts, Try, HasTried};
+ghost use Rattle.exact_list.specs.Tries.{HasGivenWay, IsBetweenFronts, LosesFront, Try, HasTried};
 ghost use Rattle.exact_list.specs.Pairs.{had_at};
 
 use crate::descent::seek_pair;
@@ -67,25 +67,33 @@ fn look_for<P: Patience, W: WaitPart>(
     }))
 }
 
-// No update comes between: the front is held for one way down, as by a list that goes on alone. Where the patience ends, it isn't held.
+// No update comes between: the front is held for one way down, as by a list that goes on alone. Where the patience ends, or it is
+// busy, it isn't held.
 fn look_alone<P: Patience, W: WaitPart>(
     patience: &P,
     table: &CitrusTable<W>,
     seat: &mut Seat<W>,
     side: Side,
     from: u64,
-) -> Result<Nearest, P::Tired>
+) -> Result<Result<Nearest, P::Busy>, P::Tired>
     requires table { seat.old.table ≡ table.now }
     requires quiet { IsQuietSeat seat.old }
     ensures seat { (seat.new.table ≡ seat.old.table) × (seat.new.listed ≡ seat.old.listed) }
     ensures quiet { IsQuietSeat seat.new }
     ensures tickets { seat.new.view.allowance.tickets ≡ seat.old.view.allowance.tickets }
-    ensures alone { IfOk result (λ answer. HasListedAlone seat.old.view from answer.front (IsOneWayDown answer.pair) seat.new.view) }
-    ensures holds { IfOk result (λ answer. IsNearest (had_at (updates_of seat.new.view.seen) answer.front) side from answer.pair) }
-    ensures recent { IfOk result (λ answer. IsBetweenFronts answer.front seat.old.view.seen seat.new.view.seen) }
+    ensures alone { IfOk result (λ answer. IfOk answer
+        (λ nearest. HasListedAlone seat.old.view from nearest.front (IsOneWayDown nearest.pair) seat.new.view)) }
+    ensures holds { IfOk result (λ answer. IfOk answer
+        (λ nearest. IsNearest (had_at (updates_of seat.new.view.seen) nearest.front) side from nearest.pair)) }
+    ensures recent { IfOk result (λ answer. IfOk answer
+        (λ nearest. IsBetweenFronts nearest.front seat.old.view.seen seat.new.view.seen)) }
+    ensures busy { IfOk result (λ answer. IfErr answer (λ _. LosesFront seat.old.view seat.new.view)) }
     ensures tired { IfErr result (λ _. HasMade (P.least patience.now) seat.new.view) }
 {
-    let front = take_front(patience, table, seat)?;
+    let front = match take_front(patience, table, seat)? {
+        Ok(front) => front,
+        Err(busy) => return Ok(Err(busy)),
+    };
     // Not before: whoever waits for readers would wait as long as this one for the front.
     W::enter(table, seat, from);
     steps::look_at_front(table, seat);
@@ -95,10 +103,10 @@ fn look_alone<P: Patience, W: WaitPart>(
     W::leave(table, seat);
     steps::give_front_back(table, seat, front);
     let pair = sought?;
-    Ok(Nearest {
+    Ok(Ok(Nearest {
         front: front_of(front),
         pair,
-    })
+    }))
 }
 
 /// Finds the pair that is nearest to `from` on this side of it, `from` itself among them: with `Side::Right` the first one at or above it,
@@ -109,8 +117,9 @@ fn look_alone<P: Patience, W: WaitPart>(
 /// or there are to be none, it takes the front, so that no update comes between, looks once more, and gives the front back.
 ///
 /// It goes down from the root once, and loads of each slot on the way its key and one link, and a pair's value. Updates wait for it while
-/// it has the front: for one such way down. It waits for the updates that have the front before it. Readers wait for nothing, and it waits
-/// for no reader. The front isn't before what the seat has seen. No memory is asked for, and no ticket is taken.
+/// it has the front: for one such way down. It waits for the updates that have the front before it, or answers busy where its patience would
+/// rather be called again: then it never had the front. Readers wait for nothing, and it waits for no reader. The front isn't before what the
+/// seat has seen. No memory is asked for, and no ticket is taken.
 pub fn nearest_always<P: Patience, W: WaitPart>(
     patience: &P,
     table: &CitrusTable<W>,
@@ -118,20 +127,24 @@ pub fn nearest_always<P: Patience, W: WaitPart>(
     side: Side,
     from: u64,
     tries: u32,
-) -> Result<Nearest, P::Tired>
+) -> Result<Result<Nearest, P::Busy>, P::Tired>
     requires table { seat.old.table ≡ table.now }
     requires quiet { IsQuietSeat seat.old }
     ensures seat { (seat.new.table ≡ seat.old.table) × (seat.new.listed ≡ seat.old.listed) }
     ensures quiet { IsQuietSeat seat.new }
     ensures tickets { seat.new.view.allowance.tickets ≡ seat.old.view.allowance.tickets }
-    ensures came { IfOk result (λ answer. HasListed seat.old.view from answer.front tries (IsOneWayDown answer.pair) seat.new.view) }
-    ensures holds { IfOk result (λ answer. IsNearest (had_at (updates_of seat.new.view.seen) answer.front) side from answer.pair) }
-    ensures recent { IfOk result (λ answer. IsBetweenFronts answer.front seat.old.view.seen seat.new.view.seen) }
+    ensures came { IfOk result (λ answer. IfOk answer
+        (λ nearest. HasListed seat.old.view from nearest.front tries (IsOneWayDown nearest.pair) seat.new.view)) }
+    ensures holds { IfOk result (λ answer. IfOk answer
+        (λ nearest. IsNearest (had_at (updates_of seat.new.view.seen) nearest.front) side from nearest.pair)) }
+    ensures recent { IfOk result (λ answer. IfOk answer
+        (λ nearest. IsBetweenFronts nearest.front seat.old.view.seen seat.new.view.seen)) }
+    ensures busy { IfOk result (λ answer. IfErr answer (λ _. HasGivenWay seat.old.view from tries seat.new.view)) }
     ensures tired { IfErr result (λ _. HasMade (P.least patience.now) seat.new.view) }
 {
     for tried in 0..tries {
         if let Some(nearest) = look_for(patience, table, seat, side, from)? {
-            return Ok(nearest);
+            return Ok(Ok(nearest));
         }
     }
     look_alone(patience, table, seat, side, from)

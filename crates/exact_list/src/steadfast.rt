@@ -79,7 +79,8 @@ pub fn list_always<R: Wait, W: WaitPart>(
     ensures recent { IsBetweenFronts result.front seat.old.view.seen seat.new.view.seen }
 {
     match patient::list_always(&Steadfast::new(rt), table, seat, keys, page, tries) {
-        Ok(exact) => exact,
+        Ok(Ok(exact)) => exact,
+        Ok(Err(never)) => match never {},
         Err(never) => match never {},
     }
 }
@@ -112,7 +113,8 @@ pub fn nearest_always<R: Wait, W: WaitPart>(
     ensures recent { IsBetweenFronts result.front seat.old.view.seen seat.new.view.seen }
 {
     match patient::nearest_always(&Steadfast::new(rt), table, seat, side, from, tries) {
-        Ok(nearest) => nearest,
+        Ok(Ok(nearest)) => nearest,
+        Ok(Err(never)) => match never {},
         Err(never) => match never {},
     }
 }

@@ -31,17 +31,17 @@ use Rattle.citrus_tree.specs.Going.{HasBegunNone, HasBegunFirst, KeepsWait, IsOf
 use Rattle.citrus_tree.specs.Lookups.{HoldsOrNot, IsHolding, Looked}
 use Rattle.citrus_tree.proofs.Leavings.{goes_looked}
 use Rattle.exact_list.specs.Loads.{HasListed, HasListedAfterTries, HasListedAlone, HasListedByTry, IsOneWalk}
-use Rattle.exact_list.specs.Tries.{Try, HasTried, Paged, marks_from}
+use Rattle.exact_list.specs.Tries.{Try, HasGivenWay, HasTried, Paged, marks_from}
 use Rattle.grace_cookie.specs.Cookies.{CookieAt, IsGivenUp, KeepsLatest}
 use Rattle.grace_cookie.proofs.Keeping.{waits_stay, keeps_latest, begins_later, waits_later}
 use Rattle.tree_handles.specs.Holds.{HasCookie, CannotAsk}
-use Rattle.tree_handles.specs.Lists.{IsLeft, Lists}
+use Rattle.tree_handles.specs.Lists.{IsLeft, IsPreventedBy, Lists}
 use Rattle.key_interval.specs.Keys.{Interval}
 use Rattle.core_state.specs.declared.view.Section.{Section}
 use Rattle.tree_handles.specs.declared.status.Status.{Status}
-use Rattle.tree_handles.specs.declared.status.Status.TheVariants.{Done, Unchanged, Full, More, Moved, New, Busy, Lost, Holds}
+use Rattle.tree_handles.specs.declared.status.Status.TheVariants.{Done, Unchanged, Full, More, Moved, New, Busy, BadArgument, NoMemory, Spent, Lost, Holds}
 use Rattle.exact_list.specs.declared.alone.Exact.{Exact}
-use Rattle.tree_handles.specs.Tidying.{Finishes, MayTidy, Output, Tidies, LiftsNext, LevelledTo, StopsAt, MakesSlots, Levels, IsOfTidy, LeavesNoUpdates, TidiesMakeNoUpdate}
+use Rattle.tree_handles.specs.Tidying.{Finishes, HasTidied, IsUnwritten, MayTidy, Output, Tidies, LiftsNext, LevelledTo, StopsAt, MakesSlots, Levels, IsOfTidy, LeavesNoUpdates, TidiesMakeNoUpdate}
 use Rattle.std.specs.List.{AllByRecursion}
 use Rattle.prcu_marks.specs.declared.mark.Mark.{Mark}
 use Rattle.tree_points.proofs.Locks.{advanced_on, advanced_same}
@@ -228,6 +228,12 @@ module _ {k : Shape} {cookie : Option CookieAt} where
       (λ (x : HasListedByTry v key front most w). cookie_tried x.tried has)
       (λ (x : HasListedAfterTries v key front most walk w). cookie_alone x.alone (cookie_tried x.tried has)) came
 
+  pub cookie_gave_way : {v w : View} {key most : ℕ} → HasGivenWay v key most w → HasCookie k cookie v → HasCookie k cookie w
+  cookie_gave_way {v} {w} {key} {most} gave has =
+      let lost = gave.lost.others in
+      cookie_front (ap (λ (z : View). z.allowance) lost) (ap (λ (z : View). z.seen) lost) (ap (λ (z : View). z.counts) lost)
+      (ap (λ (z : View). z.wait) lost) (cookie_tried gave.tried has)
+
   pub cookie_waited : {other : Shape} {v w : View} {low high : ℕ} → HasWaited other v low high w → HasCookie k cookie v
       → HasCookie k cookie w
   cookie_waited {other} {v} {w} {low} {high} waited has = stays_good (waits_later other v w low high waited) has
@@ -337,6 +343,14 @@ tidies_listed c keys turns was Full out d page after front b may capacity listed
 tidies_listed c keys turns was Lost out d page after front b may capacity listed finished =
     (listed_on c keys page (record { front = front; next = after }) b d listed finished.0, finished.1)
 tidies_listed c keys turns was _ out d page after front b may capacity listed finished = absurd finished
+
+-- nor is it, where the list was in vain
+pub tidies_prevented : (c : CallerAt) (keys : Interval) (turns was : ℕ) (status : Status) (out : Output) (d : CallerAt) → MayTidy c keys turns
+    → IsPreventedBy keys.low status c d → IsUnwritten was out → Tidies c keys turns was status out d
+tidies_prevented c keys turns was Busy out d may vain unwritten = (may, vain, unwritten)
+tidies_prevented c keys turns was Lost out d may lost unwritten = (lost, unwritten)
+tidies_prevented c keys turns was Holds out d may stays unwritten = (stays, unwritten)
+tidies_prevented c keys turns was _ out d may none unwritten = absurd none
 
 -- A tidy leaves no mark of an update.
 
@@ -452,7 +466,30 @@ plain_finished pairs turns after c was Full out d kept (n, made, levels) = plain
 plain_finished pairs turns after c was Lost out d kept finished = absurd (let e : true ≡ false = sym finished.0.lost ∙ kept in cc)
 plain_finished pairs turns after c was _ out d kept finished = absurd finished
 
-pub tidies_plain : TidiesMakeNoUpdate
-tidies_plain c keys turns was status out d kept tidied = plain_on c.seat.view tidied.before.seat.view d.seat.view
+plain_tidied : (c : CallerAt) (keys : Interval) (turns was : ℕ) (status : Status) (out : Output) (d : CallerAt) → d.lost ≡ false
+    → HasTidied c keys turns was status out d → LeavesNoUpdates c.seat.view d.seat.view
+plain_tidied c keys turns was status out d kept tidied = plain_on c.seat.view tidied.before.seat.view d.seat.view
     (plain_listed c keys tidied.page (record { front = tidied.front; next = tidied.after }) tidied.before tidied.listed)
     (plain_finished tidied.page.pairs turns tidied.after tidied.before was status out d kept tidied.finished)
+
+plain_same : (c d : CallerAt) → d ≡ c → LeavesNoUpdates c.seat.view d.seat.view
+plain_same c d same = plain_none c.seat.view d.seat.view (ap (λ (z : CallerAt). z.seat.view) same)
+
+plain_gave_way : (v : View) (key most : ℕ) (w : View) → HasGivenWay v key most w → LeavesNoUpdates v w
+plain_gave_way v key most w gave =
+    let lost = gave.lost.others in
+    plain_on v gave.failed w (plain_tried v key gave.tries gave.failed gave.tried)
+    (plain_front gave.failed w (ap (λ (z : View). z.allowance) lost) (ap (λ (z : View). z.seen) lost)
+    (gave.lost.made.steps, sym (ap (λ t. t.steps) gave.lost.made.trail)))
+
+pub tidies_plain : TidiesMakeNoUpdate
+tidies_plain c keys turns was Done out d kept tidied = plain_tidied c keys turns was Done out d kept tidied
+tidies_plain c keys turns was More out d kept tidied = plain_tidied c keys turns was More out d kept tidied
+tidies_plain c keys turns was Full out d kept tidied = plain_tidied c keys turns was Full out d kept tidied
+tidies_plain c keys turns was Busy out d kept (may, vain, unwritten) = plain_gave_way c.seat.view keys.low 4 d.seat.view vain.gave
+tidies_plain c keys turns was BadArgument out d kept (bad, left, unwritten) = plain_same c d left.same
+tidies_plain c keys turns was NoMemory out d kept (may, left, unwritten) = plain_same c d left.same
+tidies_plain c keys turns was Spent out d kept (good, spent, unwritten) = plain_same c d spent.same
+tidies_plain c keys turns was Lost out d kept (lost, unwritten) = absurd (let e : true ≡ false = sym lost.lost ∙ kept in cc)
+tidies_plain c keys turns was Holds out d kept (stays, unwritten) = plain_same c d stays.same
+tidies_plain c keys turns was _ out d kept (none, unwritten) = absurd none

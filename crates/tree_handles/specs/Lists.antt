@@ -10,14 +10,14 @@ use Rattle.prcu_marks.specs.Marks.{updates_of}
 use Rattle.exact_list.specs.declared.alone.Exact.{Exact}
 use Rattle.exact_list.specs.Loads.{HasListed, HoldsExactly, IsOneWalk, IsOneWayDown, IsNearest}
 use Rattle.exact_list.specs.declared.nearest.Nearest.{Nearest}
-use Rattle.exact_list.specs.Tries.{Paged, IsBetweenFronts}
+use Rattle.exact_list.specs.Tries.{Paged, HasGivenWay, IsBetweenFronts}
 use Rattle.exact_list.specs.Pairs.{had_at}
 use Rattle.exact_list.specs.Pairs as found
 use Rattle.tree_handles.specs.Callers.{CallerAt, IsSameCaller, MayGoOn}
 use Rattle.tree_handles.specs.Calls.{IsStoppedBy}
 use Rattle.tree_handles.specs.declared.lists.Pair.{Pair}
 use Rattle.tree_handles.specs.declared.status.Status.{Status}
-use Rattle.tree_handles.specs.declared.status.Status.TheVariants.{Done, Unchanged, More, BadArgument, NoMemory}
+use Rattle.tree_handles.specs.declared.status.Status.TheVariants.{Done, Unchanged, More, Busy, BadArgument, NoMemory}
 
 -- The caller looked in sections with this key, and what it found is so after so many updates: by one of at most four tries, each a section
 -- with looks at the front, or under the front, which it held for one more. All that it loaded under the front is this walk. It may go on,
@@ -28,6 +28,20 @@ pub record Looks (c : CallerAt) (key front : ℕ) (walk : List StepMade → Type
   pub after : MayGoOn d
   pub tickets : d.seat.view.allowance.tickets ≡ c.seat.view.allowance.tickets
   pub came : HasListed c.seat.view key front 4 walk d.seat.view
+
+-- The caller looked in four sections with this key, with updates in each, and then didn't get the front, under which it would have looked once
+-- more. So the call is to be made again. It may go on, and no ticket was taken.
+pub record LooksInVain (c : CallerAt) (key : ℕ) (d : CallerAt) : Type 0 where
+  pub index : IsSameCaller c d
+  pub before : MayGoOn c
+  pub after : MayGoOn d
+  pub tickets : d.seat.view.allowance.tickets ≡ c.seat.view.allowance.tickets
+  pub gave : HasGivenWay c.seat.view key 4 d.seat.view
+
+-- why a call that looks in sections with this key found nothing out
+abbrev pub IsPreventedBy : ℕ → Status → CallerAt → CallerAt → Type 0
+IsPreventedBy key Busy c d = LooksInVain c key d
+IsPreventedBy key status c d = IsStoppedBy status c d
 
 -- The caller listed these keys on the page.
 pub record Lists (c : CallerAt) (keys : Interval) (page : Paged) (exact : Exact) (d : CallerAt) : Type 0 where
@@ -76,6 +90,7 @@ ListsOut c keys was Done out d = (front : ℕ) × (page : Paged) × Lists c keys
     × IsWritten was page out × (out.next ≡ was.next)
 ListsOut c keys was More out d = (front : ℕ) × (page : Paged) × Lists c keys page (record { front = front; next = Some out.next }) d
     × IsWritten was page out
+ListsOut c keys was Busy out d = IsGoodList keys (length was.pairs) × LooksInVain c keys.low d × IsUnwritten was out
 ListsOut c keys was BadArgument out d = IsBadList keys (length was.pairs) × IsLeft c d × IsUnwritten was out
 ListsOut c keys was NoMemory out d = IsGoodList keys (length was.pairs) × IsLeft c d × IsUnwritten was out
 ListsOut c keys was status out d = IsStoppedBy status c d × IsUnwritten was out
@@ -108,7 +123,7 @@ pub record FindsNoneIn (c : CallerAt) (side : Side) (keys : Interval) (d : Calle
 abbrev pub Finds : CallerAt → Side → Interval → found.Pair → Status → found.Pair → CallerAt → Type 0
 Finds c side keys was Done out d = FindsPairIn c side keys out d
 Finds c side keys was Unchanged out d = FindsNoneIn c side keys d × (out ≡ was)
-Finds c side keys was status out d = IsStoppedBy status c d × (out ≡ was)
+Finds c side keys was status out d = IsPreventedBy (end_of side keys) status c d × (out ≡ was)
 
 -- What a first answers, of the keys from this one on.
 abbrev pub Firsts : CallerAt → ℕ → found.Pair → Status → found.Pair → CallerAt → Type 0

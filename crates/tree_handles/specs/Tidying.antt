@@ -18,9 +18,9 @@ use Rattle.exact_list.specs.Tries.{Paged}
 use Rattle.exact_list.specs.Pairs.{Pair, IsAt}
 use Rattle.tree_handles.specs.Callers.{CallerAt, IsSameCaller, IsFilled, MayGoOn}
 use Rattle.tree_handles.specs.Calls.{IsLost, IsSpent, IsStoppedBy}
-use Rattle.tree_handles.specs.Lists.{Lists, IsLeft}
+use Rattle.tree_handles.specs.Lists.{Lists, LooksInVain, IsLeft}
 use Rattle.tree_handles.specs.declared.status.Status.{Status}
-use Rattle.tree_handles.specs.declared.status.Status.TheVariants.{Done, Full, More, BadArgument, NoMemory, Spent, Lost}
+use Rattle.tree_handles.specs.declared.status.Status.TheVariants.{Done, Full, More, Busy, BadArgument, NoMemory, Spent, Lost}
 use Rattle.tree_handles.specs.declared.tidying.Tally.{Tally}
 use Rattle.tree_handles.specs.declared.tidying.Ending.{Ending}
 use Rattle.tree_handles.specs.declared.tidying.Ending.TheVariants as ending
@@ -170,17 +170,18 @@ pub record LeavesNoUpdates (v w : View) : Type 0 where
   pub advanced : HasAdvanced v w marks
   pub each : AllByRecursion (IsOfTidy v.allowance.place) marks
 
--- A tidy makes no update, whatever it answers, and so no pair changes by it.
-abbrev pub TidiesMakeNoUpdate : Type 0
-TidiesMakeNoUpdate = (c : CallerAt) (keys : Interval) (turns was : ℕ) (status : Status) (out : Output) (d : CallerAt)
-    → d.lost ≡ false → HasTidied c keys turns was status out d → LeavesNoUpdates c.seat.view d.seat.view
-
 -- What a tidy answers.
 abbrev pub Tidies : CallerAt → Interval → ℕ → ℕ → Status → Output → CallerAt → Type 0
 Tidies c keys turns was Done out d = HasTidied c keys turns was Done out d
 Tidies c keys turns was More out d = HasTidied c keys turns was More out d
 Tidies c keys turns was Full out d = HasTidied c keys turns was Full out d
+Tidies c keys turns was Busy out d = MayTidy c keys turns × LooksInVain c keys.low d × IsUnwritten was out
 Tidies c keys turns was BadArgument out d = IsBadTidy keys turns × IsLeft c d × IsUnwritten was out
 Tidies c keys turns was NoMemory out d = MayTidy c keys turns × IsLeft c d × IsUnwritten was out
 Tidies c keys turns was Spent out d = IsGoodTidy keys turns × IsSpent 4 c d × IsUnwritten was out
 Tidies c keys turns was status out d = IsStoppedBy status c d × IsUnwritten was out
+
+-- A tidy makes no update, whatever it answers, and so no pair changes by it.
+abbrev pub TidiesMakeNoUpdate : Type 0
+TidiesMakeNoUpdate = (c : CallerAt) (keys : Interval) (turns was : ℕ) (status : Status) (out : Output) (d : CallerAt)
+    → d.lost ≡ false → Tidies c keys turns was status out d → LeavesNoUpdates c.seat.view d.seat.view

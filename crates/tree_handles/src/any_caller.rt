@@ -6,7 +6,7 @@ ghost use Rattle.tree_handles.specs.Holds.{HasStarted, Polls, HasHeld, HasOutwai
 ghost use Rattle.tree_handles.specs.Callers.{MayGoOn, IsFresh, IsShared, IsReopened};
 ghost use Rattle.tree_handles.specs.Calls.{IsCalled, IsCompared, IsLost, IsRemoved, IsWaitFree, CausedBy, IsHinderedBy, IsStoppedBy};
 ghost use Rattle.tree_handles.specs.Lanes.{HasLanes};
-ghost use Rattle.tree_handles.specs.Lists.{Lists, Seeks};
+ghost use Rattle.tree_handles.specs.Lists.{IsPreventedBy, Lists, Seeks};
 ghost use Rattle.tree_handles.specs.Opening.{FailsToReopen, HasStats, most_pairs};
 ghost use Rattle.tree_handles.specs.Tidying.{GivesBack, HasNoneBack, LiftsWay};
 
@@ -191,11 +191,12 @@ impl AnyCaller {
         }
     }
 
-    /// Lists the pairs with these keys on the page, as they were at one moment of the call. It takes no ticket.
+    /// Lists the pairs with these keys on the page, as they were at one moment of the call. It takes no ticket. Where others have the front that
+    /// it takes it spins, or is busy.
     pub(crate) fn list(&mut self, keys: Keys, page: &mut Page) -> Result<Exact, Status>
         ensures capacity { IfOk result (λ _. page.new.capacity ≡ page.old.capacity) }
         ensures listed { IfOk result (λ exact. Lists self.old keys page.new exact self.new) }
-        ensures cause { IfErr result (λ status. IsStoppedBy status self.old self.new) }
+        ensures cause { IfErr result (λ status. IsPreventedBy keys.low status self.old self.new) }
     {
         match &mut self.caller {
             ByWaiter::Eer(caller) => caller.list(keys, page),
@@ -204,10 +205,11 @@ impl AnyCaller {
         }
     }
 
-    /// Finds the pair at this key, or the nearest one on that side of it, as it was at one moment of the call. It takes no ticket.
+    /// Finds the pair at this key, or the nearest one on that side of it, as it was at one moment of the call. It takes no ticket. Where others
+    /// have the front that it takes it spins, or is busy.
     pub(crate) fn nearest(&mut self, side: Side, from: u64) -> Result<Nearest, Status>
         ensures found { IfOk result (λ nearest. Seeks self.old side from nearest self.new) }
-        ensures cause { IfErr result (λ status. IsStoppedBy status self.old self.new) }
+        ensures cause { IfErr result (λ status. IsPreventedBy from status self.old self.new) }
     {
         match &mut self.caller {
             ByWaiter::Eer(caller) => caller.nearest(side, from),

@@ -11,7 +11,7 @@ ghost use Rattle.tree_handles.specs.Callers.{IsSameCaller, MayGoOn, IsFresh, IsS
 ghost use Rattle.tree_handles.specs.Opening.{FailsToReopen, HasStats, most_pairs};
 ghost use Rattle.tree_handles.specs.Calls.{ComesBehind, IsCalled, IsCompared, IsLost, IsRemoved, IsWaitFree, CausedBy, IsHinderedBy, IsStoppedBy};
 ghost use Rattle.tree_handles.specs.Lanes.{HasLanes};
-ghost use Rattle.tree_handles.specs.Lists.{Lists, Seeks};
+ghost use Rattle.tree_handles.specs.Lists.{IsPreventedBy, Lists, Seeks};
 ghost use Rattle.tree_handles.specs.Tidying.{GivesBack, HasNoneBack, LiftsWay};
 
 use crate::lane_seats::LaneSeats;
@@ -385,18 +385,20 @@ impl<W: WaitPart> Caller<W> {
         }
     }
 
-    /// Lists the pairs with these keys on the page, as they were at one moment of the call. It takes no ticket.
+    /// Lists the pairs with these keys on the page, as they were at one moment of the call. It takes no ticket. Where others have the front that
+    /// it takes it spins, or is busy.
     pub(crate) fn list(&mut self, keys: Keys, page: &mut Page) -> Result<Exact, Status>
         ensures capacity { IfOk result (λ _. page.new.capacity ≡ page.old.capacity) }
         ensures listed { IfOk result (λ exact. Lists self.old keys page.new exact self.new) }
-        ensures cause { IfErr result (λ status. IsStoppedBy status self.old self.new) }
+        ensures cause { IfErr result (λ status. IsPreventedBy keys.low status self.old self.new) }
     {
         if let Some(status) = self.stopped() {
             return Err(status);
         }
         let table = self.shared.table();
         match list_always(&Spinning, table, &mut self.seat, keys, page, TRIES) {
-            Ok(exact) => Ok(exact),
+            Ok(Ok(exact)) => Ok(exact),
+            Ok(Err(InTheWay)) => Err(Status::Busy),
             Err(GaveUp) => {
                 self.lost = true;
                 Err(Status::Lost)
@@ -404,17 +406,19 @@ impl<W: WaitPart> Caller<W> {
         }
     }
 
-    /// Finds the pair at this key, or the nearest one on that side of it, as it was at one moment of the call. It takes no ticket.
+    /// Finds the pair at this key, or the nearest one on that side of it, as it was at one moment of the call. It takes no ticket. Where others
+    /// have the front that it takes it spins, or is busy.
     pub(crate) fn nearest(&mut self, side: Side, from: u64) -> Result<Nearest, Status>
         ensures found { IfOk result (λ nearest. Seeks self.old side from nearest self.new) }
-        ensures cause { IfErr result (λ status. IsStoppedBy status self.old self.new) }
+        ensures cause { IfErr result (λ status. IsPreventedBy from status self.old self.new) }
     {
         if let Some(status) = self.stopped() {
             return Err(status);
         }
         let table = self.shared.table();
         match nearest_always(&Spinning, table, &mut self.seat, side, from, TRIES) {
-            Ok(nearest) => Ok(nearest),
+            Ok(Ok(nearest)) => Ok(nearest),
+            Ok(Err(InTheWay)) => Err(Status::Busy),
             Err(GaveUp) => {
                 self.lost = true;
                 Err(Status::Lost)

@@ -217,11 +217,11 @@ impl Handle {
     /// Lists the pairs with keys from `low` to `high`, both among them, as they were at one moment of the call: keys ascending, as many as
     /// there is room for (1 to 1,048,576).
     ///
-    /// It always comes: where others make updates in each of 4 tries, their updates wait while it lists once more.
+    /// Where others make updates in each of 4 tries, their updates wait while it lists once more.
     ///
-    /// `Done`; `More` where there are more, and then `next` is the key after those listed; `Closed`; `Lost`; `Holds`; `BadArgument` where
-    /// `low` is above `high` or the room is out of range; `NoMemory`. `count` is always written, and is 0 but at `Done` and `More`; the
-    /// pairs only at these, `next` only at `More`.
+    /// `Done`; `More` where there are more, and then `next` is the key after those listed; `Busy` where others' updates, or another list, were
+    /// in its way after these tries, and it is to be made again; `Closed`; `Lost`; `Holds`; `BadArgument` where `low` is above `high` or the room
+    /// is out of range; `NoMemory`. `count` is always written, and is 0 but at `Done` and `More`; the pairs only at these, `next` only at `More`.
     pub fn list(
         &mut self,
         alloc: Global,
@@ -245,9 +245,9 @@ impl Handle {
         status
     }
 
-    /// Tells the pair with the least key at or above `low`, as it was at one moment of the call. It always comes, as [`Handle::list`].
+    /// Tells the pair with the least key at or above `low`, as it was at one moment of the call. It comes as [`Handle::list`] does.
     ///
-    /// `Done`; `Unchanged` where there is none; `Closed`; `Lost`; `Holds`. Only at `Done` the pair is written.
+    /// `Done`; `Unchanged` where there is none; `Busy` as of a list; `Closed`; `Lost`; `Holds`. Only at `Done` the pair is written.
     pub fn first(&mut self, alloc: Global, low: u64, key: &mut u64, value: &mut u64) -> Status
         ensures found { Makes (λ c d. Firsts c low (key.old, value.old) result (key.new, value.new) d)
             self.old.held result self.new.held }
@@ -261,10 +261,11 @@ impl Handle {
         status
     }
 
-    /// Tells the pair with the greatest key from `low` to `high`, both among them, as it was at one moment of the call. It always comes, as
-    /// [`Handle::list`].
+    /// Tells the pair with the greatest key from `low` to `high`, both among them, as it was at one moment of the call. It comes as
+    /// [`Handle::list`] does.
     ///
-    /// `Done`; `Unchanged` where there is none, as where `low` is above `high`; `Closed`; `Lost`; `Holds`. Only at `Done` the pair is written.
+    /// `Done`; `Unchanged` where there is none, as where `low` is above `high`; `Busy` as of a list; `Closed`; `Lost`; `Holds`. Only at `Done`
+    /// the pair is written.
     pub fn last(
         &mut self,
         alloc: Global,
@@ -388,9 +389,9 @@ impl Handle {
     /// tried and for each key, and waits for all readers where the handle keeps back 63 slots, two for each turn.
     ///
     /// `Done` where no way to a key of the range needs a turn any more; `More` where turns or tickets are short, or there are more keys, and
-    /// `Full` where no slot is free for a turn: then `next` is the key to go on with; `Closed`; `Holds`; `BadArgument` where `low` is above
-    /// `high` or `turns` is 0; `NoMemory`; `Spent`; `Lost`. `made` is always written, and is 0 but at `Done`, `More` and `Full`, where it is
-    /// how many turns were made; `next` only at `More` and `Full`.
+    /// `Full` where no slot is free for a turn: then `next` is the key to go on with; `Busy` as of a list, and then no turn was tried; `Closed`;
+    /// `Holds`; `BadArgument` where `low` is above `high` or `turns` is 0; `NoMemory`; `Spent`; `Lost`. `made` is always written, and is 0 but at
+    /// `Done`, `More` and `Full`, where it is how many turns were made; `next` only at `More` and `Full`.
     pub fn tidy(
         &mut self,
         alloc: Global,

@@ -10,8 +10,8 @@ pub fn calls_meet_fronts()
     ensures { CallsMeetFronts }
 {}
 
-/// A tidy whose handle isn't lost leaves of its place no marks but those of sections entered and left and of waits for everybody: it makes no
-/// update, and no pair changes by it.
+/// A tidy whose handle isn't lost, whatever it answers, leaves of its place no marks but those of sections entered and left and of waits for
+/// everybody: it makes no update, and no pair changes by it.
 pub fn tidies_make_no_update()
     ensures { TidiesMakeNoUpdate }
 {}

@@ -132,7 +132,7 @@ extern "C" {
     pub(crate) fn citrus_compare_once(handle: *mut RawHandle, key: u64, expected: u64, value: u64, found: *mut u64) -> i32;
     pub(crate) fn citrus_upsert_once(handle: *mut RawHandle, key: u64, value: u64, old: *mut u64) -> i32;
     pub(crate) fn citrus_remove_once(handle: *mut RawHandle, key: u64, old: *mut u64) -> i32;
-    pub(crate) fn citrus_list(
+    pub(crate) fn citrus_list_once(
         handle: *mut RawHandle,
         low: u64,
         high: u64,
@@ -141,14 +141,14 @@ extern "C" {
         count: *mut usize,
         next: *mut u64,
     ) -> i32;
-    pub(crate) fn citrus_first(handle: *mut RawHandle, low: u64, key: *mut u64, value: *mut u64) -> i32;
-    pub(crate) fn citrus_last(handle: *mut RawHandle, low: u64, high: u64, key: *mut u64, value: *mut u64) -> i32;
+    pub(crate) fn citrus_first_once(handle: *mut RawHandle, low: u64, key: *mut u64, value: *mut u64) -> i32;
+    pub(crate) fn citrus_last_once(handle: *mut RawHandle, low: u64, high: u64, key: *mut u64, value: *mut u64) -> i32;
     pub(crate) fn citrus_hold(handle: *mut RawHandle, key: u64, value: *mut u64) -> i32;
     pub(crate) fn citrus_enter(handle: *mut RawHandle, key: u64) -> i32;
     pub(crate) fn citrus_release(handle: *mut RawHandle) -> i32;
     pub(crate) fn citrus_begin(handle: *mut RawHandle, low: u64, high: u64, cookie: *mut u64) -> i32;
     pub(crate) fn citrus_poll(handle: *mut RawHandle, cookie: u64) -> i32;
-    pub(crate) fn citrus_tidy(handle: *mut RawHandle, low: u64, high: u64, turns: u32, made: *mut u32, next: *mut u64) -> i32;
+    pub(crate) fn citrus_tidy_once(handle: *mut RawHandle, low: u64, high: u64, turns: u32, made: *mut u32, next: *mut u64) -> i32;
     pub(crate) fn citrus_open_lanes(handle: *mut RawHandle, lanes: *mut RawLanes, count: u32) -> i32;
     pub(crate) fn citrus_get_many(lanes: *mut RawLanes, keys: *const u64, count: usize, answers: *mut RawAnswer, room: usize) -> i32;
     pub(crate) fn citrus_close_lanes(lanes: *mut RawLanes);

@@ -144,7 +144,7 @@ impl Handle {
     pub fn first_from(&self, low: u64) -> Result<Option<(u64, u64)>, Error> {
         let (mut key, mut value) = (0, 0);
         // SAFETY: as in `get`.
-        match self.call(|raw| unsafe { citrus_first(raw, low, &mut key, &mut value) }) {
+        match self.call_again(|raw| unsafe { citrus_first_once(raw, low, &mut key, &mut value) }) {
             status::DONE => Ok(Some((key, value))),
             status::UNCHANGED => Ok(None),
             status => Err(self.error(status)),
@@ -167,7 +167,7 @@ impl Handle {
     pub fn last_to(&self, high: u64) -> Result<Option<(u64, u64)>, Error> {
         let (mut key, mut value) = (0, 0);
         // SAFETY: as in `get`.
-        match self.call(|raw| unsafe { citrus_last(raw, 0, high, &mut key, &mut value) }) {
+        match self.call_again(|raw| unsafe { citrus_last_once(raw, 0, high, &mut key, &mut value) }) {
             status::DONE => Ok(Some((key, value))),
             status::UNCHANGED => Ok(None),
             status => Err(self.error(status)),
@@ -319,7 +319,7 @@ impl Handle {
         pairs.try_reserve_exact(room).map_err(|_| Error::NoMemory)?;
         let (mut count, mut next) = (0, 0);
         // SAFETY: as in `get`; there is room for so many pairs at `pairs`, and a `RawPair` is laid out as in C.
-        let status = self.call(|raw| unsafe { citrus_list(raw, low, high, pairs.as_mut_ptr(), room, &mut count, &mut next) });
+        let status = self.call_again(|raw| unsafe { citrus_list_once(raw, low, high, pairs.as_mut_ptr(), room, &mut count, &mut next) });
         let next = match status {
             status::DONE => None,
             status::MORE => Some(next),

@@ -159,7 +159,7 @@ impl Handle {
         };
         let (mut made, mut next) = (0, 0);
         // SAFETY: as in `get`.
-        match self.call_in_turn(|raw| unsafe { citrus_tidy(raw, low, high, turns.max(1), &mut made, &mut next) })? {
+        match self.call_in_turn(|raw| unsafe { citrus_tidy_once(raw, low, high, turns.max(1), &mut made, &mut next) })? {
             status::DONE => Ok(Tidied { made, next: None }),
             status::MORE => Ok(Tidied { made, next: Some(next) }),
             status => Err(self.error(status)),

@@ -1,5 +1,5 @@
 use Rattle.std.proofs.Common.{inl, inr, subst, ◌∙◌}
-use Rattle.std.proofs.lemmas.Result.{IfOk-weaker}
+use Rattle.std.proofs.lemmas.Result.{IfErr-weaker, IfOk-weaker}
 use Rattle.exact_list.specs.Tries.{EndAs, Holds, IsRecent}
 use Rattle.exact_list.specs.declared.listing.Listed.TheVariants.{Whole}
 use Rattle.exact_list.proofs.Trying.{recent_later}
@@ -17,14 +17,27 @@ pub returns-in-Moved-clause-came : goal.returns-in-Moved-clause-came
 returns-in-Moved-clause-came g c =
     let t = c.in_ok-listed.ensures.tried in
     let ends = subst (λ r. EndAs r c.args.tries t.0) c.in-Moved.is t.2 in
-    IfOk-weaker c.list_alone.result _ _ (λ answer alone. inr (record {
+    IfOk-weaker c.list_alone.result _ _ (λ answer. IfOk-weaker answer _ _ (λ exact alone. inr (record {
       tries = t.0;
       failed = c.list.new.seat.view;
       tried = t.1;
       all = ends.0;
       moved = ends.1;
       alone = alone;
-    })) c.list_alone.ensures.alone
+    }))) c.list_alone.ensures.alone
+
+pub returns-in-Moved-clause-busy : goal.returns-in-Moved-clause-busy
+returns-in-Moved-clause-busy g c =
+    let t = c.in_ok-listed.ensures.tried in
+    let ends = subst (λ r. EndAs r c.args.tries t.0) c.in-Moved.is t.2 in
+    IfOk-weaker c.list_alone.result _ _ (λ answer. IfErr-weaker answer _ _ (λ _ lost. record {
+      tries = t.0;
+      failed = c.list.new.seat.view;
+      tried = t.1;
+      all = ends.0;
+      moved = ends.1;
+      lost = lost;
+    })) c.list_alone.ensures.busy
 
 pub returns-in-Whole-clause-holds : goal.returns-in-Whole-clause-holds
 returns-in-Whole-clause-holds g c = subst (λ r. Holds r c.args.keys c.list.new.seat.view.seen c.list.new.page) c.in-Whole.is
@@ -43,8 +56,8 @@ returns-in-Part-clause-recent g c = subst (λ r. IsRecent r c.args.seat.now.view
     c.in_ok-listed.ensures.recent
 
 pub returns-in-Moved-clause-recent : goal.returns-in-Moved-clause-recent
-returns-in-Moved-clause-recent g c = IfOk-weaker c.list_alone.result _ _ (λ answer recent. recent_later
-    (Whole answer.front) c.args.seat.now.view.seen c.list.new.seat.view.seen c.list_alone.new.seat.view.seen c.in_ok-listed.ensures.tried.1.seen recent)
+returns-in-Moved-clause-recent g c = IfOk-weaker c.list_alone.result _ _ (λ answer. IfOk-weaker answer _ _ (λ exact recent. recent_later
+    (Whole exact.front) c.args.seat.now.view.seen c.list.new.seat.view.seen c.list_alone.new.seat.view.seen c.in_ok-listed.ensures.tried.1.seen recent))
     c.list_alone.ensures.recent
 
 pub returns-in-Moved-clause-tickets : goal.returns-in-Moved-clause-tickets

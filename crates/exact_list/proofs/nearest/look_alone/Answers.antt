@@ -1,4 +1,5 @@
 use Rattle.std.proofs.Common.{rules, [], ◌∷◌, refl, ap, ◌∙◌, arith}
+use Rattle.std.proofs.lemmas.Result.{IfErr-at_err, IfOk-at_ok}
 use Rattle.core_state.specs.declared.view.View.{View}
 use Rattle.seat_table.specs.Seats.{shape_of}
 use Rattle.seat_table.proofs.SeveralSteps.{told_steps, makes_steps}
@@ -8,10 +9,10 @@ use Rattle.exact_list.proofs.Trying.{first_try, loaded_try, may_look, begun_list
 use Rattle.exact_list.proofs.nearest.look_alone.Goals as goal
 
 pub enter-requires-clause-outside : goal.enter-requires-clause-outside
-enter-requires-clause-outside g c = ap (λ (v : View). v.section) c.in_ok-front.ensures.taken.others ∙ c.requires.quiet.view.section
+enter-requires-clause-outside g c = ap (λ (v : View). v.section) (IfOk-at_ok _ c.in-Ok.is c.in_ok-front.ensures.taken).others ∙ c.requires.quiet.view.section
 
 pub enter-requires-clause-unlocked : goal.enter-requires-clause-unlocked
-enter-requires-clause-unlocked g c = ap (λ (v : View). v.locks) c.in_ok-front.ensures.taken.others ∙ c.requires.quiet.view.locks
+enter-requires-clause-unlocked g c = ap (λ (v : View). v.locks) (IfOk-at_ok _ c.in-Ok.is c.in_ok-front.ensures.taken).others ∙ c.requires.quiet.view.locks
 
 pub seek_pair-sought-requires-clause-listing : goal.seek_pair-sought-requires-clause-listing
 seek_pair-sought-requires-clause-listing g c =
@@ -35,10 +36,16 @@ look_at_front-requires-2-clause-asks g c = λ told.
 
 pub give_front_back-requires-clause-asks : goal.give_front_back-requires-clause-asks
 give_front_back-requires-clause-asks g c =
-    may_give (lists_holding c.requires.quiet.view.section c.in_ok-front.ensures.taken refl c.enter.ensures.entered
+    may_give (lists_holding c.requires.quiet.view.section (IfOk-at_ok _ c.in-Ok.is c.in_ok-front.ensures.taken) refl c.enter.ensures.entered
     c.look_at_front.ensures.told
     (loaded_anyway _ c.seek_pair-sought.result c.seek_pair-sought.ensures.found c.seek_pair-sought.ensures.left_off)
     c.look_at_front-2.ensures.told c.leave.ensures.left)
+
+pub returns-in-Err-clause-quiet : goal.returns-in-Err-clause-quiet
+returns-in-Err-clause-quiet g c = quiet_lost (IfErr-at_err _ c.in-Err.is c.in_ok-front.ensures.busy) c.take_front.ensures.seat.1 c.requires.quiet
+
+pub returns-in-Err-clause-tickets : goal.returns-in-Err-clause-tickets
+returns-in-Err-clause-tickets g c = ap (λ (v : View). v.allowance.tickets) (IfErr-at_err _ c.in-Err.is c.in_ok-front.ensures.busy).others
 
 pub returns-in_err-front-clause-quiet : goal.returns-in_err-front-clause-quiet
 returns-in_err-front-clause-quiet g c = quiet_lost c.in_err-front.ensures.lost c.take_front.ensures.seat.1 c.requires.quiet
@@ -48,13 +55,13 @@ returns-in_err-front-clause-tickets g c = ap (λ (v : View). v.allowance.tickets
 
 pub returns-in_err-pair-clause-quiet : goal.returns-in_err-pair-clause-quiet
 returns-in_err-pair-clause-quiet g c =
-    let x = lists_holding c.requires.quiet.view.section c.in_ok-front.ensures.taken refl c.enter.ensures.entered
+    let x = lists_holding c.requires.quiet.view.section (IfOk-at_ok _ c.in-Ok.is c.in_ok-front.ensures.taken) refl c.enter.ensures.entered
     c.look_at_front.ensures.told c.in_err-pair.ensures.left_off c.look_at_front-2.ensures.told c.leave.ensures.left in
     quiet_alone (alone x refl c.give_front_back.new.seat.view c.give_front_back.ensures.told (any_walk c.in_err-pair.ensures.left_off)) (search rules) c.requires.quiet
 
 pub returns-in_err-pair-clause-tickets : goal.returns-in_err-pair-clause-tickets
 returns-in_err-pair-clause-tickets g c =
-    let x = lists_holding c.requires.quiet.view.section c.in_ok-front.ensures.taken refl c.enter.ensures.entered
+    let x = lists_holding c.requires.quiet.view.section (IfOk-at_ok _ c.in-Ok.is c.in_ok-front.ensures.taken) refl c.enter.ensures.entered
     c.look_at_front.ensures.told c.in_err-pair.ensures.left_off c.look_at_front-2.ensures.told c.leave.ensures.left in
     alone_tickets (alone x refl c.give_front_back.new.seat.view c.give_front_back.ensures.told (any_walk c.in_err-pair.ensures.left_off))
 
@@ -68,31 +75,31 @@ returns-in_err-pair-clause-tired g c =
 
 pub returns-clause-quiet : goal.returns-clause-quiet
 returns-clause-quiet g c =
-    let x = lists_holding c.requires.quiet.view.section c.in_ok-front.ensures.taken refl c.enter.ensures.entered
+    let x = lists_holding c.requires.quiet.view.section (IfOk-at_ok _ c.in-Ok.is c.in_ok-front.ensures.taken) refl c.enter.ensures.entered
     c.look_at_front.ensures.told c.in_ok-pair.ensures.found.0 c.look_at_front-2.ensures.told c.leave.ensures.left in
     quiet_alone (alone x c.front_of.ensures c.give_front_back.new.seat.view c.give_front_back.ensures.told c.in_ok-pair.ensures.walked) (search rules) c.requires.quiet
 
 pub returns-clause-tickets : goal.returns-clause-tickets
 returns-clause-tickets g c =
-    let x = lists_holding c.requires.quiet.view.section c.in_ok-front.ensures.taken refl c.enter.ensures.entered
+    let x = lists_holding c.requires.quiet.view.section (IfOk-at_ok _ c.in-Ok.is c.in_ok-front.ensures.taken) refl c.enter.ensures.entered
     c.look_at_front.ensures.told c.in_ok-pair.ensures.found.0 c.look_at_front-2.ensures.told c.leave.ensures.left in
     alone_tickets (alone x c.front_of.ensures c.give_front_back.new.seat.view c.give_front_back.ensures.told c.in_ok-pair.ensures.walked)
 
 pub returns-clause-alone : goal.returns-clause-alone
 returns-clause-alone g c =
-    let x = lists_holding c.requires.quiet.view.section c.in_ok-front.ensures.taken refl c.enter.ensures.entered
+    let x = lists_holding c.requires.quiet.view.section (IfOk-at_ok _ c.in-Ok.is c.in_ok-front.ensures.taken) refl c.enter.ensures.entered
     c.look_at_front.ensures.told c.in_ok-pair.ensures.found.0 c.look_at_front-2.ensures.told c.leave.ensures.left in
     alone x c.front_of.ensures c.give_front_back.new.seat.view c.give_front_back.ensures.told c.in_ok-pair.ensures.walked
 
 pub returns-clause-holds : goal.returns-clause-holds
 returns-clause-holds g c =
-    let x = lists_holding c.requires.quiet.view.section c.in_ok-front.ensures.taken refl c.enter.ensures.entered
+    let x = lists_holding c.requires.quiet.view.section (IfOk-at_ok _ c.in-Ok.is c.in_ok-front.ensures.taken) refl c.enter.ensures.entered
     c.look_at_front.ensures.told c.in_ok-pair.ensures.found.0 c.look_at_front-2.ensures.told c.leave.ensures.left in
     alone_nearest x c.front_of.ensures c.give_front_back.new.seat.view c.give_front_back.ensures.told c.args.side c.args.from
     c.in_ok-pair.pair c.in_ok-pair.ensures.found.1
 
 pub returns-clause-recent : goal.returns-clause-recent
 returns-clause-recent g c =
-    let x = lists_holding c.requires.quiet.view.section c.in_ok-front.ensures.taken refl c.enter.ensures.entered
+    let x = lists_holding c.requires.quiet.view.section (IfOk-at_ok _ c.in-Ok.is c.in_ok-front.ensures.taken) refl c.enter.ensures.entered
     c.look_at_front.ensures.told c.in_ok-pair.ensures.found.0 c.look_at_front-2.ensures.told c.leave.ensures.left in
     alone_recent x c.front_of.ensures c.give_front_back.new.seat.view c.give_front_back.ensures.told

@@ -1,9 +1,9 @@
 use Rattle.std.proofs.Common.{rules, [], ◌∷◌, ap, subst, ◌∙◌, arith}
-use Rattle.std.proofs.lemmas.Result.{IfOk-weaker}
+use Rattle.std.proofs.lemmas.Result.{IfErr-weaker, IfOk-weaker}
 use Rattle.core_state.specs.declared.view.View.{View}
 use Rattle.exact_list.specs.Loads.{IsTold}
 use Rattle.exact_list.specs.declared.listing.Listed.TheVariants.{Whole}
-use Rattle.exact_list.proofs.Trying.{fails_none, fails_again, comes_by_try, comes_alone, recent_later, quiet_tried}
+use Rattle.exact_list.proofs.Trying.{fails_none, fails_again, comes_by_try, comes_alone, gives_way, recent_later, quiet_tried}
 use Rattle.exact_list.proofs.nearest.nearest_always.Goals as goal
 
 pub loop-tried-init : goal.loop-tried-init
@@ -78,10 +78,18 @@ returns-clause-tickets g c = c.look_alone.ensures.tickets
 pub returns-clause-came : goal.returns-clause-came
 returns-clause-came g c =
     let few = c.loop-tried.invariant.few in
-    IfOk-weaker c.look_alone.result _ _ (λ answer alone. comes_alone c.loop-tried.invariant.failed (omega (arith, few, c.loop-tried-test.false)) alone)
+    IfOk-weaker c.look_alone.result _ _ (λ answer. IfOk-weaker answer _ _
+    (λ nearest alone. comes_alone c.loop-tried.invariant.failed (omega (arith, few, c.loop-tried-test.false)) alone))
     c.look_alone.ensures.alone
 
+pub returns-clause-busy : goal.returns-clause-busy
+returns-clause-busy g c =
+    let few = c.loop-tried.invariant.few in
+    IfOk-weaker c.look_alone.result _ _ (λ answer. IfErr-weaker answer _ _
+    (λ _ lost. gives_way c.loop-tried.invariant.failed (omega (arith, few, c.loop-tried-test.false)) lost))
+    c.look_alone.ensures.busy
+
 pub returns-clause-recent : goal.returns-clause-recent
-returns-clause-recent g c = IfOk-weaker c.look_alone.result _ _ (λ answer recent. recent_later
-    (Whole answer.front) c.args.seat.now.view.seen c.loop-tried.seat.view.seen c.look_alone.new.seat.view.seen
-    c.loop-tried.invariant.failed.tried.seen recent) c.look_alone.ensures.recent
+returns-clause-recent g c = IfOk-weaker c.look_alone.result _ _ (λ answer. IfOk-weaker answer _ _ (λ nearest recent. recent_later
+    (Whole nearest.front) c.args.seat.now.view.seen c.loop-tried.seat.view.seen c.look_alone.new.seat.view.seen
+    c.loop-tried.invariant.failed.tried.seen recent)) c.look_alone.ensures.recent
