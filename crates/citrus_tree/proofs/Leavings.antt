@@ -16,9 +16,10 @@ use Rattle.core_frames.proofs.Roles.{works_there}
 use Rattle.core_state.specs.declared.act.Part.{Part}
 use Rattle.seat_table.specs.Gains.{Sees, Told, IsAsked}
 use Rattle.seat_table.specs.Sections.{Makes, HasStepped}
-use Rattle.tree_points.specs.Points.{HasAdvanced, IsAt, KeepsAllowance}
-use Rattle.tree_points.proofs.Locks.{allowed, further_by, advanced_none, advanced_on, advanced_stays, advanced_same, stays, further, no_further, allowed_on}
-use Rattle.citrus_tree.specs.Going.{Goes, Opened, Closed, KeepsSlots, retired_marks, HasBegunFirst, HasBegunNone, KeepsWait, MakesRoom, Reused, KeepsSeat}
+use Rattle.core_state.specs.declared.view.HeldLock.{HeldLock}
+use Rattle.tree_points.specs.Points.{HasAdvanced, HasLocks, IsAt, KeepsAllowance}
+use Rattle.tree_points.proofs.Locks.{allowed, locks_from, further_by, advanced_none, advanced_on, advanced_stays, advanced_same, stays, further, no_further, allowed_on}
+use Rattle.citrus_tree.specs.Going.{Goes, LosesFront, Opened, Closed, KeepsSlots, retired_marks, HasBegunFirst, HasBegunNone, KeepsWait, MakesRoom, Reused, KeepsSeat}
 use Rattle.citrus_tree.specs.Lookups.{Looked, IsSearching}
 use Rattle.citrus_tree.specs.Replies.{WasAnswered}
 use Rattle.prcu_model.specs.declared.operation.Op.{Op}
@@ -97,6 +98,13 @@ goes_opened e = with_rest (advanced_none e.steps (allowed e.rest refl) (ap (λ (
 pub goes_closed : {v w : View} → Closed v w → Goes v w []
 goes_closed e = with_rest (advanced_none e.steps (allowed e.rest refl) (ap (λ (z : View). z.seen) e.rest)) _ e.rest
     (record { retired = refl; wait = refl; waits = refl })
+
+pub goes_lost : {v w : View} → LosesFront v w → Goes v w []
+goes_lost e = with_rest (advanced_none e.steps (allowed e.rest refl) (ap (λ (z : View). z.seen) e.rest)) _ e.rest
+    (record { retired = refl; wait = refl; waits = refl })
+
+pub locks_lost : {v w : View} {slots : List ℕ} → LosesFront v w → HasLocks slots v → HasLocks slots w
+locks_lost {v} {w} e = locks_from {v = v} {w = w} (ap (λ (z : View). map (λ (l : HeldLock). l.slot) z.locks) e.rest)
 
 -- A section with the key was entered after these marks and left after those, with no mark of its place in between.
 module _ (v w : View) (key : ℕ) (before until : List Mark)
@@ -187,15 +195,10 @@ answered_on {u} {v} {w} {key} {later = later} g a n none = record {
 
 -- The front made odd and even.
 
--- exchanges of the front were lost
-pub record Tried (v w : View) : Type 0 where
-  pub steps : IsPrefix v.trail.steps w.trail.steps
-  pub rest : w ≡ record v { latest = w.latest; trail = w.trail }
-
-pub tried_none : (v : View) → Tried v v
+pub tried_none : (v : View) → LosesFront v v
 tried_none v = record { steps = no_further v v refl; rest = refl }
 
-module _ (k : Shape) (v w : View) (t : Tried v w) where
+module _ (k : Shape) (v w : View) (t : LosesFront v w) where
   pub may_open : (expected : ℕ) → expected % 2 ≡ 0 → v.moving ≡ None → v.commit ≡ None → IsAsked k w (acts.OpenCommit expected)
   may_open expected even settled paid = λ now. (
     tt,
@@ -220,7 +223,7 @@ module _ (k : Shape) (v w : View) (t : Tried v w) where
           });
         }
 
-    pub tries : found ≢ expected → Tried v x
+    pub tries : found ≢ expected → LosesFront v x
     tries other =
         let u : View = noted w (acts.OpenCommit expected) found in
         let goes : x ≡ with_front u found =

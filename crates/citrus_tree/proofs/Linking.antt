@@ -4,7 +4,7 @@ use mathlib.Core.List.{IsPrefix}
 use Rattle.prcu_marks.specs.declared.mark.Mark.TheVariants.{Began, Ended, Done}
 use Rattle.prcu_marks.specs.Marks.{updates_of}
 use Rattle.prcu_model.specs.declared.operation.Op.{Op}
-use Rattle.prcu_model.specs.declared.operation.Op.TheVariants.{Put}
+use Rattle.prcu_model.specs.declared.operation.Op.TheVariants.{Put, Get, Del, Set}
 use Rattle.prcu_model.specs.Dictionary.{map_of}
 use Rattle.prcu_model.proofs.ListFacts.{prefix_trans}
 use Rattle.core_state.specs.declared.shape.Shape.{Shape}
@@ -19,7 +19,12 @@ use Rattle.prcu_marks.specs.declared.mark.Side.TheVariants.{Left, Right}
 use Rattle.core_state.specs.declared.act.Part.{Part}
 use Rattle.seat_table.specs.Seats.{AreListed, IsSlotOf, SeatAt}
 use Rattle.seat_table.specs.Gains.{IsAsked, Told}
-use Rattle.tree_points.proofs.Passing.{needs, passes, at_true, at_false, commits_any}
+use Rattle.core_points.proofs.Locks.{one_clear, one_owned}
+use Rattle.core_points.proofs.Notes.{fits, ready_put}
+use Rattle.core_points.specs.Facts.{is_put}
+use Rattle.core_points.specs.Fits.{owed_op}
+use Rattle.core_points.specs.Programs.{Own}
+use Rattle.tree_points.proofs.Passing.{moves_on, needs, passes, at_true, at_false, commits_any}
 use Rattle.tree_points.specs.Points.{IsAt, HasAdvanced, IsDone, HasLocks}
 use Rattle.tree_points.proofs.Locks.{advanced_on, advanced_stays, needs_leaf, passes_leaf, same_fill, keeps_hand, stays, passes_leaf_lock_free, passes_leaf_lock_busy, locks_leaf_tag, locks_store_leaf, needs_unlock, passes_unlock_again, passes_unlock_new, keeps_locks, locks_from, same_locked}
 use Rattle.tree_points.proofs.Waits.{reclaims_leaf}
@@ -28,9 +33,9 @@ use Rattle.node_slots.specs.Taking.{HasTaken, FoundNone, TriesInVain, exchange}
 use Rattle.node_slots.specs.Reclaiming.{HasReclaimed}
 use Rattle.node_slots.proofs.Returns.{listed_length, some_there}
 use Rattle.node_slots.proofs.Points.{back_ends, back_advanced, back_retired, gives_all, none_begins, none_advanced, none_is_full, none_retired_now, reclaim_advanced, reclaim_retired, taken_advanced, taken_retired}
-use Rattle.citrus_tree.specs.Going.{Goes, leaf_stage, NeededRoom, MakesRoom, Reused, old_stage, Opened, Closed, Links, held_stage}
+use Rattle.citrus_tree.specs.Going.{Goes, LosesFront, leaf_stage, NeededRoom, MakesRoom, Reused, old_stage, Opened, Closed, Links, held_stage}
 use Rattle.citrus_tree.specs.Replies.{IsFullNow}
-use Rattle.citrus_tree.proofs.Leavings.{first_later, first_stays, none_begun, reclaimed_first, goes_stays, goes_on, goes_lock, goes_load, goes_unlock, goes_opened, goes_closed}
+use Rattle.citrus_tree.proofs.Leavings.{first_later, first_stays, none_begun, reclaimed_first, goes_stays, goes_on, goes_lock, goes_load, goes_unlock, goes_opened, goes_closed, goes_lost, locks_lost}
 use Rattle.std.proofs.lemmas.Bool.{cases_eq}
 use Rattle.prcu_marks.specs.declared.commit.Commit.{Commit}
 use Rattle.prcu_marks.specs.declared.mark.Mark.{Mark}
@@ -307,6 +312,35 @@ pub unpaid_leaf : {k : Shape} {op : Op} {kept e : ℕ} {spot : Spot} {y : View} 
     → y.commit ≡ None
 unpaid_leaf a = (((a.fits.point).0).bare).turn_is
 
+-- a put with a slot in hand owes one ticket
+leaf_owed : (op : Op) (hand : Option ℕ) (retired : List ℕ) {slot : ℕ} → is_put op ≡ true → hand ≡ Some slot → owed_op op hand retired ≡ 1
+leaf_owed (Put key value) hand retired e some = ap (λ h. owed_op (Put key value) h retired) some
+leaf_owed (Get key) hand retired e some = cc
+leaf_owed (Del key) hand retired e some = cc
+leaf_owed (Set key value) hand retired e some = cc
+
+-- Others have the front. Before its update it may go on as where its record doesn't hold.
+pub gives_way : {k : Shape} {op : Op} {kept e : ℕ} {spot : Spot} {v w : View} → LosesFront v w
+    → IsAt k op kept (at.Commit (update.Leaf spot) e) v → IsAt k op kept (at.Unlock last.Again) w
+gives_way {k} {op} {kept} {e} {spot} {v} {w} lost a =
+    let p = (a.fits.point).0 in
+    let o : Own = a.own in
+    subst (λ z. IsAt k op kept (at.Unlock last.Again) z) (sym lost.rest) (moves_on a o refl
+    (fits a.fits.owns (a.fits.unraised refl)
+    (let t = a.fits.tickets in let one = leaf_owed o.op o.hand o.retired p.puts p.taken.1 in omega arith) (
+      record {
+        outside = p.outside;
+        no_turn = p.bare.turn_is;
+        settled = p.bare.settled;
+        unreserved = p.bare.reserved_is;
+        paid = p.bare.paid;
+        clear = one_clear o v spot.slot _ p.bare.locks_are;
+        some = one_owned o v spot.slot _ p.bare.locks_are a.fits.owns;
+      },
+      p.hand,
+      ready_put o.op o.hand o.spare o.retired p.puts,
+    )))
+
 hand_if : (z : Bool) (x y : View) (hand : Option Held) → x.hands.hand ≡ hand → y.hands.hand ≡ hand → (cond z x y).hands.hand ≡ hand
 hand_if true x y hand a b = a
 hand_if false x y hand a b = b
@@ -347,6 +381,22 @@ module _ {k : Shape} {key value kept : ℕ} {spot : Spot} {v : View} (a : IsAt k
 
           pub again_at : IsAt k (Put key value) kept at.EnterClock z
           again_at = passes_unlock_again held again third
+
+      -- others have the front
+      module _ {o : View} (lost : LosesFront y o) (held : HasLocks (spot.slot ∷ []) y)
+          (committing : IsAt k (Put key value) kept (at.Commit (update.Leaf spot) 0) y) where
+        unlocking : IsAt k (Put key value) kept (at.Unlock last.Again) o
+        unlocking = gives_way lost committing
+
+        pub gives_way_lock : IsAsked k o (acts.Unlock spot.slot)
+        gives_way_lock = needs_unlock (locks_lost lost held) unlocking
+
+        module _ {m : ℕ} {z : View} (third : Told k o (acts.Unlock spot.slot) m z) where
+          pub gave_way_goes : Goes v z []
+          gave_way_goes = goes_stays (goes_stays goes2 (goes_lost lost)) (goes_unlock third)
+
+          pub gave_way_at : IsAt k (Put key value) kept at.EnterClock z
+          gave_way_at = passes_unlock_again (locks_lost lost held) unlocking third
 
       goes3 : {front : ℕ} {o : View} → Opened y front o → Goes v o []
       goes3 odd = goes_stays goes2 (goes_opened odd)

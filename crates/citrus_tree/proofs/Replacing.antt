@@ -28,9 +28,9 @@ use Rattle.tree_points.proofs.Updates.{advanced_store_value, locks_replace, the_
 use Rattle.tree_points.proofs.Locks.{passes_set_lock_free, passes_set_lock_busy, locks_set_check, needs_unlock, passes_unlock_again, passes_unlock_was, locks_store_value, keeps_locks, locks_from, same_locked}
 use Rattle.citrus_tree.specs.declared.replace.Holder.{Holder}
 use Rattle.citrus_tree.specs.declared.replace.Replaced.{Replaced}
-use Rattle.citrus_tree.specs.Going.{Goes, Opened, Closed, Stores, MayBegin, Sought, set_stage, AreTries, IsOfTry, waits_in}
+use Rattle.citrus_tree.specs.Going.{Goes, LosesFront, Opened, Closed, Stores, MayBegin, Sought, set_stage, AreTries, IsOfTry, waits_in}
 use Rattle.citrus_tree.specs.Lookups.{Looked}
-use Rattle.citrus_tree.proofs.Leavings.{goes_on, goes_stays, goes_lock, goes_load, goes_unlock, goes_opened, goes_closed, MayHaveBegun, begins_later, begins_looked, none_begun, goes_looked, goes_same, was_answered, KeepsView}
+use Rattle.citrus_tree.proofs.Leavings.{goes_on, goes_stays, goes_lock, goes_load, goes_unlock, goes_opened, goes_closed, goes_lost, locks_lost, MayHaveBegun, begins_later, begins_looked, none_begun, goes_looked, goes_same, was_answered, KeepsView}
 use Rattle.std.specs.List.{AllByRecursion}
 use Rattle.prcu_marks.specs.Callers.{entered_for}
 use Rattle.prcu_model.specs.declared.operation.Reply.TheVariants.{Absent, Was}
@@ -47,15 +47,16 @@ use Rattle.core_state.specs.declared.act.Part.TheVariants as part
 
 -- Where a set's value isn't to be replaced, it gives its lock up.
 
--- Before its update it may go on as where the slot's life was another one.
-pub gives_up_value : {k : Shape} {op : Op} {kept e : ℕ} {v : View} {s old : ℕ} → IsAt k op kept (at.Commit (update.Value s old) e) v
-    → IsAt k op kept (at.Unlock last.Again) v
-gives_up_value {k} {op} {kept} {e} {v} {s} {old} a =
+-- Before its update, whether or not others have the front, it may go on as where the slot's life was another one.
+pub gives_up_value : {k : Shape} {op : Op} {kept e : ℕ} {v w : View} {s old : ℕ} → LosesFront v w
+    → IsAt k op kept (at.Commit (update.Value s old) e) v → IsAt k op kept (at.Unlock last.Again) w
+gives_up_value {k} {op} {kept} {e} {v} {w} {s} {old} lost a =
     let p = ((a.fits.point).0).1 in
     let q = p.quiet in
     let o : Own = a.own in
-    moves_on a o refl (fits a.fits.owns (a.fits.unraised refl) (let t = a.fits.tickets in let one = set_owed o p.sets in omega arith)
-    (one_again o v s _ p.locks_are q a.fits.owns (ready_set o.op o.hand o.spare o.retired p.sets q.no_hand)))
+    subst (λ z. IsAt k op kept (at.Unlock last.Again) z) (sym lost.rest) (moves_on a o refl
+    (fits a.fits.owns (a.fits.unraised refl) (let t = a.fits.tickets in let one = set_owed o p.sets in omega arith)
+    (one_again o v s _ p.locks_are q a.fits.owns (ready_set o.op o.hand o.spare o.retired p.sets q.no_hand))))
 
 -- A set's search, its record, and its store.
 
@@ -181,22 +182,23 @@ module _ {k : Shape} {key kept value s g : ℕ} {v : View} (a : IsAt k (Set key 
             pub committing : IsAt k (Set key value) kept (at.Commit (update.Value s old) 0) z
             committing = commits_any (passes valuing refl third) 0 refl
 
-            -- another value is asked for
-            giving_up : IsAt k (Set key value) kept (at.Unlock last.Again) z
-            giving_up = gives_up_value committing
-
             locked : HasLocks (s ∷ []) z
             locked = keeps_locks (same_locked third) (keeps_locks (same_locked second) (locks_set_check checking))
 
-            pub gives_way : IsAsked k z (acts.Unlock s)
-            gives_way = needs_unlock locked giving_up
+            -- another value is asked for, or others have the front
+            module _ {o : View} (lost : LosesFront z o) where
+              giving_up : IsAt k (Set key value) kept (at.Unlock last.Again) o
+              giving_up = gives_up_value lost committing
 
-            module _ {m : ℕ} {o : View} (fourth : Told k z (acts.Unlock s) m o) where
-              pub gave_way_goes : Goes v o []
-              gave_way_goes = goes_stays goes3 (goes_unlock fourth)
+              pub gives_way : IsAsked k o (acts.Unlock s)
+              gives_way = needs_unlock (locks_lost lost locked) giving_up
 
-              pub gave_way_at : IsAt k (Set key value) kept at.EnterClock o
-              gave_way_at = passes_unlock_again locked giving_up fourth
+              module _ {m : ℕ} {q : View} (fourth : Told k o (acts.Unlock s) m q) where
+                pub gave_way_goes : Goes v q []
+                gave_way_goes = goes_stays (goes_stays goes3 (goes_lost lost)) (goes_unlock fourth)
+
+                pub gave_way_at : IsAt k (Set key value) kept at.EnterClock q
+                gave_way_at = passes_unlock_again (locks_lost lost locked) giving_up fourth
 
             pub settled : z.moving ≡ None
             settled = (((committing.fits.point).0).1).quiet.settled

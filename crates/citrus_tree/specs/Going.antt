@@ -147,6 +147,11 @@ pub record MakesUpdate (v : View) (op : Op) (before : List Mark) (number : ℕ) 
   pub number_is : number ≡ length (updates_of before) + 1
   pub legal : IsLegal (updates_of w.seen)
 
+-- Exchanges of the front were lost: nothing changed but what is known of the front.
+pub record LosesFront (v w : View) : Type 0 where
+  pub steps : IsPrefix v.trail.steps w.trail.steps
+  pub rest : w ≡ record v { latest = w.latest; trail = w.trail }
+
 -- The front is odd by the view, which found this number.
 pub record Opened (v : View) (front : ℕ) (w : View) : Type 0 where
   pub steps : IsPrefix v.trail.steps w.trail.steps

@@ -8,7 +8,7 @@ ghost use Rattle.prcu_model.specs.declared.operation.Op.{Op};
 ghost use Rattle.seat_table.specs.Sections.{HasMade};
 ghost use Rattle.seat_table.specs.Seats.{shape_of};
 ghost use Rattle.tree_points.specs.Points.{IsAt};
-ghost use Rattle.citrus_tree.specs.Going.{Opened, Closed};
+ghost use Rattle.citrus_tree.specs.Going.{LosesFront, Opened, Closed};
 
 use core_state::linking;
 use patience::Patience;
@@ -16,6 +16,10 @@ use seat_table::{CitrusTable, Seat, WaitPart, steps};
 
 /// How many exchanges are made at most without a pause.
 const AT_ONCE: u64 = 8;
+
+/// How many exchanges a caller makes that could give way, before it does. An update has the front for two stores: so many lost exchanges
+/// tell that its thread was put aside, or that threads crowd here. Before that to wait costs less than another lock and another search.
+const BEFORE_GIVING_WAY: u64 = 64;
 
 // The number itself, or the next one, whichever is even.
 fn even_from(number: u64) -> u64
@@ -28,7 +32,17 @@ fn even_from(number: u64) -> u64
     }
 }
 
-/// Makes the front odd, and answers the even number that it was. It waits while another caller's update is being stored.
+// Whether to pause after the exchange of this round, which found another number than it expected.
+fn pauses_after(round: u64, found: u64) -> bool
+    ensures linking { found % 2 ≡ 1 → result ≡ true }
+    ensures at_once { round % 8 ≡ 7 → result ≡ true }
+{
+    // Where nobody has the front it tries again at once: beside a caller that never rests the number found is old after a pause.
+    linking(found) || round % AT_ONCE == AT_ONCE - 1
+}
+
+/// Makes the front odd, and answers the even number that it was. It waits while another caller's update is being stored. So does a delete:
+/// its node is marked by then, and the lock of a marked node can't be given back before the update.
 // A call would hand its answer through memory.
 #[inline(always)]
 pub(crate) fn open_commit<P: Patience, W: WaitPart>(
@@ -55,9 +69,48 @@ pub(crate) fn open_commit<P: Patience, W: WaitPart>(
             return Ok(found);
         }
         expected = even_from(found);
-        // Where nobody has the front it tries again at once: beside a caller that never rests the number found is old after a pause.
-        if linking(found) || round % AT_ONCE == AT_ONCE - 1 {
+        if pauses_after(round, found) {
             patience.pause(&mut pauses)?;
+        }
+    }
+    Err(patience.tired())
+}
+
+/// The same for a caller that has changed nothing yet, and can give its lock back. It answers busy where many exchanges were lost, and its
+/// patience would rather be called again. Then nothing changed but what is known of the front.
+// A call would hand its answer through memory.
+#[inline(always)]
+pub(crate) fn open_commit_or_give_way<P: Patience, W: WaitPart>(
+    patience: &P,
+    table: &CitrusTable<W>,
+    seat: &mut Seat<W>,
+) -> Result<Result<u64, P::Busy>, P::Tired>
+    requires table { seat.old.table ≡ table.now }
+    requires settled { seat.old.view.moving ≡ None }
+    requires paid { seat.old.view.commit ≡ None }
+    ensures seat { (seat.new.table ≡ seat.old.table) × (seat.new.listed ≡ seat.old.listed) }
+    ensures few { IfOk result (λ answer. IfOk answer (λ front. front ≤ most_front)) }
+    ensures opened { IfOk result (λ answer. IfOk answer (λ front. Opened seat.old.view front seat.new.view)) }
+    ensures at { IfOk result (λ answer. IfOk answer (λ front. (op : Op) (kept e : ℕ) (u : Update)
+        → IsAt (shape_of W.WAY table.now) op kept (at.Commit u e) seat.old.view
+        → IsAt (shape_of W.WAY table.now) op kept (at.Store u front) seat.new.view)) }
+    ensures busy { IfOk result (λ answer. IfErr answer (λ _. LosesFront seat.old.view seat.new.view)) }
+    ensures tired { IfErr result (λ _. HasMade (P.least patience.now) seat.new.view) }
+{
+    let mut pauses = patience.pauses();
+    let mut expected = even_from(seat.front_seen());
+    for round in 0..u64::MAX {
+        let found = steps::open_commit(table, seat, expected);
+        if found == expected {
+            return Ok(Ok(found));
+        }
+        expected = even_from(found);
+        if pauses_after(round, found) {
+            if round < BEFORE_GIVING_WAY {
+                patience.pause(&mut pauses)?;
+            } else if let Err(busy) = patience.rest(&mut pauses) {
+                return Ok(Err(busy));
+            }
         }
     }
     Err(patience.tired())

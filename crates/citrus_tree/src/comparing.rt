@@ -72,8 +72,7 @@ pub fn compare<P: Patience, W: WaitPart, G: Gate>(
             return Ok(Ok(Compared::Differs { found }));
         }
         gate.pass(Point::BeforeLock, seat.place());
-        // Where the value is another one by now, the next search tells which.
-        if let Some(done) = store_value(
+        let stored = match store_value(
             patience,
             table,
             seat,
@@ -82,6 +81,11 @@ pub fn compare<P: Patience, W: WaitPart, G: Gate>(
             Some(expected),
             value,
         )? {
+            Ok(stored) => stored,
+            Err(busy) => return Ok(Err(busy)),
+        };
+        // Where the value is another one by now, the next search tells which.
+        if let Some(done) = stored {
             gate.pass(Point::Answered, seat.place());
             return Ok(Ok(Compared::Replaced {
                 number: done.number,

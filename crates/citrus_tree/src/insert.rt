@@ -23,7 +23,7 @@ ghost use Rattle.citrus_tree.specs.Going.{Goes, Searched, leaf_stage, KeepsSlots
 ghost use Rattle.citrus_tree.specs.Replies.{GaveWay, IsFullNow, Puts};
 
 use crate::answer::{Called, answered};
-use crate::commit::{close_commit, open_commit};
+use crate::commit::{close_commit, open_commit_or_give_way};
 use crate::descent::{Descent, descend};
 use crate::lives::is_life;
 use crate::search::leave_with_spot;
@@ -45,8 +45,8 @@ pub(crate) struct Reached {
 /// Adds the pair, where the key is absent: `New` with the update's position. `Old` where the key is present, as at `get`, and `Full`
 /// where it is absent, no slot is free, and the caller has none to give back. It waits for the holder of the lock of the node above, for
 /// other updates, and, where no slot is free, for all open sections. The depth is that of its last search, and 0 where no pair was added.
-/// It answers busy where the lock is taken, or the side isn't as the search left it, and its patience would rather be called again: then it
-/// made no update, and no slot is in hand.
+/// It answers busy where the lock is taken, the side isn't as the search left it, or others have the front for long, and its patience would
+/// rather be called again: then it made no update, and no slot is in hand.
 pub fn put<P: Patience, W: WaitPart, G: Gate>(
     patience: &P,
     table: &CitrusTable<W>,
@@ -86,7 +86,14 @@ pub fn put<P: Patience, W: WaitPart, G: Gate>(
         };
         // A gate is the caller's: a test holds a thread back here, and any other caller lets it through.
         gate.pass(Point::BeforeLock, seat.place());
-        if let Some(number) = link_leaf(patience, table, seat, spot, leaf, key, value)? {
+        let linked = match link_leaf(patience, table, seat, spot, leaf, key, value)? {
+            Ok(linked) => linked,
+            Err(busy) => {
+                give_up_leaf(table, seat);
+                return Ok(Err(busy));
+            }
+        };
+        if let Some(number) = linked {
             return Ok(Ok(Called {
                 told: answered(gate, seat, Reply::New, number),
                 depth,
@@ -240,7 +247,7 @@ fn take_slot<P: Patience, W: WaitPart>(
 }
 
 // Links the slot in hand at the recorded side, and answers the update's number; or nothing, where the lock is taken or the side isn't
-// as recorded any more.
+// as recorded any more. It answers busy where others have the front for long. Then too it holds no lock, and the slot is in hand.
 fn link_leaf<P: Patience, W: WaitPart>(
     patience: &P,
     table: &CitrusTable<W>,
@@ -249,35 +256,46 @@ fn link_leaf<P: Patience, W: WaitPart>(
     leaf: u32,
     key: u64,
     value: u64,
-) -> Result<Option<u64>, P::Tired>
+) -> Result<Result<Option<u64>, P::Busy>, P::Tired>
     requires table { seat.old.table ≡ table.now }
     requires slot { IsSlotOf (Some leaf) seat.old.view.hands.hand }
     requires at { (kept : ℕ) × IsAt (shape_of W.WAY table.now) (Put key value) kept (at.LeafLock spot) seat.old.view }
     ensures seat { (seat.new.table ≡ seat.old.table) × (seat.new.listed ≡ seat.old.listed) }
-    ensures again { IfOk result (λ answer. answer ≡ None → Goes seat.old.view seat.new.view []) }
-    ensures linked { IfOk result (λ answer. (kept number : ℕ)
-        → IsAt (shape_of W.WAY table.now) (Put key value) kept (at.LeafLock spot) seat.old.view → answer ≡ Some number
-        → Links seat.old.view key value number seat.new.view) }
-    ensures at { IfOk result (λ answer. (kept : ℕ) → IsAt (shape_of W.WAY table.now) (Put key value) kept (at.LeafLock spot) seat.old.view
-        → IsAt (shape_of W.WAY table.now) (Put key value) kept (linked_stage answer) seat.new.view) }
+    ensures again { IfOk result (λ answer. IfOk answer (λ linked. linked ≡ None → Goes seat.old.view seat.new.view [])) }
+    ensures linked { IfOk result (λ answer. IfOk answer (λ linked. (kept number : ℕ)
+        → IsAt (shape_of W.WAY table.now) (Put key value) kept (at.LeafLock spot) seat.old.view → linked ≡ Some number
+        → Links seat.old.view key value number seat.new.view)) }
+    ensures at { IfOk result (λ answer. IfOk answer (λ linked. (kept : ℕ)
+        → IsAt (shape_of W.WAY table.now) (Put key value) kept (at.LeafLock spot) seat.old.view
+        → IsAt (shape_of W.WAY table.now) (Put key value) kept (linked_stage linked) seat.new.view)) }
+    ensures busy { IfOk result (λ answer. IfErr answer (λ _. Goes seat.old.view seat.new.view [])) }
+    ensures back { IfOk result (λ answer. IfErr answer (λ _. (kept : ℕ)
+        → IsAt (shape_of W.WAY table.now) (Put key value) kept (at.LeafLock spot) seat.old.view
+        → IsAt (shape_of W.WAY table.now) (Put key value) kept at.EnterClock seat.new.view)) }
     ensures informed { IfOk result (λ _. IsInformed seat.new.view) }
     ensures tired { IfErr result (λ _. HasMade (P.least patience.now) seat.new.view) }
 {
     if steps::lock(table, seat, spot.slot) != 0 {
-        return Ok(None);
+        return Ok(Ok(None));
     }
     // Since the search others may have used the slot again, filled the side, or filled and emptied it. docs/TREE.md#the-tree
     if !still_holds(table, seat, spot) {
         steps::unlock(table, seat, spot.slot);
-        return Ok(None);
+        return Ok(Ok(None));
     }
     // Odd for the one store alone: updates take turns for these three steps, and get their numbers by them. docs/TREE.md#the-tree
     // Who gives up here keeps the lock: the seat is lost with it. docs/EMBEDDING.md#a-lost-handle
-    let front = open_commit(patience, table, seat)?;
+    let front = match open_commit_or_give_way(patience, table, seat)? {
+        Ok(front) => front,
+        Err(busy) => {
+            steps::unlock(table, seat, spot.slot);
+            return Ok(Err(busy));
+        }
+    };
     steps::link_leaf(table, seat, spot.slot, spot.side, leaf, key, value);
     let number = close_commit(table, seat, front);
     steps::unlock(table, seat, spot.slot);
-    Ok(Some(number))
+    Ok(Ok(Some(number)))
 }
 
 // Whether the side under the lock is as recorded.

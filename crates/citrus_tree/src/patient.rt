@@ -1,5 +1,6 @@
 //! The calls, for callers with a patience of their own. Where it ends, so does the call, and the seat may hold locks or stand in a section.
-//! Where it would rather be called again than wait, and the call holds nothing, the call answers busy: it made no update, and the seat is quiet.
+//! Where it would rather be called again than wait, and the call holds nothing, or one lock that it can give back, the call answers busy:
+//! it made no update, and the seat is quiet.
 ghost use Rattle.std.specs.Prelude.{◌≡◌, ◌≤◌, IfOk, IfErr};
 ghost use Rattle.seat_table.specs.Gains.{IsInformed};
 ghost use Rattle.seat_table.specs.Sections.{HasMade};

@@ -12,7 +12,7 @@ ghost use Rattle.citrus_tree.specs.Going.{Goes, IsOther, Sought, Stores, set_sta
 ghost use Rattle.citrus_tree.specs.Replies.{GaveWay, Sets};
 
 use crate::answer::answered;
-use crate::commit::{close_commit, open_commit};
+use crate::commit::{close_commit, open_commit_or_give_way};
 use crate::descent::{Descent, descend};
 use crate::lives::is_life;
 use core_state::generation_of;
@@ -36,8 +36,8 @@ pub(crate) struct Replaced {
 }
 
 /// Gives the key another value, where it is present: `Was` with the old value and the update's position. `Absent` as at `get`. It waits
-/// for the holder of the node's lock and for other updates, and for no reader. It answers busy where the lock is taken, or the node was
-/// deleted since the search, and its patience would rather be called again: then it made no update.
+/// for the holder of the node's lock and for other updates, and for no reader. It answers busy where the lock is taken, the node was
+/// deleted since the search, or others have the front for long, and its patience would rather be called again: then it made no update.
 pub fn set<P: Patience, W: WaitPart, G: Gate>(
     patience: &P,
     table: &CitrusTable<W>,
@@ -64,7 +64,11 @@ pub fn set<P: Patience, W: WaitPart, G: Gate>(
             return Ok(Ok(answered(gate, seat, Reply::Absent, 0)));
         };
         gate.pass(Point::BeforeLock, seat.place());
-        if let Some(done) = store_value(patience, table, seat, holder, key, None, value)? {
+        let stored = match store_value(patience, table, seat, holder, key, None, value)? {
+            Ok(stored) => stored,
+            Err(busy) => return Ok(Err(busy)),
+        };
+        if let Some(done) = stored {
             return Ok(Ok(answered(gate, seat, Reply::Was { value: done.old }, done.number)));
         }
         if let Err(busy) = patience.rest(&mut pauses) {
@@ -116,7 +120,7 @@ fn is_other(expected: Option<u64>, value: u64) -> bool
 }
 
 // Stores the value in the recorded slot; or nothing, where the lock is taken, the slot's life isn't as recorded any more, or its value is
-// another one than the one that is asked for, if one is.
+// another one than the one that is asked for, if one is. It answers busy where others have the front for long. Then too it holds no lock.
 pub(crate) fn store_value<P: Patience, W: WaitPart>(
     patience: &P,
     table: &CitrusTable<W>,
@@ -125,41 +129,52 @@ pub(crate) fn store_value<P: Patience, W: WaitPart>(
     key: u64,
     expected: Option<u64>,
     value: u64,
-) -> Result<Option<Replaced>, P::Tired>
+) -> Result<Result<Option<Replaced>, P::Busy>, P::Tired>
     requires table { seat.old.table ≡ table.now }
     requires at { (kept : ℕ) × IsAt (shape_of W.WAY table.now) (Set key value) kept
         (at.SetLock holder.slot holder.generation) seat.old.view }
     ensures seat { (seat.new.table ≡ seat.old.table) × (seat.new.listed ≡ seat.old.listed) }
-    ensures again { IfOk result (λ answer. answer ≡ None → Goes seat.old.view seat.new.view []) }
-    ensures stored { IfOk result (λ answer. (kept : ℕ) (done : Replaced)
-        → IsAt (shape_of W.WAY table.now) (Set key value) kept (at.SetLock holder.slot holder.generation) seat.old.view → answer ≡ Some done
-        → Stores seat.old.view key value done seat.new.view) }
-    ensures expected { IfOk result (λ answer. (done : Replaced) → answer ≡ Some done → IsOther expected done.old → ⊥) }
-    ensures at { IfOk result (λ answer. (kept : ℕ)
+    ensures again { IfOk result (λ answer. IfOk answer (λ stored. stored ≡ None → Goes seat.old.view seat.new.view [])) }
+    ensures stored { IfOk result (λ answer. IfOk answer (λ stored. (kept : ℕ) (done : Replaced)
+        → IsAt (shape_of W.WAY table.now) (Set key value) kept (at.SetLock holder.slot holder.generation) seat.old.view → stored ≡ Some done
+        → Stores seat.old.view key value done seat.new.view)) }
+    ensures expected { IfOk result (λ answer. IfOk answer
+        (λ stored. (done : Replaced) → stored ≡ Some done → IsOther expected done.old → ⊥)) }
+    ensures at { IfOk result (λ answer. IfOk answer (λ stored. (kept : ℕ)
         → IsAt (shape_of W.WAY table.now) (Set key value) kept (at.SetLock holder.slot holder.generation) seat.old.view
-        → IsAt (shape_of W.WAY table.now) (Set key value) kept (set_stage answer) seat.new.view) }
+        → IsAt (shape_of W.WAY table.now) (Set key value) kept (set_stage stored) seat.new.view)) }
+    ensures busy { IfOk result (λ answer. IfErr answer (λ _. Goes seat.old.view seat.new.view [])) }
+    ensures back { IfOk result (λ answer. IfErr answer (λ _. (kept : ℕ)
+        → IsAt (shape_of W.WAY table.now) (Set key value) kept (at.SetLock holder.slot holder.generation) seat.old.view
+        → IsAt (shape_of W.WAY table.now) (Set key value) kept at.EnterClock seat.new.view)) }
     ensures informed { IfOk result (λ _. IsInformed seat.new.view) }
     ensures tired { IfErr result (λ _. HasMade (P.least patience.now) seat.new.view) }
 {
     if steps::lock(table, seat, holder.slot) != 0 {
-        return Ok(None);
+        return Ok(Ok(None));
     }
     // A delete may have marked the node since, and the slot may have another key by now. docs/TREE.md#what-could-go-wrong
     let life = steps::locked_load(table, seat, holder.slot, Part::Life);
     let holds = is_life(life, holder.generation);
     if !holds {
         steps::unlock(table, seat, holder.slot);
-        return Ok(None);
+        return Ok(Ok(None));
     }
     // Only the lock's holder stores here, so this is the value that the update replaces.
     let old = steps::locked_load(table, seat, holder.slot, Part::Value);
     if is_other(expected, old) {
         steps::unlock(table, seat, holder.slot);
-        return Ok(None);
+        return Ok(Ok(None));
     }
-    let front = open_commit(patience, table, seat)?;
+    let front = match open_commit_or_give_way(patience, table, seat)? {
+        Ok(front) => front,
+        Err(busy) => {
+            steps::unlock(table, seat, holder.slot);
+            return Ok(Err(busy));
+        }
+    };
     steps::replace_value(table, seat, holder.slot, key, value);
     let number = close_commit(table, seat, front);
     steps::unlock(table, seat, holder.slot);
-    Ok(Some(Replaced { old, number }))
+    Ok(Ok(Some(Replaced { old, number })))
 }

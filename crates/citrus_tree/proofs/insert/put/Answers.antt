@@ -2,6 +2,7 @@ use Rattle.std.proofs.Common.{[], refl, ◌∙◌, arith}
 use Rattle.citrus_tree.proofs.Inserting.{begins, outside, unlocked, may_give_up, old_found, old_looked, old_puts, old_begins, may_take_leaf, spot_looked, full_puts, full_begins, may_link, may_rest, rests_begins, rests_keeps, rests_way, tries_again, new_goes, new_puts, new_begins, old_keeps, full_keeps, new_keeps}
 use Rattle.citrus_tree.proofs.Leavings.{goes_slots, slots_on, slots_self, room_steps, keeps_seat, listed_on}
 use Rattle.seat_table.proofs.SeveralSteps.{prefix_steps}
+use Rattle.std.proofs.lemmas.Result.{IfErr-at_err, IfOk-at_ok}
 use Rattle.citrus_tree.proofs.insert.put.Goals as goal
 
 pub loop-round-init : goal.loop-round-init
@@ -35,8 +36,8 @@ returns-in_default-clause-informed g c = c.give_up_leaf.ensures.informed
 pub returns-in_default-2-clause-informed : goal.returns-in_default-2-clause-informed
 returns-in_default-2-clause-informed g c = c.in_ok-leaf.ensures.informed c.in_default-2.is
 
-pub returns-in-Some-3-clause-informed : goal.returns-in-Some-3-clause-informed
-returns-in-Some-3-clause-informed g c = c.in_ok-number.ensures.informed
+pub returns-in-Some-linked-clause-informed : goal.returns-in-Some-linked-clause-informed
+returns-in-Some-linked-clause-informed g c = c.in_ok-linked.ensures.informed
 
 pub find_spot-requires-clause-outside : goal.find_spot-requires-clause-outside
 find_spot-requires-clause-outside g c = outside c.loop-round.invariant.tries c.requires.tickets
@@ -104,23 +105,25 @@ pub link_leaf-requires-clause-at : goal.link_leaf-requires-clause-at
 link_leaf-requires-clause-at g c = may_link c.loop-round.invariant.tries c.requires.tickets c.find_spot.ensures.place _ c.in-Some.is
     c.find_spot.ensures.searched c.in_ok-leaf.ensures.room c.in-Some-2.is c.in_ok-leaf.ensures.at
 
-pub returns-in-Some-3-clause-puts : goal.returns-in-Some-3-clause-puts
-returns-in-Some-3-clause-puts g c = new_puts c.loop-round.invariant.tries c.requires.tickets c.find_spot.ensures.place _ c.in-Some.is
+pub returns-in-Some-linked-clause-puts : goal.returns-in-Some-linked-clause-puts
+returns-in-Some-linked-clause-puts g c = new_puts c.loop-round.invariant.tries c.requires.tickets c.find_spot.ensures.place _ c.in-Some.is
     c.find_spot.ensures.searched c.in_ok-leaf.ensures.room
-    c.in-Some-2.is c.in_ok-leaf.ensures.at c.in-Some-3.is c.in_ok-number.ensures.linked c.answered-in-Some-3.ensures
+    c.in-Some-2.is c.in_ok-leaf.ensures.at c.in-Some-linked.is (IfOk-at_ok _ c.in-Ok.is c.in_ok-linked.ensures.linked)
+    c.answered-in-Some-linked.ensures
 
-pub returns-in-Some-3-clause-keeps : goal.returns-in-Some-3-clause-keeps
-returns-in-Some-3-clause-keeps g c =
+pub returns-in-Some-linked-clause-keeps : goal.returns-in-Some-linked-clause-keeps
+returns-in-Some-linked-clause-keeps g c =
     let tries = c.loop-round.invariant.tries in
     let place = c.find_spot.ensures.place in
     let searched = c.find_spot.ensures.searched in
     let leaf = c.in_ok-leaf.ensures in
-    let number = c.in_ok-number.ensures in
-    let goes = new_goes tries c.requires.tickets place _ c.in-Some.is searched leaf.room c.in-Some-2.is leaf.at c.in-Some-3.is
-    number.linked in
+    let linked = c.in_ok-linked.ensures in
+    let goes = new_goes tries c.requires.tickets place _ c.in-Some.is searched leaf.room c.in-Some-2.is leaf.at c.in-Some-linked.is
+    (IfOk-at_ok _ c.in-Ok.is linked.linked) in
     keeps_seat
-    (new_keeps tries c.requires.tickets place _ c.in-Some.is searched leaf.room c.in-Some-2.is leaf.at c.in-Some-3.is number.linked
-    number.at)
+    (new_keeps tries c.requires.tickets place _ c.in-Some.is searched leaf.room c.in-Some-2.is leaf.at c.in-Some-linked.is
+    (IfOk-at_ok _ c.in-Ok.is linked.linked)
+    (IfOk-at_ok _ c.in-Ok.is linked.at))
     (listed_on c.leaf_in_hand.new.seat c.link_leaf.new.seat c.link_leaf.ensures.seat.1 goes.retired leaf.listed)
     (goes_slots c.args.seat.now c.leaf_in_hand.new.seat c.link_leaf.new.seat _
     (slots_on c.args.seat.now c.find_spot.new.seat c.leaf_in_hand.new.seat
@@ -132,22 +135,25 @@ pub loop-round-preserved : goal.loop-round-preserved
 loop-round-preserved g c = record {
   table = c.link_leaf.ensures.seat.0 ∙ c.leaf_in_hand.ensures.table ∙ c.find_spot.ensures.seat.0 ∙ c.loop-round.invariant.table;
   listed = listed_on c.leaf_in_hand.new.seat c.link_leaf.new.seat c.link_leaf.ensures.seat.1
-      (c.in_ok-number.ensures.again c.in_default-3.is).retired c.in_ok-leaf.ensures.listed;
+      ((IfOk-at_ok _ c.in-Ok.is c.in_ok-linked.ensures.again) c.in_default-linked.is).retired c.in_ok-leaf.ensures.listed;
   tries = tries_again c.loop-round.invariant.tries c.requires.tickets c.find_spot.ensures.place _ c.in-Some.is
       c.find_spot.ensures.searched
-      c.in_ok-leaf.ensures.room c.in-Some-2.is c.in_ok-leaf.ensures.at (c.in_ok-number.ensures.again c.in_default-3.is)
-      c.in_default-3.is c.in_ok-number.ensures.at;
+      c.in_ok-leaf.ensures.room c.in-Some-2.is c.in_ok-leaf.ensures.at
+      ((IfOk-at_ok _ c.in-Ok.is c.in_ok-linked.ensures.again) c.in_default-linked.is)
+      c.in_default-linked.is (IfOk-at_ok _ c.in-Ok.is c.in_ok-linked.ensures.at);
   slots = goes_slots c.args.seat.now c.leaf_in_hand.new.seat c.link_leaf.new.seat []
       (slots_on c.args.seat.now c.find_spot.new.seat c.leaf_in_hand.new.seat
       (goes_slots c.args.seat.now c.loop-round.seat c.find_spot.new.seat _ c.loop-round.invariant.slots
       (spot_looked c.loop-round.invariant.tries c.requires.tickets c.find_spot.ensures.place _ c.in-Some.is c.find_spot.ensures.searched)
-      c.find_spot.ensures.seat.1) c.in_ok-leaf.ensures.slots) (c.in_ok-number.ensures.again c.in_default-3.is) c.link_leaf.ensures.seat.1;
+      c.find_spot.ensures.seat.1) c.in_ok-leaf.ensures.slots)
+      ((IfOk-at_ok _ c.in-Ok.is c.in_ok-linked.ensures.again) c.in_default-linked.is) c.link_leaf.ensures.seat.1;
   made =
       let made = c.loop-round.invariant.made in
       let found = c.find_spot.ensures.stepped in
       let taken = room_steps c.in_ok-leaf.ensures.room in
-      let tried = prefix_steps c.leaf_in_hand.new.seat.view c.link_leaf.new.seat.view (c.in_ok-number.ensures.again
-      c.in_default-3.is).advanced.steps in
+      let tried = prefix_steps c.leaf_in_hand.new.seat.view c.link_leaf.new.seat.view
+      ((IfOk-at_ok _ c.in-Ok.is c.in_ok-linked.ensures.again)
+      c.in_default-linked.is).advanced.steps in
       omega (arith, made, found, taken, tried);
 }
 
@@ -161,25 +167,68 @@ returns-in_default-2-clause-begins g c =
     full_begins c.loop-round.invariant.tries c.requires.tickets c.find_spot.ensures.place _ c.in-Some.is c.find_spot.ensures.searched
     c.in_ok-leaf.ensures.room
 
-pub returns-in-Some-3-clause-begins : goal.returns-in-Some-3-clause-begins
-returns-in-Some-3-clause-begins g c = new_begins c.loop-round.invariant.tries c.requires.tickets c.find_spot.ensures.place _ c.in-Some.is
+pub returns-in-Some-linked-clause-begins : goal.returns-in-Some-linked-clause-begins
+returns-in-Some-linked-clause-begins g c = new_begins c.loop-round.invariant.tries c.requires.tickets c.find_spot.ensures.place _
+    c.in-Some.is
     c.find_spot.ensures.searched c.in_ok-leaf.ensures.room
-    c.in-Some-2.is c.in_ok-leaf.ensures.at c.in-Some-3.is c.in_ok-number.ensures.linked
+    c.in-Some-2.is c.in_ok-leaf.ensures.at c.in-Some-linked.is (IfOk-at_ok _ c.in-Ok.is c.in_ok-linked.ensures.linked)
+
+pub give_up_leaf-requires-in-Err-rest-clause-at : goal.give_up_leaf-requires-in-Err-rest-clause-at
+give_up_leaf-requires-in-Err-rest-clause-at g c = may_rest c.loop-round.invariant.tries c.requires.tickets c.find_spot.ensures.place _
+    c.in-Some.is c.find_spot.ensures.searched c.in_ok-leaf.ensures.room c.in-Some-2.is c.in_ok-leaf.ensures.at
+    ((IfOk-at_ok _ c.in-Ok.is c.in_ok-linked.ensures.again) c.in_default-linked.is) c.in_default-linked.is
+    (IfOk-at_ok _ c.in-Ok.is c.in_ok-linked.ensures.at)
+
+pub returns-in-Err-rest-clause-busy : goal.returns-in-Err-rest-clause-busy
+returns-in-Err-rest-clause-busy g c = rests_way c.loop-round.invariant.tries c.requires.tickets c.find_spot.ensures.place _
+    c.in-Some.is c.find_spot.ensures.searched c.in_ok-leaf.ensures.room c.in-Some-2.is c.in_ok-leaf.ensures.at
+    ((IfOk-at_ok _ c.in-Ok.is c.in_ok-linked.ensures.again) c.in_default-linked.is) c.in_default-linked.is
+    (IfOk-at_ok _ c.in-Ok.is c.in_ok-linked.ensures.at) c.give_up_leaf-in-Err-rest.ensures.goes
+
+pub returns-in-Err-rest-clause-begins : goal.returns-in-Err-rest-clause-begins
+returns-in-Err-rest-clause-begins g c = rests_begins c.loop-round.invariant.tries c.requires.tickets c.find_spot.ensures.place _
+    c.in-Some.is c.find_spot.ensures.searched c.in_ok-leaf.ensures.room c.in-Some-2.is c.in_ok-leaf.ensures.at
+    ((IfOk-at_ok _ c.in-Ok.is c.in_ok-linked.ensures.again) c.in_default-linked.is) c.in_default-linked.is
+    (IfOk-at_ok _ c.in-Ok.is c.in_ok-linked.ensures.at) c.give_up_leaf-in-Err-rest.ensures.goes
+
+pub returns-in-Err-rest-clause-keeps : goal.returns-in-Err-rest-clause-keeps
+returns-in-Err-rest-clause-keeps g c =
+    let tries = c.loop-round.invariant.tries in
+    let place = c.find_spot.ensures.place in
+    let searched = c.find_spot.ensures.searched in
+    let leaf = c.in_ok-leaf.ensures in
+    let linked = c.in_ok-linked.ensures in
+    let again = (IfOk-at_ok _ c.in-Ok.is linked.again) c.in_default-linked.is in
+    let back = c.give_up_leaf-in-Err-rest.ensures in
+    keeps_seat
+    (rests_keeps tries c.requires.tickets place _ c.in-Some.is searched leaf.room c.in-Some-2.is leaf.at again c.in_default-linked.is
+    (IfOk-at_ok _ c.in-Ok.is linked.at)
+    back.goes back.at)
+    (listed_on c.leaf_in_hand.new.seat c.give_up_leaf-in-Err-rest.new.seat (back.seat.1 ∙ c.link_leaf.ensures.seat.1)
+    (back.goes.retired ∙ again.retired) leaf.listed)
+    (goes_slots c.args.seat.now c.link_leaf.new.seat c.give_up_leaf-in-Err-rest.new.seat []
+    (goes_slots c.args.seat.now c.leaf_in_hand.new.seat c.link_leaf.new.seat []
+    (slots_on c.args.seat.now c.find_spot.new.seat c.leaf_in_hand.new.seat
+    (goes_slots c.args.seat.now c.loop-round.seat c.find_spot.new.seat _ c.loop-round.invariant.slots
+    (spot_looked tries c.requires.tickets place _ c.in-Some.is searched) c.find_spot.ensures.seat.1) leaf.slots) again
+    c.link_leaf.ensures.seat.1) back.goes back.seat.1)
 
 pub give_up_leaf-requires-in-Err-clause-at : goal.give_up_leaf-requires-in-Err-clause-at
 give_up_leaf-requires-in-Err-clause-at g c = may_rest c.loop-round.invariant.tries c.requires.tickets c.find_spot.ensures.place _
     c.in-Some.is c.find_spot.ensures.searched c.in_ok-leaf.ensures.room c.in-Some-2.is c.in_ok-leaf.ensures.at
-    (c.in_ok-number.ensures.again c.in_default-3.is) c.in_default-3.is c.in_ok-number.ensures.at
+    (IfErr-at_err _ c.in-Err.is c.in_ok-linked.ensures.busy) refl (IfErr-at_err _ c.in-Err.is c.in_ok-linked.ensures.back)
 
 pub returns-in-Err-clause-busy : goal.returns-in-Err-clause-busy
 returns-in-Err-clause-busy g c = rests_way c.loop-round.invariant.tries c.requires.tickets c.find_spot.ensures.place _
     c.in-Some.is c.find_spot.ensures.searched c.in_ok-leaf.ensures.room c.in-Some-2.is c.in_ok-leaf.ensures.at
-    (c.in_ok-number.ensures.again c.in_default-3.is) c.in_default-3.is c.in_ok-number.ensures.at c.give_up_leaf-in-Err.ensures.goes
+    (IfErr-at_err _ c.in-Err.is c.in_ok-linked.ensures.busy) refl (IfErr-at_err _ c.in-Err.is c.in_ok-linked.ensures.back)
+    c.give_up_leaf-in-Err.ensures.goes
 
 pub returns-in-Err-clause-begins : goal.returns-in-Err-clause-begins
 returns-in-Err-clause-begins g c = rests_begins c.loop-round.invariant.tries c.requires.tickets c.find_spot.ensures.place _
     c.in-Some.is c.find_spot.ensures.searched c.in_ok-leaf.ensures.room c.in-Some-2.is c.in_ok-leaf.ensures.at
-    (c.in_ok-number.ensures.again c.in_default-3.is) c.in_default-3.is c.in_ok-number.ensures.at c.give_up_leaf-in-Err.ensures.goes
+    (IfErr-at_err _ c.in-Err.is c.in_ok-linked.ensures.busy) refl (IfErr-at_err _ c.in-Err.is c.in_ok-linked.ensures.back)
+    c.give_up_leaf-in-Err.ensures.goes
 
 pub returns-in-Err-clause-keeps : goal.returns-in-Err-clause-keeps
 returns-in-Err-clause-keeps g c =
@@ -187,17 +236,16 @@ returns-in-Err-clause-keeps g c =
     let place = c.find_spot.ensures.place in
     let searched = c.find_spot.ensures.searched in
     let leaf = c.in_ok-leaf.ensures in
-    let number = c.in_ok-number.ensures in
-    let again = number.again c.in_default-3.is in
+    let busy = IfErr-at_err _ c.in-Err.is c.in_ok-linked.ensures.busy in
     let back = c.give_up_leaf-in-Err.ensures in
     keeps_seat
-    (rests_keeps tries c.requires.tickets place _ c.in-Some.is searched leaf.room c.in-Some-2.is leaf.at again c.in_default-3.is number.at
-    back.goes back.at)
+    (rests_keeps tries c.requires.tickets place _ c.in-Some.is searched leaf.room c.in-Some-2.is leaf.at busy refl
+    (IfErr-at_err _ c.in-Err.is c.in_ok-linked.ensures.back) back.goes back.at)
     (listed_on c.leaf_in_hand.new.seat c.give_up_leaf-in-Err.new.seat (back.seat.1 ∙ c.link_leaf.ensures.seat.1)
-    (back.goes.retired ∙ again.retired) leaf.listed)
+    (back.goes.retired ∙ busy.retired) leaf.listed)
     (goes_slots c.args.seat.now c.link_leaf.new.seat c.give_up_leaf-in-Err.new.seat []
     (goes_slots c.args.seat.now c.leaf_in_hand.new.seat c.link_leaf.new.seat []
     (slots_on c.args.seat.now c.find_spot.new.seat c.leaf_in_hand.new.seat
     (goes_slots c.args.seat.now c.loop-round.seat c.find_spot.new.seat _ c.loop-round.invariant.slots
-    (spot_looked tries c.requires.tickets place _ c.in-Some.is searched) c.find_spot.ensures.seat.1) leaf.slots) again
+    (spot_looked tries c.requires.tickets place _ c.in-Some.is searched) c.find_spot.ensures.seat.1) leaf.slots) busy
     c.link_leaf.ensures.seat.1) back.goes back.seat.1)
