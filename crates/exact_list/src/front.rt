@@ -11,6 +11,10 @@ use seat_table::{CitrusTable, Seat, WaitWords, steps};
 /// How many exchanges it makes at most without a pause.
 const AT_ONCE: u64 = 8;
 
+/// How many exchanges it makes at most before it gives way, where it could. Who is called again tries without the front first, and each of
+/// these tries walks the whole range: as long as no thread that has the front was put aside, a few more exchanges cost less.
+const BEFORE_GIVING_WAY: u64 = 64;
+
 // The number itself, or the next one, whichever is even.
 fn even_from(number: u64) -> u64
     ensures even { result % 2 ≡ 0 }
@@ -50,7 +54,9 @@ pub(crate) fn take_front<P: Patience, W: WaitWords>(
         expected = even_from(found);
         // Where nobody has the front it tries again at once: beside a seat that never rests the number found is old after a pause.
         if linking(found) || round % AT_ONCE == AT_ONCE - 1 {
-            if let Err(busy) = patience.rest(&mut pauses) {
+            if round < BEFORE_GIVING_WAY {
+                patience.pause(&mut pauses)?;
+            } else if let Err(busy) = patience.rest(&mut pauses) {
                 return Ok(Err(busy));
             }
         }
