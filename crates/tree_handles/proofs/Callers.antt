@@ -492,4 +492,4 @@ tidies_plain c keys turns was NoMemory out d kept (may, left, unwritten) = plain
 tidies_plain c keys turns was Spent out d kept (good, spent, unwritten) = plain_same c d spent.same
 tidies_plain c keys turns was Lost out d kept (lost, unwritten) = absurd (let e : true ≡ false = sym lost.lost ∙ kept in cc)
 tidies_plain c keys turns was Holds out d kept (stays, unwritten) = plain_same c d stays.same
-tidies_plain c keys turns was _ out d kept (none, unwritten) = absurd none
+tidies_plain c keys turns was _ out d kept none = absurd none.0
