@@ -269,12 +269,12 @@ CITRUS_STATUS_MATTERS int32_t citrus_reopen(citrus_handle *handle, citrus_handle
 CITRUS_STATUS_MATTERS int32_t citrus_get(citrus_handle *handle, uint64_t key, uint64_t *value);
 
 /* The updates. Each searches as a get does, locks the few nodes that it changes, and begins again if another thread changed them first. If
- * another thread is in its way it spins for some hundred turns, and then, if it holds nothing itself, it yields the processor and begins anew.
- * The library can't yield: there such a call ends as CITRUS_BUSY, with no lock, no slot and no section, and these functions yield and call it
- * again. Whoever has something better to do meanwhile calls citrus_insert_once and its like. A call that holds locks spins until it is through:
- * while another thread's update is being stored, and as said of a remove. An update waits for a list that keeps updates off, and for readers,
- * which are inside a call or a section, only as said below. Each time that it is made it needs 4 tickets and uses 4 at most, an insert that turns
- * nodes up to 72 more; and so does each replace and insert of an upsert.
+ * another thread is in its way it spins for some hundred turns, and then it yields the processor and begins anew. The library can't yield:
+ * there such a call ends as CITRUS_BUSY, with no lock, no slot and no section, and these functions yield and call it again. Whoever has
+ * something better to do meanwhile calls citrus_insert_once and its like. Only a remove or a turn of nodes that has its locks spins until it
+ * is through, while another thread's update is being stored; and so does an update that waits for readers. An update waits for a list that
+ * keeps updates off, and for readers, which are inside a call or a section, only as said below. Each time that it is made it needs 4 tickets
+ * and uses 4 at most, an insert that turns nodes up to 72 more; and so does each replace and insert of an upsert.
  *
  * One reader that stays stops writers, whatever their keys and the waiter: a thread that holds a value, or that the system stopped inside a
  * get. After some 50 removes or 60 inserts of ascending keys, or sooner if a call waits for just this reader with locks held, each thread that
