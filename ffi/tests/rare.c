@@ -242,23 +242,27 @@ static void a_compare_is_lost(uint32_t waiter) { run_dispute(waiter, 1, compare_
 static void an_upsert_is_lost(uint32_t waiter) { run_dispute(waiter, 1, upsert_it); }
 static void an_insert_or_a_remove_is_lost(uint32_t waiter) { run_dispute(waiter, 0, insert_or_remove_it); }
 
-/* The section stays, so the wait gives up. Its handle is lost, and the one in the section goes on, as do waits for other keys. */
-static void a_wait_is_lost(uint32_t waiter) {
-    citrus_handle inside = CITRUS_CLOSED_HANDLE, waits = CITRUS_CLOSED_HANDLE, other = CITRUS_CLOSED_HANDLE;
-    uint64_t value = UNTOUCHED;
+/* The section stays, so a remove of a node with two children gives up that waits for it, and keeps its locks. Its handle is lost; the one in the
+ * section goes on, as do others elsewhere. */
+static void a_remove_is_lost_behind_a_section(uint32_t waiter) {
+    static const uint64_t keys[] = {40, 20, 60, 50, 70};
+    citrus_handle inside = CITRUS_CLOSED_HANDLE, removes = CITRUS_CLOSED_HANDLE, other = CITRUS_CLOSED_HANDLE;
+    uint64_t value = UNTOUCHED, old = UNTOUCHED;
     WANT(citrus_open(&inside, PAIRS, 3, waiter), CITRUS_DONE);
-    WANT(citrus_share(&inside, 1, 1000, &waits), CITRUS_DONE);
+    WANT(citrus_share(&inside, 1, 1000, &removes), CITRUS_DONE);
     WANT(citrus_share(&inside, 1, 1000, &other), CITRUS_DONE);
-    WANT(citrus_insert(&inside, FAR, 10), CITRUS_DONE);
-    WANT(citrus_hold(&inside, FAR, &value), CITRUS_DONE);
-    WANT(citrus_wait(&waits, FAR, FAR), CITRUS_LOST);
-    each_call_answers(&waits, CITRUS_LOST);
-    WANT(citrus_wait(&other, FAR + 1, FAR + 1), CITRUS_DONE);
+    for (size_t i = 0; i < COUNT_OF(keys); i++) WANT(citrus_insert(&inside, keys[i], first_value(keys[i])), CITRUS_DONE);
+    WANT(citrus_hold(&inside, 50, &value), CITRUS_DONE);
+    WANT(citrus_remove(&removes, 40, &old), CITRUS_LOST);
+    WANT(old, UNTOUCHED);
+    each_call_answers(&removes, CITRUS_LOST);
+    WANT(citrus_replace(&other, 20, 21, &old), CITRUS_DONE);
+    WANT(citrus_wait(&other, 20, 20), CITRUS_DONE);
     WANT(citrus_release(&inside), CITRUS_DONE);
-    WANT(citrus_wait(&other, FAR, FAR), CITRUS_DONE);
-    WANT(citrus_remove(&inside, FAR, &value), CITRUS_DONE);
-    WANT(value, 10);
-    citrus_close(&waits);
+    WANT(citrus_wait(&other, 0, UINT64_MAX), CITRUS_DONE);
+    WANT(citrus_get(&inside, 50, &value), CITRUS_DONE);
+    WANT(value, first_value(50));
+    citrus_close(&removes);
     citrus_close(&other);
     citrus_close(&inside);
 }
@@ -378,7 +382,7 @@ static const struct waiter_case cases[] = {
     {"a compare is lost, and its handle", a_compare_is_lost},
     {"an upsert is lost, and its handle", an_upsert_is_lost},
     {"an insert or a remove is lost, and its handle", an_insert_or_a_remove_is_lost},
-    {"a wait is lost, and its handle", a_wait_is_lost},
+    {"a remove behind a section is lost, and its handle", a_remove_is_lost_behind_a_section},
     {"an upsert is moved, and its handle goes on", an_upsert_is_moved},
 };
 
