@@ -11,7 +11,7 @@ set -eu
 . "$(dirname "$0")/peers.sh"
 # shellcheck source=bench/results.sh
 . "$top/bench/results.sh"
-rounds=5 operations=1000000 seconds=1 timed=20000 archive=()
+rounds=5 operations=1000000 seconds=1 timed=100000 archive=()
 while [ $# -gt 0 ]; do
     case $1 in
         --rounds) rounds=$2 ;;
@@ -58,11 +58,12 @@ is_measured() {
 
 # What single updates of a series take, of each mix and number of threads.
 time_updates() {
-    local threads
-    for threads in 4 16 64; do
-        "$(program_of "$1")" --mix 90 --pairs 20000 --threads $threads --operations "$timed" --only "$1" latency
-        "$(program_of "$1")" --mix 50 --pairs 1000 --threads $threads --operations "$timed" --only "$1" latency
-    done | grep ',update,'
+    local mix threads
+    for mix in 50/1000 90/20000; do
+        for threads in 4 16 64; do
+            "$(program_of "$1")" --mix "${mix%/*}" --pairs "${mix#*/}" --threads $threads --operations "$timed" --only "$1" latency
+        done
+    done | awk -F, '$4 == "update"'
 }
 
 measured_here "$rounds rounds, cells of $seconds s" >"$out/crowded.csv"

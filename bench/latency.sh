@@ -42,7 +42,7 @@ lines_of() {
     [ $# = 4 ] || only=(--only "${6//_/ }")
     read_ticks
     busy_before=$busy stolen_before=$stolen
-    "$4" --mix "$1" --pairs "$2" --wear "$3" --threads "$threads" --operations "$operations" "${only[@]}" latency | grep -v ',update,' >"$out/latency_now"
+    "$4" --mix "$1" --pairs "$2" --wear "$3" --threads "$threads" --operations "$operations" "${only[@]}" latency | awk -F, '$4 != "update"' >"$out/latency_now"
     read_ticks
     if [ $((100 * (stolen - stolen_before))) -lt $((5 * (busy - busy_before + 1))) ]; then cat "$out/latency_now"; else echo "left out: $4" >&2; fi
 }
