@@ -1,7 +1,7 @@
-// Turns of updates, for C++17: for programs with many more threads that update than processors. The library can't yield the processor: where a
-// thread was stopped that has the lock of a node, updates spin until the system lets it run again. With one update under way at a time none
-// waits for the lock of another one, and who waits for a turn yields the processor, and then sleeps. With as many threads as processors turns
-// make updates slower. Lookups, lists and waits take none.
+// Turns of updates, for C++17: for programs with many more threads that update than processors. Where the system stopped a thread that has the
+// lock of a node, updates of others yield until it runs again, and spin where they have locks themselves. With one update under way at a time
+// none waits for the lock of another one, and who waits for a turn yields the processor, and then sleeps. With as many threads as processors
+// turns make updates slower. Lookups, lists and waits take none.
 //
 //     citrus::turns turns;                                                  // one for all handles of an index
 //     { const std::lock_guard<citrus::turns> turn(turns); mine.insert(5, 50); }

@@ -1,7 +1,8 @@
 //! Turns of updates, for programs with many more threads than processors.
 //!
-//! The library can't yield the processor: where a thread was stopped that has the lock of a node, others spin until the system lets it run
-//! again. If one update is under way at a time, no update waits for the lock of another one; and who waits for a turn yields, and then sleeps.
+//! Where the system stopped a thread that has the lock of a node, updates of others yield until it runs again, and spin where they have locks
+//! themselves. If one update is under way at a time, no update waits for the lock of another one; and who waits for a turn yields, and then
+//! sleeps.
 
 use std::sync::{Mutex, MutexGuard, PoisonError, TryLockError};
 use std::thread::yield_now;
