@@ -79,7 +79,7 @@ impl Builder {
     }
 
     /// Whether updates take turns, one at a time; they don't where nothing is said. It is for programs with many more threads that update than
-    /// processors: there an update of the library spins for a thread that the system has stopped, while one that waits for its turn yields
+    /// processors: there updates try again and again while the system has stopped a thread with a lock, and one that waits for its turn yields
     /// the processor, and then sleeps. With as many threads as processors turns make updates slower. Lookups, lists and waits take none.
     ///
     /// ```

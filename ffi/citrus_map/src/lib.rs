@@ -64,8 +64,8 @@
 //! - The tree stays shallow in whatever order keys come: an insertion that went deep turns nodes on its way. How deep it is isn't proved, and
 //!   who chooses keys by the library's rule can make it a path.
 //! - A removal waits for lookups under way near its key, and every sixtieth or so of a handle for all lookups and lists under way.
-//! - Where another thread has the lock of a node, an update spins. With many more threads that update than processors let updates take turns:
-//!   [`Builder::updates_in_turn`].
+//! - Where another thread has the lock of a node, an update yields the processor and tries again, or spins where it has locks itself. With many
+//!   more threads that update than processors updates may take turns: [`Builder::updates_in_turn`].
 //! - A list that updates came in between in four tries keeps them off for a walk, some 30 ns a pair: see [`Handle::page`].
 //!
 //! # Limits
