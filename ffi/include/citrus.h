@@ -13,7 +13,8 @@
  * Every function behind these calls is proved to keep its contract, for all inputs and every order of the threads' steps. A call checks what
  * can be checked, a closed handle too, and answers with a status. No contract says, but tests do: that a close leaves its section, and hands all
  * that the handle had to the next reopen; that a reopen finds it and gives it to the new handle as it was; that no pair comes or goes by these
- * two, by an open or a share over an open handle, or by a place that waits for a reopen; and that memory is freed.
+ * two, by an open or a share over an open handle, or by a place that waits for a reopen; that memory is freed; and what the loops of this
+ * header make of the calls of the archive, which are the ones that are proved.
  *
  * The words used here: a *ticket* is used up by an update or a wait, and an index has 2^57 of them; a *slot* is the place of a pair; a handle is
  * in a *section* while it holds a value, or after an enter; a *waiter* is the way in which a call waits for readers.
