@@ -49,7 +49,7 @@ else
 fi
 if hash clang 2>/dev/null; then
     for kind in address,undefined thread; do
-        names=(answers misuse own_keys moments always many_handles counters holds begun objects prcu)
+        names=(answers misuse own_keys moments always many_handles counters holds begun keeps objects prcu)
         [ "$kind" != thread ] || names+=(published)
         for name in "${names[@]}"; do
             if build "$name" clang "-fsanitize=$kind"; then try "$name under -fsanitize=$kind" "$out/$name"; else failed=$((failed + 1)); fi

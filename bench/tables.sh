@@ -157,15 +157,77 @@ handles() {
     awk -F, '/^#/ || /^waiter/ { next } { printf "| %s | %s | %s | %s | %s | %s | %s | %s | %s | %s |\n", $1, $2, $3, $4, $5, $6, $7, $8, $9, $10 }' "$1"
 }
 
-# Whom a reader that stays holds up.
+# For the three tables of readers that stay: what a summary has of each cell, and how its numbers are written.
+# shellcheck disable=SC2016
+stays_words='
+    BEGIN { split("first second third", waiters, " ") }
+    /^#/ || /^kind/ { next }
+    {
+        row = $1 "," $2 "," $3 "," $4 "," $5
+        if (!(row in seen)) { seen[row]; order[++rows] = row }
+        for (f = 7; f <= 20; f++) cell[row, $6, f] = $f
+    }
+    function ms(row, readers) { return sprintf("%.1f", cell[row, readers, 10] / 1000) }
+    function a_second(row, readers, f) { return sprintf("%.0f", cell[row, readers, f] / cell[row, readers, 7]) }
+    function keep_of(row, part) { return part[5] == 0 ? "usual, " cell[row, "none", 14] / part[4] : part[5] }
+    function stood_of(row, readers) {
+        if (cell[row, readers, 11] == 0) return "no | -"
+        return cell[row, readers, 11] " of " cell[row, readers, 19] " | " sprintf("%.2f", cell[row, readers, 12])
+    }'
+
+# What a reader that holds a value costs writers.
 stays() {
-    head_of updates waiter 'came before one stood still' 'for, s' 'gets meanwhile, and lists of 16 pairs'
-    awk -F, '
-        BEGIN { split("first second third", waiters, " "); split("replaces;removes, each with an insert;inserts of ascending keys", kinds, ";") }
-        /^#/ || /^waiter/ { next }
-        {
-            came = ($4 > 0 ? $3 : $3 ", and none stood still")
-            printf "| %s | %s | %s | %s | %d, %d |\n", kinds[$2 + 1], waiters[$1 + 1], came, ($4 > 0 ? $4 : "-"), $5, $6
+    head_of keys writers waiter 'a handle keeps back' 'updates a second, no reader' 'the longest, ms' 'beside one that holds' 'the longest, ms' \
+        'times those without' 'stood still, in runs' 'after, ms' 'updates in all' 'times those without' 'kept back at the end'
+    awk -F, "$stays_words"'
+        END {
+            for (i = 1; i <= rows; i++) {
+                row = order[i]
+                split(row, part, ",")
+                printf "| %s | %s | %s | %s | %s | %s | ", part[3], part[4], waiters[part[2] + 1], keep_of(row, part), cell[row, "none", 9], ms(row, "none")
+                if (!((row, "held", 9) in cell)) { print "- | - | - | - | - | - | - | - |"; continue }
+                printf "%s | %s | %s | %s | ", cell[row, "held", 9], ms(row, "held"), cell[row, "held", 17], stood_of(row, "held")
+                printf "%s | %s | %s of %s |\n", cell[row, "held", 8], cell[row, "held", 18], cell[row, "held", 13], cell[row, "held", 14]
+            }
+        }' "$1"
+}
+
+# One writer beside readers that the system seldom runs.
+stays_idle() {
+    head_of waiter 'the handle keeps back' 'updates, no reader' 'the longest, ms' 'beside 4' 'the longest, ms' 'times those without' \
+        'beside 8' 'the longest, ms' 'times those without'
+    awk -F, "$stays_words"'
+        END {
+            for (i = 1; i <= rows; i++) {
+                row = order[i]
+                split(row, part, ",")
+                printf "| %s | %s |", waiters[part[2] + 1], part[5]
+                for (readers = 0; readers <= 8; readers += 4) {
+                    known = (row, readers, 8) in cell
+                    printf known ? " " cell[row, readers, 8] " | " ms(row, readers) " |" : " - | - |"
+                    if (readers) printf " %s |", known ? cell[row, readers, 18] : "-"
+                }
+                print ""
+            }
+        }' "$1"
+}
+
+# Other updates, and lookups and lists meanwhile, with and without a reader that holds a value.
+stays_others() {
+    head_of updates waiter 'the handle keeps back' reader 'updates a second' 'the longest, ms' 'stood still, in runs' 'after, ms' \
+        'gets a second' 'lists of 16 pairs'
+    awk -F, "$stays_words"'
+        END {
+            for (i = 1; i <= rows; i++) for (r = 0; r <= 1; r++) {
+                row = order[i]
+                split(row, part, ",")
+                readers = r ? "held" : "none"
+                if (!((row, readers, 8) in cell)) continue
+                printf "| %s | %s | %s | %s ", part[1] == "replaces" ? "replaces" : "inserts of ascending keys", waiters[part[2] + 1], \
+                    keep_of(row, part), r ? "holds" : "none"
+                printf "| %s | %s | %s | %s | %s |\n", cell[row, readers, 9], ms(row, readers), stood_of(row, readers), \
+                    a_second(row, readers, 15), a_second(row, readers, 16)
+            }
         }' "$1"
 }
 
@@ -399,7 +461,7 @@ if [ $# -gt 0 ]; then
 fi
 out=$top/bench/out
 mkdir -p "$out"
-for name in tree waits sections writers shapes depth threads text limits cookies embed many ratios latency crowded crowded_updates size handles stays rust_map server; do
+for name in tree waits sections writers shapes depth threads text limits cookies embed many ratios latency crowded crowded_updates size handles stays stays_idle stays_others rust_map server; do
     [ -e "$results/$name.csv" ] || continue
     grep -qxF "<!-- $name -->" "$top/docs/BENCHMARKS.md" "$top/bench/TABLES.md" || continue
     { echo; table "$name"; echo; } >"$out/table"

@@ -64,7 +64,7 @@ compile_all() {
         compile_c backtraces && compile_cpp index && compile_c always && compile_c many_handles && compile_c counters && compile_c lanes &&
         compile_c busy && compile_c crowd &&
         compile_c memory -Wl,--wrap=malloc,--wrap=realloc,--wrap=free && compile_cpp answers && compile_cpp order && compile_cpp whole &&
-        compile_c holds && compile_c begun && compile_c objects && compile_c prcu && compile_cpp map && compile_debug
+        compile_c holds && compile_c begun && compile_c keeps && compile_c turns && compile_c objects && compile_c prcu && compile_cpp map && compile_debug
 }
 
 # A program of two files.
@@ -164,6 +164,8 @@ threads_that_are_stopped() {
     stopped_cases_of "$room/counters" 2000
     stopped_cases_of "$room/crowd" 200
     stopped_cases_of "$room/objects" 2000
+    stopped_cases_of "$room/keeps"
+    stopped_cases_of "$room/turns"
     stopped_cases_of "$room/map_cpp" threads
     for waiter in 0 1 2; do
         [ ! -x "$checker" ] || case_is "one order explains all replies, 4 threads that are stopped, waiter $waiter" \
@@ -174,19 +176,20 @@ threads_that_are_stopped() {
 # Faults that are planted: in front of the library, for which planted.c has one for each of these calls, and in a twin of the library.
 wrapped=(get insert_once compare_once upsert_once remove_once list_once first_once last_once begin poll)
 
-# A judge over both: `compile_judge NAME OBJECT`.
-compile_judge() {
-    g++ -pthread "$room/$2.o" "$room/planted.o" "${wrapped[@]/#/-Wl,--wrap=citrus_}" -L"$prefix/lib" -lcitrus -o "$room/$1_planted" &&
-        g++ -pthread "$room/$2.o" "$room/twin.o" -o "$room/$1_twin"
+# A judge over the first: `compile_planted NAME OBJECT`; and over both.
+compile_planted() {
+    g++ -pthread "$room/$2.o" "$room/planted.o" "${wrapped[@]/#/-Wl,--wrap=citrus_}" -L"$prefix/lib" -lcitrus -o "$room/$1_planted"
 }
+compile_judge() { compile_planted "$@" && g++ -pthread "$room/$2.o" "$room/twin.o" -o "$room/$1_twin"; }
 
 compile_judges() {
     local name
-    for name in planted own_keys moments counters objects crowd; do
+    for name in planted own_keys moments counters objects crowd keeps turns; do
         gcc -std=gnu11 "${strict[@]}" -c "$here/tests/$name.c" -o "$room/$name.o" || return
     done
     g++ -std=c++17 "${strict[@]}" -c "$here/tests/twin.cpp" -o "$room/twin.o" || return
     for name in own_keys moments counters objects crowd; do compile_judge "$name" "$name" || return; done
+    for name in keeps turns; do compile_planted "$name" "$name" || return; done
     for name in whole order map; do compile_judge "$name" "${name}_cpp" || return; done
 }
 
@@ -224,6 +227,10 @@ planted_faults() {
     case_is 'a fault in front of the library is told of by an order for each key: get' is_seen get order_planted 0 4 4000 3 1
     case_is 'a fault in front of the library is told of by counters: compare' is_seen compare counters_planted 2000
     case_is 'a fault in front of the library is told of by a crowd: busy' is_seen busy crowd_planted 300
+    for fault in poll early owing; do case_is "a fault in front of the library is told of by readers that stay: $fault" is_seen $fault keeps_planted; done
+    for fault in poll keeper; do
+        case_is "a fault in front of the library is told of by nodes with two children beside a reader: $fault" is_seen $fault turns_planted
+    done
     case_is 'a fault in front of the library is told of by the C++ map: begin' is_seen begin map_planted 'threads read'
     case_is 'the C++ map compiles with a fault' compile_unkept
     case_is 'a fault of the C++ map is told of: an address that comes back' is_seen none unkept_planted 'threads update'
@@ -248,7 +255,7 @@ has_sanitizer() {
 # The cases of prcu.c wait in a section's thread for keys that it hasn't, which CITRUS_DEBUG refuses.
 compile_sanitized() {
     local name
-    for name in freed objects busy crowd; do
+    for name in freed objects busy crowd keeps turns; do
         gcc -std=gnu11 "${strict[@]}" "${sanitized[@]}" -DCITRUS_DEBUG "$here/tests/$name.c" -L"$prefix/lib" -lcitrus -o "$room/${name}_sanitized" || return
     done
     gcc -std=gnu11 "${strict[@]}" "${sanitized[@]}" "$here/tests/prcu.c" -L"$prefix/lib" -lcitrus -o "$room/prcu_sanitized" || return
@@ -269,6 +276,8 @@ values_under_a_sanitizer() {
     case_is 'objects under AddressSanitizer' under_a_sanitizer objects 3000
     case_is 'updates that are busy under AddressSanitizer' under_a_sanitizer busy
     case_is 'a crowd under AddressSanitizer' under_a_sanitizer crowd 300
+    case_is 'readers that stay under AddressSanitizer' under_a_sanitizer keeps
+    case_is 'nodes with two children beside a reader that stays under AddressSanitizer' under_a_sanitizer turns
     case_is 'predicate RCU alone under AddressSanitizer' under_a_sanitizer prcu
     case_is 'the C++ map under AddressSanitizer' under_a_sanitizer map
 }
@@ -290,6 +299,10 @@ hand_overs() {
     case_is 'ThreadSanitizer tells of a race where nobody tells it of the index' is_told_of_a_race
     case_is 'a crowd compiles with ThreadSanitizer' compile_for_races crowd crowd_raced -DCITRUS_DEBUG
     case_is 'a crowd has no race for ThreadSanitizer' timeout 100 "${laid_out[@]}" "$room/crowd_raced" 100
+    case_is 'readers that stay compile with ThreadSanitizer' compile_for_races keeps keeps_raced -DCITRUS_DEBUG
+    case_is 'readers that stay have no race for ThreadSanitizer' timeout 100 "${laid_out[@]}" "$room/keeps_raced"
+    case_is 'nodes with two children beside a reader that stays compile with ThreadSanitizer' compile_for_races turns turns_raced -DCITRUS_DEBUG
+    case_is 'nodes with two children beside a reader that stays have no race for ThreadSanitizer' timeout 100 "${laid_out[@]}" "$room/turns_raced"
 }
 
 # The Rust crate's own tests, counted as cargo counts them. What compiles them has a time of its own.
@@ -378,7 +391,7 @@ if hash pkg-config 2>/dev/null; then case_is "README's program by pkg-config" wi
 case_is 'the tests compile' compile_all
 [ -x "$room/order_cpp" ] || end
 for program in answers misuse memory moments own_keys always many_handles counters busy crowd reopened lanes tidy salts version backtraces answers_cpp index_cpp; do cases_of "$room/$program"; done
-for program in holds begun objects prcu debug map_cpp whole_cpp; do cases_of "$room/$program"; done
+for program in holds begun keeps turns objects prcu debug map_cpp whole_cpp; do cases_of "$room/$program"; done
 if has_debugger; then case_is 'gdb names the caller of a call that hangs' gdb_names_the_caller; else echo 'left out: gdb'; fi
 threads_that_are_stopped
 [ ! -x "$room/jitter.so" ] || planted_faults

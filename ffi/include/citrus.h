@@ -95,7 +95,7 @@ static inline citrus_handle citrus_closed_handle(void) {
     return closed;
 }
 
-/* 2^30, less the 68 slots that are set aside for each of 1,024 handles. */
+/* 2^30, less 68 slots for each of 1,024 handles. */
 #define CITRUS_MAX_PAIRS 1073672192u
 #define CITRUS_MAX_HANDLES 1024u
 #define CITRUS_MAX_ROOM 1073741824u
@@ -120,7 +120,8 @@ enum {
     CITRUS_NEW = 5,           /* upsert: the pair was added */
     CITRUS_DIFFERENT = 6,     /* compare: the key's value isn't the expected one */
     CITRUS_BUSY = 7,          /* citrus_insert_once and its like, of a list too: other threads were in the way, and nothing was changed or
-                                 listed. Yield, and call again */
+                                 listed; of an insert and a remove also: the handle has no room to keep slots back, until readers leave. Yield,
+                                 and call again */
     CITRUS_CLOSED = -1,       /* the handle is closed, or the lanes are */
     CITRUS_BAD_ARGUMENT = -2, /* a number is out of its range; reopen: the other handle is open; open_lanes: the lanes are */
     CITRUS_NO_MEMORY = -3,    /* malloc gave none; open, share, reopen, list, tidy, open_lanes and get_many alone take memory */
@@ -197,15 +198,22 @@ static inline citrus_options citrus_options_for(uint32_t pairs, uint32_t handles
  * DONE; BAD_ARGUMENT where a number is out of range, the size or a flag too; NO_MEMORY. At all but DONE the handle is as it was. */
 CITRUS_STATUS_MATTERS int32_t citrus_open_with(citrus_handle *handle, const citrus_options *options);
 
+/* Opens an index as citrus_open_with does, each of whose handles may keep back `keep` slots whose pairs were removed, until no reader can stand
+ * there: 16 or more, or 0 for the usual number, which the other opens take: an eighth of the pairs that there are for each handle, but 64 at
+ * least and 65,536 at most, and no more than 2^30 slots allow. The more they are, the longer updates go on beside a reader that stays.
+ * The index has a slot of 72 bytes for each pair, and `keep` and 4 of them for each handle; and each handle has a list of 8 bytes for each slot
+ * that it may keep back, which a share and lanes take too.
+ * DONE; BAD_ARGUMENT as above, or where the slots are more than 2^30; NO_MEMORY. At all but DONE the handle is as it was. */
+CITRUS_STATUS_MATTERS int32_t citrus_open_keeping(citrus_handle *handle, const citrus_options *options, uint32_t keep);
+
 /* Opens a new, empty index with a salt of its own. At DONE, what the handle was open on before is closed.
- *   pairs    1 to CITRUS_MAX_PAIRS: so many always fit. Up to 68 more fit for each handle: it has so many slots, which its thread may have
- *            taken out of the index and not given back yet
+ *   pairs    1 to CITRUS_MAX_PAIRS: so many always fit. More fit as long as handles don't keep back all the slots that are there for it
  *   handles  1 to CITRUS_MAX_HANDLES: how many there can be at once. Each has a place, and a closed one leaves it to a reopen
  *   waiter   CITRUS_EER, CITRUS_DOMAIN or CITRUS_DEER
- * It takes all memory of the index, 72 bytes for each pair and some 7 kB for each handle; only a list, a tidy, a share or a reopen takes more
- * later. The index is made from a list of its words: so the call takes twice as much until it returns, and writes all of it. 10,000,000 pairs
- * keep 720 MB, and take 1.44 GB for a moment. A system that promises memory that it doesn't have, as Linux does, may end the program in this
- * call instead of NO_MEMORY.
+ * It takes all memory of the index: 72 bytes for each pair, and an eighth more for the slots that the handles may keep back, but from 7 kB to
+ * 4.7 MB for each handle. Only a list, a tidy, a share, a reopen or lanes take more later. The index is made from a list of its words: so the
+ * call takes twice as much until it returns, and writes all of it. 10,000,000 pairs with 4 handles keep 740 MB, and take 1.5 GB for a moment. A
+ * system that promises memory that it doesn't have, as Linux does, may end the program in this call instead of NO_MEMORY.
  * DONE; BAD_ARGUMENT or NO_MEMORY, and then the handle is as it was. */
 CITRUS_STATUS_MATTERS static inline int32_t citrus_open(citrus_handle *handle, uint32_t pairs, uint32_t handles, uint32_t waiter) {
     const citrus_options options = citrus_options_for(pairs, handles, waiter);
@@ -215,7 +223,7 @@ CITRUS_STATUS_MATTERS static inline int32_t citrus_open(citrus_handle *handle, u
 /* Makes `other` a second handle of the index. So many of the handles that are left to the first one (1 or more; `other` itself is one of
  * them) and so many of its tickets (0 or more; citrus_fair_share tells an even part) go over to it, and can be shared from it in turn. With 0
  * tickets it can do what needs none. What `other` was open on before is closed.
- * It waits for nobody and takes half a kilobyte of memory.
+ * It waits for nobody, and takes memory: half a kilobyte, and 8 bytes for each slot that a handle may keep back (citrus_open_keeping).
  * DONE; CLOSED; HOLDS; BAD_ARGUMENT where the first has fewer handles or tickets; NO_MEMORY; LOST. At all but DONE both are as they were. */
 CITRUS_STATUS_MATTERS int32_t citrus_share(citrus_handle *handle, uint32_t handles, uint64_t tickets, citrus_handle *other);
 
@@ -226,7 +234,7 @@ CITRUS_STATUS_MATTERS int32_t citrus_left(citrus_handle *handle, uint32_t *handl
 /* What a handle knows of itself and of its index, for a page of metrics. The size comes first, as in citrus_options. */
 typedef struct {
     size_t size;      /* sizeof(citrus_numbers), set by the caller */
-    uint64_t slots;   /* slots of the index: one for each pair that it was opened for, and 68 for each handle */
+    uint64_t slots;   /* slots of the index: one for each pair that it was opened for, and room + 4 for each handle */
     uint64_t free;    /* how many of them were free when this handle last took one or gave one back; all, where it did neither yet. The others
                        * have a pair, or are kept back by a handle */
     uint64_t waits;   /* waits for readers that were begun from this handle's place */
@@ -258,7 +266,7 @@ void citrus_close(citrus_handle *handle);
 /* Makes `other`, which must be closed, a handle of the index, with all that one closed handle had: it doesn't say whose that was, and
  * citrus_left tells what it has. So threads that come and go may close their handles and open them again without end, while one handle of
  * the index stays open. It waits for nobody: it looks at the places one by one, and again only where another reopen came first. It takes half
- * a kilobyte of memory.
+ * a kilobyte of memory, and no more for the slots that are kept back: the closed handle's list is there.
  * DONE; UNCHANGED where no closed handle left a place; CLOSED; HOLDS; BAD_ARGUMENT where `other` is open; NO_MEMORY, and the place is left
  * still; LOST, where `handle` is. `handle` is as it was, and at all but DONE `other` too. */
 CITRUS_STATUS_MATTERS int32_t citrus_reopen(citrus_handle *handle, citrus_handle *other);
@@ -274,17 +282,35 @@ CITRUS_STATUS_MATTERS int32_t citrus_get(citrus_handle *handle, uint64_t key, ui
  * there such a call ends as CITRUS_BUSY, with no lock, no slot and no section, and these functions yield and call it again. Whoever has
  * something better to do meanwhile calls citrus_insert_once and its like. Only a remove or a turn of nodes that has its locks spins until it
  * is through, while another thread's update is being stored; and so does an update that waits for readers. An update waits for a list that
- * keeps updates off, and for readers, which are inside a call or a section, only as said below. Each time that it is made it needs 4 tickets
- * and uses 4 at most, an insert that turns nodes up to 72 more; and so does each replace and insert of an upsert.
+ * keeps updates off, and for readers, which are inside a call or a section, only as said below.
  *
- * One reader that stays stops writers, whatever their keys and the waiter: a thread that holds a value, or that the system stopped inside a
- * get. After some 50 removes or 60 inserts of ascending keys, or sooner if a call waits for just this reader with locks held, each thread that
- * writes spins until the reader leaves. So hold briefly, and take no more threads than processors. */
+ * Tickets: each time that it is made an update needs 4 and uses 4 at most, and so does each replace and insert of an upsert. Beyond that an
+ * insert that turns nodes uses up to 72, an insert or a remove before which the handle begins a wait of its own (see below) one, also if it is
+ * BUSY then, and a remove that turns its node down up to 7 for each turn.
+ *
+ * Readers that stay: a thread that holds a value, or that the system stopped inside a get. A remove keeps back its slot until no reader can stand
+ * there, and two if its node had two children; a turn of nodes keeps back two. So beside a reader that stays updates cost slots, whatever the keys:
+ *   - Before an insert or a remove a handle that keeps back 32 slots or more, or half of `keep` if that is less, begins a wait of its own for all
+ *     readers, if it has none under way and 5 tickets or more. It asks once whether its own wait is over, and then gives up to 256 slots back. It
+ *     begins none while the wait that its user began last (citrus_begin) is its latest, and its end wasn't told. A later wait of the handle, its
+ *     user's or a remove's, takes the place of its own.
+ *   - A handle that keeps back `keep` - 1 slots or more (citrus_open_keeping) takes no pair out while its own wait is under way: a remove is
+ *     CITRUS_BUSY. So is an insert, if the last pair that the handle added went deeper by a third or more than it should: then nodes are to be
+ *     turned, for which there is no room. If it has no wait of its own, since its user's is the latest or tickets are short,
+ *     such a remove waits for all readers inside the call, and so does such an insert before it turns nodes.
+ *   - An insert that finds no free slot waits for all readers, if its handle keeps slots back.
+ *   - A remove of a node with two children puts the next pair in its place, and then waits, with up to five nodes locked, for the readers whose key is
+ *     above its own and at most the next one; with CITRUS_DOMAIN and CITRUS_DEER also for those whose key has the class of one of these. But if
+ *     the handle keeps back 128 slots, and its own wait is under way, a reader is known to stay: then turns bring the node down until it has one
+ *     child, and the remove waits for none of them. It makes 64 at most, and none with fewer than 11 tickets; then it goes on as above.
+ * Gets and lists are held up by no reader, replaces and compares only behind an update that waits with their node locked. Hold briefly all the
+ * same, and take no more threads than processors. */
 
 /* Adds the pair, if the key is absent. If no slot is free it first waits for all readers, to give back slots of its own.
  * If it went deep to add the pair, and has 72 tickets left, it then turns nodes on the way, in 24 attempts at most, so that the tree stays
- * shallow in whatever order keys come. A turn locks three nodes, and is given up if one of them is locked. It waits for all readers only if
- * the way is deeper by a third or more than it should be, and the handle keeps back 63 slots or more.
+ * shallow in whatever order keys come. A turn locks three nodes, and is given up if one of them is locked. Where the handle keeps back `keep` - 1
+ * slots or more it makes no further turn, unless the way is deeper by a third or more than it should be, and no wait of the handle's own is under
+ * way: then it first waits for all readers.
  * DONE, and after a loss at a turn too: then the next call is LOST; UNCHANGED where the key is there; FULL; CLOSED; HOLDS; SPENT;
  * LOST. */
 CITRUS_STATUS_MATTERS int32_t citrus_insert_once(citrus_handle *handle, uint64_t key, uint64_t value);
@@ -329,10 +355,9 @@ CITRUS_STATUS_MATTERS static inline int32_t citrus_upsert(citrus_handle *handle,
     return status;
 }
 
-/* Takes the pair out, if the key is present. If its node has two children it waits for the readers whose key is above this key and at most the
- * next one. Before that, and if the key is absent too, it may wait for all readers, lists too, to give back the slots that the handle keeps
- * back, one or two of each remove and two of each turn of an insert: if these are 63; or if the index has no free slot, and a remove of a
- * node with two children or a turn used the one that the handle has at hand.
+/* Takes the pair out, if the key is present. Above it is said when it waits for readers, lists too, and is BUSY for their sake: also if the key is
+ * absent. A remove needs a slot at hand, for the copy of a successor: if the handle's was used, by such a remove or a turn, it takes another,
+ * and if none is free it waits for all readers.
  * DONE, and the value in *old; UNCHANGED where the key is absent; CLOSED; HOLDS; SPENT; LOST. */
 CITRUS_STATUS_MATTERS int32_t citrus_remove_once(citrus_handle *handle, uint64_t key, uint64_t *old);
 
@@ -393,8 +418,8 @@ CITRUS_STATUS_MATTERS static inline int32_t citrus_last(citrus_handle *handle, u
  *     uint32_t made = 0;
  *     while (citrus_tidy(&mine, low, UINT64_MAX, 1000, &made, &low) == CITRUS_MORE) continue;
  *
- * A turn locks three nodes, and waits for nobody; but where the handle keeps back 63 slots, two for each turn, it first waits for all
- * readers. It needs 4 tickets, and uses at most 3 for each turn that was tried and for each key.
+ * A turn locks three nodes, and waits for nobody; but where the handle keeps back `keep` - 1 slots or more, two for each turn, it first waits
+ * for all readers. It needs 4 tickets, and uses at most 3 for each turn that was tried and for each key.
  * *made is how many turns were made: 0 except at DONE, MORE and FULL. *next is written only at MORE and FULL.
  * DONE, where no way to a key of the range needs a turn any more; MORE where it isn't through, and *next is the key to go on with: so many
  * turns were tried, tickets are short, there are more keys, or no slot was free for a turn and the handle gave slots back that it kept, behind
@@ -432,8 +457,8 @@ CITRUS_STATUS_MATTERS static inline int32_t citrus_tidy(citrus_handle *handle, u
 
 /* Finds the key's value, and stays in a section with the key: each wait for the key waits for it. A handle is in one section at a time, so a
  * program that needs two values at once takes two handles. Hold a value as briefly as you would hold a lock: waits for the key wait for you,
- * and in the end so do removes and inserts of any key, some with the locks of a few nodes; no lookup and no list does. So a thread that holds
- * a value makes no update and no wait by another handle of the index: it might wait for itself, or for something that waits for it.
+ * and so may removes near it with the locks of a few nodes, and at last removes and inserts of any key, as said at the updates; no lookup and no
+ * list does. So a thread that holds a value makes no update and no wait by another handle of the index: it might wait for itself, or for something that waits for it.
  * It costs what a get costs, and ends as a get does; it takes no memory, needs no ticket, and waits for nobody.
  * DONE, and *value; UNCHANGED where the key is absent, and then the handle is in no section; CLOSED; HOLDS; LOST where an earlier call gave
  * up. */
@@ -449,7 +474,8 @@ int32_t citrus_release(citrus_handle *handle);
 
 /* Begins a wait until every section with a key from low to high, both included, that any handle entered before has been left; and tells a
  * cookie by which to ask whether it is over. A handle has one wait under way: a later begin or wait takes its place, and so does a remove or an
- * insert that waits. So give many waits handles of their own. It uses a ticket, and waits for nobody.
+ * insert that waits, or a tidy; a wait that the handle would begin for its own slots doesn't. So ask until the end is told: before that the handle
+ * gives no slots back without standing still. Give many waits handles of their own. It uses a ticket, and waits for nobody.
  * DONE, and *cookie; CLOSED; HOLDS; BAD_ARGUMENT where low is above high; SPENT; LOST. */
 CITRUS_STATUS_MATTERS int32_t citrus_begin(citrus_handle *handle, uint64_t low, uint64_t high, uint64_t *cookie);
 
@@ -512,7 +538,7 @@ static inline citrus_lanes citrus_closed_lanes(void) {
 typedef struct { uint64_t value, found; } citrus_answer;
 
 /* Opens so many lanes (1 to CITRUS_MAX_LANES) of the handle's index. Each gets one of the handles that could be shared from it, and no ticket.
- * It waits for nobody, and takes memory: some 1.5 KB for each lane.
+ * It waits for nobody, and takes memory for each lane: half a kilobyte, and 8 bytes for each slot that a handle may keep back.
  * DONE; CLOSED; BAD_ARGUMENT where the lanes are open, the number is out of range, or the handle has fewer handles left; NO_MEMORY; HOLDS; LOST.
  * At all but DONE both are as they were. */
 CITRUS_STATUS_MATTERS int32_t citrus_open_lanes(citrus_handle *handle, citrus_lanes *lanes, uint32_t count);

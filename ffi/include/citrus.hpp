@@ -88,12 +88,14 @@ struct tidied {
 };
 
 // What an index is opened for. The salt, by which its tree turns nodes, is drawn where nothing is said; a fixed one is for tests, whose tree is
-// to be the same each time.
+// to be the same each time. `keep` is how many slots of removed pairs each handle may keep back, as at citrus_open_keeping; where nothing is
+// said, or 0, it is the usual number.
 struct options {
     uint32_t pairs;
     uint32_t handles;
     waiter how = waiter::eer;
     std::optional<uint64_t> salt = std::nullopt;
+    std::optional<uint32_t> keep = std::nullopt;
 };
 
 // What a handle can give away.
@@ -164,7 +166,7 @@ public:
     explicit handle(const options &asked) {
         citrus_options all = citrus_options_for(asked.pairs, asked.handles, static_cast<uint32_t>(asked.how));
         if (asked.salt) all.salt = *asked.salt;
-        refuse_unless_done(citrus_open_with(&at_, &all));
+        refuse_unless_done(asked.keep ? citrus_open_keeping(&at_, &all, *asked.keep) : citrus_open_with(&at_, &all));
     }
 
     handle(handle &&other) noexcept : at_(std::exchange(other.at_, closed)) {}

@@ -197,6 +197,12 @@ static inline int32_t citrus_debug_open_with(citrus_handle *handle, const citrus
     return citrus_debug_opened_over(&handle->at, before, number, citrus_open_with(handle, options));
 }
 
+static inline int32_t citrus_debug_open_keeping(citrus_handle *handle, const citrus_options *options, uint32_t keep) {
+    const uint64_t number = citrus_debug_only_begins(citrus_debug_begins("citrus_open_keeping", handle));
+    const void *const before = handle->at;
+    return citrus_debug_opened_over(&handle->at, before, number, citrus_open_keeping(handle, options, keep));
+}
+
 static inline int32_t citrus_debug_share(citrus_handle *handle, uint32_t handles, uint64_t tickets, citrus_handle *other) {
     const struct citrus_debug_call mine = citrus_debug_begins("citrus_share", handle);
     const uint64_t number = citrus_debug_takes("citrus_share", &other->at);
@@ -385,6 +391,7 @@ static inline void citrus_debug_close_lanes(citrus_lanes *lanes) {
 #define citrus_close citrus_debug_close
 #define citrus_open citrus_debug_open
 #define citrus_open_with citrus_debug_open_with
+#define citrus_open_keeping citrus_debug_open_keeping
 #define citrus_share citrus_debug_share
 #define citrus_insert citrus_debug_insert
 #define citrus_insert_once citrus_debug_insert_once

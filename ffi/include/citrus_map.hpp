@@ -163,7 +163,7 @@ public:
     }
 
     // Takes the pair out, and returns whether it was there. Its value is dropped by a later call of this map object, when its readers are gone;
-    // this one waits only where most_retired are kept.
+    // this one waits only where most_retired are kept, or the remove itself does (citrus.h).
     bool retire(uint64_t key) {
         make_room();
         const auto old = take_out(key);

@@ -106,10 +106,12 @@ static void each_interrupted_call_has_its_caller(uint32_t waiter) {
     WANT(named, looked);
 }
 
-/* Inserts and removes until it hangs: a reader is in a section, and stays. */
+/* Inserts and removes until it hangs: a reader is in a section, and stays. While its user's wait is the latest a handle begins none for its slots,
+ * and then it waits for all readers inside its call. */
 static CALLER void changes_behind_a_reader(citrus_handle *mine, const atomic_bool *is_over) {
-    uint64_t told = 0;
+    uint64_t told = 0, cookie;
     for (uint64_t key = 0; !*is_over; key++) {
+        if (citrus_begin(mine, 0, 0, &cookie) != CITRUS_DONE) abort();
         if (citrus_insert(mine, key, key) < CITRUS_DONE || citrus_remove(mine, key / 2, &told) < CITRUS_DONE) abort();
         changed++;
     }
@@ -141,13 +143,17 @@ static void *reads_and_stays(void *of) {
     return NULL;
 }
 
+/* The fewer slots a handle may keep back, the sooner it waits. */
+enum { FEWEST = 16 };
+
 static void hang(uint32_t waiter, bool is_to_abort) {
+    const citrus_options options = citrus_options_for(100000, 2, waiter);
     citrus_handle mine = CITRUS_CLOSED_HANDLE;
     struct reader reader = {CITRUS_CLOSED_HANDLE, pthread_self(), is_to_abort, false};
     pthread_t id;
     look_from_now_on();
     changed = 0;
-    WANT(citrus_open(&mine, 100000, 2, waiter), CITRUS_DONE);
+    WANT(citrus_open_keeping(&mine, &options, FEWEST), CITRUS_DONE);
     WANT(citrus_share(&mine, 1, citrus_fair_share(&mine, 1), &reader.handle), CITRUS_DONE);
     if (pthread_create(&id, NULL, reads_and_stays, &reader)) abort();
     changes_behind_a_reader(&mine, &reader.is_over);

@@ -349,6 +349,7 @@ static citrus_handle opened_elsewhere(uint32_t waiter) {
 
 /* A handle may stand elsewhere after each call, also where the old one isn't set to a closed one, and nobody uses it. */
 static void moves_go_on(uint32_t waiter) {
+    const citrus_options options = citrus_options_for(5, 1, waiter);
     citrus_handle here = opened_elsewhere(waiter), there;
     uint32_t handles = 0;
     for (uint64_t key = 0; key < 9; key++) {
@@ -364,6 +365,7 @@ static void moves_go_on(uint32_t waiter) {
     }
     WANT(citrus_share(&here, 1, citrus_fair_share(&here, 1), &first), CITRUS_DONE);
     WANT(citrus_open(&first, 0, 1, waiter), CITRUS_BAD_ARGUMENT);
+    WANT(citrus_open_keeping(&first, &options, 15), CITRUS_BAD_ARGUMENT);
     WANT(citrus_reopen(&here, &first), CITRUS_BAD_ARGUMENT);
     WANT(citrus_left(&first, &handles, &told), CITRUS_DONE);
     citrus_close(&first);

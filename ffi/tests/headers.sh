@@ -25,6 +25,7 @@ int hand_on(uint64_t key) {
     kept = citrus_closed_handle();
     options.salt = key;
     if (status == CITRUS_DONE) status = citrus_open_with(&kept, &options);
+    if (status == CITRUS_DONE) status = citrus_open_keeping(&kept, &options, 16);
     if (status == CITRUS_DONE) status = citrus_insert(&mine, key, 50);
     while (status == CITRUS_DONE && (status = citrus_replace_once(&mine, key, 51, &value)) == CITRUS_BUSY) status = citrus_wait(&mine, 0, key);
     if (status == CITRUS_DONE) status = citrus_hold(&mine, key, &value);
@@ -48,7 +49,7 @@ static citrus_handle kept = CITRUS_CLOSED_HANDLE;
 bool is_kept();
 bool is_kept() {
     kept = citrus_closed_handle();
-    citrus::handle mine(100, 2), fixed(citrus::options{100, 2, citrus::waiter::eer, 5});
+    citrus::handle mine(100, 2), fixed(citrus::options{100, 2, citrus::waiter::eer, 5, 4096});
     citrus::index index(100, 2);
     return mine.insert(5, 50) && fixed.insert(5, 50) && mine.hold(5) && kept.at && index.insert(5, 50);
 }

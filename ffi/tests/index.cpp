@@ -14,9 +14,9 @@ static bool has_no_handle(citrus::index &index) {
     return false;
 }
 
-static bool is_refused(uint32_t pairs, uint32_t handles) {
+static bool is_refused(const citrus::options &asked) {
     try {
-        citrus::index refused(pairs, handles);
+        citrus::index refused(asked);
     } catch (const citrus::error &told) {
         return told.why() == citrus::fault::bad_argument;
     }
@@ -123,10 +123,39 @@ static void more_threads_than_handles(uint32_t waiter) {
 }
 
 static void numbers_out_of_range_are_refused() {
-    WANT(is_refused(0, 1), true);
-    WANT(is_refused(1, 0), true);
-    WANT(is_refused(1, CITRUS_MAX_HANDLES + 1), true);
-    WANT(is_refused(1, UINT32_MAX), true);
+    WANT(is_refused({0, 1}), true);
+    WANT(is_refused({1, 0}), true);
+    WANT(is_refused({1, CITRUS_MAX_HANDLES + 1}), true);
+    WANT(is_refused({1, UINT32_MAX}), true);
+}
+
+// An index whose handles may keep back so many slots, 0 for the usual number, tells so of each, and has slots for all of them.
+static void each_may_keep_back(citrus::options asked, uint32_t keep, uint64_t room) {
+    asked.keep = keep;
+    citrus::index index(asked);
+    const auto one = index.lend(), other = index.lend();
+    for (const citrus_numbers &told : {one->stats(), other->stats()}) {
+        WANT(told.room, room);
+        WANT(told.slots, asked.pairs + (room + 4) * asked.handles);
+    }
+    for (uint64_t i = 0; i < 3 * room; i++) {
+        WANT(one->insert(i % 50, i), true);
+        WANT(other->remove(i % 50).value_or(UNTOUCHED), i);
+    }
+    WANT(other->stats().kept < room, true);
+}
+
+static void handles_keep_back_what_the_options_say(uint32_t waiter) {
+    citrus::options asked{1000, 2, static_cast<citrus::waiter>(waiter)};
+    each_may_keep_back(asked, 16, 16);
+    each_may_keep_back(asked, 4096, 4096);
+    each_may_keep_back(asked, 0, 64);
+    asked.pairs = 10000;
+    each_may_keep_back(asked, 0, 10000 / (8 * 2));
+    for (const uint32_t keep : {1u, 15u, 1u << 30, UINT32_MAX}) {
+        asked.keep = keep;
+        WANT(is_refused(asked), true);
+    }
 }
 
 static const waiter_case waiter_cases[] = {
@@ -134,6 +163,7 @@ static const waiter_case waiter_cases[] = {
     {"C++ index: handles run out and come back", handles_run_out_and_come_back},
     {"C++ index: threads and indexes come and go", threads_and_indexes_come_and_go},
     {"C++ index: more threads than handles", more_threads_than_handles},
+    {"C++ index: handles keep back what the options say", handles_keep_back_what_the_options_say},
 };
 
 static const plain_case plain_cases[] = {

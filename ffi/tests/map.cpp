@@ -280,6 +280,36 @@ static void retired_values_are_dropped(uint32_t waiter) {
     WANT(there, 0);
 }
 
+// Each object that goes stands at the end of its way: so the handle keeps one slot back, and waits for readers of its key alone. The held one stays
+// until all are gone; where they wait for it, it goes after ten seconds.
+static void removes_go_on_beside_a_held_value(uint32_t waiter) {
+    citrus::options asked{10, 2, static_cast<citrus::waiter>(waiter)};
+    asked.keep = 4096;
+    {
+        objects mine(asked), other = mine.share();
+        std::atomic<bool> is_held{false}, may_leave{false}, is_right{false};
+        mine.insert(0, make(0));
+        std::thread reader([&] {
+            const auto held = other.get(0);
+            is_held = true;
+            const auto end = std::chrono::steady_clock::now() + std::chrono::seconds(10);
+            while (!may_leave && std::chrono::steady_clock::now() < end) std::this_thread::sleep_for(std::chrono::milliseconds(1));
+            is_right = may_leave && held && held->is_of(0);
+        });
+        while (!is_held) std::this_thread::yield();
+        for (uint64_t i = 0; i < 4000; i++) {
+            const uint64_t key = 1 + i % 62;
+            mine.insert(key, make(key));
+            WANT(mine.remove(key)->is_of(key), true);
+        }
+        may_leave = true;
+        reader.join();
+        WANT(is_right, true);
+        WANT(there, 1);
+    }
+    WANT(there, 0);
+}
+
 static void map_objects_are_shared_and_moved() {
     {
         objects first(100, 3), second = first.share(), third = first.share();
@@ -349,6 +379,7 @@ static const waiter_case waiter_cases[] = {
     {"C++ map: values that are refused", values_that_are_refused},
     {"C++ map: a held value refuses other calls", a_held_value_refuses_other_calls},
     {"C++ map: retired values are dropped", retired_values_are_dropped},
+    {"C++ map: removes go on beside a held value", removes_go_on_beside_a_held_value},
     {"C++ map: threads read and take out", threads_read_and_take_out},
     {"C++ map: threads whose updates take turns read and take out", threads_take_turns},
     {"C++ map: who holds a value is refused before it waits for a turn", a_held_value_asks_for_no_turn},

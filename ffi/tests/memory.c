@@ -104,6 +104,55 @@ static void each_allocation_fails(uint32_t waiter) {
     WANT(held, before);
 }
 
+enum { KEEP = 4096 };
+
+static citrus_lanes lanes_here = CITRUS_CLOSED_LANES;
+
+static int32_t open_keeping_it(void) {
+    const citrus_options options = citrus_options_for(100, 4, waiter_here);
+    return citrus_open_keeping(&index_here, &options, KEEP);
+}
+
+static int32_t open_lanes_it(void) { return citrus_open_lanes(&index_here, &lanes_here, 2); }
+
+/* How many bytes the largest block has that the call asks for. */
+static size_t largest_of(int32_t (*call)(void)) {
+    bytes_asked = 0;
+    WANT(call(), CITRUS_DONE);
+    return bytes_asked;
+}
+
+/* A share and lanes ask for 8 bytes for each slot that a handle may keep back; a reopen has what was asked for then, and a remove asks for none. */
+static void each_handle_has_room_for_what_it_may_keep_back(uint32_t waiter) {
+    const int64_t before = held;
+    uint64_t told = 0;
+    waiter_here = waiter;
+    fail_each(open_keeping_it, 2);
+    fail_each(share_it, 2);
+    citrus_close(&other_here);
+    fail_each(reopen_it, 1);
+    citrus_close(&other_here);
+    WANT(largest_of(reopen_it) < KEEP, 1);
+    fail_each(open_lanes_it, 3);
+    citrus_close_lanes(&lanes_here);
+    citrus_close(&other_here);
+    citrus_close(&index_here);
+    WANT(open_keeping_it(), CITRUS_DONE);
+    WANT(largest_of(share_it) / KEEP, 8);
+    WANT(largest_of(open_lanes_it) / KEEP, 8);
+    until_failure = 0;
+    for (uint64_t i = 0; i < 3 * KEEP && !wrong_here; i++) {
+        WANT(citrus_insert(&index_here, i % 90, i), CITRUS_DONE);
+        WANT(citrus_remove(&index_here, i % 90, &told), CITRUS_DONE);
+    }
+    WANT(until_failure, 0);
+    until_failure = INT64_MAX;
+    citrus_close_lanes(&lanes_here);
+    citrus_close(&other_here);
+    citrus_close(&index_here);
+    WANT(held, before);
+}
+
 /* What the index of the most pairs asks for, 72 bytes for each, is more than most machines have. Here it isn't given, so that none tries. */
 static void the_largest_index_asks_for_its_memory(uint32_t waiter) {
     const int64_t before = held;
@@ -206,6 +255,7 @@ static void handles_are_closed_beside_updates(uint32_t waiter) {
 
 static const struct waiter_case waiter_cases[] = {
     {"each allocation fails in turn", each_allocation_fails},
+    {"each handle has room for what it may keep back", each_handle_has_room_for_what_it_may_keep_back},
     {"the largest index asks for its memory", the_largest_index_asks_for_its_memory},
     {"updates, firsts and sections take no memory", updates_firsts_and_sections_take_no_memory},
     {"handles are closed beside updates", handles_are_closed_beside_updates},

@@ -55,6 +55,54 @@ static void numbers_that_open_no_index(void) {
     }
 }
 
+/* What a handle of this index keeps back at most, as the numbers tell it, and how many slots there are for it. */
+static void want_room(citrus_handle *index, uint32_t pairs, uint32_t handles, uint64_t room) {
+    citrus_numbers numbers = {.size = sizeof numbers};
+    WANT(citrus_stats(index, &numbers), CITRUS_DONE);
+    WANT(numbers.room, room);
+    WANT(numbers.slots, pairs + (room + 4) * handles);
+}
+
+static void keeps(uint32_t pairs, uint32_t handles, uint32_t keep, uint64_t room) {
+    citrus_handle index = CITRUS_CLOSED_HANDLE;
+    const citrus_options options = citrus_options_for(pairs, handles, CITRUS_EER);
+    WANT(citrus_open_keeping(&index, &options, keep), CITRUS_DONE);
+    want_room(&index, pairs, handles, room);
+    citrus_close(&index);
+}
+
+/* The usual number, which each open takes where none is given: an eighth of the pairs of each handle, from 64 to 65,536. */
+static void usually_keeps(uint32_t pairs, uint32_t handles) {
+    citrus_handle index = CITRUS_CLOSED_HANDLE;
+    const uint32_t part = pairs / (8 * handles), room = part < 64 ? 64 : part > 65536 ? 65536 : part;
+    const citrus_options options = citrus_options_for(pairs, handles, CITRUS_EER);
+    keeps(pairs, handles, 0, room);
+    WANT(citrus_open_with(&index, &options), CITRUS_DONE);
+    want_room(&index, pairs, handles, room);
+    WANT(citrus_open(&index, pairs, handles, CITRUS_EER), CITRUS_DONE);
+    want_room(&index, pairs, handles, room);
+    citrus_close(&index);
+}
+
+static void what_handles_keep_back(void) {
+    static const uint32_t refused[][3] = {
+        {5, 1, 1}, {5, 1, 15}, {5, 1, 1u << 30}, {5, 2, 1u << 29}, {5, 1, UINT32_MAX}, {UINT32_MAX, 1, 16}, {UINT32_MAX, CITRUS_MAX_HANDLES, UINT32_MAX},
+        {0, 1, 16}, {5, 0, 16}, {5, CITRUS_MAX_HANDLES + 1, 16}, {CITRUS_MAX_ROOM - 19, 1, 0}, {UINT32_MAX, 1, 0},
+    };
+    keeps(5, 3, 16, 16);
+    keeps(5, 3, 300, 300);
+    static const uint32_t usual[][2] = {{5, 3}, {519, 1}, {520, 1}, {1039, 2}, {1040, 2}, {10000, 3}, {524287, 1}, {600000, 1}};
+    for (size_t i = 0; i < COUNT_OF(usual); i++) usually_keeps(usual[i][0], usual[i][1]);
+    keeps(520, 1, 0, 65);
+    keeps(600000, 1, 0, 65536);
+    for (size_t i = 0; i < COUNT_OF(refused); i++) {
+        citrus_handle index = CITRUS_CLOSED_HANDLE;
+        const citrus_options options = citrus_options_for(refused[i][0], refused[i][1], CITRUS_EER);
+        WANT(citrus_open_keeping(&index, &options, refused[i][2]), CITRUS_BAD_ARGUMENT);
+        WANT(index.at == NULL, 1);
+    }
+}
+
 /* That of the most pairs has more memory than most machines: see memory.c. */
 static void the_most_handles(void) {
     static citrus_handle handles[CITRUS_MAX_HANDLES];
@@ -222,6 +270,7 @@ static void tickets_end(void) {
 static const struct plain_case cases[] = {
     {"a closed handle at each call", a_closed_handle_at_each_call},
     {"numbers that open no index", numbers_that_open_no_index},
+    {"what handles keep back", what_handles_keep_back},
     {"the most handles", the_most_handles},
     {"an open handle is opened again", an_open_handle_is_opened_again},
     {"more is shared than there is", more_is_shared_than_there_is},

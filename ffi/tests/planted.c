@@ -1,6 +1,6 @@
 /* Faults in front of the library, to show that a test tells of each. A program is linked with this and with --wrap for each call below, and
- * PLANTED in the environment names the call that is wrong. What it does instead is right where one thread calls, but for `busy`, `begin` and
- * `poll`. */
+ * PLANTED in the environment names the call that is wrong. What it does instead is right where one thread calls, but for `busy`, `begin`, `poll`,
+ * `keeper`, `early` and `owing`. */
 #include <citrus.h>
 #include <stdlib.h>
 #include <string.h>
@@ -59,10 +59,29 @@ static int32_t insert_and_say_busy(citrus_handle *handle, uint64_t key, uint64_t
     return status == CITRUS_DONE && ++calls % 8 == 0 ? CITRUS_BUSY : status;
 }
 
+/* By which handle the thread began its last wait, until that wait lost its place. */
+static __thread const citrus_handle *waits_by;
+
+/* Before an insert a wait for the handle's own slots takes the place of the one that its user began. */
+static int32_t begin_and_insert(citrus_handle *handle, uint64_t key, uint64_t value) {
+    uint64_t cookie;
+    if (waits_by == handle) (void)!__real_citrus_begin(handle, 0, UINT64_MAX, &cookie);
+    waits_by = NULL;
+    return __real_citrus_insert_once(handle, key, value);
+}
+
+/* Says that a pair is there for which it has no room to turn nodes yet. */
+static int32_t insert_unless_busy(citrus_handle *handle, uint64_t key, uint64_t value) {
+    const int32_t status = __real_citrus_insert_once(handle, key, value);
+    return status == CITRUS_BUSY ? CITRUS_DONE : status;
+}
+
 /* Looks, and then gives the key the value whether it is there or not. */
 int32_t __wrap_citrus_insert_once(citrus_handle *handle, uint64_t key, uint64_t value) {
     uint64_t old;
     if (is_wrong("busy")) return insert_and_say_busy(handle, key, value);
+    if (is_wrong("keeper")) return begin_and_insert(handle, key, value);
+    if (is_wrong("owing")) return insert_unless_busy(handle, key, value);
     if (!is_wrong("insert")) return __real_citrus_insert_once(handle, key, value);
     const int32_t status = __real_citrus_get(handle, key, &old);
     if (status != CITRUS_UNCHANGED) return status == CITRUS_DONE ? CITRUS_UNCHANGED : status;
@@ -94,9 +113,16 @@ int32_t __wrap_citrus_upsert_once(citrus_handle *handle, uint64_t key, uint64_t 
     return gone == CITRUS_DONE ? CITRUS_DONE : CITRUS_NEW;
 }
 
+/* Says that a pair is gone that it may not take out yet. */
+static int32_t remove_unless_busy(citrus_handle *handle, uint64_t key, uint64_t *old) {
+    const int32_t status = __real_citrus_remove_once(handle, key, old);
+    return status == CITRUS_BUSY ? __real_citrus_get(handle, key, old) : status;
+}
+
 /* Tells the value that it finds before. */
 int32_t __wrap_citrus_remove_once(citrus_handle *handle, uint64_t key, uint64_t *old) {
     uint64_t value;
+    if (is_wrong("early")) return remove_unless_busy(handle, key, old);
     if (!is_wrong("remove")) return __real_citrus_remove_once(handle, key, old);
     const int32_t found = __real_citrus_get(handle, key, &value);
     linger();
@@ -143,6 +169,7 @@ int32_t __wrap_citrus_last_once(citrus_handle *handle, uint64_t low, uint64_t hi
 /* These two wait for nobody, or for readers that aren't the wait's. */
 int32_t __wrap_citrus_begin(citrus_handle *handle, uint64_t low, uint64_t high, uint64_t *cookie) {
     if (is_wrong("begin") && low <= high) low = high = UINT64_MAX;
+    waits_by = handle;
     return __real_citrus_begin(handle, low, high, cookie);
 }
 

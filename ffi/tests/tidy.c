@@ -10,16 +10,16 @@ static uint64_t descending(uint64_t i) { return KEYS - 1 - i; }
 static uint64_t inwards(uint64_t i) { return i % 2 ? KEYS - 1 - i / 2 : i / 2; }
 static uint64_t scattered(uint64_t i) { return i * 1237 % KEYS; }
 
-/* So many slots are free that none has to be given back for a turn before the handle keeps back 63. An index has 68 for each handle beside
- * those for its pairs. */
-enum { ROOM = 100, EACH_HANDLE = 68 };
+/* So many slots are free that none has to be given back for a turn before the handle keeps back all that it may but one. An index has these and four
+ * for each handle beside those for its pairs. */
+enum { ROOM = 100, KEEP = 64, EACH_HANDLE = KEEP + 4 };
 
 /* The salt is fixed, so that each run has the same tree. */
 static citrus_handle filled(uint64_t (*key_of)(uint64_t), uint32_t room, uint32_t handles, uint32_t waiter) {
     citrus_handle index = CITRUS_CLOSED_HANDLE;
     citrus_options options = citrus_options_for(KEYS + room - EACH_HANDLE, handles, waiter);
     options.salt = 5;
-    WANT(citrus_open_with(&index, &options), CITRUS_DONE);
+    WANT(citrus_open_keeping(&index, &options, KEEP), CITRUS_DONE);
     for (uint64_t i = 0; i < KEYS; i++) WANT(citrus_insert(&index, key_of(i), 10 * key_of(i)), CITRUS_DONE);
     return index;
 }

@@ -155,6 +155,9 @@ int32_t citrus_open_with(citrus_handle *handle, const citrus_options *options) {
     return CITRUS_DONE;
 }
 
+/* The twin keeps no slot back. */
+int32_t citrus_open_keeping(citrus_handle *handle, const citrus_options *options, uint32_t) { return citrus_open_with(handle, options); }
+
 int32_t citrus_share(citrus_handle *handle, uint32_t handles, uint64_t, citrus_handle *other) {
     Opened &mine = *opened(handle);
     if (handles > mine.left) return CITRUS_BAD_ARGUMENT;

@@ -13,7 +13,7 @@ ghost use Rattle.tree_handles.specs.Calls.{ComparesOut, Gets, Inserts, Replaces,
 ghost use Rattle.tree_handles.specs.Callers.{Makes};
 ghost use Rattle.tree_handles.specs.Lanes.{ManyGets, OpensLanes, lanes_in};
 ghost use Rattle.tree_handles.specs.Lists.{ListsOut, Firsts, Lasts};
-ghost use Rattle.tree_handles.specs.Opening.{Opens, Shares, Reopens, HasLeft, TellsStats, options_of};
+ghost use Rattle.tree_handles.specs.Opening.{Opens, OpensKeeping, Shares, Reopens, HasLeft, TellsStats, options_of};
 ghost use Rattle.tree_handles.specs.Tidying.{Tidies};
 ghost use Rattle.citrus_c.specs.Numbers.{Says};
 
@@ -40,6 +40,19 @@ pub extern "C" fn citrus_open_with(alloc: Global, handle: &mut Handle, options: 
     ensures opened { Says result (λ status. Opens options.now handle.old.held status handle.new.held) }
 {
     handle.open_with(alloc, options).code()
+}
+
+/// [`Handle::open_keeping`].
+#[unsafe(no_mangle)]
+pub extern "C" fn citrus_open_keeping(
+    alloc: Global,
+    handle: &mut Handle,
+    options: &Options,
+    keep: u32,
+) -> i32
+    ensures opened { Says result (λ status. OpensKeeping options.now keep handle.old.held status handle.new.held) }
+{
+    handle.open_keeping(alloc, options, keep).code()
 }
 
 /// [`Handle::close`].

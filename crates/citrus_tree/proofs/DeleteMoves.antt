@@ -1,5 +1,5 @@
 -- What a delete does under its locks, point by point: a bypass, or a move; and what these retire.
-use Rattle.std.proofs.Common.{◌≡◌, ℕ, List, [], ◌∷◌, ◌++◌, ◌⊎◌, inl, inr, ⊎_elim, refl, sym, subst, ◌∙◌, append-nil, ◌≢◌, suc, ◌+◌, ◌<◌, ◌≤◌, None, length, map, ap, arith, ◌-◌, ◌*◌, ◌/◌, ◌==◌, if◌then◌else◌, cond, Bool, true, false, Some, eq-eqb, ne_eqb, Option}
+use Rattle.std.proofs.Common.{◌≡◌, ℕ, List, [], ◌∷◌, ◌++◌, ◌⊎◌, inl, inr, ⊎_elim, refl, sym, subst, ◌∙◌, append-nil, ◌≢◌, suc, ◌+◌, ◌<◌, ◌≤◌, None, length, map, ap, arith, ◌-◌, ◌*◌, ◌/◌, ◌==◌, ◌&&◌, ◌||◌, nat_lt, if◌then◌else◌, cond, Bool, true, false, Some, eq-eqb, ne_eqb, Option}
 use mathlib.Core.List.{IsPrefix}
 use Rattle.prcu_marks.specs.declared.mark.Mark.{Mark}
 use Rattle.prcu_marks.specs.declared.mark.Mark.TheVariants.{Done, Unlinked, Began, Ended}
@@ -14,6 +14,7 @@ use Rattle.tree_points.specs.Points.{HasAdvanced, IsAt, HasLocks}
 use Rattle.citrus_tree.specs.Deletes.{HasDone, RetiresBy, retired_slots, KeepsAll, relinked_at, KeepsValue, KeepsWaits, HasCopied, HasDeleted}
 use Rattle.citrus_tree.specs.Replies.{AreUnlinkedSince, IsUnlinkedSince, RetiresInOrder, IsMoveWait}
 use Rattle.std.proofs.lemmas.Bool.{cases_eq}
+use Rattle.std.proofs.lemmas.List.{map-append}
 use Rattle.core_state.specs.declared.view.Retired.{Retired}
 use Rattle.list_laws.specs.Counts.{times, IsIn}
 use Rattle.list_laws.proofs.Lists.{times_here, times_other, times_append}
@@ -26,7 +27,7 @@ use Rattle.core_points.specs.Programs.{deleting, or_root, move_locks, is_some}
 use Rattle.tree_points.proofs.Passing.{slots_length, needs, passes, commits_any}
 use Rattle.node_slots.proofs.Returns.{listed_length, not_in}
 use Rattle.core_state.specs.declared.view.Waiting.{Waiting}
-use Rattle.core_state.specs.Steps.{waited_retired, spare_slot}
+use Rattle.core_state.specs.Steps.{is_grace_for, new_wait, waited_retired, spare_slot}
 use Rattle.key_interval.specs.Keys.{Interval}
 use Rattle.core_points.specs.declared.stage.Moving.{Moving}
 use Rattle.seat_table.specs.Waits.{HasWaited}
@@ -38,7 +39,7 @@ use Rattle.core_state.specs.declared.words.Field.TheVariants.{Life, Link}
 use Rattle.core_state.specs.Views.{known_in, known_under}
 use Rattle.core_frames.specs.Telling.{IsToldOf}
 use Rattle.tree_points.proofs.Locks.{allowed, needs_copy, needs_copy_age, own_spare, passes_copy, passes_copy_age, further, advanced_on}
-use Rattle.citrus_tree.specs.Going.{Opened, Closed, retired_marks}
+use Rattle.citrus_tree.specs.Going.{Opened, Closed, RetiresBehind, retired_marks}
 use Rattle.citrus_tree.proofs.DeleteUpdates.{keeps, keeps_on, keeps_fill, keeps_locked_load, keeps_own_life, spare_fill, spare_locked_load, spare_own_life, value_fill, value_load, value_on, value_own_life, unlinked_gone}
 use Rattle.core_laws.proofs.Locks.{loaded_known}
 use Rattle.core_points.specs.declared.stage.Successor.{Successor}
@@ -95,6 +96,25 @@ two_retired s t u key node old number d same i listed = record {
   kept_is = inl same;
   listed = listed;
 }
+
+-- So it lists two at most.
+pub few_retired : (s t : SeatAt) (key number : ℕ) → RetiresInOrder s key number t → length t.listed ≤ length s.listed + 2
+few_retired s t key number x =
+    let long = ap length x.listed ∙ lengths x.kept (x.deleted ∷ x.old) in
+    let old : length x.old ≤ 1 = few _ _ x.old x.later in
+    ⊎_elim
+    (λ (e : x.kept ≡ s.listed). let a = ap length e in omega arith)
+    (λ (e : x.kept ≡ []). let a = ap length e in omega arith)
+    x.kept_is
+  where
+    lengths : (xs ys : List ℕ) → length (xs ++ ys) ≡ length xs + length ys
+    lengths [] ys = omega arith
+    lengths (y ∷ xs) ys = let e = lengths xs ys in omega arith
+
+    few : (from seen : List Mark) (old : List ℕ) → AreUnlinkedSince from old seen → length old ≤ 1
+    few from seen [] later = omega arith
+    few from seen (o ∷ []) later = omega arith
+    few from seen (o ∷ (other ∷ more)) later = absurd later
 
 -- What came before leaves the list as it was, or empty.
 pub retires_before : {marks : List Mark} (r s t : SeatAt) (key number : ℕ) → HasAdvanced r.view s.view marks
@@ -174,6 +194,38 @@ pub waited_keeps : {k : Shape} {v w : View} {low high : ℕ} → HasWaited k v l
 waited_keeps {k} {v} {w} (mid, began, over) =
     ap (λ (x : View). map (λ (r : Retired). r.slot) x.hands.retired) over.ended.others ∙ waited_slots over.wait mid.hands.retired
     ∙ ap (λ (x : View). map (λ (r : Retired). r.slot) x.hands.retired) began.others
+
+-- It isn't for everybody, so that no slot was waited for by it.
+low_first : (low : ℕ) (wait : Waiting) (u : ℕ) → wait.low ≡ low → low ≢ 0 → is_grace_for wait u ≡ false
+low_first low wait u is ne = ap (λ b. nat_lt u wait.began && (b && (wait.high == 18446744073709551615)))
+    (ap (λ n. n == 0) is ∙ ne_eqb low 0 ne) ∙ and_none (nat_lt u wait.began) (wait.high == 18446744073709551615)
+  where
+    and_none : (a x : Bool) → (a && (false && x)) ≡ false
+    and_none true x = refl
+    and_none false x = refl
+
+abbrev mark_of : Retired → ℕ × ℕ × Bool
+mark_of r = (r.slot, r.unlinked, r.waited)
+
+abbrev record_marks : Retired → Bool → List (ℕ × ℕ × Bool) → List (ℕ × ℕ × Bool)
+record_marks r waited later = (r.slot, r.unlinked, waited) ∷ later
+
+waited_marks : (low : ℕ) (wait : Waiting) (rs : List Retired) → wait.low ≡ low → low ≢ 0 → map mark_of (map (waited_retired wait) rs) ≡ map mark_of rs
+waited_marks low wait [] is ne = refl
+waited_marks low wait (r ∷ rs) is ne =
+    let same : (r.waited || is_grace_for wait r.unlinked) ≡ r.waited = ap (λ b. r.waited || b) (low_first low wait r.unlinked is ne) ∙ or_none r.waited in
+    ap (λ b. record_marks r b (map mark_of (map (waited_retired wait) rs))) same ∙ ap (λ l. mark_of r ∷ l) (waited_marks low wait rs is ne)
+  where
+    or_none : (a : Bool) → (a || false) ≡ a
+    or_none true = refl
+    or_none false = refl
+
+pub waited_stays : {k : Shape} {v w : View} {low high : ℕ} → HasWaited k v low high w → low ≢ 0 → retired_marks w ≡ retired_marks v
+waited_stays {k} {v} {w} {low} {high} (mid, began, over) ne =
+    let same : Some over.wait ≡ Some (new_wait v low high began.clock began.leaves.before) = sym over.was ∙ began.wait_is in
+    let wait_is : over.wait ≡ new_wait v low high began.clock began.leaves.before = cc in
+    ap retired_marks over.ended.others ∙ waited_marks low over.wait mid.hands.retired (ap (λ (x : Waiting). x.low) wait_is) ne
+    ∙ ap retired_marks began.others
 
 -- Two more are retired, of which none is listed yet.
 module _ (listed : List ℕ) (v w : View) (node old : ℕ) (each : (t : ℕ) → times t listed + times t (node ∷ []) ≡ times t (retired_slots v))
@@ -381,6 +433,7 @@ pub record Unlinks (v : View) (old : ℕ) (w : View) : Type 0 where
   pub advanced : HasAdvanced v w []
   pub unlinked : IsUnlinkedSince v.seen old w.seen
   pub retired : retired_slots w ≡ retired_slots v ++ old ∷ []
+  pub stay : RetiresBehind v w
   pub waits : KeepsWaits v w
 
 pub copy_unlinks : (k : Shape) (v w : View) (copy old child n : ℕ) → Told k v (acts.UnlinkRight copy old child) n w → Unlinks v old w
@@ -388,6 +441,7 @@ copy_unlinks k v w copy old child n t = record {
   advanced = unlinked_gone v w t.marks old (further v _ t.goes refl) t.sees (allowed t.goes refl) (ap (λ (x : View). x.seen) t.goes);
   unlinked = unlinked_there v w t.marks old t.sees (ap (λ (x : View). x.seen) t.goes);
   retired = ap retired_slots t.goes ∙ map_append v.hands.retired _;
+  stay = (_, ap retired_marks t.goes ∙ map-append (λ (r : Retired). (r.slot, r.unlinked, r.waited)) v.hands.retired _);
   waits = record { wait = ap (λ (x : View). x.wait) t.goes; count = ap (λ (x : View). x.counts.waits) t.goes };
 }
 
@@ -396,6 +450,7 @@ parent_unlinks k v w parent old child n t = record {
   advanced = unlinked_gone v w t.marks old (further v _ t.goes refl) t.sees (allowed t.goes refl) (ap (λ (x : View). x.seen) t.goes);
   unlinked = unlinked_there v w t.marks old t.sees (ap (λ (x : View). x.seen) t.goes);
   retired = ap retired_slots t.goes ∙ map_append v.hands.retired _;
+  stay = (_, ap retired_marks t.goes ∙ map-append (λ (r : Retired). (r.slot, r.unlinked, r.waited)) v.hands.retired _);
   waits = record { wait = ap (λ (x : View). x.wait) t.goes; count = ap (λ (x : View). x.counts.waits) t.goes };
 }
 

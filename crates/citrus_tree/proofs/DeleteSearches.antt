@@ -26,12 +26,13 @@ use Rattle.citrus_tree.proofs.Searching.{load_is, entry_is, exit_is}
 use Rattle.tree_points.proofs.Locks.{allowed, further_by, advanced_entered, advanced_left, advanced_none, advanced_on, advanced_same, advanced_stays, needs_unlock, passes_target_lock_busy, passes_target_lock_first, passes_target_lock_free, passes_unlock, passes_unlock_again, locks_target_lock, no_further}
 use Rattle.tree_points.proofs.Waits.{leaves_delete}
 use Rattle.citrus_tree.specs.Going.{IsSeated, retired_marks}
-use Rattle.citrus_tree.specs.Deletes.{HasSearched, OnlyLoads, retired_slots, Comes, StandsAt, walked_to, KeepsRest, giving_up, AreLivesSmall}
+use Rattle.citrus_tree.specs.Deletes.{FoundTwoChildren, HasSearched, HasTwo, OnlyLoads, retired_slots, Comes, StandsAt, walked_to, KeepsRest, giving_up, AreLivesSmall}
 use Rattle.citrus_tree.specs.Replies.{WasAnswered}
 use Rattle.citrus_tree.proofs.Leavings.{goes_looked, was_answered}
 use Rattle.prcu_marks.specs.declared.mark.Side.TheVariants.{Left, Right}
 use Rattle.prcu_model.specs.declared.operation.Op.{Op}
 use Rattle.core_state.specs.declared.view.Reading.{Reading}
+use Rattle.core_state.specs.declared.view.Section.{Section}
 use Rattle.core_state.specs.declared.words.Field.TheVariants.{Link}
 use Rattle.core_state.specs.Memory.{slot_count}
 use Rattle.core_state.specs.Steps.{after_search_load, searched, walked, walking}
@@ -45,7 +46,7 @@ use Rattle.citrus_tree.proofs.DeleteUpdates.{loads_self, loads_search_load, load
 use Rattle.core_state.specs.declared.view.HeldLock.{HeldLock}
 use Rattle.list_laws.specs.Counts.{times}
 use Rattle.core_points.specs.declared.stage.Stage.{Stage}
-use Rattle.core_points.specs.DeleteFacts.{first_locks, two_children}
+use Rattle.core_points.specs.DeleteFacts.{ReadsChildren, first_locks, two_children}
 use Rattle.std.proofs.lemmas.Bool.{eqb-true}
 use Rattle.core_points.specs.declared.stage.Found.{Found}
 use Rattle.core_points.proofs.Links.{both_true}
@@ -61,6 +62,10 @@ use Rattle.core_points.specs.declared.stage.Last.TheVariants as last
 -- what the section's first steps told
 pub seated_by : {k : Shape} {v w : View} {key : ℕ} {state : SearchState} → 1 ≤ k.places → IsSearching v key state w → IsSeated k v
 seated_by some_place i = record { works = i.entered.leaves.seen.works; some_place = some_place }
+
+none_held : (locks : List HeldLock) → length locks ≡ 0 → locks ≡ []
+none_held [] none = refl
+none_held (lock ∷ locks) none = absurd (omega (arith, none))
 
 module _ {k : Shape} {kept key : ℕ} where
   -- the search found the node
@@ -114,6 +119,52 @@ module _ {k : Shape} {kept key : ℕ} where
   pub at_target : {v w : View} {t : Target} → IsAt k (Del key) kept (at.Leave (next.Delete t)) v → StoodInside k v → HasLeft v w
       → IsAt k (Del key) kept (at.TargetLock t 0) w
   at_target {v} {w} a inside left = leaves_delete k (Del key) kept v w left inside a
+
+  -- there the call may be given up, with no lock tried
+  pub left_there : {v : View} {t : Target} → IsAt k (Del key) kept (at.TargetLock t 0) v → IsDone k (Del key) kept v
+  left_there {v} {t} a =
+      let p = a.fits.point in
+      let q = p.quiet in
+      moves_on a a.own refl (record {
+        owns = a.fits.owns;
+        tickets = (let paid = a.fits.tickets in omega arith);
+        unraised = a.fits.unraised;
+        point = (
+          q.outside,
+          record {
+            locks_are = none_held v.locks p.long;
+            turn_is = q.turn_is;
+            settled = q.settled;
+            reserved_is = q.unreserved;
+            paid = q.paid;
+          },
+          q.empty,
+        );
+      })
+
+  -- where the target has a successor, the section found two children
+  pub found_two : {v w : View} {t : Target} → IsAt k (Del key) kept (at.Leave (next.Delete t)) v → HasLeft v w → HasTwo t
+      → FoundTwoChildren key w
+  found_two {v} {w} {t} a left two =
+      let i = ((a.fits.point).1).1 in
+      let same : ◌≡◌ {A = Section} left.section i.section =
+      (let one : Some left.section ≡ Some i.section = sym left.was ∙ i.is in cc) in
+      let walks = (subst (λ o. ReadsChildren i.section.reading t.node o) two.1 (i.known).1).0 in record {
+        reading = i.section.reading;
+        earlier = v.records;
+        last = ap (λ (z : View). z.records) left.others ∙ ap (λ (z : Section). z.reading ∷ v.records) same;
+        sought = i.stands.sought ∙ ap key_of a.op_is;
+        node = t.node.node;
+        parent = t.node.parent;
+        side = t.node.side;
+        found = (None, i.stands.state_is);
+        left = t.node.left;
+        left_some = walks.left_some;
+        left_loaded = walks.left_loaded;
+        right = t.node.right;
+        right_some = walks.right_some;
+        right_loaded = walks.right_loaded;
+      }
 
 -- What the section leaves.
 pub searched_found : {v w x y : View} {key : ℕ} {state : SearchState} → IsSearching v key state w → OnlyLoads w x → HasLeft x y

@@ -1,5 +1,5 @@
 -- A delete whole: what comes before its first search, and its tries.
-use Rattle.std.proofs.Common.{◌≡◌, ◌≢◌, ℕ, ◌+◌, ◌-◌, ◌*◌, ◌^◌, ◌<◌, ◌≤◌, true, false, List, [], ◌∷◌, map, length, Option, Some, None, refl, sym, ap, subst, ◌∙◌, inl, inr, ⊎_elim, arith, ◌==◌, cond, ◌++◌, eq-eqb, append_assoc}
+use Rattle.std.proofs.Common.{◌⊎◌, ◌≡◌, ◌≢◌, ℕ, ◌+◌, ◌-◌, ◌*◌, ◌^◌, ◌<◌, ◌≤◌, true, false, List, [], ◌∷◌, map, length, Option, Some, None, refl, sym, ap, subst, ◌∙◌, inl, inr, ⊎_elim, arith, ◌==◌, cond, ◌++◌, eq-eqb, append_assoc}
 use mathlib.Core.List.{IsPrefix}
 use Rattle.std.specs.Option.{is_some}
 use Rattle.list_laws.specs.Counts.{Each, times}
@@ -23,11 +23,11 @@ use Rattle.tree_points.specs.Points.{IsAt, HasAdvanced, IsDone, KeepsAllowance}
 use Rattle.tree_points.proofs.Passing.{begins_delete, begins_room, begins_spare, none_raised, has_kept, is_quiet, needs, passes}
 use Rattle.tree_points.proofs.Locks.{advanced_on, advanced_same, advanced_stays, stays}
 use Rattle.tree_points.proofs.Waits.{reclaims_room, reclaims_spare}
-use Rattle.citrus_tree.specs.Going.{IsSeated, NeededRoom, NeededSlots, MayBegin, AreTries, IsOfTry, KeepsWait, waits_in}
-use Rattle.citrus_tree.specs.Deletes.{GaveWayAtOnce, HasMadeRoom, HasWaitedForRoom, IsReadyToDelete, KeepsWaits, BeginsByLookup, DelsAtOnce, HasDeleted, HasSearched, KeepsRest, retired_slots, TellsTaken}
+use Rattle.citrus_tree.specs.Going.{GivesNoneBack, IsSeated, NeededRoom, NeededSlots, MayBegin, AreTries, IsOfTry, KeepsWait, waits_in}
+use Rattle.citrus_tree.specs.Deletes.{GaveWayAtOnce, GivesNoneOrAll, HasMadeRoom, HasWaitedForRoom, IsReadyToDelete, KeepsWaits, BeginsByLookup, DelsAtOnce, HasDeleted, HasSearched, KeepsRest, retired_slots, TellsTaken}
 use Rattle.citrus_tree.proofs.Linking.{at_least_one, needed_on}
 use Rattle.citrus_tree.proofs.Replacing.{may_begin, waits_in-append}
-use Rattle.citrus_tree.proofs.Leavings.{none_begun, none_yet, reclaimed_first, wait_later, MayHaveBegun, begins_later, begins_searched, wait_on, KeepsView}
+use Rattle.citrus_tree.proofs.Leavings.{none_back_on, none_begun, none_yet, reclaimed_first, wait_later, MayHaveBegun, begins_later, begins_searched, wait_on, KeepsView}
 use Rattle.std.specs.List.{AllByRecursion}
 use Rattle.prcu_marks.specs.declared.mark.Mark.{Mark}
 use Rattle.prcu_marks.specs.Callers.{entered_for}
@@ -311,6 +311,10 @@ module _ {k : Shape} {key : ℕ} {v w x : View} (t : TriesToDelete k key v w) (s
     pub rests_begins : BeginsByLookup v key y
     rests_begins = begins_later absent_begins rest.advanced
 
+    pub rests_wait : KeepsWait v y
+    rests_wait = inl (none_begun (advanced_stays advanced rest.advanced) (rest.waits.count ∙ searched_waits.count)
+        (rest.waits.wait ∙ searched_waits.wait))
+
   -- or it was
   pub gone_dels : {y : View} {number : ℕ} → HasDeleted x key number y → IsInformed y
       → DelsAtOnce v key (record { reply = Gone; number = number }) y
@@ -468,3 +472,11 @@ module _ {k : Shape} (v : View) {u w : View} {key : ℕ} (ready : IsReadyToDelet
     tickets = (let left = has_kept (done (v.allowance.tickets - 4) (ready key (v.allowance.tickets - 4) fits (omega arith))) in omega arith);
     allowance = allowance;
   }
+
+-- What went back before the first search, and what was listed after it.
+pub none_or_all : (s ready t : SeatAt) → GivesNoneBack s ready ⊎ (ready.listed ≡ []) → GivesNoneBack ready t
+    → length t.listed ≤ length ready.listed + 2 → GivesNoneOrAll s t
+none_or_all s ready t room stays few = ⊎_elim
+    (λ (none : GivesNoneBack s ready). inl (none_back_on s ready t none stays))
+    (λ (all : ready.listed ≡ []). let a = ap length all in inr (omega arith))
+    room

@@ -24,7 +24,7 @@ use Rattle.list_laws.specs.Counts.{times}
 use Rattle.tree_points.specs.Points.{HasLocks, KeepsAllowance, IsAt, HasAdvanced}
 use Rattle.tree_points.proofs.Locks.{advanced_none, advanced_on, no_further, own_spare, allowed, further, advanced_with}
 use Rattle.citrus_tree.specs.Deletes.{KeepsAll, KeepsRest, OnlyLoads, locked_slots, retired_slots, HasMadeRoom, KeepsValue, TakesValue, TellsTaken, HasCopied, HasDone, KeepsWaits}
-use Rattle.citrus_tree.specs.Going.{retired_marks, Opened}
+use Rattle.citrus_tree.specs.Going.{retired_marks, RetiresBehind, Opened}
 use Rattle.prcu_marks.specs.declared.mark.Mark.{Mark}
 use Rattle.prcu_marks.specs.Marks.{updates_of, own_of}
 use Rattle.prcu_marks.proofs.Marks.{updates_of-append}
@@ -562,7 +562,7 @@ module _ (k : Shape) (p node child key n : ℕ) (b : Side) (v w : View) (t : Tol
   pub bypass_retired : retired_slots w ≡ retired_slots v ++ node ∷ []
   bypass_retired = ap retired_slots t.goes ∙ map_append v.hands.retired _
 
-  pub bypass_stay : (later : List (ℕ × ℕ × Bool)) × (retired_marks w ≡ retired_marks v ++ later)
+  pub bypass_stay : RetiresBehind v w
   bypass_stay = (_, ap retired_marks t.goes ∙ map-append (λ (r : Retired). (r.slot, r.unlinked, r.waited)) v.hands.retired _)
 
   pub bypass_waits : KeepsWaits v w
@@ -597,6 +597,9 @@ module _ (k : Shape) (p node copy old above key next_key n : ℕ) (b : Side) (v 
 
   pub copy_retired : retired_slots w ≡ retired_slots v ++ node ∷ []
   copy_retired = ap retired_slots t.goes ∙ map_append v.hands.retired _
+
+  pub copy_stay : RetiresBehind v w
+  copy_stay = (_, ap retired_marks t.goes ∙ map-append (λ (r : Retired). (r.slot, r.unlinked, r.waited)) v.hands.retired _)
 
   pub copy_waits : KeepsWaits v w
   copy_waits = record { wait = ap (λ (x : View). x.wait) t.goes; count = ap (λ (x : View). x.counts.waits) t.goes }

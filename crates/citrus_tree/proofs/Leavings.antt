@@ -19,7 +19,7 @@ use Rattle.seat_table.specs.Sections.{Makes, HasStepped}
 use Rattle.core_state.specs.declared.view.HeldLock.{HeldLock}
 use Rattle.tree_points.specs.Points.{HasAdvanced, HasLocks, IsAt, KeepsAllowance}
 use Rattle.tree_points.proofs.Locks.{allowed, locks_from, further_by, advanced_none, advanced_on, advanced_stays, advanced_same, stays, further, no_further, allowed_on}
-use Rattle.citrus_tree.specs.Going.{Goes, LosesFront, Opened, Closed, KeepsSlots, retired_marks, HasBegunFirst, HasBegunNone, KeepsWait, MakesRoom, Reused, KeepsSeat}
+use Rattle.citrus_tree.specs.Going.{Goes, LosesFront, Opened, Closed, KeepsSlots, retired_marks, HasBegunFirst, HasBegunNone, KeepsWait, MakesRoom, Reused, KeepsSeat, GivesNoneBack, RetiresBehind}
 use Rattle.citrus_tree.specs.Lookups.{Looked, IsSearching}
 use Rattle.citrus_tree.specs.Replies.{WasAnswered}
 use Rattle.prcu_model.specs.declared.operation.Op.{Op}
@@ -269,7 +269,7 @@ module _ (k : Shape) (v w : View) (front : ℕ) where
 pub slots_more : (s t : SeatAt) (more : List (ℕ × ℕ × Bool)) (later : List ℕ) → t.view.counts.waits ≡ s.view.counts.waits
     → t.view.wait ≡ s.view.wait → retired_marks t.view ≡ retired_marks s.view ++ more → t.listed ≡ s.listed ++ later → KeepsSlots s t
 slots_more s t more later waits wait stay listed =
-    record { waits = omega arith; wait = λ _. wait; retired = λ _. (more, stay); listed = λ _. (later, listed) }
+    record { waits = omega arith; wait = λ _. wait; slots = λ _. record { retired = (more, stay); listed = (later, listed) } }
 
 pub slots_same : (s t : SeatAt) → t.view.counts.waits ≡ s.view.counts.waits → t.view.wait ≡ s.view.wait
     → retired_marks t.view ≡ retired_marks s.view → t.listed ≡ s.listed → KeepsSlots s t
@@ -294,8 +294,7 @@ pub slots_later : (s t : SeatAt) → s.view.counts.waits < t.view.counts.waits �
 slots_later s t later = record {
   waits = omega arith;
   wait = λ same. absurd (omega arith);
-  retired = λ same. absurd (omega arith);
-  listed = λ same. absurd (omega arith);
+  slots = λ same. absurd (omega arith);
 }
 
 pub waited_later : {k : Shape} {v w : View} {low high : ℕ} → HasWaited k v low high w → v.counts.waits < w.counts.waits
@@ -307,15 +306,31 @@ waited_later waited =
 pub slots_reclaimed : {k : Shape} {listed : List ℕ} (s t : SeatAt) → HasReclaimed k s.view listed t.view → KeepsSlots s t
 slots_reclaimed s t back = slots_later s t (let a = ap (λ (x : View). x.counts.waits) back.rest in omega arith)
 
+-- no slot went back
+pub retired_on : (u v w : View) → RetiresBehind u v → RetiresBehind v w → RetiresBehind u w
+retired_on u v w a b = (a.0 ++ b.0, b.1 ∙ ap (λ xs. xs ++ b.0) a.1 ∙ append_assoc (retired_marks u) a.0 b.0)
+
+pub retired_same : (v w : View) → retired_marks w ≡ retired_marks v → RetiresBehind v w
+retired_same v w stay = ([], stay ∙ sym (append-nil (retired_marks v)))
+
+pub none_back_on : (r s t : SeatAt) → GivesNoneBack r s → GivesNoneBack s t → GivesNoneBack r t
+none_back_on r s t f g = record {
+  retired = retired_on r.view s.view t.view f.retired g.retired;
+  listed = (
+    f.listed.0 ++ g.listed.0,
+    g.listed.1 ∙ ap (λ xs. xs ++ g.listed.0) f.listed.1 ∙ append_assoc r.listed f.listed.0 g.listed.0,
+  );
+}
+
+pub none_back_same : (s t : SeatAt) → retired_marks t.view ≡ retired_marks s.view → t.listed ≡ s.listed → GivesNoneBack s t
+none_back_same s t stay listed = record { retired = retired_same s.view t.view stay; listed = ([], listed ∙ sym (append-nil s.listed)) }
+
 -- one call after another
 pub slots_on : (r s t : SeatAt) → KeepsSlots r s → KeepsSlots s t → KeepsSlots r t
 slots_on r s t f g = record {
   waits = let a = f.waits in let b = g.waits in omega arith;
   wait = λ same. g.wait (late same) ∙ f.wait (early same);
-  retired = λ same. let a = f.retired (early same) in let b = g.retired (late same) in
-      (a.0 ++ b.0, b.1 ∙ ap (λ xs. xs ++ b.0) a.1 ∙ append_assoc (retired_marks r.view) a.0 b.0);
-  listed = λ same. let a = f.listed (early same) in let b = g.listed (late same) in
-      (a.0 ++ b.0, b.1 ∙ ap (λ xs. xs ++ b.0) a.1 ∙ append_assoc r.listed a.0 b.0);
+  slots = λ same. none_back_on r s t (f.slots (early same)) (g.slots (late same));
 }
   where
     early : t.view.counts.waits ≡ r.view.counts.waits → s.view.counts.waits ≡ r.view.counts.waits

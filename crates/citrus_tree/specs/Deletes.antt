@@ -4,6 +4,9 @@ use mathlib.Core.List.{IsPrefix}
 use Rattle.prcu_marks.specs.declared.mark.Mark.{Mark}
 use Rattle.prcu_marks.specs.declared.mark.Mark.TheVariants.{Entered, Left, Began, Ended, Done, Unlinked}
 use Rattle.prcu_marks.specs.declared.mark.Side.{Side}
+use Rattle.prcu_marks.specs.declared.mark.Side.TheVariants.{Left as LeftSide, Right as RightSide}
+use Rattle.list_laws.specs.Counts.{IsIn}
+use Rattle.core_points.specs.Facts.{read_at}
 use Rattle.prcu_marks.specs.Callers.{IsNextKey}
 use Rattle.prcu_marks.specs.Marks.{updates_of}
 use Rattle.prcu_model.specs.Dictionary.{map_of}
@@ -16,14 +19,16 @@ use Rattle.core_state.specs.declared.shape.Shape.{Shape}
 use Rattle.core_state.specs.declared.view.HeldLock.{HeldLock}
 use Rattle.core_state.specs.declared.view.Retired.{Retired}
 use Rattle.core_state.specs.declared.view.View.{View}
-use Rattle.core_state.specs.declared.words.Field.TheVariants.{Value}
+use Rattle.core_state.specs.declared.view.Reading.{Reading}
+use Rattle.core_state.specs.declared.view.SearchState.TheVariants.{Found}
+use Rattle.core_state.specs.declared.words.Field.TheVariants.{Link, Value}
 use Rattle.core_state.specs.Views.{known_in, known_under}
 use Rattle.core_points.specs.declared.stage.Node.{Node}
 use Rattle.core_points.specs.declared.stage.Successor.{Successor}
 use Rattle.core_points.specs.declared.stage.Target.{Target}
 use Rattle.core_points.specs.declared.stage.Stage.{Stage}
 use Rattle.tree_points.specs.Points.{IsAt, HasAdvanced}
-use Rattle.citrus_tree.specs.Going.{MayBegin, KeepsSeat, KeepsWait, NeededSlots, retired_marks, waits_in}
+use Rattle.citrus_tree.specs.Going.{GivesNoneBack, MayBegin, KeepsSeat, KeepsWait, NeededSlots, retired_marks, waits_in}
 use Rattle.seat_table.specs.Gains.{IsInformed}
 use Rattle.seat_table.specs.Seats.{SeatAt}
 use Rattle.seat_table.specs.Sections.{Makes}
@@ -110,6 +115,27 @@ abbrev pub AreLivesSmall : Node → Option Successor → Type 0
 AreLivesSmall node None = 2 * node.generation < 2 ^ 64
 AreLivesSmall node (Some successor) = (2 * node.generation < 2 ^ 64) × (2 * successor.generation < 2 ^ 64)
 
+-- the target has a successor: its node has two children
+abbrev pub HasTwo : Target → Type 0
+HasTwo t = (successor : Successor) × (t.successor ≡ Some successor)
+
+-- The last section that was left had sought the key and found its node, and both links of that were loaded in it. They lead to slots.
+pub record FoundTwoChildren (key : ℕ) (v : View) : Type 0 where
+  pub reading : Reading
+  pub earlier : List Reading
+  pub last : v.records ≡ reading ∷ earlier
+  pub sought : reading.key ≡ key
+  pub node : ℕ
+  pub parent : ℕ
+  pub side : Side
+  pub found : (value : Option ℕ) × (reading.state ≡ Found node parent side value)
+  pub left : ℕ
+  pub left_some : left ≢ 0
+  pub left_loaded : IsIn reading.loads (read_at (Link node LeftSide) left)
+  pub right : ℕ
+  pub right_some : right ≢ 0
+  pub right_loaded : IsIn reading.loads (read_at (Link node RightSide) right)
+
 -- A delete made its update, and after it began no wait, or just the one for its move.
 pub record HasDeleted (v : View) (key number : ℕ) (w : View) : Type 0 where
   pub node : ℕ
@@ -139,11 +165,18 @@ pub record HasMadeRoom (k : Shape) (v w : View) : Type 0 where
   pub waits : v.counts.waits ≤ w.counts.waits
   pub latest : KeepsWait v w
 
+-- A delete of a node with one child at most: it has begun no wait but the one that was needed for room, before its first search.
+pub record WaitsOnceAtMost (k : Shape) (v w : View) : Type 0 where
+  pub ready : View
+  pub room : HasMadeRoom k v ready
+  pub at_once : length v.hands.retired + 1 < k.room → v.hands.spare ≢ None → ready ≡ v
+  pub waits : KeepsWaits ready w
+
 -- A delete came to its end with no wait for everybody.
 abbrev pub DelsAtOnce : View → ℕ → Told → View → Type 0
 DelsAtOnce v key told w = (tries : List Mark) × DelsBy v key tries told.reply told.number w × (waits_in tries ≡ 0)
 
--- A delete found others in its way, with no wait for everybody.
+-- A delete made no update, since others were in its way or its node is to be left, with no wait for everybody.
 pub record GaveWayAtOnce (v : View) (key : ℕ) (w : View) : Type 0 where
   pub tries : List Mark
   pub tried : HasTried v key tries w
@@ -199,19 +232,25 @@ pub record BeginsOnceReady (k : Shape) (v : View) (key : ℕ) (w : View) : Type 
   pub at_once : length v.hands.retired + 1 < k.room → v.hands.spare ≢ None → ready ≡ v
   pub lookup : BeginsByLookup ready key w
 
+-- A del gave no slot back, whatever waits it began; or all that were listed, and then two are listed at most.
+abbrev pub GivesNoneOrAll : SeatAt → SeatAt → Type 0
+GivesNoneOrAll s t = GivesNoneBack s t ⊎ (length t.listed ≤ 2)
+
 -- A del was told this: with what it began, what it has retired, and what it leaves of the seat.
 pub record DelTells (k : Shape) (s : SeatAt) (key : ℕ) (told : Told) (t : SeatAt) : Type 0 where
   pub dels : Dels k s.view key told t.view
   pub begins : BeginsOnceReady k s.view key t.view
   pub retires : told.reply ≡ Gone → RetiresInOrder s key told.number t
   pub keeps : KeepsSeat 4 s t
+  pub slots : GivesNoneOrAll s t
   pub informed : IsInformed t.view
 
--- A del found others in its way: with what it began, and what it leaves of the seat.
+-- A del made no update, since others were in its way or its node is to be left: with what it began, and what it leaves of the seat.
 pub record DelGaveWay (k : Shape) (s : SeatAt) (key : ℕ) (t : SeatAt) : Type 0 where
   pub gave : GaveWay k s.view (Del key) t.view
   pub begins : BeginsOnceReady k s.view key t.view
   pub keeps : KeepsSeat 4 s t
+  pub slots : GivesNoneOrAll s t
 
 -- with what the call of an operation begins; a get is a lookup and nothing else
 abbrev pub Begins : Shape → View → Op → View → Type 0

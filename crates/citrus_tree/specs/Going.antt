@@ -100,14 +100,20 @@ NeededSlots k v w = (k.room ≤ length v.hands.retired + 1) ⊎ ((v.hands.spare 
 abbrev pub retired_marks : View → List (ℕ × ℕ × Bool)
 retired_marks v = map (λ (r : Retired). (r.slot, r.unlinked, r.waited)) v.hands.retired
 
--- Where the place has begun no further wait, its latest one is as it was. What was retired and listed stays so, in its order, and what
--- was retired and listed since is behind.
+-- What was retired stays so, in its order, and what was retired since is behind.
+abbrev pub RetiresBehind : View → View → Type 0
+RetiresBehind v w = (later : List (ℕ × ℕ × Bool)) × (retired_marks w ≡ retired_marks v ++ later)
+
+-- No retired slot went back: what was retired and listed stays so, in its order, and what was retired and listed since is behind.
+pub record GivesNoneBack (s t : SeatAt) : Type 0 where
+  pub retired : RetiresBehind s.view t.view
+  pub listed : (later : List ℕ) × (t.listed ≡ s.listed ++ later)
+
+-- Where the place has begun no further wait, its latest one is as it was, and no retired slot went back.
 pub record KeepsSlots (s t : SeatAt) : Type 0 where
   pub waits : s.view.counts.waits ≤ t.view.counts.waits
   pub wait : t.view.counts.waits ≡ s.view.counts.waits → t.view.wait ≡ s.view.wait
-  pub retired : t.view.counts.waits ≡ s.view.counts.waits
-      → (later : List (ℕ × ℕ × Bool)) × (retired_marks t.view ≡ retired_marks s.view ++ later)
-  pub listed : t.view.counts.waits ≡ s.view.counts.waits → (later : List ℕ) × (t.listed ≡ s.listed ++ later)
+  pub slots : t.view.counts.waits ≡ s.view.counts.waits → GivesNoneBack s t
 
 -- What a call leaves of all that isn't its answer: the seat is quiet again. No gate was turned of a wait that was begun before, and what was
 -- retired and listed stays, as long as no wait is begun. At most so many tickets were used, and nothing else of the allowance.

@@ -1,5 +1,5 @@
 //! The front, made odd for one store.
-ghost use Rattle.std.specs.Prelude.{◌≡◌, ℕ, ◌+◌, ◌/◌, ◌%◌, ◌≤◌, true, Some, None, IfOk, IfErr};
+ghost use Rattle.std.specs.Prelude.{◌≡◌, ℕ, ◌+◌, ◌/◌, ◌%◌, ◌<◌, ◌≤◌, true, false, Some, None, IfOk, IfErr};
 ghost use Rattle.prcu_marks.specs.Marks.{most_front};
 ghost use Rattle.core_points.specs.declared.stage.Stage.TheVariants as at;
 ghost use Rattle.core_points.specs.declared.stage.Update.{Update};
@@ -8,6 +8,7 @@ ghost use Rattle.prcu_model.specs.declared.operation.Op.{Op};
 ghost use Rattle.seat_table.specs.Sections.{HasMade};
 ghost use Rattle.seat_table.specs.Seats.{shape_of};
 ghost use Rattle.tree_points.specs.Points.{IsAt};
+ghost use Rattle.citrus_tree.specs.declared.commit.WhenCrowded.TheVariants.{GiveWay};
 ghost use Rattle.citrus_tree.specs.Going.{LosesFront, Opened, Closed};
 
 use core_state::linking;
@@ -41,6 +42,28 @@ fn pauses_after(round: u64, found: u64) -> bool
     linking(found) || round % AT_ONCE == AT_ONCE - 1
 }
 
+/// What a caller does when many of its exchanges are lost.
+#[derive(Clone, Copy)]
+pub(crate) enum WhenCrowded {
+    /// It tries until it has the front.
+    Wait,
+    /// It tries for a while. From then on it answers busy where its patience would rather be called again.
+    GiveWay,
+}
+
+impl WhenCrowded {
+    // Whether to try on after the exchange of this round, however long that takes.
+    fn waits_after(self, round: u64) -> bool
+        ensures early { round < 64 → result ≡ true }
+        ensures gives_way { result ≡ false → self ≡ GiveWay }
+    {
+        match self {
+            WhenCrowded::Wait => true,
+            WhenCrowded::GiveWay => round < BEFORE_GIVING_WAY,
+        }
+    }
+}
+
 /// Makes the front odd, and answers the even number that it was. It waits while another caller's update is being stored. So does a delete:
 /// its node is marked by then, and the lock of a marked node can't be given back before the update.
 // A call would hand its answer through memory.
@@ -61,29 +84,21 @@ pub(crate) fn open_commit<P: Patience, W: WaitPart>(
         → IsAt (shape_of W.WAY table.now) op kept (at.Store u answer) seat.new.view) }
     ensures tired { IfErr result (λ _. HasMade (P.least patience.now) seat.new.view) }
 {
-    let mut pauses = patience.pauses();
-    let mut expected = even_from(seat.front_seen());
-    for round in 0..u64::MAX {
-        let found = steps::open_commit(table, seat, expected);
-        if found == expected {
-            return Ok(found);
-        }
-        expected = even_from(found);
-        if pauses_after(round, found) {
-            patience.pause(&mut pauses)?;
-        }
+    match open_commit_so(patience, table, seat, WhenCrowded::Wait)? {
+        Ok(front) => Ok(front),
+        Err(_) => unreachable!(),
     }
-    Err(patience.tired())
 }
 
-/// The same for a caller that has changed nothing yet, and can give its lock back. It answers busy where many exchanges were lost, and its
-/// patience would rather be called again. Then nothing changed but what is known of the front.
+/// The same for a caller that says what it does when many exchanges are lost. To give way is for one that has changed nothing yet, and can
+/// give its lock back. Where that is answered busy nothing changed but what is known of the front.
 // A call would hand its answer through memory.
 #[inline(always)]
-pub(crate) fn open_commit_or_give_way<P: Patience, W: WaitPart>(
+pub(crate) fn open_commit_so<P: Patience, W: WaitPart>(
     patience: &P,
     table: &CitrusTable<W>,
     seat: &mut Seat<W>,
+    when_crowded: WhenCrowded,
 ) -> Result<Result<u64, P::Busy>, P::Tired>
     requires table { seat.old.table ≡ table.now }
     requires settled { seat.old.view.moving ≡ None }
@@ -94,6 +109,7 @@ pub(crate) fn open_commit_or_give_way<P: Patience, W: WaitPart>(
     ensures at { IfOk result (λ answer. IfOk answer (λ front. (op : Op) (kept e : ℕ) (u : Update)
         → IsAt (shape_of W.WAY table.now) op kept (at.Commit u e) seat.old.view
         → IsAt (shape_of W.WAY table.now) op kept (at.Store u front) seat.new.view)) }
+    ensures asked { IfOk result (λ answer. IfErr answer (λ _. when_crowded ≡ GiveWay)) }
     ensures busy { IfOk result (λ answer. IfErr answer (λ _. LosesFront seat.old.view seat.new.view)) }
     ensures tired { IfErr result (λ _. HasMade (P.least patience.now) seat.new.view) }
 {
@@ -106,7 +122,7 @@ pub(crate) fn open_commit_or_give_way<P: Patience, W: WaitPart>(
         }
         expected = even_from(found);
         if pauses_after(round, found) {
-            if round < BEFORE_GIVING_WAY {
+            if when_crowded.waits_after(round) {
                 patience.pause(&mut pauses)?;
             } else if let Err(busy) = patience.rest(&mut pauses) {
                 return Ok(Err(busy));

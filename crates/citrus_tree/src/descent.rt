@@ -25,7 +25,7 @@ pub enum Step {
 
 /// What a search comes to.
 #[derive(Clone, Copy)]
-pub(crate) enum Descent {
+pub enum Descent {
     /// The slot has the key, and hangs on that side of its parent.
     Found { slot: u32, parent: u32, side: Side },
     /// The key belongs at an empty side. From the root the search came down over so many slots.
@@ -168,7 +168,7 @@ pub(crate) fn go_down<W: WaitPart>(
 /// an end whatever others do: a search stands at no slot twice.
 // A call would hand its answer through memory.
 #[inline(always)]
-pub(crate) fn descend<W: WaitPart, G: Gate>(
+pub fn descend<W: WaitPart, G: Gate>(
     table: &CitrusTable<W>,
     seat: &mut Seat<W>,
     gate: &G,

@@ -23,7 +23,7 @@ ghost use Rattle.citrus_tree.specs.Going.{Goes, Searched, leaf_stage, KeepsSlots
 ghost use Rattle.citrus_tree.specs.Replies.{GaveWay, IsFullNow, Puts};
 
 use crate::answer::{Called, answered};
-use crate::commit::{close_commit, open_commit_or_give_way};
+use crate::commit::{WhenCrowded, close_commit, open_commit_so};
 use crate::descent::{Descent, descend};
 use crate::lives::is_life;
 use crate::search::leave_with_spot;
@@ -285,7 +285,7 @@ fn link_leaf<P: Patience, W: WaitPart>(
     }
     // Odd for the one store alone: updates take turns for these three steps, and get their numbers by them. docs/TREE.md#the-tree
     // Who gives up here keeps the lock: the seat is lost with it. docs/EMBEDDING.md#a-lost-handle
-    let front = match open_commit_or_give_way(patience, table, seat)? {
+    let front = match open_commit_so(patience, table, seat, WhenCrowded::GiveWay)? {
         Ok(front) => front,
         Err(busy) => {
             steps::unlock(table, seat, spot.slot);

@@ -20,7 +20,7 @@ pub use answer::Called;
 pub use comparing::Compared;
 pub use core_points::stage::Spot;
 pub use delete::Removed;
-pub use descent::{Links, Step, load_links, look_on};
+pub use descent::{Descent, Links, Step, descend, load_links, look_on};
 pub use holding::{hold, release};
 pub use lookup::get;
 pub use search::{End, Hop, Search};

@@ -11,7 +11,7 @@ ghost use Rattle.citrus_tree.specs.Going.{KeepsSeat};
 
 use crate::answer::Called;
 pub use crate::comparing::compare;
-pub use crate::delete::{Removed, del, remove};
+pub use crate::delete::{Removed, del, remove, remove_by_bypass};
 pub use crate::insert::put;
 use crate::lookup::get;
 pub use crate::replace::set;

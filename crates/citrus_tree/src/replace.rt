@@ -12,7 +12,7 @@ ghost use Rattle.citrus_tree.specs.Going.{Goes, IsOther, Sought, Stores, set_sta
 ghost use Rattle.citrus_tree.specs.Replies.{GaveWay, Sets};
 
 use crate::answer::answered;
-use crate::commit::{close_commit, open_commit_or_give_way};
+use crate::commit::{WhenCrowded, close_commit, open_commit_so};
 use crate::descent::{Descent, descend};
 use crate::lives::is_life;
 use core_state::generation_of;
@@ -166,7 +166,7 @@ pub(crate) fn store_value<P: Patience, W: WaitPart>(
         steps::unlock(table, seat, holder.slot);
         return Ok(Ok(None));
     }
-    let front = match open_commit_or_give_way(patience, table, seat)? {
+    let front = match open_commit_so(patience, table, seat, WhenCrowded::GiveWay)? {
         Ok(front) => front,
         Err(busy) => {
             steps::unlock(table, seat, holder.slot);

@@ -21,7 +21,7 @@ use Rattle.seat_table.specs.Seats.{SeatAt, unlisted, IsQuietSeat}
 use Rattle.seat_table.specs.Sections.{HasBegun}
 use Rattle.seat_table.specs.Waits.{IsLatestOf, reached, StopsAt, HaveLeft, HasLooked, HasEnded, IsOver, HasStopped, HasWaited}
 use Rattle.seat_table.specs.declared.wait.Grace.{Grace}
-use Rattle.grace_cookie.specs.Cookies.{CookieAt, IsOf, IsKept, HasKept, everybody, IsLatest, HasOutlasted, GoesOn, AreKept, IsFoundOver, Asked, AreUnraised, GivesSome, IsSameCookie, KeepsLatest, KeepsCookies, KeepsRetired, WaitsStay, CookiesStay, GivesNone, HasGivenBack}
+use Rattle.grace_cookie.specs.Cookies.{CookieAt, IsOf, IsKept, HasKept, everybody, IsLatest, HasOutlasted, GoesOn, AreKept, IsFoundOver, Asked, AreUnraised, GivesFirst, GivesSome, IsSameCookie, KeepsLatest, KeepsListed, KeepsCookies, KeepsRetired, WaitsStay, CookiesStay, GivesNone, HasGivenBack}
 use Rattle.std.proofs.lemmas.Bool.{lt-ltb, cases_eq}
 use mathlib.Core.List.{IsPrefix}
 use Rattle.atomic_table.proofs.Lists.{at_map, at_longer}
@@ -213,8 +213,8 @@ module _ (k : Shape) (c : CookieAt) (v w : View) (of : IsOf k c v) (was : c.over
   pub over_kept : (d : CookieAt) (s t : SeatAt) → d.over ≡ true → d.keys ≡ c.keys → d.count ≡ c.count → d.slots ≡ c.slots → s.view ≡ v
       → t.view ≡ w → t.listed ≡ s.listed → HasKept c s → HasKept d t
   over_kept d s t e keys count slots was_view now listed has = record {
-    kept = λ now_latest.
-        let kept : AreKept c s = has.kept (ap (λ (z : View). z.counts.waits) was_view ∙ latest) in record {
+    kept = λ _.
+        let kept : AreKept c s = has.kept (λ _. ap (λ (z : View). z.counts.waits) was_view ∙ latest) in record {
           slots = kept.slots;
           later = kept.later;
           listed = listed ∙ kept.listed;
@@ -267,7 +267,7 @@ going_kept c d v w wait steps new s t looked wait_is over keys count slots was_v
       let same : t.view.counts.waits ≡ s.view.counts.waits =
       ap (λ (z : View). z.counts.waits) now ∙ ap (λ (z : View). z.counts.waits) looked.others
       ∙ ap (λ (z : View). z.counts.waits) (sym was_view) in
-      let kept : AreKept c s = has.kept (sym same ∙ latest ∙ ap (λ n. n + 1) count) in record {
+      let kept : AreKept c s = has.kept (λ f. sym same ∙ latest (over ∙ f) ∙ ap (λ n. n + 1) count) in record {
         slots = kept.slots;
         later = kept.later;
         listed = listed ∙ kept.listed;
@@ -295,7 +295,7 @@ going_kept c d v w wait steps new s t looked wait_is over keys count slots was_v
 
 -- The slots that go back by a cookie.
 
-unlisted_behind : (s : ℕ) (xs ys : List ℕ) → times s xs ≡ 0 → unlisted s (xs ++ ys) ≡ xs ++ unlisted s ys
+pub unlisted_behind : (s : ℕ) (xs ys : List ℕ) → times s xs ≡ 0 → unlisted s (xs ++ ys) ≡ xs ++ unlisted s ys
 unlisted_behind s [] ys none = refl
 unlisted_behind s (x ∷ xs) ys none = ⊎_elim
     (λ (e : x ≡ s). absurd (let a : times s (s ∷ xs) ≡ 0 = subst (λ y. times s (y ∷ xs) ≡ 0) e none in let b = times_here s xs in
@@ -313,6 +313,14 @@ first_apart (x ∷ xs) ys once =
     (λ (e : x ≡ t). subst (λ y. times y xs ≤ 1) e (omega arith))
     (λ (ne : x ≢ t). let a = once t in let b = times_other t x xs ne in omega arith)
     (cases_eq x t)))
+
+-- what would hold of a cookie that is over does of one that isn't
+pub not_over : (c : CookieAt) {A : Type 0} → c.over ≡ false → c.over ≡ true → A
+not_over c going over = absurd (let e : true ≡ false = sym over ∙ going in cc)
+
+-- the slots of one that is over are kept for good
+pub for_good : (c : CookieAt) (s : SeatAt) → c.over ≡ true → HasKept c s → AreKept c s
+for_good c s over has = has.kept (λ going. not_over c going over)
 
 module _ (c : CookieAt) (s : SeatAt) (kept : AreKept c s) where
   pub head_is : take c.slots s.listed ≡ kept.slots
@@ -342,16 +350,16 @@ module _ (c : CookieAt) (s : SeatAt) (kept : AreKept c s) where
             waited = here.waited all over;
           }
 
-  pub gives_some : (answer : ℕ) (t : SeatAt) → 1 ≤ c.slots → IsLatest c s.view → answer ≡ c.slots
-      → GivesBack s.view (first_slots c.slots s.listed) t.view → t.listed ≡ without_slots (first_slots c.slots s.listed) s.listed
-      → GivesSome c s answer t
-  gives_some answer t has latest is gives listed =
+  pub gives_some : (answer : ℕ) (t : SeatAt) → 1 ≤ c.slots → answer ≡ c.slots → GivesBack s.view (first_slots c.slots s.listed) t.view
+      → t.listed ≡ without_slots (first_slots c.slots s.listed) s.listed → GivesSome c s answer t
+  gives_some answer t has is gives listed =
       let same = first_is ∙ sym head_is in record {
         some = has;
-        latest = latest;
         answer_is = is;
-        gives = subst (λ l. GivesBack s.view l t.view) same gives;
-        listed = listed ∙ ap (λ l. without_slots l s.listed) same;
+        first = record {
+          gives = subst (λ l. GivesBack s.view l t.view) same gives;
+          listed = listed ∙ ap (λ l. without_slots l s.listed) same;
+        };
       }
 
 -- A cookie beside other calls of its seat.
@@ -386,37 +394,42 @@ waits_stay k c v w keeps of =
     }
 
 module _ (k : Shape) (c : CookieAt) (s t : SeatAt) (keeps : KeepsCookies s t) (of : IsOf k c s.view) where
-  module _ (latest : IsLatest c t.view) where
-    same : t.view.counts.waits ≡ s.view.counts.waits
-    same = same_waits k c s.view t.view keeps.latest of latest
+  same : IsLatest c t.view → t.view.counts.waits ≡ s.view.counts.waits
+  same latest = same_waits k c s.view t.view keeps.latest of latest
 
-    one_stays : (slot : ℕ) → IsKept c s.view slot → IsKept c t.view slot
-    one_stays slot kept =
-        let now = (keeps.retired same).each kept.i kept.r kept.at.0 in record {
-          i = kept.i;
-          r = now.0;
-          at = (now.1, now.2.0 ∙ kept.at.1);
-          since = λ going. let since = kept.since going in
-              (since.0, keeps.latest.wait same ∙ since.1, subst (λ n. n < since.0.began) (sym now.2.1) since.2);
-          waited = λ all over. now.2.2 (kept.waited all over);
-        }
+  one_stays : KeepsListed s t → (c.over ≡ false → IsLatest c t.view) → (slot : ℕ) → IsKept c s.view slot → IsKept c t.view slot
+  one_stays listed latest slot kept =
+      let now = listed.retired.each kept.i kept.r kept.at.0 in record {
+        i = kept.i;
+        r = now.0;
+        at = (now.1, now.2.0 ∙ kept.at.1);
+        since = λ going. let since = kept.since going in
+            (since.0, keeps.latest.wait (same (latest going)) ∙ since.1, subst (λ n. n < since.0.began) (sym now.2.1) since.2);
+        waited = λ all over. now.2.2 (kept.waited all over);
+      }
 
-  stays_kept : HasKept c s → HasKept c t
-  stays_kept has = record {
-    kept = λ latest.
-        let kept = has.kept (was_latest k c s.view t.view keeps.latest of latest) in
-        let later = keeps.listed (same latest) in record {
-          slots = kept.slots;
-          later = kept.later ++ later.0;
-          listed = later.1 ∙ ap (λ l. l ++ later.0) kept.listed ∙ append_assoc kept.slots kept.later later.0;
-          many = kept.many;
-          apart = kept.apart;
-          each = all_change (IsKept c s.view) (IsKept c t.view) kept.slots (λ slot there one. one_stays latest slot one) kept.each;
-        };
+  all_stay : KeepsListed s t → (c.over ≡ false → IsLatest c t.view) → AreKept c s → AreKept c t
+  all_stay listed latest kept = record {
+    slots = kept.slots;
+    later = kept.later ++ listed.listed.0;
+    listed = listed.listed.1 ∙ ap (λ l. l ++ listed.listed.0) kept.listed ∙ append_assoc kept.slots kept.later listed.listed.0;
+    many = kept.many;
+    apart = kept.apart;
+    each = all_change (IsKept c s.view) (IsKept c t.view) kept.slots (λ slot there one. one_stays listed latest slot one) kept.each;
   }
 
+  stays_kept : (c.over ≡ true → KeepsListed s t) → HasKept c s → HasKept c t
+  stays_kept over has = record {
+    kept = λ latest.
+        all_stay (none_back latest c.over refl) latest (has.kept (λ going. was_latest k c s.view t.view keeps.latest of (latest going)));
+  }
+    where
+      none_back : (c.over ≡ false → IsLatest c t.view) → (b : Bool) → c.over ≡ b → KeepsListed s t
+      none_back latest true e = over e
+      none_back latest false e = keeps.slots (same (latest e))
+
 pub cookies_stay : CookiesStay
-cookies_stay k c s t keeps of has = (waits_stay k c s.view t.view keeps.latest of, stays_kept k c s t keeps of has)
+cookies_stay k c s t keeps over of has = (waits_stay k c s.view t.view keeps.latest of, stays_kept k c s t keeps of over has)
 
 -- its keys stay over each question
 pub same_keys : (c d : CookieAt) → IsSameCookie c d → d.keys ≡ c.keys
@@ -443,14 +456,20 @@ waits_later k v w low high waited =
     (prefix_trans v.seen mid.seen w.seen (seen_more v mid _ begun.leaves) (seen_more mid w _ over.ended.leaves))
     (let a = ap (λ (z : View). z.counts.waits) e in let b = ap (λ (z : View). z.counts.waits) begun.others in omega arith)
 
--- a call that begins no wait, and neither retires a slot nor lists one
+-- a call that neither retires a slot nor lists one
+pub listed_all : (s t : SeatAt) → t.view.hands.retired ≡ s.view.hands.retired → t.listed ≡ s.listed → KeepsListed s t
+listed_all s t retired listed = record {
+  retired = record { each = λ i r there. (r, ap (λ rs. get_elem? rs i) retired ∙ there, (refl, refl, λ yes. yes)) };
+  listed = ([], listed ∙ sym (append-nil s.listed));
+}
+
+-- nor begins a wait
 pub keeps_all : (s t : SeatAt) → t.view.allowance.place ≡ s.view.allowance.place → IsPrefix s.view.seen t.view.seen
     → t.view.counts.waits ≡ s.view.counts.waits → t.view.wait ≡ s.view.wait → t.view.hands.retired ≡ s.view.hands.retired
     → t.listed ≡ s.listed → KeepsCookies s t
 keeps_all s t place seen waits wait retired listed = record {
   latest = keeps_latest s.view t.view place seen waits wait;
-  retired = λ _. record { each = λ i r there. (r, ap (λ rs. get_elem? rs i) retired ∙ there, (refl, refl, λ yes. yes)) };
-  listed = λ _. ([], listed ∙ sym (append-nil s.listed));
+  slots = λ _. listed_all s t retired listed;
 }
 
 -- a wait until all have left
@@ -459,8 +478,7 @@ waits_on k s t low high waited =
     let a = ap (λ (z : View). z.counts.waits) waited.2.ended.others in
     let b = ap (λ (z : View). z.counts.waits) waited.1.others in record {
       latest = waits_later k s.view t.view low high waited;
-      retired = λ same. absurd (omega arith);
-      listed = λ same. absurd (omega arith);
+      slots = λ same. absurd (omega arith);
     }
 
 -- the same, where it retires slots and lists them: what is told of each retired slot is its number, where it was unlinked, and whether it
@@ -505,11 +523,11 @@ left_unraised [] rs none = none
 left_unraised (s ∷ slots) rs none = left_unraised slots (without_retired s rs)
     (λ i r there. let was = in_without s rs r (i, there) in none was.0.0 r was.0.1)
 
-some_quiet : (c : CookieAt) (s : SeatAt) (answer : ℕ) (t : SeatAt) → GivesSome c s answer t → IsQuietSeat s → IsQuietSeat t
-some_quiet c s answer t gave quiet =
+pub first_quiet : (n : ℕ) (s t : SeatAt) → GivesFirst n s t → IsQuietSeat s → IsQuietSeat t
+first_quiet n s t gave quiet =
     let q : IsQuiet s.view = quiet.view in
     let rs : List Retired = s.view.hands.retired in
-    let slots : List ℕ = take c.slots s.listed in
+    let slots : List ℕ = take n s.listed in
     let e = gave.gives.rest in record {
       view = record {
         section = ap (λ (z : View). z.section) e ∙ q.section;
@@ -532,5 +550,5 @@ some_quiet c s answer t gave quiet =
 pub back_quiet : (c : CookieAt) (s : SeatAt) (answer : ℕ) (t : SeatAt) → HasGivenBack c s answer t → IsQuietSeat s → IsQuietSeat t
 back_quiet c s answer t back quiet = ⊎_elim
     (λ (kept : GivesNone c s answer t). subst IsQuietSeat (sym kept.same) quiet)
-    (λ (gave : GivesSome c s answer t). some_quiet c s answer t gave quiet)
+    (λ (gave : GivesSome c s answer t). first_quiet c.slots s t gave.first quiet)
     back

@@ -1,7 +1,7 @@
 -- Cookies, what asking about them answers and leaves, and what any other call has to leave.
 -- Cookies: waits that were begun, and are asked about later.
 -- Source: docs/TREE_CALLS.md, "Cookies".
-use Rattle.std.specs.Prelude.{◌≡◌, ℕ, ◌+◌, ◌<◌, ◌≤◌, Bool, true, false, List, [], ◌∷◌, ◌++◌, length, Some, ◌⊎◌, take}
+use Rattle.std.specs.Prelude.{◌≡◌, ◌≢◌, ℕ, ◌+◌, ◌<◌, ◌≤◌, Bool, true, false, List, [], ◌∷◌, ◌++◌, length, Some, ◌⊎◌, take}
 use Rattle.std.specs.List.{AllByRecursion}
 use mathlib.Core.List.{IsPrefix}
 use Rattle.prcu_marks.specs.declared.mark.Mark.{Mark}
@@ -28,8 +28,8 @@ use lib.ListN.{get_elem?}
 abbrev pub everybody : Interval
 everybody = record { low = 0; high = 18446744073709551615 }
 
--- What a clause sees of a cookie: the keys of its wait, how many waits its place had begun before this one, how many slots were retired
--- then, whether it was found over, the wait's clock, and where the next poll goes on.
+-- What a clause sees of a cookie: the keys of its wait, how many waits its place had begun before this one, how many of the slots that were
+-- retired then haven't gone back by it, whether it was found over, the wait's clock, and where the next poll goes on.
 pub record CookieAt : Type 0 where
   pub keys : Interval
   pub count : ℕ
@@ -74,7 +74,7 @@ pub record IsKept (c : CookieAt) (v : View) (slot : ℕ) : Type 0 where
   pub since : c.over ≡ false → WasBegunSince v r.unlinked
   pub waited : c.keys ≡ everybody → c.over ≡ true → r.waited ≡ true
 
--- The listed slots begin with those that were retired when the cookie was started.
+-- The listed slots begin with those that were retired when the cookie was started, but for those that went back by it.
 pub record AreKept (c : CookieAt) (s : SeatAt) : Type 0 where
   pub slots : List ℕ
   pub later : List ℕ
@@ -83,9 +83,9 @@ pub record AreKept (c : CookieAt) (s : SeatAt) : Type 0 where
   pub apart : (slot : ℕ) → times slot slots ≤ 1
   pub each : AllByRecursion (IsKept c s.view) slots
 
--- The same, unless the place has begun a later wait.
+-- The same: for good where the cookie was found over, and else unless the place has begun a later wait.
 pub record HasKept (c : CookieAt) (s : SeatAt) : Type 0 where
-  pub kept : IsLatest c s.view → AreKept c s
+  pub kept : (c.over ≡ false → IsLatest c s.view) → AreKept c s
 
 -- no generation of a slot of these was raised since it was unlinked
 abbrev pub AreUnraised : View → List ℕ → Type 0
@@ -140,19 +140,22 @@ abbrev pub LeavesAlone : Ask → SeatAt → SeatAt → Type 0
 LeavesAlone (GivenUp latest) s t = t ≡ s
 LeavesAlone _ s t = Unit {0}
 
--- None was retired at the start, or the place has begun a later wait. The answer is 0, and nothing changed.
+-- The first so many of the listed slots went back, in their order, and the others are listed still.
+pub record GivesFirst (n : ℕ) (s t : SeatAt) : Type 0 where
+  pub gives : GivesBack s.view (take n s.listed) t.view
+  pub listed : t.listed ≡ without_slots (take n s.listed) s.listed
+
+-- None was retired at the start. The answer is 0, and nothing changed.
 pub record GivesNone (c : CookieAt) (s : SeatAt) (answer : ℕ) (t : SeatAt) : Type 0 where
-  pub why : (c.slots ≡ 0) ⊎ (c.count + 1 < s.view.counts.waits)
+  pub none : c.slots ≡ 0
   pub answer_is : answer ≡ 0
   pub same : t ≡ s
 
--- The first of the listed slots went back, as many as were retired at the start, and the answer is their number.
+-- All slots that were retired at the start went back, and the answer is their number.
 pub record GivesSome (c : CookieAt) (s : SeatAt) (answer : ℕ) (t : SeatAt) : Type 0 where
   pub some : 1 ≤ c.slots
-  pub latest : IsLatest c s.view
   pub answer_is : answer ≡ c.slots
-  pub gives : GivesBack s.view (take c.slots s.listed) t.view
-  pub listed : t.listed ≡ without_slots (take c.slots s.listed) s.listed
+  pub first : GivesFirst c.slots s t
 
 abbrev pub HasGivenBack : CookieAt → SeatAt → ℕ → SeatAt → Type 0
 HasGivenBack c s answer t = GivesNone c s answer t ⊎ GivesSome c s answer t
@@ -177,16 +180,27 @@ pub record KeepsLatest (v w : View) : Type 0 where
   pub waits : v.counts.waits ≤ w.counts.waits
   pub wait : w.counts.waits ≡ v.counts.waits → w.wait ≡ v.wait
 
--- The same, and where the place has begun no further wait the retired slots stay, and further slots are listed behind.
+-- No slot went back: what was retired and listed stays so, in its order, and further slots are listed behind.
+pub record KeepsListed (s t : SeatAt) : Type 0 where
+  pub retired : KeepsRetired s.view t.view
+  pub listed : (later : List ℕ) × (t.listed ≡ s.listed ++ later)
+
+-- The latest wait is kept, and where the place has begun no further one no slot went back.
 pub record KeepsCookies (s t : SeatAt) : Type 0 where
   pub latest : KeepsLatest s.view t.view
-  pub retired : t.view.counts.waits ≡ s.view.counts.waits → KeepsRetired s.view t.view
-  pub listed : t.view.counts.waits ≡ s.view.counts.waits → (later : List ℕ) × (t.listed ≡ s.listed ++ later)
+  pub slots : t.view.counts.waits ≡ s.view.counts.waits → KeepsListed s t
 
 -- After a call that keeps the latest wait a cookie is of the seat still.
 abbrev pub WaitsStay : Type 0
 WaitsStay = (k : Shape) (c : CookieAt) (v w : View) → KeepsLatest v w → IsOf k c v → IsOf k c w
 
--- Where it keeps the slots too, what was retired at the cookie's start is kept.
+-- Where it keeps the slots too, what was retired at the cookie's start is kept: of a cookie that is over wherever no slot went back, whatever
+-- waits were begun, and of another one as long as none was.
 abbrev pub CookiesStay : Type 0
-CookiesStay = (k : Shape) (c : CookieAt) (s t : SeatAt) → KeepsCookies s t → IsOf k c s.view → HasKept c s → IsOf k c t.view × HasKept c t
+CookiesStay = (k : Shape) (c : CookieAt) (s t : SeatAt) → KeepsCookies s t → (c.over ≡ true → KeepsListed s t) → IsOf k c s.view → HasKept c s
+    → IsOf k c t.view × HasKept c t
+
+-- A question about a cookie leaves another one of the seat good: they are of two waits of the place.
+abbrev pub OthersStay : Type 0
+OthersStay = (k : Shape) (c : CookieAt) (s : SeatAt) (answer : Ask) (now : CookieAt) (t : SeatAt) (other : CookieAt) → Asked k c s.view answer now t.view
+    → t.listed ≡ s.listed → other.count ≢ c.count → IsOf k other s.view → IsOf k other t.view × (HasKept other s → HasKept other t)

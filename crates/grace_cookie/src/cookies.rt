@@ -1,11 +1,11 @@
 //! Cookies, and the calls that start them, ask about them, and give slots back by them.
-ghost use Rattle.std.specs.Prelude.{◌≡◌, ◌≤◌, ℕ, true, false, [], length, None, take};
+ghost use Rattle.std.specs.Prelude.{◌≡◌, ◌≤◌, ◌-◌, ℕ, true, false, [], length, None, take, min};
 ghost use Rattle.list_laws.specs.Counts.{times};
 ghost use Rattle.seat_table.specs.Gains.{IsInformed};
 ghost use Rattle.seat_table.specs.Looks.{LooksAt, IsOnward, IsWithin};
 ghost use Rattle.seat_table.specs.Seats.{AreListed, IsQuietSeat, shape_of};
 ghost use Rattle.seat_table.specs.Sections.{HasBegun};
-ghost use Rattle.grace_cookie.specs.Cookies.{IsOf, HasKept, IsLatest, AreUnraised, everybody, IsSameCookie, Asked, LeavesAlone, HasGivenBack};
+ghost use Rattle.grace_cookie.specs.Cookies.{IsOf, HasKept, AreUnraised, everybody, IsSameCookie, Asked, LeavesAlone, GivesFirst, HasGivenBack};
 
 use crate::answers::Ask;
 use key_interval::Keys;
@@ -44,6 +44,13 @@ impl<W> Cookie<W> {
     {
         self.count
     }
+
+    /// How many of the slots that were retired when it was started haven't gone back by it.
+    pub fn slots(&self) -> u32
+        ensures { result ≡ self.now.slots }
+    {
+        self.slots
+    }
 }
 
 // How many slots are retired.
@@ -60,8 +67,8 @@ fn count_retired<W: WaitPart>(table: &CitrusTable<W>, seat: &Seat<W>) -> u32
 }
 
 /// Begins a wait for the readers with one of these keys, and keeps how many slots are retired now. It is asked about by `ask`; when it is
-/// over, and was for everybody, `give_back` gives these slots back. A cookie that was started before is given up, and so is this one where
-/// the place begins a later wait.
+/// over, and was for everybody, `give_back` gives these slots back. A cookie that was started before and isn't over is given up, and so is
+/// this one where the place begins a later wait.
 pub fn start<W: WaitPart>(table: &CitrusTable<W>, seat: &mut Seat<W>, keys: Keys) -> Cookie<W>
     requires table { seat.old.table ≡ table.now }
     requires outside { seat.old.view.section ≡ None }
@@ -120,17 +127,50 @@ pub fn ask<W: WaitPart>(table: &CitrusTable<W>, seat: &mut Seat<W>, cookie: &mut
     }
 }
 
-/// Gives the slots back that were retired when the cookie was started, each with the next generation, and answers their number. A wait for
-/// fewer keys lets none go: a reader with any key may stand in one. Where the place has no spare the first of them becomes its spare. The
-/// answer is 0, and nothing is changed, exactly where the place has begun a later wait or none was retired then. Where it isn't 0 the seat
-/// is informed of each slot that went back: no slot is used again that an open reader may meet. It begins no wait and waits for nobody.
+/// Gives back the first of the slots that were retired when the cookie was started, at most so many, each with the next generation, and
+/// answers their number. The cookie stays good for the others. A wait for fewer keys lets none go: a reader with any key may stand in one.
+/// Where the place has no spare the first of them becomes its spare. Where the answer isn't 0 the seat is informed of each slot that went
+/// back: no slot is used again that an open reader may meet. It begins no wait and waits for nobody.
+pub fn give_some<W: WaitPart>(
+    table: &CitrusTable<W>,
+    seat: &mut Seat<W>,
+    cookie: &mut Cookie<W>,
+    most: u32,
+) -> u32
+    requires table { seat.old.table ≡ table.now }
+    requires of { IsOf (shape_of W.WAY table.now) cookie.old seat.old.view }
+    requires everybody { cookie.old.keys ≡ everybody }
+    requires over { cookie.old.over ≡ true }
+    requires kept { HasKept cookie.old seat.old }
+    requires unraised { AreUnraised seat.old.view (take (min cookie.old.slots most) seat.old.listed) }
+    requires unlocked { seat.old.view.locks ≡ [] }
+    requires settled { seat.old.view.moving ≡ None }
+    requires paid { seat.old.view.hands.owes ≡ false }
+    ensures table { seat.new.table ≡ seat.old.table }
+    ensures many { result ≡ min cookie.old.slots most }
+    ensures cookie { cookie.new ≡ record cookie.old { slots = cookie.old.slots - result } }
+    ensures back { GivesFirst result seat.old seat.new }
+    ensures of { IsOf (shape_of W.WAY table.now) cookie.new seat.new.view }
+    ensures kept { HasKept cookie.new seat.new }
+    ensures quiet { IsQuietSeat seat.old → IsQuietSeat seat.new }
+    ensures informed { IsInformed seat.old.view → IsInformed seat.new.view }
+    ensures reuse { 1 ≤ result → IsInformed seat.new.view }
+{
+    let count = cookie.slots.min(most);
+    node_slots::give_back(table, seat, count as usize);
+    cookie.slots -= count;
+    count
+}
+
+/// Gives all slots back that were retired when the cookie was started, and that haven't gone back by it, as `give_some` does, and answers
+/// their number. It is 0, and nothing is changed, exactly where there are none.
 pub fn give_back<W: WaitPart>(table: &CitrusTable<W>, seat: &mut Seat<W>, cookie: Cookie<W>) -> u32
     requires table { seat.old.table ≡ table.now }
     requires of { IsOf (shape_of W.WAY table.now) cookie seat.old.view }
     requires everybody { cookie.keys ≡ everybody }
     requires over { cookie.over ≡ true }
     requires kept { HasKept cookie seat.old }
-    requires unraised { IsLatest cookie seat.old.view → AreUnraised seat.old.view (take cookie.slots seat.old.listed) }
+    requires unraised { AreUnraised seat.old.view (take cookie.slots seat.old.listed) }
     requires unlocked { seat.old.view.locks ≡ [] }
     requires settled { seat.old.view.moving ≡ None }
     requires paid { seat.old.view.hands.owes ≡ false }
@@ -141,9 +181,6 @@ pub fn give_back<W: WaitPart>(table: &CitrusTable<W>, seat: &mut Seat<W>, cookie
     ensures reuse { 1 ≤ result → IsInformed seat.new.view }
 {
     if cookie.slots == 0 {
-        return 0;
-    }
-    if seat.waits() - 1 != cookie.count {
         return 0;
     }
     node_slots::give_back(table, seat, cookie.slots as usize);

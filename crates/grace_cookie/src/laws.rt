@@ -1,12 +1,18 @@
 //! How a cookie stays good beside other calls of its seat. The functions have no bodies; their promises are the laws.
-ghost use Rattle.grace_cookie.specs.Cookies.{WaitsStay, CookiesStay};
+ghost use Rattle.grace_cookie.specs.Cookies.{WaitsStay, CookiesStay, OthersStay};
 
 /// A cookie may be asked about after each call that keeps what `KeepsLatest` says.
 pub fn waits_stay()
     ensures { WaitsStay }
 {}
 
-/// And what was retired at its start may go back by it where the call keeps what `KeepsCookies` says.
+/// And what was retired at its start may go back by it where the call keeps what `KeepsCookies` says, and of a cookie that is over what
+/// `KeepsListed` says.
 pub fn cookies_stay()
     ensures { CookiesStay }
+{}
+
+/// So it is after a question about another cookie of the seat.
+pub fn others_stay()
+    ensures { OthersStay }
 {}

@@ -7,4 +7,4 @@ mod cookies;
 pub mod laws;
 
 pub use answers::Ask;
-pub use cookies::{Cookie, ask, give_back, start};
+pub use cookies::{Cookie, ask, give_back, give_some, start};

@@ -78,7 +78,8 @@ struct Kept {
 /// Lets two threads keep one index.
 fn keep_index<R: Threads + Wait + Sync>(rt: &R, alloc: Global) -> Result<Kept, NoMemory> {
     let (index, seat) = CitrusTable::<Eer>::new(alloc, 200, 2, 2 * SHARE)?;
-    let (one, two) = seat.split(&index, 1, SHARE);
+    let list = seat.empty_list(alloc)?;
+    let (one, two) = seat.split(&index, 1, SHARE, list);
     let one = TreeClient::new(&index, one, &OpenGate);
     let two = TreeClient::new(&index, two, &OpenGate);
     let ((one, first), (_, second)) = join(rt, || keep(rt, one, 0), || keep(rt, two, OWN));

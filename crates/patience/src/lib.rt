@@ -30,7 +30,8 @@ pub trait Patience {
     fn pause(&self, pauses: &mut Self::Pauses) -> Result<(), Self::Tired>
         ensures { IfErr result (λ _. least self.now ≤ 1) };
 
-    /// The same where the call holds nothing that others wait for: lets them go on, or ends the call, to be made again.
+    /// The same where the call holds nothing that others wait for, or one lock that it can give back: lets them go on, or ends the call, to
+    /// be made again.
     fn rest(&self, pauses: &mut Self::Pauses) -> Result<(), Self::Busy>;
 
     /// After 2^64 - 1 rounds.

@@ -3,7 +3,7 @@ use Rattle.std.specs.Prelude.{◌≡◌, ℕ, zero, suc, ◌+◌, ◌≤◌, ◌
 use mathlib.Core.List.{IsPrefix}
 use Rattle.atomic_table.specs.Seated.{TableId}
 use Rattle.prcu_marks.specs.Marks.{own_of, most_tickets, most_turns}
-use Rattle.core_state.specs.Memory.{most_places, half, apart, lead, classes, place_room, class_room, row_room, slot_count, room_behind, idle, word_count, memory_of}
+use Rattle.core_state.specs.Memory.{most_slots, most_places, half, apart, lead, classes, place_room, class_room, row_room, slot_count, room_behind, idle, word_count, memory_of}
 use Rattle.core_state.specs.declared.shape.Shape.{Shape}
 use Rattle.core_state.specs.declared.shape.Waiter.{Waiter}
 use Rattle.core_state.specs.declared.shape.Waiter.TheVariants.{Eer, Domain, Deer}
@@ -36,6 +36,16 @@ pub record TableAt : Type 0 where
 abbrev pub shape_of : ℕ → TableAt → Shape
 shape_of way t = record { waiter = way_of way; slots = t.slots; places = t.places; room = t.room; tickets = t.tickets }
 
+-- a list of retired slots: they, and for how many it has room
+pub record ListedAt : Type 0 where
+  pub slots : List ℕ
+  pub room : ℕ
+
+-- The list is empty, with room for all retired slots that a place of the table may hold back.
+pub record IsEmptyFor (t : TableAt) (l : ListedAt) : Type 0 where
+  pub empty : l.slots ≡ []
+  pub room_is : l.room ≡ t.room
+
 -- a seat: of which table it is, what it knows, the retired slots that it lists, and the slot to which its scans for a free one have come
 pub record SeatAt : Type 0 where
   pub table : TableAt
@@ -43,13 +53,13 @@ pub record SeatAt : Type 0 where
   pub listed : List ℕ
   pub looked : ℕ
 
--- The seat works at a place of the table, each with room for 16 to 256 retired slots.
+-- The seat works at a place of the table, each with room for 16 retired slots, or more, up to as many as a table may have.
 pub record HasPlace (t : TableAt) (v : View) : Type 0 where
   pub works : 1 ≤ v.allowance.places
   pub inside : v.allowance.place + v.allowance.places ≤ t.places
   pub few_places : t.places ≤ most_places
   pub some_room : 16 ≤ t.room
-  pub few_room : t.room ≤ 256
+  pub few_room : t.room ≤ most_slots
 
 -- The waits of its place and its tickets are few, and so are the gates that it turned.
 pub record HasFew (v : View) : Type 0 where
@@ -83,10 +93,6 @@ IsLastFound first number (Some latest) = number ≡ latest
 -- the shape that a table was told, with the waiter of this number
 abbrev pub with_way : ℕ → Shape → Shape
 with_way way k = record { waiter = way_of way; slots = k.slots; places = k.places; room = k.room; tickets = k.tickets }
-
--- the most retired slots that a place may hold back
-abbrev pub most_room : ℕ
-most_room = 256
 
 -- each slot stands in the list once at most
 pub record AreApart (xs : List ℕ) : Type 0 where

@@ -16,6 +16,7 @@ mod wait;
 mod waiter;
 
 pub use core_state::Part;
+pub use listed::Listed;
 pub use notes::MOST_NOTED;
 pub use scan::next_slot;
 pub use seat::Seat;

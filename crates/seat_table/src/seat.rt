@@ -1,5 +1,5 @@
 //! The seats on the table.
-ghost use Rattle.std.specs.Prelude.{◌≡◌, ℕ, ◌+◌, ◌-◌, ◌<◌, ◌≤◌, [], ◌∷◌, ◌++◌, length, Some};
+ghost use Rattle.std.specs.Prelude.{◌≡◌, ℕ, ◌+◌, ◌-◌, ◌<◌, ◌≤◌, [], ◌∷◌, ◌++◌, length, IfOk, Some};
 ghost use Rattle.list_laws.specs.Counts.{IsIn};
 ghost use Rattle.core_state.specs.declared.view.Section.{Section};
 ghost use Rattle.core_state.specs.declared.view.Retired.{Retired};
@@ -7,7 +7,8 @@ ghost use Rattle.core_state.specs.Steps.{NeedsSplit, first_of, second_of, both_o
 ghost use Rattle.core_state.specs.Links.{IsRetiredAt};
 ghost use Rattle.core_state.specs.Views.{HasLock};
 ghost use Rattle.core_state.specs.declared.act.Act.TheVariants.{LoadClock};
-ghost use Rattle.seat_table.specs.Seats.{IsQuietSeat, KeepsOwn, IsInside, IsSlotOf, IsLastFound, shape_of};
+ghost use Rattle.core_state.specs.Memory.{most_slots};
+ghost use Rattle.seat_table.specs.Seats.{IsEmptyFor, IsQuietSeat, KeepsOwn, IsInside, IsSlotOf, IsLastFound, shape_of};
 ghost use Rattle.seat_table.specs.Gains.{TellsNow, Told};
 ghost use Rattle.seat_table.specs.Seats as scans;
 
@@ -21,6 +22,8 @@ use crate::told::{Cut, Glue};
 use crate::waiter::WaitWords;
 use core_state::{Act, Field, View};
 use prcu_marks::{Access, Share};
+use prcu_model::NoMemory;
+use std::alloc::Global;
 use std::marker::{Brand, Model, PhantomData};
 
 /// What one caller steps with. A clause sees the table that it is of, what it knows, and the retired slots that it lists.
@@ -64,7 +67,7 @@ impl<W: WaitWords> Model for Seat<W> {
         tickets = s.table_tickets;
       };
       view = s.seat.me.0;
-      listed = s.listed;
+      listed = s.listed.slots;
       looked = s.looked;
     } };
 
@@ -82,7 +85,7 @@ impl<W: WaitWords> Model for Seat<W> {
           turns = s.turns;
           free = s.free;
           front = s.front;
-        }) s.seat.me.0 };
+        }) s.seat.me.0 × (s.listed.room ≡ s.table_room) };
 }
 
 impl<W: WaitWords> Seat<W> {
@@ -157,9 +160,17 @@ impl<W: WaitWords> Seat<W> {
     /// How many retired slots a place of its table may hold back.
     pub fn room(&self) -> usize
         ensures room { result ≡ self.now.table.room }
-        ensures few { (16 ≤ result) × (result ≤ 256) }
+        ensures few { (16 ≤ result) × (result ≤ most_slots) }
     {
         self.table_room as usize
+    }
+
+    /// An empty list for a seat that is to be split off. `NoMemory` may come where memory is short.
+    pub fn empty_list(&self, alloc: Global) -> Result<Listed, NoMemory>
+        ensures { IfOk result (λ list. IsEmptyFor self.now.table list) }
+    {
+        let list = Listed::new(alloc, self.table_room)?;
+        Ok(list)
     }
 
     /// Lists a retired slot, as the last one.
@@ -247,9 +258,11 @@ fn cut<W: WaitWords, A: Share>(
     table: &CitrusTable<W>,
     away: u32,
     tickets: u64,
+    list: Listed,
 ) -> (Seat<W>, Seat<W>)
     requires picked { (A.places ≡ away) × (A.tickets ≡ tickets) }
     requires table { seat.table ≡ table.now }
+    requires list { IsEmptyFor seat.table list }
     requires needs { NeedsSplit seat.view away tickets }
     ensures seats { (result.0.table ≡ seat.table) × (result.1.table ≡ seat.table) × (result.0.listed ≡ seat.listed)
         × (result.1.listed ≡ []) }
@@ -323,7 +336,7 @@ fn cut<W: WaitWords, A: Share>(
             free: slots as u64,
             front: 0,
             looked: new_looked,
-            listed: Listed::new(),
+            listed: list,
             notes: Notes::new(new_looked),
             marker: PhantomData,
         },
@@ -331,10 +344,17 @@ fn cut<W: WaitWords, A: Share>(
 }
 
 impl<W: WaitWords> Seat<W> {
-    /// Gives away the last of the unused places, and tickets. The second seat works at the first of these places. Both seats have seen
-    /// what this one has.
-    pub fn split(self, table: &CitrusTable<W>, places: u32, tickets: u64) -> (Seat<W>, Seat<W>)
+    /// Gives away the last of the unused places, and tickets. The second seat works at the first of these places, and lists its retired slots
+    /// in the given list. Both seats have seen what this one has.
+    pub fn split(
+        self,
+        table: &CitrusTable<W>,
+        places: u32,
+        tickets: u64,
+        list: Listed,
+    ) -> (Seat<W>, Seat<W>)
         requires table { self.table ≡ table.now }
+        requires list { IsEmptyFor self.table list }
         requires quiet { IsQuietSeat self }
         requires places { (1 ≤ places) × (places < self.view.allowance.places) }
         requires tickets { tickets ≤ self.view.allowance.tickets }
@@ -345,7 +365,7 @@ impl<W: WaitWords> Seat<W> {
             × (result.1.looked ≡ scans.region self.table.slots self.table.places result.1.view.allowance.place) }
         ensures quiet { IsQuietSeat result.0 × IsQuietSeat result.1 }
     {
-        cut::<W, Brand>(self, table, places, tickets)
+        cut::<W, Brand>(self, table, places, tickets, list)
     }
 
     /// This seat gets the other's tickets, and answers for its places from now on. It loads the clock once more, to learn

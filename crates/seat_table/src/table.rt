@@ -152,7 +152,7 @@ impl<W: WaitWords> CitrusTable<W> {
         requires way { W.WAY ≤ 2 }
         requires slots { (1 ≤ slots) × (slots ≤ most_slots) }
         requires places { (1 ≤ places) × (places ≤ most_places) }
-        requires room { (16 ≤ room) × (room ≤ 256) }
+        requires room { (16 ≤ room) × (room ≤ most_slots) }
         requires tickets { tickets ≤ most_tickets }
         ensures table { IfOk result (λ made. (made.0.slots ≡ slots) × (made.0.places ≡ places) × (made.0.tickets ≡ tickets)) }
         ensures room { IfOk result (λ made. made.0.room ≡ room) }
@@ -167,6 +167,7 @@ impl<W: WaitWords> CitrusTable<W> {
             tickets,
         };
         let words = words_of(alloc, &shape)?;
+        let listed = Listed::new(alloc, room)?;
         let (table, seat) = Table::of_words(alloc, words.as_slice(), &shape)?;
         let looked = region(slots, places, 0);
         let seat = Seat {
@@ -187,7 +188,7 @@ impl<W: WaitWords> CitrusTable<W> {
             free: slots as u64,
             front: 0,
             looked,
-            listed: Listed::new(),
+            listed,
             notes: Notes::new(looked),
             marker: PhantomData,
         };

@@ -1,9 +1,11 @@
 //! A seat and its table.
-ghost use Rattle.std.specs.Prelude.{◌≡◌, ◌+◌, ◌<◌, ◌≤◌};
+ghost use Rattle.std.specs.Prelude.{◌≡◌, ◌+◌, ◌<◌, ◌≤◌, IfOk};
 ghost use Rattle.seat_table.specs.Seats.{IsQuietSeat};
 
 use prcu_marks::OpenGate;
 use seat_table::{CitrusTable, Seat, WaitPart};
+use std::alloc::Global;
+use std::io;
 use std::marker::Model;
 use tree_lift::TreeClient;
 
@@ -35,16 +37,19 @@ impl<'a, W: WaitPart> Seated<'a, W> {
     }
 
     /// Two of which each has half of the tickets. The second answers for so many places.
-    pub fn halves(self, places: u32) -> (Seated<'a, W>, Seated<'a, W>)
+    pub fn halves(self, alloc: Global, places: u32) -> io::Result<(Seated<'a, W>, Seated<'a, W>)>
         requires places { (1 ≤ places) × (places < self) }
-        ensures places { (result.0 + places ≡ self.entry) × (result.1 ≡ places) }
+        ensures places { IfOk result (λ halves. (halves.0 + places ≡ self.entry) × (halves.1 ≡ places)) }
     {
+        let Ok(list) = self.seat.empty_list(alloc) else {
+            return Err(io::Error::from(io::ErrorKind::OutOfMemory));
+        };
         let tickets = self.seat.tickets() / 2;
-        let (first, second) = self.seat.split(self.table, places, tickets);
-        (
+        let (first, second) = self.seat.split(self.table, places, tickets, list);
+        Ok((
             Seated::new(self.table, first),
             Seated::new(self.table, second),
-        )
+        ))
     }
 
     /// The table and the seat.

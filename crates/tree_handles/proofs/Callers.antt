@@ -1,13 +1,13 @@
--- What the calls of a caller come to: its answers, its cookie, its sections and its tidies.
+-- What the calls of a caller come to: its answers, its sections and its tidies.
 -- A caller whose call was answered by the tree's, with nothing behind that.
-use Rattle.std.proofs.Common.{◌≤◌, refl, inl, ◌≡◌, ℕ, ◌+◌, ◌-◌, ◌*◌, inr, arith, subst, sym, ◌∙◌, true, false, Bool, List, [], Option, Some, None, ap, ⊎_elim, append-nil, zero, suc, is_some, length, ◌∷◌, ◌++◌, ◌≢◌}
+use Rattle.std.proofs.Common.{◌≤◌, refl, inl, ◌≡◌, ℕ, ◌+◌, ◌-◌, ◌*◌, inr, arith, subst, sym, ◌∙◌, true, false, List, [], Option, Some, None, ap, ⊎_elim, append-nil, zero, suc, is_some, length, ◌∷◌, ◌++◌, ◌≢◌}
 use Rattle.prcu_model.specs.declared.operation.Op.{Op}
 use Rattle.prcu_model.specs.declared.operation.Told.{Told}
-use Rattle.tree_handles.specs.Callers.{CallerAt, IsSameCaller, IsInside, MayGoOn, pairs_that_fit, IsFilled, AreOfOneIndex}
-use Rattle.tree_handles.specs.Calls.{TreeTells, IsCalled, ComesBehind, IsAnswered, IsCalledAndKept, CallsMeetFronts, StaysInside, IsLost, WereBusy, CausedBy, IsHinderedBy, Inserts, MissesOnceMore, Upserts}
+use Rattle.tree_handles.specs.Callers.{CallerAt, IsSameCaller, KeepsCookie, KeepsKeeper, IsInside, MayGoOn, pairs_that_fit, slots_for, IsFilled, AreOfOneIndex}
+use Rattle.tree_handles.specs.Calls.{CausedReady, GetsReady, HasTurnedDown, LacksRoom, MayTurnDown, MeetsLastingReader, TurnsDown, WasTurnedDown, TreeTells, IsCalled, ComesBehind, IsCalledAndKept, CallsMeetFronts, StaysInside, IsLost, WereBusy, CausedBy, IsHinderedBy, Inserts, MissesOnceMore, Upserts, IsBusy, IsBusyTended, IsCalledTended, IsAnsweredTended, CausedTended}
 use Rattle.prcu_marks.specs.Marks.{updates_of, own_of}
 use Rattle.prcu_model.specs.Dictionary.{key_of, map_of, Explains}
-use Rattle.prcu_model.specs.declared.operation.Op.TheVariants.{Put}
+use Rattle.prcu_model.specs.declared.operation.Op.TheVariants.{Put, Del}
 use Rattle.prcu_model.specs.declared.operation.Reply.{Reply}
 use Rattle.prcu_model.specs.declared.operation.Reply.TheVariants.{Absent as AbsentReply, Full as FullReply, New as NewReply}
 use Rattle.core_state.specs.declared.view.View.{View}
@@ -17,34 +17,29 @@ use Rattle.prcu_marks.proofs.Callers.{told_meets}
 use Rattle.prcu_marks.specs.Callers.{HasAnswered}
 use Rattle.core_state.specs.declared.shape.Shape.{Shape}
 use Rattle.citrus_tree.proofs.Clients.{chain_told}
-use Rattle.tree_lift.specs.Lifts.{IsToldThenLifts, GivesAllBack, LeavesNoUpdate}
+use Rattle.tree_lift.specs.Lifts.{IsToldThenLifts, LeavesNoUpdate}
 use Rattle.tree_lift.proofs.Calls.{answered_earlier, tries_plain, told_alone, told_lifted, told_answers}
 use mathlib.Core.List.{IsPrefix}
-use Rattle.prcu_model.proofs.ListFacts.{prefix_trans, all_append}
+use Rattle.prcu_model.proofs.ListFacts.{all_append}
 use Rattle.core_state.specs.declared.view.StepMade.{StepMade}
-use Rattle.core_state.specs.Steps.{first_of}
-use Rattle.seat_table.specs.Sections.{HasEntered, HasLeft, IsQuietButSection}
-use Rattle.seat_table.specs.Waits.{HasWaited}
-use Rattle.seat_table.proofs.SeveralSteps.{seen_more}
-use Rattle.node_slots.specs.Reclaiming.{HasReclaimed}
-use Rattle.citrus_tree.specs.Going.{HasBegunNone, HasBegunFirst, KeepsWait, IsOfTry, KeepsSeat}
-use Rattle.citrus_tree.specs.Lookups.{HoldsOrNot, IsHolding, Looked}
-use Rattle.citrus_tree.proofs.Leavings.{goes_looked}
-use Rattle.exact_list.specs.Loads.{HasListed, HasListedAfterTries, HasListedAlone, HasListedByTry, IsOneWalk}
+use Rattle.seat_table.specs.Sections.{IsQuietButSection}
+use Rattle.citrus_tree.specs.Going.{IsOfTry}
+use Rattle.exact_list.specs.Loads.{HasListedAfterTries, HasListedAlone, HasListedByTry, IsOneWalk}
 use Rattle.exact_list.specs.Tries.{Try, HasGivenWay, HasTried, Paged, marks_from}
-use Rattle.grace_cookie.specs.Cookies.{CookieAt, IsGivenUp, KeepsLatest}
-use Rattle.grace_cookie.proofs.Keeping.{waits_stay, keeps_latest, begins_later, waits_later}
-use Rattle.tree_handles.specs.Holds.{HasCookie, CannotAsk}
+use Rattle.grace_cookie.specs.Cookies.{CookieAt, IsGivenUp}
+use Rattle.tree_handles.specs.Holds.{CannotAsk}
 use Rattle.tree_handles.specs.Lists.{IsLeft, IsPreventedBy, Lists}
 use Rattle.key_interval.specs.Keys.{Interval}
 use Rattle.core_state.specs.declared.view.Section.{Section}
 use Rattle.tree_handles.specs.declared.status.Status.{Status}
 use Rattle.tree_handles.specs.declared.status.Status.TheVariants.{Done, Unchanged, Full, More, Moved, New, Busy, BadArgument, NoMemory, Spent, Lost, Holds}
+use Rattle.tree_handles.specs.Keepers.{CanBegin, HasBegunKeeper, SeesToKeeper, StartsKeeper, Tends}
 use Rattle.exact_list.specs.declared.alone.Exact.{Exact}
 use Rattle.tree_handles.specs.Tidying.{Finishes, HasTidied, IsUnwritten, MayTidy, Output, Tidies, LiftsNext, LevelledTo, StopsAt, MakesSlots, Levels, IsOfTidy, LeavesNoUpdates, TidiesMakeNoUpdate}
 use Rattle.std.specs.List.{AllByRecursion}
 use Rattle.prcu_marks.specs.declared.mark.Mark.{Mark}
-use Rattle.tree_points.proofs.Locks.{advanced_on, advanced_same}
+use Rattle.prcu_marks.specs.declared.mark.Mark.TheVariants.{Began, Ended}
+use Rattle.tree_points.proofs.Locks.{advanced_begun, advanced_on, advanced_same}
 use Rattle.tree_points.specs.Points.{HasAdvanced}
 use Rattle.exact_list.specs.Pairs.{Pair}
 use Rattle.tree_lift.specs.declared.lifting.Stop.{Stop}
@@ -53,10 +48,27 @@ use Rattle.std.specs.FinMap as finite
 use Rattle.tree_lift.specs.declared.lifting.Stop.TheVariants as stop
 use Rattle.tree_handles.specs.declared.tidying.Ending.TheVariants as ending
 
-pub nothing_behind : {c d : CallerAt} {op : Op} {told : Told} → IsSameCaller c d → MayGoOn c → 4 ≤ c.seat.view.allowance.tickets
+-- The slots of a new index: what its handles may keep back, and that it is that of one handle more than all but one keep from it.
+
+pub pairs_fit : (pairs handles keep : ℕ) → 1 ≤ handles
+    → slots_for pairs handles keep - (keep + 4) * (handles - 1) ≡ pairs + (keep + 4)
+pairs_fit pairs zero keep one = absurd (omega arith)
+pairs_fit pairs (suc n) keep one =
+    let before : (keep + 4) * (suc n - 1) ≡ (keep + 4) * n = (let less : suc n - 1 ≡ n = omega arith in ap (λ z. (keep + 4) * z) less) in
+    let here : (keep + 4) * suc n ≡ (keep + 4) * n + (keep + 4) = omega arith in
+    omega (arith, before, here)
+
+pub pairs_fit_in : (t : TableAt) (pairs handles keep : ℕ) → t.slots ≡ slots_for pairs handles keep → t.places ≡ handles → t.room ≡ keep
+    → 1 ≤ handles → pairs_that_fit t ≡ pairs + (keep + 4)
+pairs_fit_in t pairs handles keep slots places room one =
+    let numbers : pairs_that_fit t ≡ slots_for pairs handles keep - (keep + 4) * (handles - 1) =
+    λ i. slots i - (room i + 4) * (places i - 1) in numbers ∙ pairs_fit pairs handles keep one
+
+pub nothing_behind : {c d : CallerAt} {op : Op} {told : Told} → KeepsCookie c d → KeepsKeeper c d → MayGoOn c → 4 ≤ c.seat.view.allowance.tickets
     → TreeTells c op told d.seat → MayGoOn d → IsCalled c op told d
-nothing_behind {d = d} index before enough tells may = record {
+nothing_behind {d = d} index keeper before enough tells may = record {
   index = index;
+  keeper = keeper;
   before = before;
   enough = enough;
   answered = d.seat;
@@ -79,12 +91,15 @@ full_ends : (key value : ℕ) (told : Told) (s : SeatAt) (d : CallerAt) → told
 full_ends key value told s d full (inl goes) = goes.seat
 full_ends key value told s d full (inr (at, added, lifted)) = absurd (let e : FullReply ≡ NewReply = sym full ∙ added.new in cc)
 
-pub filled : (c : CallerAt) (key value : ℕ) (d : CallerAt) → IsAnswered c (Put key value) FullReply d → IsFilled d
-filled c key value d (told, full, called) =
-    let fits = fitting c.way c.table c.seat.view called.answered.view key value told full called.tells.answer in record {
+pub filled : (c : CallerAt) (key value : ℕ) (d : CallerAt) → IsAnsweredTended c (Put key value) FullReply d → IsFilled d
+filled c key value d (told, full, x) =
+    let called = x.called in
+    let ready = x.ready in
+    let answered = called.answered in
+    let fits = fitting ready.way ready.table ready.seat.view answered.view key value told full called.tells.answer in
+    let seat : d.seat ≡ answered = full_ends key value told answered d full called.behind in record {
       pairs = subst (λ (t : TableAt). pairs_that_fit t ≤ finite.len (map_of (updates_of d.seat.view.seen))) (sym called.index.table)
-          (subst (λ (s : SeatAt). pairs_that_fit c.table ≤ finite.len (map_of (updates_of s.view.seen)))
-          (sym (full_ends key value told called.answered d full called.behind)) fits);
+          (subst (λ (s : SeatAt). pairs_that_fit ready.table ≤ finite.len (map_of (updates_of s.view.seen))) (sym seat) fits);
     }
 
 -- A call of a caller that isn't lost is one of a client that lifts, and so are calls one after another.
@@ -109,24 +124,173 @@ comes_behind c op told d called kept (inr (key, added, inr lost)) = absurd (let 
 same_shape : (c : CallerAt) (op : Op) (told : Told) (d : CallerAt) → IsCalled c op told d → shape_of d.way d.table ≡ shape_of c.way c.table
 same_shape c op told d called = λ i. shape_of (called.index.way i) (called.index.table i)
 
--- what busy calls left: the same index, and no mark of an update
+-- what came before a call left: the same index, and no mark of an update
 record LeftTries (op : Op) (c d : CallerAt) : Type 0 where
   pub shape : shape_of d.way d.table ≡ shape_of c.way c.table
   pub marks : List Mark
   pub advanced : HasAdvanced c.seat.view d.seat.view marks
   pub each : AllByRecursion (IsOfTry c.seat.view.allowance.place (key_of op)) marks
 
+tries_on : (op : Op) (c b d : CallerAt) → LeftTries op c b → LeftTries op b d → LeftTries op c d
+tries_on op c b d first last = record {
+  shape = last.shape ∙ first.shape;
+  marks = first.marks ++ last.marks;
+  advanced = advanced_on first.advanced last.advanced;
+  each = all_append (IsOfTry c.seat.view.allowance.place (key_of op)) first.marks last.marks first.each
+      (subst (λ p. AllByRecursion (IsOfTry p (key_of op)) last.marks) first.advanced.same last.each);
+}
+
+busy_tries : (op : Op) (c d : CallerAt) → IsBusy op c d → LeftTries op c d
+busy_tries op c d busy = record {
+  shape = λ i. shape_of (busy.index.way i) (busy.index.table i);
+  marks = busy.gave.tries;
+  advanced = busy.gave.tried.own;
+  each = busy.gave.tried.tried.each;
+}
+
+abbrev AreOfTries : Op → CallerAt → List Mark → Type 0
+AreOfTries op c marks = AllByRecursion (IsOfTry c.seat.view.allowance.place (key_of op)) marks
+
+tended_tries : (op : Op) (c d : CallerAt) → Tends c d → LeftTries op c d
+tended_tries op c d tends = record {
+  shape = λ i. shape_of (tends.index.way i) (tends.index.table i);
+  marks = tends.leaves.ended;
+  advanced = tends.leaves.advanced;
+  each = ⊎_elim
+      (λ (none : tends.leaves.ended ≡ []). subst (AreOfTries op c) (sym none) tt)
+      (λ (one : (k : CookieAt) × (c.keeper ≡ Some k) × (tends.leaves.ended ≡ Ended c.seat.view.allowance.place k.count ∷ [])).
+      subst (AreOfTries op c) (sym one.2) (refl, tt))
+      tends.leaves.ends;
+}
+
+no_tries : (op : Op) (c d : CallerAt) → d ≡ c → LeftTries op c d
+no_tries op c d same = subst (LeftTries op c) (sym same) (record { shape = refl; marks = []; advanced = advanced_same; each = tt })
+
+-- what a caller does to get ready for an update
+
+turn_tries : (key : ℕ) (c d : CallerAt) → WasTurnedDown key c d → LeftTries (Del key) c d
+turn_tries key c d turned = tries_on (Del key) c turned.between d (busy_tries (Del key) c turned.between turned.two) (record {
+  shape = λ i. shape_of (turned.index.way i) (turned.index.table i);
+  marks = turned.updates.marks;
+  advanced = turned.updates.advanced;
+  each = turned.updates.each;
+})
+
+turns_tries : (key times : ℕ) (c d : CallerAt) → TurnsDown key times c d → LeftTries (Del key) c d
+turns_tries key zero c d same = no_tries (Del key) c d same
+turns_tries key (suc times) c d (a, turns, turned) = tries_on (Del key) c a d (turns_tries key times c a turns) (turn_tries key a d turned)
+
+turned_tries : (op : Op) (c d : CallerAt) → MayTurnDown op c d → LeftTries op c d
+turned_tries (Del key) c d turned = turns_tries key turned.times c d turned.turns
+turned_tries op c d same = no_tries op c d same
+
+-- no mark, or the beginning of a wait for everybody
+started_tries : (op : Op) (c d : CallerAt) → StartsKeeper c d → LeftTries op c d
+started_tries op c d starts = ⊎_elim
+    (λ (nothing : (CanBegin c.keeper c.cookie c.seat → ⊥) × (d.keeper ≡ c.keeper) × (d.seat ≡ c.seat)). record {
+      shape = λ i. shape_of (starts.index.way i) (starts.index.table i);
+      marks = [];
+      advanced = subst (λ (s : SeatAt). HasAdvanced c.seat.view s.view []) (sym nothing.2) advanced_same;
+      each = tt;
+    })
+    (λ (begun : HasBegunKeeper c.keeper c.cookie c.seat d.keeper d.seat). record {
+      shape = λ i. shape_of (starts.index.way i) (starts.index.table i);
+      marks = Began c.seat.view.allowance.place c.seat.view.counts.waits 0 18446744073709551615 ∷ [];
+      advanced = advanced_begun begun.begun;
+      each = ((refl, refl, refl), tt);
+    })
+    starts.begins
+
+ready_tries : (op : Op) (c d : CallerAt) → GetsReady op c d → LeftTries op c d
+ready_tries op c d gets =
+    let sees = gets.sees in
+    tries_on op c gets.tended d (tries_on op c sees.begun gets.tended (started_tries op c sees.begun sees.starts)
+    (tended_tries op sees.begun gets.tended sees.tends)) (turned_tries op gets.tended d gets.turns)
+
+pub index_on : (c b d : CallerAt) → AreOfOneIndex c b → AreOfOneIndex b d → AreOfOneIndex c d
+index_on c b d one two = record { way = two.way ∙ one.way; table = two.table ∙ one.table; salt = two.salt ∙ one.salt }
+
+-- the same caller is of the same index
+pub of_one_index : (c d : CallerAt) → IsSameCaller c d → AreOfOneIndex c d
+of_one_index c d same = record { way = same.way; table = same.table; salt = same.salt }
+
+-- and so is one with the same cookie
+pub kept_index : (c d : CallerAt) → KeepsCookie c d → AreOfOneIndex c d
+kept_index c d same = record { way = same.way; table = same.table; salt = same.salt }
+
+-- a caller that is ready is of the same index, may go on, and has the tickets of an update
+record IsReady (c d : CallerAt) : Type 0 where
+  pub index : AreOfOneIndex c d
+  pub enough : 4 ≤ d.seat.view.allowance.tickets
+  pub may : MayGoOn d
+
+turns_ready : (key times : ℕ) (c a d : CallerAt) → IsReady c a → TurnsDown key times a d → IsReady c d
+turns_ready key zero c a d before same = subst (IsReady c) (sym same) before
+turns_ready key (suc times) c a d before (b, turns, turned) = record {
+  index = index_on c turned.between d
+      (index_on c b turned.between (turns_ready key times c a b before turns).index (kept_index b turned.between turned.two.index))
+      (of_one_index turned.between d turned.index);
+  enough = turned.enough;
+  may = turned.may;
+}
+
+turned_ready : (op : Op) (c a d : CallerAt) → IsReady c a → MayTurnDown op a d → IsReady c d
+turned_ready (Del key) c a d before turned = turns_ready key turned.times c a d before turned.turns
+turned_ready op c a d before same = subst (IsReady c) (sym same) before
+
+-- a begun keeper leaves an update its tickets, and a question takes none
+started_enough : (c d : CallerAt) → 4 ≤ c.seat.view.allowance.tickets → StartsKeeper c d → 4 ≤ d.seat.view.allowance.tickets
+started_enough c d enough starts = ⊎_elim
+    (λ (nothing : (CanBegin c.keeper c.cookie c.seat → ⊥) × (d.keeper ≡ c.keeper) × (d.seat ≡ c.seat)).
+    subst (λ (s : SeatAt). 4 ≤ s.view.allowance.tickets) (sym nothing.2) enough)
+    (λ (begun : HasBegunKeeper c.keeper c.cookie c.seat d.keeper d.seat).
+    let one = ap (λ (z : View). z.allowance.tickets) begun.begun.others in let paid = begun.can.paid in omega (arith, one, paid))
+    starts.begins
+
+pub sees_enough : (c d : CallerAt) → 4 ≤ c.seat.view.allowance.tickets → SeesToKeeper c d → 4 ≤ d.seat.view.allowance.tickets
+sees_enough c d enough sees =
+    subst (λ a. 4 ≤ a.tickets) (sym sees.tends.leaves.allowance) (started_enough c sees.begun enough sees.starts)
+
+got_ready : (op : Op) (c d : CallerAt) → 4 ≤ c.seat.view.allowance.tickets → GetsReady op c d → IsReady c d
+got_ready op c d enough gets =
+    let sees = gets.sees in
+    turned_ready op c gets.tended d (record {
+      index = index_on c sees.begun gets.tended (kept_index c sees.begun sees.starts.index) (kept_index sees.begun gets.tended sees.tends.index);
+      enough = sees_enough c gets.tended enough sees;
+      may = sees.tends.may;
+    }) gets.turns
+
 left_tries : (calls : ℕ) (op : Op) (c d : CallerAt) → WereBusy calls op c d → LeftTries op c d
-left_tries zero op c d same = subst (LeftTries op c) (sym same) (record { shape = refl; marks = []; advanced = advanced_same; each = tt })
-left_tries (suc calls) op c d (a, busy, last) =
-    let before = left_tries calls op c a busy in
-    let tries = last.gave.tried in record {
-      shape = (λ i. shape_of (last.index.way i) (last.index.table i)) ∙ before.shape;
-      marks = before.marks ++ last.gave.tries;
-      advanced = advanced_on before.advanced tries.own;
-      each = all_append (IsOfTry c.seat.view.allowance.place (key_of op)) before.marks last.gave.tries before.each
-          (subst (λ p. AllByRecursion (IsOfTry p (key_of op)) last.gave.tries) before.advanced.same tries.tried.each);
-    }
+left_tries zero op c d same = no_tries op c d same
+left_tries (suc calls) op c d (a, busy, last) = tries_on op c a d (left_tries calls op c a busy) (⊎_elim
+    (λ (one : IsBusy op a d). busy_tries op a d one)
+    (λ (one : IsBusyTended op a d). tries_on op a one.ready d (ready_tries op a one.ready one.gets) (⊎_elim
+    (λ (busy : IsBusy op one.ready d). busy_tries op one.ready d busy)
+    (λ (lacks : LacksRoom one.ready d). no_tries op one.ready d lacks.same)
+    one.busy))
+    last)
+
+abbrev Answers : CallerAt → Op → Told → CallerAt → Type 0
+Answers c op told d = HasAnswered (Explains (room_of (client_of c).shape)) (caller_of (client_of c)) op told (caller_of (client_of d))
+
+answers_before : (c a : CallerAt) (op : Op) (told : Told) (d : CallerAt) → LeftTries op c a → Answers a op told d → Answers c op told d
+answers_before c a op told d left last =
+    let plain = tries_plain c.seat.view.allowance.place (key_of op) (updates_of d.seat.view.seen) left.marks left.each in
+    answered_earlier (Explains (room_of (shape_of c.way c.table))) (caller_of (client_of c)) (caller_of (client_of a))
+    (caller_of (client_of d)) op told left.marks plain.none left.advanced.same left.advanced.begins
+    (subst (λ k. HasAnswered (Explains (room_of k)) (caller_of (client_of a)) op told (caller_of (client_of d))) left.shape last)
+    (ap (λ p. own_of p a.seat.view.seen) left.advanced.same ∙ left.advanced.own) plain.keyed plain.waits
+
+called_answers : (c : CallerAt) (op : Op) (told : Told) (d : CallerAt) → IsCalled c op told d → d.lost ≡ false → Answers c op told d
+called_answers c op told d called kept = told_answers (shape_of c.way c.table) c.seat.view d.seat.view op told
+    (comes_behind c op told d called kept called.behind)
+
+tended_answers : (c : CallerAt) (op : Op) (told : Told) (d : CallerAt) → IsCalledTended c op told d → d.lost ≡ false → Answers c op told d
+tended_answers c op told d x kept =
+    answers_before c x.ready op told d (ready_tries op c x.ready x.gets) (called_answers x.ready op told d x.called kept)
+
+tended_shape : (c : CallerAt) (op : Op) (told : Told) (d : CallerAt) → IsCalledTended c op told d → shape_of d.way d.table ≡ shape_of c.way c.table
+tended_shape c op told d x = same_shape x.ready op told d x.called ∙ (ready_tries op c x.ready x.gets).shape
 
 answers : (c : CallerAt) (op : Op) (told : Told) (d : CallerAt) → IsCalledAndKept c op told d
     → ((client_of d).shape ≡ (client_of c).shape)
@@ -134,125 +298,16 @@ answers : (c : CallerAt) (op : Op) (told : Told) (d : CallerAt) → IsCalledAndK
 answers c op told d x =
     let a = x.first in
     let left = left_tries x.calls op c a x.busy in
-    let plain = tries_plain c.seat.view.allowance.place (key_of op) (updates_of d.seat.view.seen) left.marks left.each in
-    let told_last = told_answers (shape_of a.way a.table) a.seat.view d.seat.view op told
-    (comes_behind a op told d x.called x.kept x.called.behind) in (
-      same_shape a op told d x.called ∙ left.shape,
-      answered_earlier (Explains (room_of (shape_of c.way c.table))) (caller_of (client_of c)) (caller_of (client_of a))
-          (caller_of (client_of d)) op told left.marks plain.none left.advanced.same left.advanced.begins
-          (subst (λ k. HasAnswered (Explains (room_of k)) (caller_of (client_of a)) op told (caller_of (client_of d))) left.shape told_last)
-          (ap (λ p. own_of p a.seat.view.seen) left.advanced.same ∙ left.advanced.own) plain.keyed plain.waits,
-    )
+    let last : (shape_of d.way d.table ≡ shape_of a.way a.table) × Answers a op told d = ⊎_elim
+    (λ (called : IsCalled a op told d). (same_shape a op told d called, called_answers a op told d called x.kept))
+    (λ (called : IsCalledTended a op told d). (tended_shape a op told d called, tended_answers a op told d called x.kept))
+    x.called in
+    (last.0 ∙ left.shape, answers_before c a op told d left last.1)
 
 pub calls_meet : CallsMeetFronts
 calls_meet ops tolds before after none chain =
     told_meets (Explains (room_of (shape_of before.way before.table))) (caller_of (client_of before)) ops tolds (caller_of (client_of after))
     (chain_told IsCalledAndKept client_of answers (shape_of before.way before.table) ops tolds before after refl none chain)
-
--- A caller's cookie stays good over its calls.
-
--- what the seat had seen it has seen still
-seen_first : {v w : View} → HasBegunFirst v w → IsPrefix v.seen w.seen
-seen_first {v} {w} first = prefix_trans v.seen (first.before).seen w.seen (first.none).seen
-    (prefix_trans (first.before).seen (first.after).seen w.seen (seen_more first.before first.after _ (first.begun).leaves) first.seen)
-
-seen_on : {v w : View} → KeepsWait v w → IsPrefix v.seen w.seen
-seen_on {v} {w} wait = ⊎_elim (λ (none : HasBegunNone v w). none.seen) (λ (first : HasBegunFirst v w). seen_first first) wait
-
-module _ {k : Shape} {cookie : Option CookieAt} where
-  stays_good : {v w : View} → KeepsLatest v w → HasCookie k cookie v → HasCookie k cookie w
-  stays_good {v} {w} keeps has = record { each = λ c e. (let was = has.each c e in (was.0, waits_stay k c v w keeps was.1)) }
-
-  -- ---- calls of the tree
-
-  pub cookie_called : {n : ℕ} {s t : SeatAt} → KeepsSeat n s t → HasCookie k cookie s.view → HasCookie k cookie t.view
-  cookie_called keeps has = stays_good (record {
-    place = ap (λ a. a.place) keeps.allowance.rest;
-    seen = seen_on keeps.wait;
-    waits = keeps.slots.waits;
-    wait = keeps.slots.wait;
-  }) has
-
-  -- ---- sections
-
-  pub cookie_entered : {v w : View} {key : ℕ} → HasEntered v key w → HasCookie k cookie v → HasCookie k cookie w
-  cookie_entered {v} {w} e has = stays_good (keeps_latest v w (ap (λ (z : View). z.allowance.place) e.others)
-      (seen_more v w _ e.leaves) (ap (λ (z : View). z.counts.waits) e.others) (ap (λ (z : View). z.wait) e.others)) has
-
-  pub cookie_left : {v w : View} → HasLeft v w → HasCookie k cookie v → HasCookie k cookie w
-  cookie_left {v} {w} e has = stays_good (keeps_latest v w (ap (λ (z : View). z.allowance.place) e.others)
-      (seen_more v w _ e.leaves) (ap (λ (z : View). z.counts.waits) e.others) (ap (λ (z : View). z.wait) e.others)) has
-
-  cookie_holding : {v w : View} {key value : ℕ} → IsHolding v key value w → HasCookie k cookie v → HasCookie k cookie w
-  cookie_holding {v} {w} holding has =
-      let found = holding.found in
-      let e = found.others in
-      stays_good (keeps_latest found.entry w (ap (λ (z : View). z.allowance.place) e)
-      ([], append-nil (found.entry).seen ∙ sym (ap (λ (z : View). z.seen) e)) (ap (λ (z : View). z.counts.waits) e)
-      (ap (λ (z : View). z.wait) e)) (cookie_entered found.entered has)
-
-  cookie_looked : {v w : View} {key : ℕ} {answer : Option ℕ} → Looked v key answer w → HasCookie k cookie v → HasCookie k cookie w
-  cookie_looked {v} {w} looked has =
-      let goes = goes_looked looked in
-      stays_good (keeps_latest v w goes.advanced.same goes.advanced.begins goes.waits goes.wait) has
-
-  pub cookie_held : {v w : View} (key : ℕ) (answer : Option ℕ) → HoldsOrNot v key answer w → HasCookie k cookie v → HasCookie k cookie w
-  cookie_held key (Some value) holding has = cookie_holding holding has
-  cookie_held key None looked has = cookie_looked looked has
-
-  -- ---- lists, waits and shares
-
-  pub cookie_tried : {v w : View} {key : ℕ} {tries : List Try} → HasTried v key tries w → HasCookie k cookie v → HasCookie k cookie w
-  cookie_tried {v} {w} e has = stays_good (keeps_latest v w (ap (λ (z : View). z.allowance.place) e.others) e.seen
-      (ap (λ (z : View). z.counts.waits) e.others) (ap (λ (z : View). z.wait) e.others)) has
-
-  -- the front was taken, or given back
-  cookie_front : {v w : View} → w.allowance ≡ v.allowance → w.seen ≡ v.seen → w.counts ≡ v.counts → w.wait ≡ v.wait → HasCookie k cookie v
-      → HasCookie k cookie w
-  cookie_front {v} {w} allowance seen counts wait has = stays_good (keeps_latest v w (ap (λ a. a.place) allowance)
-      ([], append-nil v.seen ∙ sym seen) (ap (λ c. c.waits) counts) wait) has
-
-  cookie_alone : {v w : View} {key front : ℕ} {walk : List StepMade → Type 0} → HasListedAlone v key front walk w → HasCookie k cookie v
-      → HasCookie k cookie w
-  cookie_alone {v} {w} a has =
-      let takes = a.takes.others in
-      let gives = a.gives.others in
-      cookie_front (ap (λ (z : View). z.allowance) gives) (ap (λ (z : View). z.seen) gives) (ap (λ (z : View). z.counts) gives)
-      (ap (λ (z : View). z.wait) gives) (cookie_tried a.tried
-      (cookie_front (ap (λ (z : View). z.allowance) takes) (ap (λ (z : View). z.seen) takes) (ap (λ (z : View). z.counts) takes)
-      (ap (λ (z : View). z.wait) takes) has))
-
-  pub cookie_listed : {v w : View} {key front most : ℕ} {walk : List StepMade → Type 0} → HasListed v key front most walk w
-      → HasCookie k cookie v → HasCookie k cookie w
-  cookie_listed {v} {w} {key} {front} {most} {walk} came has = ⊎_elim
-      (λ (x : HasListedByTry v key front most w). cookie_tried x.tried has)
-      (λ (x : HasListedAfterTries v key front most walk w). cookie_alone x.alone (cookie_tried x.tried has)) came
-
-  pub cookie_gave_way : {v w : View} {key most : ℕ} → HasGivenWay v key most w → HasCookie k cookie v → HasCookie k cookie w
-  cookie_gave_way {v} {w} {key} {most} gave has =
-      let lost = gave.lost.others in
-      cookie_front (ap (λ (z : View). z.allowance) lost) (ap (λ (z : View). z.seen) lost) (ap (λ (z : View). z.counts) lost)
-      (ap (λ (z : View). z.wait) lost) (cookie_tried gave.tried has)
-
-  pub cookie_waited : {other : Shape} {v w : View} {low high : ℕ} → HasWaited other v low high w → HasCookie k cookie v
-      → HasCookie k cookie w
-  cookie_waited {other} {v} {w} {low} {high} waited has = stays_good (waits_later other v w low high waited) has
-
-  pub cookie_shared : {v w : View} (handles tickets : ℕ) → w ≡ first_of handles tickets v → HasCookie k cookie v → HasCookie k cookie w
-  cookie_shared {v} {w} handles tickets e has = stays_good (keeps_latest v w (ap (λ (z : View). z.allowance.place) e)
-      ([], append-nil v.seen ∙ sym (ap (λ (z : View). z.seen) e)) (ap (λ (z : View). z.counts.waits) e) (ap (λ (z : View). z.wait) e)) has
-
-  -- ---- slots given back
-
-  cookie_reclaimed : {other : Shape} {v w : View} {listed : List ℕ} → HasReclaimed other v listed w → HasCookie k cookie v
-      → HasCookie k cookie w
-  cookie_reclaimed {other} {v} {w} {listed} back has = stays_good (begins_later v w (ap (λ (z : View). z.allowance.place) back.rest) back.seen
-      (let more : w.counts.waits ≡ v.counts.waits + 1 = ap (λ (z : View). z.counts.waits) back.rest in omega arith)) has
-
-  pub cookie_gives_back : (other : Shape) (s t : SeatAt) (some : Bool) → GivesAllBack other s some t → HasCookie k cookie s.view
-      → HasCookie k cookie t.view
-  cookie_gives_back other s t true back has = cookie_reclaimed back.0 has
-  cookie_gives_back other s t false none has = subst (λ (z : SeatAt). HasCookie k cookie z.view) (sym none.0) has
 
 -- A question about a cookie that was given up leaves all as it was.
 pub given_up : (c : CallerAt) (number latest : ℕ) (cookie now : CookieAt) (t : SeatAt) → MayGoOn c → c.cookie ≡ Some cookie
@@ -286,6 +341,10 @@ pub hinders_update : (op : Op) (status : Status) (c d : CallerAt) → IsHindered
 hinders_update op Busy c d h = absurd h
 hinders_update op _ c d h = h
 
+pub hinders_tended : (op : Op) (status : Status) (c d : CallerAt) → IsHinderedBy 4 status c d → CausedTended op status c d
+hinders_tended op Busy c d h = absurd h
+hinders_tended op _ c d h = h
+
 -- a caller that may go on is in no section
 goes_outside : (c : CallerAt) → MayGoOn c → IsInside c → ⊥
 goes_outside c may inside = let e : Some inside.inside.0 ≡ None = sym inside.inside.1 ∙ may.quiet.view.section in cc
@@ -309,13 +368,6 @@ insert_ends c b d key value was old _ missed not_done not_unchanged inserts same
 
 -- Lifts of ways one after another.
 
-pub index_on : (c b d : CallerAt) → AreOfOneIndex c b → AreOfOneIndex b d → AreOfOneIndex c d
-index_on c b d one two = record { way = two.way ∙ one.way; table = two.table ∙ one.table; salt = two.salt ∙ one.salt }
-
--- the same caller is of the same index
-pub of_one_index : (c d : CallerAt) → IsSameCaller c d → AreOfOneIndex c d
-of_one_index c d same = record { way = same.way; table = same.table; salt = same.salt }
-
 -- A caller that could go on came to another that could, which is lost now.
 pub lost_on : (c b d : CallerAt) → MayGoOn c → AreOfOneIndex c b → MayGoOn b → IsLost b d → IsLost c d
 lost_on c b d before index may lost = record {
@@ -324,6 +376,36 @@ lost_on c b d before index may lost = record {
   tired = λ _. lost.tired may.kept;
   earlier = λ e. absurd (let other : true ≡ false = sym e ∙ before.kept in cc);
 }
+
+-- Why an update wasn't made that a caller had got ready for.
+pub caused_ready : (op : Op) (status : Status) (c d : CallerAt) → CausedBy op status c d → CausedReady op status c d
+caused_ready op Busy c d cause = inl cause
+caused_ready op _ c d cause = cause
+
+pub caused_tended : (op : Op) (status : Status) (c ready d : CallerAt) → MayGoOn c → 4 ≤ c.seat.view.allowance.tickets → GetsReady op c ready
+    → CausedReady op status ready d → CausedTended op status c d
+caused_tended op Busy c ready d may enough gets cause = record { ready = ready; gets = gets; busy = cause }
+caused_tended op Spent c ready d may enough gets cause =
+    absurd (let few = cause.few in let much = (got_ready op c ready enough gets).enough in omega arith)
+caused_tended op Lost c ready d may enough gets cause = let is = got_ready op c ready enough gets in
+    lost_on c ready d may is.index is.may cause
+caused_tended op Holds c ready d may enough gets cause = absurd (goes_outside ready (got_ready op c ready enough gets).may cause.inside)
+caused_tended op _ c ready d may enough gets cause = absurd cause
+
+-- The turns before a remove.
+
+-- none yet
+pub turned_none : (key : ℕ) (c : CallerAt) → HasTurnedDown key c c
+turned_none key c = record { times = 0; few = omega arith; for_reader = λ some. absurd (omega (arith, some)); turns = refl }
+
+-- some, for a reader that is known to stay
+abbrev pub turned_some : (key times : ℕ) (c d : CallerAt) → MeetsLastingReader c → times ≤ 64 → TurnsDown key times c d → HasTurnedDown key c d
+turned_some key times c d reader few turns = record { times = times; few = few; for_reader = λ _. reader; turns = turns }
+
+-- and one time more
+pub turned_again : (key times : ℕ) (c a d : CallerAt) → TurnsDown key times c a → WasTurnedDown key a d → TurnsDown key (times + 1) c d
+turned_again key times c a d turns turned =
+    let next : times + 1 ≡ suc times = omega arith in subst (λ n. TurnsDown key n c d) (sym next) (a, turns, turned)
 
 -- Listed keys whose ways were lifted are what a tidy answers.
 listed_on : (c : CallerAt) (keys : Interval) (page : Paged) (exact : Exact) (b d : CallerAt) → Lists c keys page exact b → IsLost b d

@@ -6,7 +6,7 @@ use denote.Memory.{lone}
 use denote.RawPtr.{Ptr}
 use denote.Struct.Struct.{Struct}
 use denote.Struct.Declared.{fields, shape}
-use denote.Param.Send.{IsSend, IsSync, AllSync, part_keyless, recorded_sync, struct_sync, sendable}
+use denote.Param.Send.{IsSend, IsSync, AllSend, AllSync, part_keyless, recorded_send, recorded_sync, struct_send, struct_sync, sendable}
 use Rattle.atomic_table.specs.contracts.shared.Seat as raw
 use Rattle.atomic_table.proofs.shared.Seat.TheSendSync as raw_crosses
 use Rattle.counted_slot.proofs.Counted.TheSendSync as counted
@@ -21,6 +21,7 @@ use Rattle.std.specs.declared.option.Option.TheVariants.{None, Some}
 use Rattle.seat_table.specs.declared.wait.WaitPart as Part
 use Rattle.seat_table.specs.declared.waiter.WaitWords as Words
 use Rattle.seat_table.specs.contracts.seat.Seat.TheInside as Inside
+use Rattle.seat_table.proofs.listed.Listed.TheSendSync as listed
 use Rattle.seat_table.proofs.rule.Nothing.TheSendSync as nothing
 use Rattle.seat_table.proofs.seat.Seat.TheSendSync as seat
 use Rattle.seat_table.proofs.table.CitrusTable.TheSendSync as table
@@ -29,6 +30,7 @@ use Rattle.tree_handles.specs.Ownership.{owns}
 use Rattle.tree_handles.specs.contracts.shared.Left as Left
 use Rattle.tree_handles.specs.contracts.shared.Shared as Shared
 use Rattle.tree_handles.specs.contracts.caller.Caller as Caller
+use Rattle.tree_handles.specs.contracts.caller.Caller.TheInside as CallerInside
 use Rattle.tree_handles.specs.contracts.any_caller.AnyCaller as AnyCaller
 use Rattle.tree_handles.specs.contracts.lane_seats.LaneSeats as LaneSeats
 use Rattle.tree_handles.specs.contracts.lane_room.LaneRoom as LaneRoom
@@ -43,7 +45,7 @@ module _ (W : RattleType) (p : Part.Ghosts W.Denot) (w : Words.Ghosts W.Denot) w
   inside_sync : IsSync (Inside.the_row W w)
   inside_sync =
       let T = Inside.the_type W w in
-      let all : AllSync (fields T) = search (sendable, raw_sync, nothing.the_send, array.the_sync) depth 60 in
+      let all : AllSync (fields T) = search (sendable, raw_sync, nothing.the_send, array.the_sync, listed.the_sync) depth 60 in
       recorded_sync (Struct (shape T)) T.D T.to T.to_one (struct_sync (shape T) all)
 
   left_sync : IsSync (Left.the_row W w)
@@ -62,8 +64,15 @@ module _ (W : RattleType) (p : Part.Ghosts W.Denot) (w : Words.Ghosts W.Denot) w
         atomic.the_sync,
       ) depth 20
 
+  inside_send : IsSend (CallerInside.the_row W p w)
+  inside_send =
+      let y = shared_sync in
+      let T = CallerInside.the_type W p w in
+      let all : AllSend (fields T) = search (sendable, heap.Arc-send, shared.the_send, seat.the_send, cookie.the_send) depth 60 in
+      recorded_send (Struct (shape T)) T.D T.to T.to_one (struct_send (shape T) all)
+
   caller_send : IsSend (Caller.the_row W p w)
-  caller_send = let y = shared_sync in search (sendable, heap.Arc-send, shared.the_send, seat.the_send, cookie.the_send) depth 30
+  caller_send = let i = inside_send in search sendable depth 20
 
   lanes_send : IsSend (LaneSeats.the_row W p w)
   lanes_send = let y = shared_sync in search (sendable, heap.Arc-send, heap.Vec-send, shared.the_send, seat.the_send) depth 30

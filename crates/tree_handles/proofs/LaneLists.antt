@@ -1,6 +1,6 @@
 -- Pairs that are found and written, and the lists of lanes and of their answers.
 -- A pair of a range, by the one that is nearest to an end of it.
-use Rattle.std.proofs.Common.{◌≡◌, ℕ, ◌<◌, Option, Some, None, subst, arith, zero, suc, ◌≤◌, List, [], ◌∷◌, ◌++◌, length, map, take, drop, slice_set, sym, ap, option_to_list, refl, ◌∙◌}
+use Rattle.std.proofs.Common.{◌≡◌, ℕ, ◌<◌, Option, Some, None, subst, arith, zero, suc, ◌≤◌, List, [], ◌∷◌, ◌++◌, length, map, take, drop, length-append, ◌+◌, ◌-◌, slice_set, sym, ap, option_to_list, refl, ◌∙◌}
 use Rattle.key_interval.specs.Keys.{Interval, Holds}
 use Rattle.prcu_marks.specs.declared.mark.Side.{Side}
 use Rattle.prcu_marks.specs.declared.mark.Side.TheVariants.{Left, Right}
@@ -18,8 +18,8 @@ use Rattle.core_state.specs.declared.view.View.{View}
 use Rattle.core_state.specs.Steps.{first_of, second_of}
 use Rattle.list_laws.specs.Counts.{Each}
 use Rattle.many_gets.specs.Many.{AreKept}
-use Rattle.seat_table.specs.Seats.{SeatAt, TableAt}
-use Rattle.tree_handles.specs.Lanes.{AreSeated, AreSplitOff, answer_of}
+use Rattle.seat_table.specs.Seats.{ListedAt, SeatAt, TableAt, IsEmptyFor}
+use Rattle.tree_handles.specs.Lanes.{AreEmptyFor, AreSeated, AreSplitOff, answer_of}
 use Rattle.tree_handles.specs.declared.answers.Answer.{Answer}
 use Rattle.exact_list.specs.Pairs as found
 
@@ -63,6 +63,14 @@ each_more P [] x each holds zero a at = (let e : x ≡ a = cc in subst P e holds
 each_more P [] x each holds (suc i) a at = absurd (cc)
 each_more P (y ∷ ys) x each holds zero a at = each zero a at
 each_more P (y ∷ ys) x each holds (suc i) a at = each_more P ys x (λ j b there. each (suc j) b there) holds i a at
+
+-- one list more is made for a seat that is to be split off
+pub empty_more : {t : TableAt} {count : ℕ} {lists : List ListedAt} {list : ListedAt} → AreEmptyFor t count lists → IsEmptyFor t list
+    → AreEmptyFor t (count + 1) (lists ++ list ∷ [])
+empty_more {t} {count} {lists} {list} are is = record {
+  count_is = let a = are.count_is in let b = length-append lists (list ∷ []) in omega arith;
+  each = each_more (IsEmptyFor t) lists list are.each is;
+}
 
 -- one more seat is split off
 pub split_one_more : (v : View) (seats : List SeatAt) (w : View) (s : SeatAt) → AreSplitOff v seats w → s.view ≡ second_of 1 0 w
@@ -127,6 +135,24 @@ module _ {A : Type 0} (P : A → Type 0) where
   pub each_taken : (old new : List A) (last : Option A) (x : A) → old ≡ new ++ option_to_list last → last ≡ Some x → Each old P → P x
   each_taken old new last x is there each = each_end new x (subst (λ (o : Option A). Each (new ++ option_to_list o) P) there
       (subst (λ (xs : List A). Each xs P) is each))
+
+-- the last list is taken for a seat that is split off: it is empty,
+pub empty_taken : {t : TableAt} {count : ℕ} {lists : List ListedAt} (rest : List ListedAt) (last : Option ListedAt) {list : ListedAt}
+    → lists ≡ rest ++ option_to_list last → last ≡ Some list → AreEmptyFor t count lists → IsEmptyFor t list
+empty_taken {t} {lists = lists} rest last {list = list} is there are =
+    each_taken (IsEmptyFor t) lists rest last list is there are.each
+
+-- and so are those that are left
+pub empty_left : {t : TableAt} {count : ℕ} (fewer : ℕ) {lists rest : List ListedAt} (last : Option ListedAt) {list : ListedAt}
+    → lists ≡ rest ++ option_to_list last → last ≡ Some list → AreEmptyFor t count lists → fewer + 1 ≡ count → AreEmptyFor t fewer rest
+empty_left {t} fewer {lists = lists} {rest = rest} last {list = list} is there are less = record {
+  count_is =
+      let whole : lists ≡ rest ++ list ∷ [] = is ∙ ap (λ (o : Option ListedAt). rest ++ option_to_list o) there in
+      let same = ap (λ (ls : List ListedAt). length ls) whole in
+      let one_more : length (rest ++ list ∷ []) ≡ length rest + 1 = length-append rest (list ∷ []) in
+      let many = are.count_is in omega (arith, same, one_more, many, less);
+  each = each_left (IsEmptyFor t) lists rest last is are.each;
+}
 
 -- one more answer is written
 pub answer_next : (xs : List (Option ℕ)) (ys : List Answer) (i : ℕ) → i < length xs → length xs ≤ length ys

@@ -3,3 +3,6 @@ pub mod Crossing
 pub mod LaneLists
 pub mod Values
 pub mod Callers
+pub mod Keeps
+pub mod Keepers
+pub mod Cookies

@@ -1,7 +1,7 @@
 -- Gets and updates, each alone and one after another.
 -- What gets and updates answer, of a caller before and after.
 -- Source: docs/TREE_CALLS.md, "The calls".
-use Rattle.std.specs.Prelude.{◌≡◌, ◌⊎◌, ℕ, zero, suc, ◌<◌, ◌≤◌, true, false, Option, Some, None, List, []}
+use Rattle.std.specs.Prelude.{◌≡◌, ◌≢◌, ◌⊎◌, ℕ, zero, suc, ◌+◌, ◌<◌, ◌≤◌, true, false, length, Option, Some, None, List, []}
 use Rattle.prcu_model.specs.declared.operation.Op.{Op}
 use Rattle.prcu_model.specs.declared.operation.Op.TheVariants.{Put, Get, Del, Set}
 use Rattle.prcu_model.specs.declared.operation.Reply.{Reply}
@@ -10,14 +10,15 @@ use Rattle.seat_table.specs.Gains.{IsInformed}
 use Rattle.seat_table.specs.Sections.{HasMade}
 use Rattle.seat_table.specs.Seats.{SeatAt, shape_of}
 use Rattle.citrus_tree.specs.declared.comparing.Compared.{Compared}
-use Rattle.citrus_tree.specs.Deletes.{Begins, BeginsByLookup}
+use Rattle.citrus_tree.specs.Deletes.{Begins, BeginsByLookup, FoundTwoChildren, WaitsOnceAtMost}
 use Rattle.citrus_tree.specs.Hops.{EndsWithin}
 use Rattle.citrus_tree.specs.Replies.{GaveWay, IsTold, Compares, TellsValue, room_of}
 use Rattle.citrus_tree.specs.Going.{KeepsSeat}
 use Rattle.tree_lift.specs.declared.lifting.Aim.{Aim}
 use Rattle.tree_lift.specs.declared.lifting.Lifted.{Lifted}
 use Rattle.tree_lift.specs.Lifts.{LeavesNoUpdate, HasLifted as TriesTurns}
-use Rattle.tree_handles.specs.Callers.{CallerAt, AreOfOneIndex, IsSameCaller, IsFilled, IsInside, MayGoOn}
+use Rattle.tree_handles.specs.Callers.{CallerAt, AreOfOneIndex, IsSameCaller, KeepsCookie, KeepsKeeper, IsFilled, IsInside, MayGoOn}
+use Rattle.tree_handles.specs.Keepers.{SeesToKeeper}
 use Rattle.tree_handles.specs.declared.status.Status.{Status}
 use Rattle.tree_handles.specs.declared.status.Status.TheVariants.{Done, Unchanged, Full, Moved, New, Different, Busy, Spent, Lost, Holds}
 use Rattle.prcu_marks.specs.Callers.{MeetsFronts, IsChain}
@@ -81,16 +82,78 @@ ComesBehind op told s d = GoesOn s d ⊎ ((key : ℕ) × HasAdded key op told ×
 -- The caller, which had four tickets or more, made the operation, and was told this by the tree's call. To `TreeTells`, which is of a seat, it
 -- adds the caller, and what comes behind the answer: a lift.
 pub record IsCalled (c : CallerAt) (op : Op) (told : Told) (d : CallerAt) : Type 0 where
-  pub index : IsSameCaller c d
+  pub index : KeepsCookie c d
+  pub keeper : KeepsKeeper c d
   pub before : MayGoOn c
   pub enough : 4 ≤ c.seat.view.allowance.tickets
   pub answered : SeatAt
   pub tells : TreeTells c op told answered
   pub behind : ComesBehind op told answered d
 
+-- The call of the operation found others in its way, and is to be made again: it made no update. The caller may go on, with at most four
+-- tickets less.
+pub record IsBusy (op : Op) (c d : CallerAt) : Type 0 where
+  pub index : KeepsCookie c d
+  pub keeper : KeepsKeeper c d
+  pub before : MayGoOn c
+  pub enough : 4 ≤ c.seat.view.allowance.tickets
+  pub gave : GaveWay (shape_of c.way c.table) c.seat.view op d.seat.view
+  pub begins : Begins (shape_of c.way c.table) c.seat.view op d.seat.view
+  pub keeps : KeepsSeat 4 c.seat d.seat
+  pub may : MayGoOn d
+
+-- A reader is known to stay: the keeper isn't over, though the place keeps this many slots back.
+pub record MeetsLastingReader (c : CallerAt) : Type 0 where
+  pub going : c.keeper ≢ None
+  pub many : 128 ≤ length c.seat.listed
+
+-- A remove found two children at the key's node, and made no update. Then the node was turned down, or that was given up: no update was made
+-- either, and no wait begun.
+pub record WasTurnedDown (key : ℕ) (c d : CallerAt) : Type 0 where
+  pub between : CallerAt
+  pub two : IsBusy (Del key) c between
+  pub found : FoundTwoChildren key between.seat.view
+  pub index : IsSameCaller between d
+  pub updates : LeavesNoUpdate between.seat.view key d.seat.view
+  pub waits : d.seat.view.counts.waits ≡ between.seat.view.counts.waits
+  pub enough : 4 ≤ d.seat.view.allowance.tickets
+  pub may : MayGoOn d
+
+-- so many times, one after another
+abbrev pub TurnsDown : ℕ → ℕ → CallerAt → CallerAt → Type 0
+TurnsDown key zero c d = d ≡ c
+TurnsDown key (suc times) c d = (a : CallerAt) × TurnsDown key times c a × WasTurnedDown key a d
+
+-- Where a reader is known to stay the key's node was turned down, so often.
+pub record HasTurnedDown (key : ℕ) (c d : CallerAt) : Type 0 where
+  pub times : ℕ
+  pub few : times ≤ 64
+  pub for_reader : 1 ≤ times → MeetsLastingReader c
+  pub turns : TurnsDown key times c d
+
+-- What may come before the tree's call: turns before a del, and nothing before other updates.
+abbrev pub MayTurnDown : Op → CallerAt → CallerAt → Type 0
+MayTurnDown (Del key) c d = HasTurnedDown key c d
+MayTurnDown op c d = d ≡ c
+
+-- What a caller does before an update that retires slots, or takes one: it sees to its keeper, and it may turn a node down.
+pub record GetsReady (op : Op) (c d : CallerAt) : Type 0 where
+  pub tended : CallerAt
+  pub sees : SeesToKeeper c tended
+  pub turns : MayTurnDown op tended d
+
+-- Such an update, and what comes before it.
+pub record IsCalledTended (c : CallerAt) (op : Op) (told : Told) (d : CallerAt) : Type 0 where
+  pub ready : CallerAt
+  pub gets : GetsReady op c ready
+  pub called : IsCalled ready op told d
+
 -- The same, where the reply was this: the number of the update, which a handle doesn't tell, is some number.
 abbrev pub IsAnswered : CallerAt → Op → Reply → CallerAt → Type 0
 IsAnswered c op answer d = (told : Told) × (told.reply ≡ answer) × IsCalled c op told d
+
+abbrev pub IsAnsweredTended : CallerAt → Op → Reply → CallerAt → Type 0
+IsAnsweredTended c op answer d = (told : Told) × (told.reply ≡ answer) × IsCalledTended c op told d
 
 -- Fewer tickets are left than the call needs, and nothing has changed.
 pub record IsSpent (needed : ℕ) (c d : CallerAt) : Type 0 where
@@ -121,21 +184,32 @@ abbrev pub IsHinderedBy : ℕ → Status → CallerAt → CallerAt → Type 0
 IsHinderedBy needed Spent c d = IsSpent needed c d
 IsHinderedBy needed status c d = IsStoppedBy status c d
 
--- The call of the operation found others in its way, and is to be made again: it made no update. The caller may go on, with at most four
--- tickets less.
-pub record IsBusy (op : Op) (c d : CallerAt) : Type 0 where
-  pub index : IsSameCaller c d
-  pub before : MayGoOn c
-  pub enough : 4 ≤ c.seat.view.allowance.tickets
-  pub gave : GaveWay (shape_of c.way c.table) c.seat.view op d.seat.view
-  pub begins : Begins (shape_of c.way c.table) c.seat.view op d.seat.view
-  pub keeps : KeepsSeat 4 c.seat d.seat
-  pub may : MayGoOn d
+-- The place has no room for two more retired slots, and the keeper isn't over. Nothing has changed.
+pub record LacksRoom (c d : CallerAt) : Type 0 where
+  pub same : d ≡ c
+  pub may : MayGoOn c
+  pub going : c.keeper ≢ None
+  pub full : c.table.room ≤ length c.seat.listed + 1
+
+-- Why the update of a caller that is ready for it wasn't made.
+abbrev pub CausedReady : Op → Status → CallerAt → CallerAt → Type 0
+CausedReady op Busy c d = IsBusy op c d ⊎ LacksRoom c d
+CausedReady op status c d = IsHinderedBy 4 status c d
+
+-- Such an update found others in its way, or no room, once the caller was ready for it.
+pub record IsBusyTended (op : Op) (c d : CallerAt) : Type 0 where
+  pub ready : CallerAt
+  pub gets : GetsReady op c ready
+  pub busy : CausedReady op Busy ready d
 
 -- the same of an update, which needs four, and may find others in its way
 abbrev pub CausedBy : Op → Status → CallerAt → CallerAt → Type 0
 CausedBy op Busy c d = IsBusy op c d
 CausedBy op status c d = IsHinderedBy 4 status c d
+
+abbrev pub CausedTended : Op → Status → CallerAt → CallerAt → Type 0
+CausedTended op Busy c d = IsBusyTended op c d
+CausedTended op status c d = IsHinderedBy 4 status c d
 
 -- Whatever others did, the call made at most three steps for each slot of the table, and four.
 abbrev pub IsWaitFree : CallerAt → CallerAt → Type 0
@@ -150,10 +224,10 @@ Gets c key was status value d = IsHinderedBy 4 status c d × (d ≡ c) × (value
 -- What an insert answers. To `IsAnswered` it adds the status for each reply, and why no call was made. It is Full only where as many pairs are
 -- there as always fit.
 abbrev pub Inserts : CallerAt → ℕ → ℕ → Status → CallerAt → Type 0
-Inserts c key value Done d = IsAnswered c (Put key value) reply.New d
-Inserts c key value Unchanged d = IsAnswered c (Put key value) reply.Old d
-Inserts c key value Full d = IsAnswered c (Put key value) reply.Full d × IsFilled d
-Inserts c key value status d = CausedBy (Put key value) status c d
+Inserts c key value Done d = IsAnsweredTended c (Put key value) reply.New d
+Inserts c key value Unchanged d = IsAnsweredTended c (Put key value) reply.Old d
+Inserts c key value Full d = IsAnsweredTended c (Put key value) reply.Full d × IsFilled d
+Inserts c key value status d = CausedTended (Put key value) status c d
 
 abbrev pub Replaces : CallerAt → ℕ → ℕ → ℕ → Status → ℕ → CallerAt → Type 0
 Replaces c key value was Done old d = IsAnswered c (Set key value) (reply.Was old) d
@@ -164,15 +238,36 @@ Replaces c key value was status old d = CausedBy (Set key value) status c d × (
 abbrev pub IsRemoved : CallerAt → ℕ → Option ℕ → CallerAt → Type 0
 IsRemoved c key value d = (told : Told) × IsCalled c (Del key) told d × TellsValue c.seat.view key told value d.seat.view
 
+-- No more turns are made: so many were, or fewer tickets are left than one takes with the removes around it.
+abbrev pub StopsTurning : ℕ → CallerAt → Type 0
+StopsTurning times c = (times ≡ 64) ⊎ (c.seat.view.allowance.tickets < 11)
+
+-- The same behind turns, of a caller that had room or no keeper. Where a reader is known to stay it waits for no readers of a move, unless no
+-- more turns are made.
+pub record IsRemovedReady (c : CallerAt) (key : ℕ) (value : Option ℕ) (d : CallerAt) : Type 0 where
+  pub ready : CallerAt
+  pub turned : HasTurnedDown key c ready
+  pub removed : IsRemoved ready key value d
+  pub had_room : LacksRoom c c → ⊥
+  pub waits : MeetsLastingReader c → WaitsOnceAtMost (shape_of ready.way ready.table) ready.seat.view d.seat.view
+      ⊎ StopsTurning turned.times ready
+
+-- with what the caller did about its keeper
+pub record IsRemovedTended (c : CallerAt) (key : ℕ) (value : Option ℕ) (d : CallerAt) : Type 0 where
+  pub tended : CallerAt
+  pub sees : SeesToKeeper c tended
+  pub removed : IsRemovedReady tended key value d
+
 abbrev pub Removes : CallerAt → ℕ → ℕ → Status → ℕ → CallerAt → Type 0
-Removes c key was Done old d = IsRemoved c key (Some old) d
-Removes c key was Unchanged old d = IsRemoved c key None d × (old ≡ was)
-Removes c key was status old d = CausedBy (Del key) status c d × (old ≡ was)
+Removes c key was Done old d = IsRemovedTended c key (Some old) d
+Removes c key was Unchanged old d = IsRemovedTended c key None d × (old ≡ was)
+Removes c key was status old d = CausedTended (Del key) status c d × (old ≡ was)
 
 -- The caller, which had four tickets or more, made a compare, which was answered so by the tree's, and began by a lookup of the key. Nothing
 -- comes behind it.
 pub record IsCompared (c : CallerAt) (key expected value : ℕ) (answer : Compared) (d : CallerAt) : Type 0 where
-  pub index : IsSameCaller c d
+  pub index : KeepsCookie c d
+  pub keeper : KeepsKeeper c d
   pub before : MayGoOn c
   pub enough : 4 ≤ c.seat.view.allowance.tickets
   pub told : Compares c.seat.view key expected value answer d.seat.view
@@ -192,7 +287,7 @@ ComparesOut c key expected value was status found d = CausedBy (Set key value) s
 abbrev pub Misses : CallerAt → ℕ → ℕ → ℕ → CallerAt → Type 0
 Misses c key value zero d = d ≡ c
 Misses c key value (suc rounds) d = (a b : CallerAt) × Misses c key value rounds a × IsAnswered a (Set key value) reply.Absent b
-    × IsAnswered b (Put key value) reply.Old d
+    × IsAnsweredTended b (Put key value) reply.Old d
 
 -- fewer than a thousand such rounds
 abbrev pub MissesSome : CallerAt → ℕ → ℕ → CallerAt → Type 0
@@ -205,13 +300,13 @@ MissesOnceMore c key value d = (a : CallerAt) × MissesSome c key value a × IsA
 -- An upsert makes at most one update, by its last call. It gives up after a thousand rounds.
 abbrev pub Upserts : CallerAt → ℕ → ℕ → ℕ → Status → ℕ → CallerAt → Type 0
 Upserts c key value was Done old d = (a : CallerAt) × MissesSome c key value a × IsAnswered a (Set key value) (reply.Was old) d
-Upserts c key value was New old d = (a : CallerAt) × MissesOnceMore c key value a × IsAnswered a (Put key value) reply.New d × (old ≡ was)
-Upserts c key value was Full old d = (a : CallerAt) × MissesOnceMore c key value a × IsAnswered a (Put key value) reply.Full d × IsFilled d
+Upserts c key value was New old d = (a : CallerAt) × MissesOnceMore c key value a × IsAnsweredTended a (Put key value) reply.New d × (old ≡ was)
+Upserts c key value was Full old d = (a : CallerAt) × MissesOnceMore c key value a × IsAnsweredTended a (Put key value) reply.Full d × IsFilled d
     × (old ≡ was)
 Upserts c key value was Moved old d = (rounds : ℕ) × (rounds ≡ 1000) × Misses c key value rounds d × (old ≡ was)
 Upserts c key value was Holds old d = StaysInside c d × (old ≡ was)
 Upserts c key value was status old d = (a : CallerAt) × ((MissesSome c key value a × CausedBy (Set key value) status a d)
-    ⊎ (MissesOnceMore c key value a × CausedBy (Put key value) status a d)) × (old ≡ was)
+    ⊎ (MissesOnceMore c key value a × CausedTended (Put key value) status a d)) × (old ≡ was)
 
 -- Calls of a handle, one after another.
 -- Source: docs/ACCOUNTS.md, "Clients".
@@ -219,14 +314,14 @@ Upserts c key value was status old d = (a : CallerAt) × ((MissesSome c key valu
 -- So many calls of the operation, one after another, found others in their way.
 abbrev pub WereBusy : ℕ → Op → CallerAt → CallerAt → Type 0
 WereBusy zero op c d = d ≡ c
-WereBusy (suc calls) op c d = (a : CallerAt) × WereBusy calls op c a × IsBusy op a d
+WereBusy (suc calls) op c d = (a : CallerAt) × WereBusy calls op c a × (IsBusy op a d ⊎ IsBusyTended op a d)
 
 -- The caller made the operation, again and again while others were in its way. At last it was told this, and it isn't lost.
 pub record IsCalledAndKept (c : CallerAt) (op : Op) (told : Told) (d : CallerAt) : Type 0 where
   pub calls : ℕ
   pub first : CallerAt
   pub busy : WereBusy calls op c first
-  pub called : IsCalled first op told d
+  pub called : IsCalled first op told d ⊎ IsCalledTended first op told d
   pub kept : d.lost ≡ false
 
 -- Of a caller whose place had made no update, the calls so far tell of lines that fit the updates that it has seen.

@@ -7,18 +7,16 @@ use Rattle.seat_table.specs.Sections.{HasEntered, EntersBy, HasLeft, HasBegun}
 use Rattle.seat_table.specs.Seats.{SeatAt, shape_of, way_of}
 use Rattle.seat_table.specs.Waits.{HasWaited}
 use Rattle.citrus_tree.specs.Lookups.{HoldsOrNot, Releases}
-use Rattle.tree_handles.specs.Callers.{CallerAt, IsSameCaller, IsInside, MayGoOn, AreOfOneIndex}
+use Rattle.tree_handles.specs.Callers.{CallerAt, IsSameCaller, IsInside, MayGoOn, AreOfOneIndex, KeepsCookie}
 use Rattle.tree_handles.specs.Calls.{IsSpent, IsStoppedBy, IsWaitFree}
 use Rattle.tree_handles.specs.Lists.{IsLeft}
 use Rattle.tree_handles.specs.declared.status.Status.{Status}
 use Rattle.tree_handles.specs.declared.status.Status.TheVariants.{Done, Unchanged, BadArgument, Spent, Lost, Moved}
 use Rattle.prcu_marks.specs.declared.mark.Why.{Why}
-use Rattle.core_state.specs.declared.shape.Shape.{Shape}
-use Rattle.core_state.specs.declared.view.View.{View}
 use Rattle.seat_table.specs.Looks.{LooksAt, IsOnward, IsWithin}
 use Rattle.grace_cookie.specs.declared.answers.Ask.{Ask}
 use Rattle.grace_cookie.specs.declared.answers.Ask.TheVariants.{Over, NotYet}
-use Rattle.grace_cookie.specs.Cookies.{CookieAt, IsOf, Asked, IsSameCookie}
+use Rattle.grace_cookie.specs.Cookies.{CookieAt, Asked, IsSameCookie}
 
 -- where a hold found a value the caller is in a section, and else it may go on
 abbrev pub IsLeftBy : Option ℕ → CallerAt → Type 0
@@ -73,7 +71,8 @@ EndsOutside s t = HasLeft s.view t.view ⊎ ((s.view.section ≡ None) × (t ≡
 
 -- The caller waited for the sections with these keys, by one ticket.
 pub record HasOutwaited (c : CallerAt) (keys : Interval) (d : CallerAt) : Type 0 where
-  pub index : IsSameCaller c d
+  pub index : KeepsCookie c d
+  pub keeper : d.keeper ≡ None
   pub before : MayGoOn c
   pub some : keys.low ≤ keys.high
   pub waited : HasWaited (shape_of c.way c.table) c.seat.view keys.low keys.high d.seat.view
@@ -90,10 +89,6 @@ Waits c keys status d = IsStoppedBy status c d
 -- What calls answer that begin a wait, or ask about one.
 -- Source: docs/TREE_CALLS.md, "Cookies".
 
--- The cookie of a caller, if it has one, wasn't found over, and is of the seat that knows this.
-pub record HasCookie (k : Shape) (cookie : Option CookieAt) (v : View) : Type 0 where
-  pub each : (c : CookieAt) → cookie ≡ Some c → (c.over ≡ false) × IsOf k c v
-
 -- The caller has the cookie of the wait with this number, which is for these keys.
 pub record HasCookieOf (keys : Interval) (number : ℕ) (d : CallerAt) : Type 0 where
   pub cookie : CookieAt
@@ -105,6 +100,7 @@ pub record HasCookieOf (keys : Interval) (number : ℕ) (d : CallerAt) : Type 0 
 -- and that of no earlier wait.
 pub record HasStarted (c : CallerAt) (keys : Interval) (number : ℕ) (d : CallerAt) : Type 0 where
   pub index : AreOfOneIndex c d
+  pub keeper : d.keeper ≡ None
   pub before : MayGoOn c
   pub some : keys.low ≤ keys.high
   pub enough : 1 ≤ c.seat.view.allowance.tickets
@@ -129,6 +125,7 @@ IsKeptBy _ now left = left ≡ Some now
 -- the keys have the class at which the cookie stands or a later one.
 pub record HasAsked (c : CallerAt) (number : ℕ) (answer : Ask) (d : CallerAt) : Type 0 where
   pub index : AreOfOneIndex c d
+  pub keeper : d.keeper ≡ c.keeper
   pub before : MayGoOn c
   pub cookie : CookieAt
   pub was : c.cookie ≡ Some cookie

@@ -5,7 +5,7 @@ use Rattle.core_state.specs.declared.view.View.{View}
 use Rattle.core_state.specs.Steps.{first_of, second_of}
 use Rattle.list_laws.specs.Counts.{Each}
 use Rattle.many_gets.specs.Many.{LooksUpAll}
-use Rattle.seat_table.specs.Seats.{SeatAt, TableAt, IsQuietSeat, shape_of}
+use Rattle.seat_table.specs.Seats.{ListedAt, SeatAt, TableAt, IsEmptyFor, IsQuietSeat, shape_of}
 use Rattle.tree_handles.specs.Callers.{CallerAt, IsSameCaller, MayGoOn}
 use Rattle.tree_handles.specs.Calls.{StaysInside}
 use Rattle.tree_handles.specs.Lists.{IsLeft}
@@ -34,6 +34,11 @@ pub record AreSeated (table : TableAt) (seats : List SeatAt) : Type 0 where
 pub record MayLookUp (l : LanesAt) : Type 0 where
   pub seated : AreSeated l.table l.seats
   pub quiet : Each l.seats IsQuietSeat
+
+-- So many lists are empty, each with all the room of a place of the table.
+pub record AreEmptyFor (t : TableAt) (count : ℕ) (lists : List ListedAt) : Type 0 where
+  pub count_is : length lists ≡ count
+  pub each : Each lists (IsEmptyFor t)
 
 -- From the first view these seats were split off one after another, each with one place and no ticket.
 abbrev pub AreSplitOff : View → List SeatAt → View → Type 0

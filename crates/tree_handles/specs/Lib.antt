@@ -3,6 +3,7 @@ pub mod Callers
 pub mod Waiters
 pub mod Calls
 pub mod Holds
+pub mod Keepers
 pub mod Lists
 pub mod Tidying
 pub mod Opening

@@ -1,9 +1,9 @@
 -- What is answered where handles are opened, shared, opened again and asked what they have left, and what they know.
 -- Source: docs/EMBEDDING.md, "Statuses".
-use Rattle.std.specs.Prelude.{◌≡◌, ◌≢◌, ℕ, ◌+◌, ◌-◌, ◌*◌, ◌<◌, ◌≤◌, true, Option, Some, None, length}
+use Rattle.std.specs.Prelude.{◌≡◌, ◌≢◌, ℕ, ◌+◌, ◌-◌, ◌*◌, ◌/◌, ◌<◌, ◌≤◌, zero, suc, max, min, true, Option, Some, None, length}
 use Rattle.core_state.specs.Memory.{most_slots, most_places}
 use Rattle.seat_table.specs.Seats.{IsLastFound}
-use Rattle.tree_handles.specs.Callers.{CallerAt, IsFresh, IsShared, IsReopened}
+use Rattle.tree_handles.specs.Callers.{CallerAt, IsFresh, IsShared, IsReopened, slots_for}
 use Rattle.tree_handles.specs.Calls.{StaysInside}
 use Rattle.tree_handles.specs.Lists.{IsLeft}
 use Rattle.tree_handles.specs.declared.opening.Options.{Options}
@@ -44,12 +44,42 @@ pub record CanOpen (o : Options) : Type 0 where
   pub handles_are : (1 ≤ o.handles) × (o.handles ≤ most_places)
   pub way_is : o.waiter ≤ 2
 
+-- how many retired slots a handle of an index may keep back that is opened for so many pairs and handles, and with no number of its own: an
+-- eighth of the pairs that there are for each handle, but 64 at least, and 65,536 at most, and no more than there can be slots for
+abbrev pub usual_keep : ℕ → ℕ → ℕ
+usual_keep pairs handles = min (min (max (pairs / (8 * handles)) 64) 65536) ((most_slots - pairs) / handles - 4)
+
 -- What an open answers, of what the handle holds before and after.
 abbrev pub Opens : Options → Option CallerAt → Status → Option CallerAt → Type 0
-Opens o before Done after = (c : CallerAt) × (after ≡ Some c) × IsFresh o.waiter o.pairs o.handles o.salt c
+Opens o before Done after = (c : CallerAt) × (after ≡ Some c)
+    × IsFresh o.waiter o.pairs o.handles (usual_keep o.pairs o.handles) o.salt c
 Opens o before BadArgument after = (CanOpen o → ⊥) × (after ≡ before)
 Opens o before NoMemory after = CanOpen o × (after ≡ before)
 Opens o before _ after = ⊥
+
+-- what the number stands for that an opener gives: 0 for the usual one, and each other for itself
+abbrev pub keep_for : ℕ → ℕ → ℕ → ℕ
+keep_for pairs handles zero = usual_keep pairs handles
+keep_for pairs handles (suc n) = suc n
+
+-- An index can be made by these options, each of whose handles may keep back so many retired slots: 16 or more. It has slots for the pairs,
+-- and for what all handles may keep back, each so many and four; and they are no more than a table can have.
+pub record CanKeep (o : Options) (keep : ℕ) : Type 0 where
+  pub size_is : o.size ≡ options_size
+  pub flags_are : o.flags ≡ 0
+  pub some_pairs : 1 ≤ o.pairs
+  pub handles_are : (1 ≤ o.handles) × (o.handles ≤ most_places)
+  pub way_is : o.waiter ≤ 2
+  pub some_keep : 16 ≤ keep
+  pub fits : slots_for o.pairs o.handles keep ≤ most_slots
+
+-- What an open that names what a handle may keep back answers, of what the handle holds before and after.
+abbrev pub OpensKeeping : Options → ℕ → Option CallerAt → Status → Option CallerAt → Type 0
+OpensKeeping o asked before Done after = (c : CallerAt) × (after ≡ Some c)
+    × IsFresh o.waiter o.pairs o.handles (keep_for o.pairs o.handles asked) o.salt c
+OpensKeeping o asked before BadArgument after = (CanKeep o (keep_for o.pairs o.handles asked) → ⊥) × (after ≡ before)
+OpensKeeping o asked before NoMemory after = CanKeep o (keep_for o.pairs o.handles asked) × (after ≡ before)
+OpensKeeping o asked before _ after = ⊥
 
 -- so many of the caller's unused handles, and so many of its tickets, can go over to another
 pub record CanShare (c : CallerAt) (handles tickets : ℕ) : Type 0 where

@@ -16,7 +16,7 @@ use Rattle.tree_lift.specs.declared.lifting.Stop.TheVariants as stop
 use Rattle.tree_lift.specs.Lifts.{LeavesNoUpdate, HasLifted, EndsBy}
 use Rattle.exact_list.specs.Tries.{Paged}
 use Rattle.exact_list.specs.Pairs.{Pair, IsAt}
-use Rattle.tree_handles.specs.Callers.{CallerAt, IsSameCaller, IsFilled, MayGoOn}
+use Rattle.tree_handles.specs.Callers.{CallerAt, KeepsCookie, KeepsKeeper, IsFilled, MayGoOn}
 use Rattle.tree_handles.specs.Calls.{IsLost, IsSpent, IsStoppedBy}
 use Rattle.tree_handles.specs.Lists.{Lists, LooksInVain, IsLeft}
 use Rattle.tree_handles.specs.declared.status.Status.{Status}
@@ -33,7 +33,8 @@ pub record AreAttempts (most tickets attempts : ℕ) : Type 0 where
 
 -- Nodes on the way to the key were turned by the index's salt, in so many attempts at most: what a lift says. It stands still for readers where it has to.
 pub record LiftsWay (c : CallerAt) (key most : ℕ) (lifted : Lifted) (d : CallerAt) : Type 0 where
-  pub index : IsSameCaller c d
+  pub index : KeepsCookie c d
+  pub keeper : KeepsKeeper c d
   pub aim : Aim
   pub key_is : aim.key ≡ key
   pub salt_is : aim.salt ≡ c.salt
@@ -82,7 +83,8 @@ pub record StopsBefore (pairs : List Pair) (turns : ℕ) (c : CallerAt) (key : �
 
 -- All retired slots were given back, by one wait for everybody.
 pub record GivesBack (c d : CallerAt) : Type 0 where
-  pub index : IsSameCaller c d
+  pub index : KeepsCookie c d
+  pub keeper : KeepsKeeper c d
   pub back : HasReclaimed (shape_of c.way c.table) c.seat.view c.seat.listed d.seat.view
   pub updates : (key : ℕ) → LeavesNoUpdate c.seat.view key d.seat.view
   pub keeps : KeepsSeat 1 c.seat d.seat

@@ -1,13 +1,13 @@
 //! What a handle leads to, whatever its waiter.
 ghost use Rattle.std.specs.Prelude.{◌≡◌, ◌≤◌, ◌<◌, ◌+◌, false, MatchBool, IfOk, IfErr, IfNone, IfSome};
 ghost use Rattle.prcu_model.specs.declared.operation.Op.TheVariants.{Del, Get, Put, Set};
-ghost use Rattle.core_state.specs.Memory.{most_places};
+ghost use Rattle.core_state.specs.Memory.{most_places, most_slots};
 ghost use Rattle.tree_handles.specs.Holds.{HasStarted, Polls, HasHeld, HasOutwaited, IsEntered, LeavesSection};
-ghost use Rattle.tree_handles.specs.Callers.{MayGoOn, IsFresh, IsShared, IsReopened};
-ghost use Rattle.tree_handles.specs.Calls.{IsCalled, IsCompared, IsLost, IsRemoved, IsWaitFree, CausedBy, IsHinderedBy, IsStoppedBy};
+ghost use Rattle.tree_handles.specs.Callers.{MayGoOn, IsFresh, IsShared, IsReopened, slots_for};
+ghost use Rattle.tree_handles.specs.Calls.{IsCalled, IsCalledTended, IsCompared, IsLost, IsRemovedTended, IsWaitFree, CausedBy, CausedTended, IsHinderedBy, IsStoppedBy};
 ghost use Rattle.tree_handles.specs.Lanes.{HasLanes};
 ghost use Rattle.tree_handles.specs.Lists.{IsPreventedBy, Lists, Seeks};
-ghost use Rattle.tree_handles.specs.Opening.{FailsToReopen, HasStats, most_pairs};
+ghost use Rattle.tree_handles.specs.Opening.{FailsToReopen, HasStats};
 ghost use Rattle.tree_handles.specs.Tidying.{GivesBack, HasNoneBack, LiftsWay};
 
 use crate::any_lanes::{AnyLanes, LanesByWaiter};
@@ -54,23 +54,26 @@ impl AnyCaller {
         alloc: Global,
         pairs: u32,
         handles: u32,
+        keep: u32,
         waiter: u32,
         salt: u64,
     ) -> Result<AnyCaller, NoMemory>
-        requires pairs { (1 ≤ pairs) × (pairs ≤ most_pairs) }
+        requires pairs { 1 ≤ pairs }
         requires handles { (1 ≤ handles) × (handles ≤ most_places) }
+        requires keep { (16 ≤ keep) × (keep ≤ most_slots) }
+        requires fits { slots_for pairs handles keep ≤ most_slots }
         requires waiter { waiter ≤ 2 }
-        ensures { IfOk result (λ caller. IsFresh waiter pairs handles salt caller) }
+        ensures { IfOk result (λ caller. IsFresh waiter pairs handles keep salt caller) }
     {
         match waiter {
             0 => Ok(AnyCaller {
-                caller: ByWaiter::Eer(Caller::new(alloc, pairs, handles, salt)?),
+                caller: ByWaiter::Eer(Caller::new(alloc, pairs, handles, keep, salt)?),
             }),
             1 => Ok(AnyCaller {
-                caller: ByWaiter::Domain(Caller::new(alloc, pairs, handles, salt)?),
+                caller: ByWaiter::Domain(Caller::new(alloc, pairs, handles, keep, salt)?),
             }),
             _ => Ok(AnyCaller {
-                caller: ByWaiter::Deer(Caller::new(alloc, pairs, handles, salt)?),
+                caller: ByWaiter::Deer(Caller::new(alloc, pairs, handles, keep, salt)?),
             }),
         }
     }
@@ -139,8 +142,8 @@ impl AnyCaller {
     /// Adds the pair, where the key is absent. Where others are in its way it spins, or is busy.
     #[inline(always)]
     pub(crate) fn put(&mut self, key: u64, value: u64) -> Result<Told, Status>
-        ensures called { IfOk result (λ told. IsCalled self.old (Put key value) told self.new) }
-        ensures cause { IfErr result (λ status. CausedBy (Put key value) status self.old self.new) }
+        ensures called { IfOk result (λ told. IsCalledTended self.old (Put key value) told self.new) }
+        ensures cause { IfErr result (λ status. CausedTended (Put key value) status self.old self.new) }
     {
         match &mut self.caller {
             ByWaiter::Eer(caller) => caller.put(key, value),
@@ -164,8 +167,8 @@ impl AnyCaller {
 
     /// Takes the key's pair out, where it is present, and tells its value. Where others are in its way it spins, or is busy.
     pub(crate) fn remove(&mut self, key: u64) -> Result<Option<u64>, Status>
-        ensures taken { IfOk result (λ value. IsRemoved self.old key value self.new) }
-        ensures cause { IfErr result (λ status. CausedBy (Del key) status self.old self.new) }
+        ensures taken { IfOk result (λ value. IsRemovedTended self.old key value self.new) }
+        ensures cause { IfErr result (λ status. CausedTended (Del key) status self.old self.new) }
     {
         match &mut self.caller {
             ByWaiter::Eer(caller) => caller.remove(key),
@@ -319,7 +322,7 @@ impl AnyCaller {
 
     /// A second caller on the same table, which gets so many of the unused handles and tickets; or none, where the table has as many owners
     /// as can be counted, and then nothing has changed.
-    pub(crate) fn share(&mut self, handles: u32, tickets: u64) -> Option<AnyCaller>
+    pub(crate) fn share(&mut self, alloc: Global, handles: u32, tickets: u64) -> Option<AnyCaller>
         requires may { MayGoOn self.old }
         requires handles { (1 ≤ handles) × (handles < self.old.seat.view.allowance.places) }
         requires tickets { tickets ≤ self.old.seat.view.allowance.tickets }
@@ -328,13 +331,13 @@ impl AnyCaller {
     {
         match &mut self.caller {
             ByWaiter::Eer(caller) => Some(AnyCaller {
-                caller: ByWaiter::Eer(caller.share(handles, tickets)?),
+                caller: ByWaiter::Eer(caller.share(alloc, handles, tickets)?),
             }),
             ByWaiter::Domain(caller) => Some(AnyCaller {
-                caller: ByWaiter::Domain(caller.share(handles, tickets)?),
+                caller: ByWaiter::Domain(caller.share(alloc, handles, tickets)?),
             }),
             ByWaiter::Deer(caller) => Some(AnyCaller {
-                caller: ByWaiter::Deer(caller.share(handles, tickets)?),
+                caller: ByWaiter::Deer(caller.share(alloc, handles, tickets)?),
             }),
         }
     }

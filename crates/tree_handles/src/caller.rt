@@ -1,26 +1,30 @@
 //! What a handle leads to, by its waiter: a seat, and what it shares with the other callers of the index.
 ghost use Rattle.std.specs.Prelude.{◌≡◌, ◌≤◌, ◌<◌, ◌+◌, false, true, MatchBool, IfOk, IfErr, IfNone, IfSome};
-ghost use Rattle.prcu_model.specs.declared.operation.Op.TheVariants.{Del, Get, Put, Set};
-ghost use Rattle.seat_table.specs.Seats.{IsQuietSeat};
+ghost use Rattle.prcu_model.specs.declared.operation.Op.TheVariants.{Get, Put, Set};
+ghost use Rattle.seat_table.specs.Seats.{IsEmptyFor, IsQuietSeat};
 ghost use Rattle.seat_table.specs.Sections.{IsQuietButSection};
 ghost use Rattle.core_state.specs.Steps.{first_of, second_of};
 ghost use Rattle.seat_table.specs.Gains.{IsInformed};
-ghost use Rattle.core_state.specs.Memory.{most_places};
+ghost use Rattle.core_state.specs.Memory.{most_places, most_slots};
 ghost use Rattle.tree_handles.specs.Holds.{HasStarted, Polls, EndsOutside, HasHeld, HasOutwaited, IsEntered, LeavesSection};
-ghost use Rattle.tree_handles.specs.Callers.{IsSameCaller, MayGoOn, IsFresh, IsShared, IsReopened};
-ghost use Rattle.tree_handles.specs.Opening.{FailsToReopen, HasStats, most_pairs};
-ghost use Rattle.tree_handles.specs.Calls.{ComesBehind, IsCalled, IsCompared, IsLost, IsRemoved, IsWaitFree, CausedBy, IsHinderedBy, IsStoppedBy};
-ghost use Rattle.tree_handles.specs.Lanes.{HasLanes};
+ghost use Rattle.tree_handles.specs.Callers.{IsSameCaller, KeepsCookie, KeepsKeeper, MayGoOn, IsFresh, IsShared, IsReopened, slots_for};
+ghost use Rattle.tree_handles.specs.Opening.{FailsToReopen, HasStats};
+ghost use Rattle.tree_handles.specs.Calls.{ComesBehind, IsCalled, IsCalledTended, IsCompared, IsLost, IsWaitFree, CausedBy, CausedTended, IsHinderedBy, IsStoppedBy, LacksRoom};
+ghost use Rattle.tree_handles.specs.Keepers.{SeesToKeeper, StartsKeeper, Tends};
+ghost use Rattle.tree_handles.specs.Lanes.{HasLanes, AreEmptyFor};
 ghost use Rattle.tree_handles.specs.Lists.{IsPreventedBy, Lists, Seeks};
 ghost use Rattle.tree_handles.specs.Tidying.{GivesBack, HasNoneBack, LiftsWay};
 
+mod removing;
+
+use crate::keeper::{begin_if_many, forget_if, tend};
 use crate::lane_seats::LaneSeats;
 use crate::shared::Shared;
 use crate::spinning::{GaveUp, InTheWay, Spinning};
 use crate::stats::Stats;
 use crate::status::Status;
 use crate::tidying::attempts_for;
-use citrus_tree::patient::{compare, put, remove, set};
+use citrus_tree::patient::{compare, put, set};
 use citrus_tree::{Called, Compared, get, hold, release};
 use core::mem::replace_with;
 use exact_list::patient::{list_always, nearest_always};
@@ -29,7 +33,7 @@ use grace_cookie::{Ask, Cookie, ask, start};
 use key_interval::Keys;
 use prcu_marks::{OpenGate, Side};
 use prcu_model::{NoMemory, Op, Reply, Told};
-use seat_table::{CitrusTable, Seat, WaitPart, wait_in_grace};
+use seat_table::{CitrusTable, Listed, Seat, WaitPart, wait_in_grace};
 use std::alloc::Global;
 use std::marker::Model;
 use std::sync::Arc;
@@ -52,15 +56,8 @@ const LIFT_TICKETS: u64 = 72;
 /// The tickets of a new index, all that a table can have.
 const ALL_TICKETS: u64 = 144_115_188_075_855_872;
 
-/// The retired slots that a place of an index may hold back. With many a handle that removes waits for readers rarely; with few less memory
-/// lies idle.
-pub(crate) const LIBRARY_ROOM: u32 = 64;
-
 /// The slots that a place may keep from the others beside its retired ones.
-const IN_HAND: u32 = 4;
-
-/// The slots that each handle beside the first needs.
-pub(crate) const KEPT_BACK: u32 = LIBRARY_ROOM + IN_HAND;
+pub(crate) const IN_HAND: u32 = 4;
 
 /// How many times a list, a first or a last is tried beside updates, before it holds the front, and updates wait for it.
 pub(crate) const TRIES: u32 = 4;
@@ -74,6 +71,10 @@ pub(crate) struct Caller<W: WaitPart> {
     // By which the nodes of the index rise. All callers of an index have the same.
     salt: u64,
     cookie: Option<Cookie<W>>,
+    // By which it gives its own retired slots back.
+    keeper: Option<Cookie<W>>,
+    // Whether the way of the last pair that it added was far too deep.
+    too_deep: bool,
 }
 
 impl<W: WaitPart> Model for Caller<W> {
@@ -82,15 +83,23 @@ impl<W: WaitPart> Model for Caller<W> {
     ghost use Rattle.seat_table.specs.Seats.{shape_of};
     ghost use Rattle.seat_table.specs.Sections.{IsQuietButSection};
     ghost use Rattle.core_state.specs.Memory.{most_places};
-    ghost use Rattle.tree_handles.specs.Holds.{HasCookie};
+    ghost use Rattle.tree_handles.specs.Keepers.{HasCookies};
     ghost use Rattle.tree_handles.specs.Callers.{CallerAt};
 
     ghost Value = { CallerAt };
 
-    ghost view = { λ c. record { way = W.WAY; table = arc_value c.shared; salt = c.salt; seat = c.seat; lost = c.lost; cookie = c.cookie } };
+    ghost view = { λ c. record {
+      way = W.WAY;
+      table = arc_value c.shared;
+      salt = c.salt;
+      seat = c.seat;
+      lost = c.lost;
+      cookie = c.cookie;
+      keeper = c.keeper;
+    } };
 
     ghost invariant = { λ c. (c.seat.table ≡ arc_value c.shared) × (c.lost ≡ false → IsQuietButSection c.seat)
-        × (c.lost ≡ false → HasCookie (shape_of W.WAY (arc_value c.shared)) c.cookie c.seat.view) };
+        × (c.lost ≡ false → HasCookies (shape_of W.WAY (arc_value c.shared)) c.cookie c.keeper c.seat) };
 }
 
 impl<W: WaitPart> Drop for Caller<W> {
@@ -102,6 +111,8 @@ impl<W: WaitPart> Drop for Caller<W> {
             lost,
             salt: _,
             cookie: _,
+            keeper: _,
+            too_deep: _,
         } = self;
         if lost {
             return;
@@ -132,45 +143,46 @@ struct Gift<'a, W: WaitPart> {
     table: &'a CitrusTable<W>,
     handles: u32,
     tickets: u64,
+    list: Listed,
 }
 
 fn divide<W: WaitPart>(seat: Seat<W>, gift: Gift<W>) -> (Seat<W>, Seat<W>)
     requires table { seat.table ≡ gift.table.now }
+    requires list { IsEmptyFor seat.table gift.list }
     requires quiet { IsQuietSeat seat }
     requires handles { (1 ≤ gift.handles) × (gift.handles < seat.view.allowance.places) }
     requires tickets { gift.tickets ≤ seat.view.allowance.tickets }
     ensures tables { (result.0.table ≡ seat.table) × (result.1.table ≡ seat.table) }
+    ensures listed { result.0.listed ≡ seat.listed }
     ensures first { result.0.view ≡ first_of gift.entry.handles gift.entry.tickets seat.view }
     ensures second { result.1.view ≡ second_of gift.entry.handles gift.entry.tickets seat.view }
     ensures quiet { IsQuietSeat result.0 × IsQuietSeat result.1 }
 {
-    seat.split(gift.table, gift.handles, gift.tickets)
+    seat.split(gift.table, gift.handles, gift.tickets, gift.list)
 }
 
 impl<W: WaitPart> Caller<W> {
-    /// The first caller on a new table in which so many pairs always fit, and 68 more, for so many handles, with all tickets. Its nodes rise by
-    /// this salt.
+    /// The first caller on a new table in which so many pairs always fit, and some more, for so many handles, with all tickets. A place may
+    /// hold back so many retired slots: with many a handle that removes waits for readers rarely, with few less memory lies idle. Its nodes
+    /// rise by this salt.
     pub(crate) fn new(
         alloc: Global,
         pairs: u32,
         handles: u32,
+        keep: u32,
         salt: u64,
     ) -> Result<Caller<W>, NoMemory>
         requires way { W.WAY ≤ 2 }
-        requires pairs { (1 ≤ pairs) × (pairs ≤ most_pairs) }
+        requires pairs { 1 ≤ pairs }
         requires handles { (1 ≤ handles) × (handles ≤ most_places) }
-        ensures { IfOk result (λ caller. IsFresh W.WAY pairs handles salt caller) }
+        requires keep { (16 ≤ keep) × (keep ≤ most_slots) }
+        requires fits { slots_for pairs handles keep ≤ most_slots }
+        ensures { IfOk result (λ caller. IsFresh W.WAY pairs handles keep salt caller) }
     {
         // For the first handle too: where so many pairs are there, a turn finds slots free, or gets those that its handle kept back. Without
         // them keys that come in order, each in the place of one that goes, would make the tree a path.
-        let slots = pairs + KEPT_BACK * handles;
-        let (table, seat) = CitrusTable::<W>::with_room(
-            alloc,
-            slots,
-            handles,
-            LIBRARY_ROOM,
-            ALL_TICKETS,
-        )?;
+        let slots = pairs + (keep + IN_HAND) * handles;
+        let (table, seat) = CitrusTable::<W>::with_room(alloc, slots, handles, keep, ALL_TICKETS)?;
         match Arc::new(alloc, Shared::new(alloc, table, handles)?) {
             Ok(shared) => Ok(Caller {
                 shared,
@@ -178,6 +190,8 @@ impl<W: WaitPart> Caller<W> {
                 lost: false,
                 salt,
                 cookie: None,
+                keeper: None,
+                too_deep: false,
             }),
             Err(_) => Err(NoMemory),
         }
@@ -258,17 +272,83 @@ impl<W: WaitPart> Caller<W> {
         Ok(get(self.shared.table(), &mut self.seat, &OpenGate, key))
     }
 
-    /// Adds the pair, where the key is absent, and lifts nodes on its way where that was deep. Where others are in its way it spins, or is busy.
+    // Asks about the keeper once, and gives slots back by it.
+    #[inline(always)]
+    fn tend(&mut self)
+        requires may { MayGoOn self.old }
+        ensures { Tends self.old self.new }
+    {
+        if self.keeper.is_none() {
+            return;
+        }
+        let keeper = self.keeper.take();
+        self.keeper = tend(self.shared.table(), &mut self.seat, keeper);
+    }
+
+    // Begins a keeper where many slots are kept, and none is under way.
+    #[inline(always)]
+    fn start_keeper(&mut self)
+        requires may { MayGoOn self.old }
+        ensures { StartsKeeper self.old self.new }
+    {
+        let table = self.shared.table();
+        begin_if_many(table, &mut self.seat, &mut self.keeper, &self.cookie);
+    }
+
+    // What comes before an update that retires slots, or takes one. Begun here, and not behind the update, a keeper is asked about before the
+    // user begins a wait, which would give it up.
+    #[inline(always)]
+    fn see_to_keeper(&mut self)
+        requires may { MayGoOn self.old }
+        requires tickets { 4 ≤ self.old.seat.view.allowance.tickets }
+        ensures sees { SeesToKeeper self.old self.new }
+        ensures tickets { 4 ≤ self.new.seat.view.allowance.tickets }
+    {
+        self.start_keeper();
+        self.tend();
+    }
+
+    // Whether an insert waits for its keeper: the last one left a way that is far too deep, and there is no room for the turns that it needs.
+    fn owes_turns(&self) -> bool
+        requires may { MayGoOn self.now }
+        ensures holds { result ≡ true → LacksRoom self.now self.now }
+    {
+        if self.too_deep {
+            return self.lacks_room();
+        }
+        false
+    }
+
+    /// Adds the pair, where the key is absent, and lifts nodes on its way where that was deep. Where others are in its way it spins, or is busy;
+    /// and so it is where the last way was far too deep and its place has no room for turns, until the keeper is over.
     #[inline(always)]
     pub(crate) fn put(&mut self, key: u64, value: u64) -> Result<Told, Status>
-        ensures called { IfOk result (λ told. IsCalled self.old (Put key value) told self.new) }
-        ensures cause { IfErr result (λ status. CausedBy (Put key value) status self.old self.new) }
+        ensures called { IfOk result (λ told. IsCalledTended self.old (Put key value) told self.new) }
+        ensures cause { IfErr result (λ status. CausedTended (Put key value) status self.old self.new) }
     {
         if let Some(status) = self.hindrance(TICKETS) {
             return Err(status);
         }
+        self.see_to_keeper();
+        if self.owes_turns() {
+            return Err(Status::Busy);
+        }
+        self.put_tended(key, value)
+    }
+
+    // The same, but for what is done about the keeper.
+    #[inline(always)]
+    fn put_tended(&mut self, key: u64, value: u64) -> Result<Told, Status>
+        requires may { MayGoOn self.old }
+        requires tickets { 4 ≤ self.old.seat.view.allowance.tickets }
+        ensures called { IfOk result (λ told. IsCalled self.old (Put key value) told self.new) }
+        ensures cause { IfErr result (λ status. CausedBy (Put key value) status self.old self.new) }
+    {
         let table = self.shared.table();
-        match put(&Spinning, table, &mut self.seat, &OpenGate, key, value) {
+        let waits = self.seat.waits();
+        let answer = put(&Spinning, table, &mut self.seat, &OpenGate, key, value);
+        forget_if(self.seat.waits() != waits, &mut self.keeper);
+        match answer {
             Ok(Ok(called)) => {
                 self.lift_behind(Op::Put { key, value }, called);
                 Ok(called.told)
@@ -291,7 +371,10 @@ impl<W: WaitPart> Caller<W> {
             return Err(status);
         }
         let table = self.shared.table();
-        match set(&Spinning, table, &mut self.seat, &OpenGate, key, value) {
+        let waits = self.seat.waits();
+        let answer = set(&Spinning, table, &mut self.seat, &OpenGate, key, value);
+        forget_if(self.seat.waits() != waits, &mut self.keeper);
+        match answer {
             Ok(Ok(told)) => Ok(told),
             Ok(Err(InTheWay)) => Err(Status::Busy),
             Err(GaveUp) => {
@@ -301,13 +384,23 @@ impl<W: WaitPart> Caller<W> {
         }
     }
 
+    // Whether the place has no room for what a remove retires, and the keeper isn't over: then a remove would stand still for all readers.
+    fn lacks_room(&self) -> bool
+        requires may { MayGoOn self.now }
+        ensures holds { result ≡ true → LacksRoom self.now self.now }
+        ensures fails { result ≡ false → LacksRoom self.now self.now → ⊥ }
+    {
+        self.keeper.is_some() && self.seat.retired().len() + 1 >= self.seat.room()
+    }
+
     // Lifts nodes on the way to a key that was added, where the way was deep and there are tickets for it. What bounds the pairs is known
     // without a step: the slots that weren't free when the seat reserved the key's. Where the lift gives up the caller is lost from now on.
     #[inline(always)]
     fn lift_behind(&mut self, op: Op, called: Called)
         requires may { MayGoOn self.old }
         requires informed { IsInformed self.old.seat.view }
-        ensures index { IsSameCaller self.old self.new }
+        ensures index { KeepsCookie self.old self.new }
+        ensures keeper { KeepsKeeper self.old self.new }
         ensures behind { ComesBehind op called.told self.old.seat self.new }
     {
         let Op::Put { key, value: _ } = op else {
@@ -316,8 +409,11 @@ impl<W: WaitPart> Caller<W> {
         let Reply::New = called.told.reply else {
             return;
         };
-        let table = self.shared.table();
-        let most = most_keys(u64::from(table.slots()), self.seat.free_seen());
+        let most = most_keys(
+            u64::from(self.shared.table().slots()),
+            self.seat.free_seen(),
+        );
+        self.too_deep = is_far_too_deep(called.depth, most);
         let attempts = attempts_behind(called.depth, most);
         if attempts == 0 || self.seat.tickets() < LIFT_TICKETS {
             return;
@@ -326,30 +422,14 @@ impl<W: WaitPart> Caller<W> {
             key,
             salt: self.salt,
             attempts,
-            hard: is_far_too_deep(called.depth, most),
+            hard: self.too_deep && self.keeper.is_none(),
         };
-        match lift(&Spinning, table, &mut self.seat, aim) {
+        let waits = self.seat.waits();
+        let lifted = lift(&Spinning, self.shared.table(), &mut self.seat, aim);
+        forget_if(self.seat.waits() != waits, &mut self.keeper);
+        match lifted {
             Ok(_) => (),
             Err(GaveUp) => self.lost = true,
-        }
-    }
-
-    /// Takes the key's pair out, where it is present, and tells its value. Where others are in its way it spins, or is busy.
-    pub(crate) fn remove(&mut self, key: u64) -> Result<Option<u64>, Status>
-        ensures taken { IfOk result (λ value. IsRemoved self.old key value self.new) }
-        ensures cause { IfErr result (λ status. CausedBy (Del key) status self.old self.new) }
-    {
-        if let Some(status) = self.hindrance(TICKETS) {
-            return Err(status);
-        }
-        let table = self.shared.table();
-        match remove(&Spinning, table, &mut self.seat, &OpenGate, key) {
-            Ok(Ok(removed)) => Ok(removed.value),
-            Ok(Err(InTheWay)) => Err(Status::Busy),
-            Err(GaveUp) => {
-                self.lost = true;
-                Err(Status::Lost)
-            }
         }
     }
 
@@ -367,7 +447,8 @@ impl<W: WaitPart> Caller<W> {
             return Err(status);
         }
         let table = self.shared.table();
-        match compare(
+        let waits = self.seat.waits();
+        let answer = compare(
             &Spinning,
             table,
             &mut self.seat,
@@ -375,7 +456,9 @@ impl<W: WaitPart> Caller<W> {
             key,
             expected,
             value,
-        ) {
+        );
+        forget_if(self.seat.waits() != waits, &mut self.keeper);
+        match answer {
             Ok(Ok(answer)) => Ok(answer),
             Ok(Err(InTheWay)) => Err(Status::Busy),
             Err(GaveUp) => {
@@ -472,6 +555,8 @@ impl<W: WaitPart> Caller<W> {
         if let Some(status) = self.hindrance(WAIT_TICKETS) {
             return Err(status);
         }
+        // A later wait gives the keeper up.
+        self.keeper = None;
         let table = self.shared.table();
         match wait_in_grace(&Spinning, table, &mut self.seat, &OpenGate, keys) {
             Ok(()) => Ok(()),
@@ -490,6 +575,8 @@ impl<W: WaitPart> Caller<W> {
         if let Some(status) = self.hindrance(WAIT_TICKETS) {
             return Err(status);
         }
+        // A later wait gives the keeper up.
+        self.keeper = None;
         let cookie = start(self.shared.table(), &mut self.seat, keys);
         let number = cookie.number();
         self.cookie = Some(cookie);
@@ -537,7 +624,10 @@ impl<W: WaitPart> Caller<W> {
             attempts: attempts_for(most, self.seat.tickets()),
             hard: true,
         };
-        match lift(&Spinning, table, &mut self.seat, aim) {
+        let waits = self.seat.waits();
+        let answer = lift(&Spinning, table, &mut self.seat, aim);
+        forget_if(self.seat.waits() != waits, &mut self.keeper);
+        match answer {
             Ok(lifted) => Ok(lifted),
             Err(GaveUp) => {
                 self.lost = true;
@@ -556,7 +646,11 @@ impl<W: WaitPart> Caller<W> {
     {
         let table = self.shared.table();
         match give_all_back(&Spinning, table, &mut self.seat) {
-            Ok(some) => Ok(some),
+            Ok(true) => {
+                self.keeper = None;
+                Ok(true)
+            }
+            Ok(false) => Ok(false),
             Err(GaveUp) => {
                 self.lost = true;
                 Err(GaveUp)
@@ -564,31 +658,37 @@ impl<W: WaitPart> Caller<W> {
         }
     }
 
-    /// A second caller on the same table, which gets so many of the unused handles and tickets; or none, where the table has as many owners
-    /// as can be counted, and then nothing has changed.
-    pub(crate) fn share(&mut self, handles: u32, tickets: u64) -> Option<Caller<W>>
+    /// A second caller on the same table, which gets so many of the unused handles and tickets; or none, where memory is short, or the table
+    /// has as many owners as can be counted, and then nothing has changed.
+    pub(crate) fn share(&mut self, alloc: Global, handles: u32, tickets: u64) -> Option<Caller<W>>
         requires may { MayGoOn self.old }
         requires handles { (1 ≤ handles) × (handles < self.old.seat.view.allowance.places) }
         requires tickets { tickets ≤ self.old.seat.view.allowance.tickets }
         ensures none { IfNone result (self.new ≡ self.old) }
         ensures shared { IfSome result (λ other. IsShared self.old handles tickets self.new other) }
     {
+        let Ok(list) = self.seat.empty_list(alloc) else {
+            return None;
+        };
         let Ok(shared) = Arc::try_clone(&self.shared) else {
             return None;
         };
-        let seat = self.split_off(handles, tickets);
+        let seat = self.split_off(handles, tickets, list);
         Some(Caller {
             shared,
             seat,
             lost: false,
             salt: self.salt,
             cookie: None,
+            keeper: None,
+            too_deep: false,
         })
     }
 
-    // Splits off a seat, which gets so many of the unused handles and tickets.
-    fn split_off(&mut self, handles: u32, tickets: u64) -> Seat<W>
+    // Splits off a seat, which gets so many of the unused handles and tickets, and this list.
+    fn split_off(&mut self, handles: u32, tickets: u64, list: Listed) -> Seat<W>
         requires may { MayGoOn self.old }
+        requires list { IsEmptyFor self.old.table list }
         requires handles { (1 ≤ handles) × (handles < self.old.seat.view.allowance.places) }
         requires tickets { tickets ≤ self.old.seat.view.allowance.tickets }
         ensures index { IsSameCaller self.old self.new }
@@ -602,8 +702,25 @@ impl<W: WaitPart> Caller<W> {
             table: self.shared.table(),
             handles,
             tickets,
+            list,
         };
         replace_with(&mut self.seat, gift, divide)
+    }
+
+    // So many lists for seats that are to be split off, or none where memory is short.
+    fn empty_lists(&self, alloc: Global, count: u32) -> Option<Vec<Listed>>
+        ensures { IfSome result (λ lists. AreEmptyFor self.now.table count lists.items) }
+    {
+        let Ok(mut lists) = Vec::with_capacity(alloc, count as usize) else {
+            return None;
+        };
+        for made in 0..count {
+            let Ok(list) = self.seat.empty_list(alloc) else {
+                return None;
+            };
+            lists.push_reserved(list);
+        }
+        Some(lists)
     }
 
     /// So many lanes, each with one of the unused handles and no ticket; or none, where memory is short, or the table has as many owners as can
@@ -615,6 +732,9 @@ impl<W: WaitPart> Caller<W> {
         ensures none { IfNone result (self.new ≡ self.old) }
         ensures opened { IfSome result (λ lanes. HasLanes self.old count self.new lanes) }
     {
+        let Some(mut lists) = self.empty_lists(alloc, count) else {
+            return None;
+        };
         let Ok(shared) = Arc::try_clone(&self.shared) else {
             return None;
         };
@@ -622,7 +742,10 @@ impl<W: WaitPart> Caller<W> {
             return None;
         };
         for given in 0..count {
-            seats.push_reserved(self.split_off(ONE_HANDLE, NO_TICKET));
+            let Some(list) = lists.pop() else {
+                unreachable!();
+            };
+            seats.push_reserved(self.split_off(ONE_HANDLE, NO_TICKET, list));
         }
         Some(LaneSeats::new(shared, seats))
     }
@@ -642,6 +765,8 @@ impl<W: WaitPart> Caller<W> {
                 lost: false,
                 salt: self.salt,
                 cookie: None,
+                keeper: None,
+                too_deep: false,
             }),
             None => Err(Status::Unchanged),
         }

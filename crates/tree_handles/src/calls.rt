@@ -128,7 +128,8 @@ impl Handle {
     /// Adds the pair, where the key is absent.
     ///
     /// `Done`; `Unchanged` where the key is present; `Full` where no slot is free, and then at least as many pairs are there as were asked
-    /// for at the open; `Busy` where others were in its way, and it is to be made again; `Closed`; `Lost`; `Holds`; `Spent`.
+    /// for at the open; `Busy` where others were in its way, or where the way of the last pair that the handle added was far too deep, and it has
+    /// no room for the slots of turns until readers leave, and it is to be made again; `Closed`; `Lost`; `Holds`; `Spent`.
     pub fn insert(&mut self, alloc: Global, key: u64, value: u64) -> Status
         ensures inserted { Makes (λ c d. Inserts c key value result d) self.old.held result self.new.held }
     {
@@ -142,8 +143,8 @@ impl Handle {
 
     /// Gives the key another value, where it is present, and tells the one before.
     ///
-    /// `Done`; `Unchanged` where the key is absent; `Busy` as of an insert; `Closed`; `Lost`; `Holds`; `Spent`. Only at `Done` the old value is
-    /// written.
+    /// `Done`; `Unchanged` where the key is absent; `Busy` where others were in its way, and it is to be made again; `Closed`; `Lost`; `Holds`;
+    /// `Spent`. Only at `Done` the old value is written.
     pub fn replace(&mut self, alloc: Global, key: u64, value: u64, old: &mut u64) -> Status
         ensures replaced { Makes (λ c d. Replaces c key value old.old result old.new d) self.old.held result self.new.held }
         ensures closed { self.old.held ≡ None → old.new ≡ old.old }
@@ -160,7 +161,7 @@ impl Handle {
     /// have had another value meanwhile, or have been absent.
     ///
     /// `Done`; `Different` where the key had another value at a moment of the call, which is told; `Unchanged` where the key is absent;
-    /// `Busy` as of an insert; `Closed`; `Lost`; `Holds`; `Spent`. At each answer but `Done` no pair has changed. Only at `Different` the value
+    /// `Busy` as of a replace; `Closed`; `Lost`; `Holds`; `Spent`. At each answer but `Done` no pair has changed. Only at `Different` the value
     /// found is written.
     pub fn compare(
         &mut self,
@@ -200,8 +201,8 @@ impl Handle {
 
     /// Takes the pair out, where the key is present, and tells its value.
     ///
-    /// `Done`; `Unchanged` where the key is absent; `Busy` as of an insert; `Closed`; `Lost`; `Holds`; `Spent`. Only at `Done` the old value is
-    /// written.
+    /// `Done`; `Unchanged` where the key is absent; `Busy` where others were in its way, or where the handle has no room for the slots that it
+    /// would retire until readers leave, and it is to be made again; `Closed`; `Lost`; `Holds`; `Spent`. Only at `Done` the old value is written.
     pub fn remove(&mut self, alloc: Global, key: u64, old: &mut u64) -> Status
         ensures removed { Makes (λ c d. Removes c key old.old result old.new d) self.old.held result self.new.held }
         ensures closed { self.old.held ≡ None → old.new ≡ old.old }
@@ -386,7 +387,8 @@ impl Handle {
     /// Makes the tree shallow on the ways to the keys from `low` to `high`: lists the first 256 of them, and lets nodes on the way to each
     /// change places with a child, in order, until so many turns were tried (1 or more), with those that came to nothing. No pair changes. A
     /// turn that others changed meanwhile, or that found a lock taken, comes to nothing. It uses at most three tickets for each turn that was
-    /// tried and for each key, and waits for all readers where the handle keeps back 63 slots, two for each turn.
+    /// tried and for each key. A turn retires two slots, and waits for all readers where the handle has no room for them: where it keeps back all
+    /// but one of those that were chosen at the open.
     ///
     /// `Done` where no way to a key of the range needs a turn any more; `More` where turns or tickets are short, or there are more keys, and
     /// `Full` where no slot is free for a turn: then `next` is the key to go on with; `Busy` as of a list, and then no turn was tried; `Closed`;

@@ -12,6 +12,7 @@ mod caller;
 mod calls;
 mod handle;
 mod holds;
+mod keeper;
 mod lane_room;
 mod lane_seats;
 mod lanes;

@@ -29,7 +29,7 @@ fn move_out(caller: AnyCaller, portion: Portion) -> (AnyCaller, Option<Box<AnyCa
         Ok(first) => first,
         Err(refused) => return (refused.value, None),
     };
-    match first.share(portion.handles, portion.tickets) {
+    match first.share(portion.alloc, portion.handles, portion.tickets) {
         Some(second) => (second, Some(first)),
         None => (Box::into_inner(first), None),
     }

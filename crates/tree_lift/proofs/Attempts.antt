@@ -14,7 +14,6 @@ use Rattle.list_laws.specs.Counts.{IsIn}
 use Rattle.seat_table.specs.Gains.{IsInformed}
 use Rattle.seat_table.specs.Seats.{SeatAt, IsQuietSeat, AreListed}
 use Rattle.node_slots.specs.Reclaiming.{HasReclaimed}
-use Rattle.node_slots.specs.Slots.{PutsBack}
 use Rattle.node_slots.proofs.Points.{MayReclaim, gives_all, reclaim_advanced, reclaim_retired}
 use Rattle.tree_points.specs.Points.{HasAdvanced}
 use Rattle.tree_points.proofs.Passing.{none_raised}
@@ -24,12 +23,14 @@ use Rattle.core_state.specs.Views.{unraised_among}
 use Rattle.citrus_tree.proofs.Leavings.{goes_on, slots_goes, slots_more, slots_on, slots_reclaimed, slots_self, none_begun, none_yet, reclaimed_first, wait_on}
 use Rattle.citrus_tree.proofs.DeleteTries.{empty_listed}
 use Rattle.tree_turn.specs.declared.turn.Turn.{Turn}
-use Rattle.tree_turn.specs.Turns.{HasRecorded, HasTurned, HasTurnedNone, IsQuietButHand, IsReadyToTurn}
+use Rattle.tree_turn.specs.Turns.{HasRecorded, HasTurnedNone, IsReadyToTurn}
 use Rattle.tree_lift.specs.declared.lifting.Aim.{Aim}
-use Rattle.tree_lift.specs.Ways.{HasRead, RecordsTurn, Finds}
-use Rattle.tree_lift.specs.Lifts.{MakesRoom, Reclaims, TakesSlots, WaitsForRoom, waits_none, waits_once, LeavesNoUpdate, Proceeds, TurnTried, ComesOf, WasTried, ComesBetween, WereTried, made_among, EndsBy, RestsBehind, WasAttempted, Attempts, HasAttempted, HasLifted}
+use Rattle.tree_lift.specs.Ways.{HasAges, HasRead, Finds}
+use Rattle.tree_lift.specs.Lifts.{CanPayTurn, MakesTurn, RefusesTurn, TriesTurn, MakesRoom, Reclaims, TakesSlots, WaitsForRoom, waits_none, waits_once, LeavesNoUpdate, Proceeds, TurnTried, ComesOf, WasTried, ComesBetween, WereTried, made_among, EndsBy, RestsBehind, WasAttempted, Attempts, HasAttempted, HasLifted}
 use Rattle.tree_lift.specs.declared.lifting.Attempt.TheVariants.{Tried, Ended as EndedBy}
 use Rattle.tree_lift.specs.declared.lifting.Stop.{Stop}
+use Rattle.tree_lift.specs.declared.trying.Outcome.{Outcome}
+use Rattle.tree_lift.specs.declared.trying.Outcome.TheVariants.{Turned, Refused, NoSlot as NoneFree}
 use Rattle.tree_lift.specs.declared.lifting.Stop.TheVariants.{Level, NoRoom, NoSlot, Spent}
 use Rattle.tree_lift.proofs.Ways.{goes_read, read_quiet}
 use Rattle.tree_lift.proofs.Slots.{goes_back, put_back_quiet}
@@ -199,6 +200,86 @@ room_lacking k aim s t none q = subst (HasAttempted k aim s (EndedBy NoRoom)) (s
   quiet = q;
 })
 
+-- A turn was made, or it wasn't, and the slot in hand was put back.
+proceeds_turned : (key : ℕ) (hard : Bool) (x y : SeatAt) (turn : Turn) → MakesTurn x turn y → Proceeds key hard x y
+proceeds_turned key hard x y turn made =
+    let e = made.turned.rest in
+    let gone : List Retired = made.turned.node_gone ∷ (made.turned.child_gone ∷ []) in record {
+      updates = left_none key made.advanced;
+      wait = inl (none_begun made.advanced (ap (λ (z : View). z.counts.waits) e) (ap (λ (z : View). z.wait) e));
+      slots = slots_more x y (map (λ (r : Retired). (r.slot, r.unlinked, r.waited)) gone) (turn.node ∷ (turn.child ∷ []))
+          (ap (λ (z : View). z.counts.waits) e) (ap (λ (z : View). z.wait) e)
+          (ap retired_marks e ∙ map-append (λ (r : Retired). (r.slot, r.unlinked, r.waited)) x.view.hands.retired gone)
+          made.retires;
+      unwaited = λ no. ap (λ (z : View). z.counts.waits) e;
+      informed = λ told. made.informed;
+    }
+
+pub refused_goes : (x y : SeatAt) (turn : Turn) → RefusesTurn x turn y → Goes x.view y.view []
+refused_goes x y turn lost =
+    let e = lost.none.rest in
+    goes_on (record {
+      advanced = lost.advanced;
+      retired = ap (λ (z : View). z.hands.retired) e;
+      wait = ap (λ (z : View). z.wait) e;
+      waits = ap (λ (z : View). z.counts.waits) e;
+    }) (goes_back lost.back)
+
+proceeds_refused : (key : ℕ) (hard : Bool) (x y : SeatAt) (turn : Turn) → RefusesTurn x turn y → Proceeds key hard x y
+proceeds_refused key hard x y turn lost =
+    proceeds_goes key hard x y [] (refused_goes x y turn lost) tt (lost.kept ∙ lost.same_list) (λ was. lost.informed)
+
+-- what a turn that was tried leaves, with at most three tickets since there was room
+pub record LeavesTried (key : ℕ) (hard : Bool) (s z : SeatAt) : Type 0 where
+  pub proceeds : Proceeds key hard s z
+  pub tickets : s.view.allowance.tickets ≤ z.view.allowance.tickets + 3
+  pub quiet : IsQuietSeat z
+
+-- What a turn needs, once the slots for it are taken.
+module _ (k : Shape) (u : SeatAt) (turn : Turn) (recorded : HasRecorded k u.view turn) (x : SeatAt) (takes : TakesSlots k u true x) where
+  pub recorded_there : HasRecorded k x.view turn
+  recorded_there = record {
+    three = recorded.three;
+    reading = recorded.reading;
+    kept = subst (λ l. IsIn l recorded.reading) (sym takes.records) recorded.kept;
+    parent_age = recorded.parent_age;
+    node_age = recorded.node_age;
+    child_age = recorded.child_age;
+  }
+
+  pub ready_there : length u.view.hands.retired + 1 < k.room → CanPayTurn u.view → IsReadyToTurn k.room x.view
+  ready_there few pays =
+      let both = takes.both refl in
+      let q = both.quiet.quiet.view in record {
+        outside = q.section;
+        unlocked = q.locks;
+        settled = q.moving;
+        ticket = ⊎_elim
+            (λ (three : 3 ≤ u.view.allowance.tickets). let a = takes.tickets in omega (arith, three, a))
+            (λ (two : (2 ≤ u.view.allowance.tickets) × (u.view.hands.spare ≢ None)).
+            let a = takes.fewer two.1 in let b = two.0 in omega (arith, a, b)) pays;
+        room = (let a = ap (length {A = Retired}) takes.goes.retired in omega arith);
+        hand = both.hand;
+        hand_is = both.hand_is;
+        unraised = both.unraised;
+        spare = both.spare;
+        spare_is = both.spare_is;
+      }
+
+  pub listed_there : AreListed x
+  listed_there = record { each = (takes.both refl).quiet.quiet.listed.each }
+
+  -- the slot is in hand still, where the turn wasn't made
+  pub held_there : (y : SeatAt) → HasTurnedNone x.view turn y.view → (held : Held) × (y.view.hands.hand ≡ Some held) × (held.raised ≡ false)
+  held_there y none =
+      let both = takes.both refl in
+      (both.hand, ap (λ (z : View). z.hands.hand) none.rest ∙ both.hand_is, both.unraised)
+
+-- two tickets are left for the slots
+pub two_left : (v : View) → CanPayTurn v → 2 ≤ v.allowance.tickets
+two_left v = ⊎_elim (λ (three : 3 ≤ v.allowance.tickets). omega (arith, three))
+    (λ (two : (2 ≤ v.allowance.tickets) × (v.hands.spare ≢ None)). two.0)
+
 module _ (k : Shape) (key : ℕ) (hard : Bool) (s t : SeatAt) (room : HasRoom k key hard s t) where
   -- A section went down the way.
   module _ (u : SeatAt) (r : Reading) (read : HasRead t.view key r u.view) (listed : u.listed ≡ t.listed) where
@@ -219,15 +300,37 @@ module _ (k : Shape) (key : ℕ) (hard : Bool) (s t : SeatAt) (room : HasRoom k 
         let a = paid.0 in let e = ap (λ (z : View). z.allowance.tickets) read.others in omega arith)
         room.tickets
 
-    pub two_left : 3 ≤ s.view.allowance.tickets → 2 ≤ u.view.allowance.tickets
-    two_left three = ⊎_elim
-        (λ (same : s.view.allowance.tickets ≡ t.view.allowance.tickets). let e = ap (λ (z : View). z.allowance.tickets) read.others in omega arith)
-        (λ (paid : (s.view.allowance.tickets ≤ t.view.allowance.tickets + 1) × (t.view.hands.spare ≢ None)).
-        let a = paid.0 in let e = ap (λ (z : View). z.allowance.tickets) read.others in omega arith)
-        room.tickets
-
     pub quiet_read : IsQuietSeat u
     quiet_read = read_quiet t u read listed room.quiet
+
+    -- two more may be retired still
+    pub few_read : length u.view.hands.retired + 1 < k.room
+    few_read = let b = ap (λ (z : View). length z.hands.retired) read.others in let c = room.few in omega arith
+
+    pub pays_read : 3 ≤ s.view.allowance.tickets → CanPayTurn u.view
+    pays_read three =
+        let e = ap (λ (z : View). z.allowance.tickets) read.others in
+        ⊎_elim
+        (λ (same : s.view.allowance.tickets ≡ t.view.allowance.tickets). inl (omega (arith, three, e, same)))
+        (λ (paid : (s.view.allowance.tickets ≤ t.view.allowance.tickets + 1) × (t.view.hands.spare ≢ None)).
+        inr (
+          (let a = paid.0 in omega (arith, three, e, a)),
+          λ none. paid.1 (sym (ap (λ (z : View). z.hands.spare) read.others) ∙ none),
+        ))
+        room.tickets
+
+    pub last_read : u.view.records ≡ r ∷ t.view.records
+    last_read = ap (λ (z : View). z.records) read.others
+
+    pub recorded_read : (turn : Turn) → HasAges k turn r → HasRecorded k u.view turn
+    recorded_read turn ages = record {
+      three = ages.three;
+      reading = r;
+      kept = subst (λ l. IsIn l r) (sym last_read) (0, refl);
+      parent_age = ages.parent_age;
+      node_age = ages.node_age;
+      child_age = ages.child_age;
+    }
 
     -- Slots were taken, or none was free.
     module _ (some : Bool) (x : SeatAt) (takes : TakesSlots k u some x) (same : x.listed ≡ u.listed) where
@@ -252,114 +355,41 @@ module _ (k : Shape) (key : ℕ) (hard : Bool) (s t : SeatAt) (room : HasRoom k 
           omega arith)
           room.tickets
 
-      pub few_takes : length x.view.hands.retired + 1 < k.room
-      few_takes =
-          let a = ap (length {A = Retired}) takes.goes.retired in
-          let b = ap (λ (z : View). length z.hands.retired) read.others in
-          let c = room.few in
-          omega arith
+      pub last_takes : x.view.records ≡ r ∷ t.view.records
+      last_takes = takes.records ∙ last_read
 
-      module _ (turn : Turn) (salt : ℕ) (recorded : RecordsTurn k key salt turn r) where
-        kept_takes : IsIn x.view.records r
-        kept_takes = subst (λ l. IsIn l r) (sym (takes.records ∙ ap (λ (z : View). z.records) read.others)) (0, refl)
+      pub kept_takes : IsIn x.view.records r
+      kept_takes = subst (λ l. IsIn l r) (sym last_takes) (0, refl)
 
-        pub has_recorded : HasRecorded k x.view turn
-        has_recorded = record {
-          three = recorded.three;
-          reading = r;
-          kept = kept_takes;
-          parent_age = recorded.parent_age;
-          node_age = recorded.node_age;
-          child_age = recorded.child_age;
+    -- What came of the turn that was tried.
+    pub tried_leaves : (turn : Turn) (outcome : Outcome) (z : SeatAt) → TriesTurn k u turn outcome z → LeavesTried key hard s z
+    tried_leaves turn Turned z tries =
+        let x = tries.taken in
+        let made = tries.came in
+        let e = made.turned.rest in record {
+          proceeds = proceeds_on key hard s x z (proceeds_takes true x tries.takes tries.same) (proceeds_turned key hard x z turn made);
+          tickets =
+              let f = ap (λ (y : View). y.allowance.tickets) e in
+              let a = takes_tickets true x tries.takes tries.same in
+              omega arith;
+          quiet = made.quiet;
         }
-
-        pub ready : some ≡ true → 3 ≤ s.view.allowance.tickets → IsReadyToTurn k.room x.view
-        ready taken three =
-            let both = takes.both taken in
-            let q = both.quiet.quiet.view in record {
-              outside = q.section;
-              unlocked = q.locks;
-              settled = q.moving;
-              ticket = (let a = takes_tickets in omega arith);
-              room = few_takes;
-              hand = both.hand;
-              hand_is = both.hand_is;
-              unraised = both.unraised;
-              spare = both.spare;
-              spare_is = both.spare_is;
-            }
-
-        pub listed_takes : some ≡ true → AreListed x
-        listed_takes taken = record { each = (takes.both taken).quiet.quiet.listed.each }
-
-        -- The turn was made.
-        module _ (y : SeatAt) (advanced : HasAdvanced x.view y.view []) where
-          proceeds_turned : HasTurned x.view turn y.view → y.listed ≡ x.listed ++ turn.node ∷ (turn.child ∷ []) → IsInformed y.view
-              → Proceeds key hard x y
-          proceeds_turned turned retires informed =
-              let e = turned.rest in record {
-                updates = left_none key advanced;
-                wait = inl (none_begun advanced (ap (λ (z : View). z.counts.waits) e) (ap (λ (z : View). z.wait) e));
-                slots = slots_more x y
-                    (map (λ (r : Retired). (r.slot, r.unlinked, r.waited)) (turned.node_gone ∷ (turned.child_gone ∷ [])))
-                    (turn.node ∷ (turn.child ∷ []))
-                    (ap (λ (z : View). z.counts.waits) e) (ap (λ (z : View). z.wait) e)
-                    (ap retired_marks e ∙ map-append (λ (r : Retired). (r.slot, r.unlinked, r.waited)) x.view.hands.retired
-                    (turned.node_gone ∷ (turned.child_gone ∷ [])))
-                    retires;
-                unwaited = λ no. ap (λ (z : View). z.counts.waits) e;
-                informed = λ told. informed;
-              }
-
-          pub all_turned : HasTurned x.view turn y.view → y.listed ≡ x.listed ++ turn.node ∷ (turn.child ∷ []) → IsInformed y.view
-              → Proceeds key hard s y
-          all_turned turned retires informed = proceeds_on key hard s x y proceeds_takes (proceeds_turned turned retires informed)
-
-          -- what was tried, and what came of it
-          pub was_tried : (made : Bool) → ComesOf made x.view turn y.view
-              → WasTried k key salt (record { turn = turn; reading = r; made = made; before = x.view; after = y.view })
-          was_tried made comes = record { recorded = recorded; kept = kept_takes; comes = comes }
-
-          pub turned_tickets : HasTurned x.view turn y.view → s.view.allowance.tickets ≤ y.view.allowance.tickets + 3
-          turned_tickets turned =
-              let e = ap (λ (z : View). z.allowance.tickets) turned.rest in
-              let a = takes_tickets in
-              omega arith
-
-          -- It wasn't, and the slot in hand was put back.
-          module _ (none : HasTurnedNone x.view turn y.view) (still : IsQuietButHand y) (same_list : y.listed ≡ x.listed) where
-            pub held_still : some ≡ true → (held : Held) × (y.view.hands.hand ≡ Some held) × (held.raised ≡ false)
-            held_still taken =
-                let both = takes.both taken in
-                (both.hand, ap (λ (z : View). z.hands.hand) none.rest ∙ both.hand_is, both.unraised)
-
-            module _ (z : SeatAt) (slot : ℕ) (back : PutsBack y.view slot z.view) (last : z.listed ≡ y.listed) (told : IsInformed z.view) where
-              none_goes : Goes x.view y.view []
-              none_goes = record {
-                advanced = advanced;
-                retired = ap (λ (z : View). z.hands.retired) none.rest;
-                wait = ap (λ (z : View). z.wait) none.rest;
-                waits = ap (λ (z : View). z.counts.waits) none.rest;
-              }
-
-              pub all_lost : Proceeds key hard s z
-              all_lost = proceeds_on key hard s x z proceeds_takes
-                  (proceeds_goes key hard x z [] (goes_on none_goes (goes_back back)) tt (last ∙ same_list) (λ was. told))
-
-              pub lost_behind : RestsBehind key y.view z.view
-              lost_behind =
-                  let goes = goes_back back in
-                  record { updates = left_none key goes.advanced; waits = goes.waits; retired = goes.retired }
-
-              pub lost_quiet : IsQuietSeat z
-              lost_quiet = put_back_quiet y z back last still
-
-              pub lost_tickets : s.view.allowance.tickets ≤ z.view.allowance.tickets + 3
-              lost_tickets =
-                  let e = ap (λ (z : View). z.allowance.tickets) none.rest in
-                  let f = ap (λ (z : View). z.allowance.tickets) back.rest in
-                  let a = takes_tickets in
-                  omega arith
+    tried_leaves turn Refused z tries =
+        let x = tries.taken in
+        let lost = tries.came in record {
+          proceeds = proceeds_on key hard s x z (proceeds_takes true x tries.takes tries.same) (proceeds_refused key hard x z turn lost);
+          tickets =
+              let e = ap (λ (y : View). y.allowance.tickets) lost.none.rest in
+              let f = ap (λ (y : View). y.allowance.tickets) lost.back.rest in
+              let a = takes_tickets true x tries.takes tries.same in
+              omega arith;
+          quiet = put_back_quiet lost.refused z lost.back lost.kept lost.still;
+        }
+    tried_leaves turn NoneFree z tries = record {
+      proceeds = proceeds_takes false z tries.0 tries.1;
+      tickets = (let a = takes_tickets false z tries.0 tries.1 in omega arith);
+      quiet = (tries.0.none refl).quiet;
+    }
 
 -- What an attempt comes to, by its ends.
 module _ (k : Shape) (aim : Aim) (s t : SeatAt) (room : HasRoom k aim.key aim.hard s t) (u : SeatAt) (listed : u.listed ≡ t.listed) where
@@ -380,75 +410,77 @@ module _ (k : Shape) (aim : Aim) (s t : SeatAt) (room : HasRoom k aim.key aim.ha
     pub quiet_found : IsQuietSeat u
     quiet_found = quiet_read k aim.key aim.hard s t room u found.0 found.1 listed
 
-    pub two_found : 3 ≤ s.view.allowance.tickets → 2 ≤ u.view.allowance.tickets
-    two_found = two_left k aim.key aim.hard s t room u found.0 found.1 listed
+    pub pays_found : 3 ≤ s.view.allowance.tickets → CanPayTurn u.view
+    pays_found = pays_read k aim.key aim.hard s t room u found.0 found.1 listed
 
-    pub none_attempt : (x : SeatAt) → TakesSlots k u false x → x.listed ≡ u.listed → HasAttempted k aim s (EndedBy NoSlot) x
-    none_attempt x takes same =
-        let on = proceeds_takes k aim.key aim.hard s t room u found.0 found.1 listed false x takes same in
-        let none = takes.none refl in record {
-          proceeds = on;
-          attempts = (
-            between_takes k aim.key aim.hard s t room u found.0 found.1 listed false x takes same,
-            none.full,
-            (λ e. absurd (let other : NoSlot ≡ Spent = e in cc)),
-          );
-          tickets = (let a = takes_tickets k aim.key aim.hard s t room u found.0 found.1 listed false x takes same in omega arith);
-          quiet = none.quiet;
-        }
+    pub few_found : length u.view.hands.retired + 1 < k.room
+    few_found = few_read k aim.key aim.hard s t room u found.0 found.1 listed
+
+    pub recorded_found : HasRecorded k u.view turn
+    recorded_found = recorded_read k aim.key aim.hard s t room u found.0 found.1 listed turn found.2.ages
+
+    tried_found : (outcome : Outcome) (z : SeatAt) → TriesTurn k u turn outcome z → LeavesTried aim.key aim.hard s z
+    tried_found = tried_leaves k aim.key aim.hard s t room u found.0 found.1 listed turn
 
     module _ (x : SeatAt) (takes : TakesSlots k u true x) (same : x.listed ≡ u.listed) where
-      pub recorded_there : HasRecorded k x.view turn
-      recorded_there = has_recorded k aim.key aim.hard s t room u found.0 found.1 listed true x takes same turn aim.salt found.2
+      before_found : ComesBetween k aim.key aim.hard s.view x.view
+      before_found = between_takes k aim.key aim.hard s t room u found.0 found.1 listed true x takes same
 
-      pub ready_there : 3 ≤ s.view.allowance.tickets → IsReadyToTurn k.room x.view
-      ready_there = ready k aim.key aim.hard s t room u found.0 found.1 listed true x takes same turn aim.salt found.2 refl
+      -- what was tried, and what came of it
+      was_tried : (made : Bool) (after : View) → ComesOf made x.view turn after
+          → WasTried k aim.key aim.salt (record { turn = turn; reading = found.0; made = made; before = x.view; after = after })
+      was_tried made after comes = record {
+        recorded = found.2;
+        kept = kept_takes k aim.key aim.hard s t room u found.0 found.1 listed true x takes same;
+        comes = comes;
+      }
 
-      pub listed_there : AreListed x
-      listed_there = listed_takes k aim.key aim.hard s t room u found.0 found.1 listed true x takes same turn aim.salt found.2 refl
-
-      module _ (y : SeatAt) (advanced : HasAdvanced x.view y.view []) where
-        pub turned_attempt : HasTurned x.view turn y.view → y.listed ≡ x.listed ++ turn.node ∷ (turn.child ∷ []) → IsInformed y.view
-            → IsQuietSeat y → HasAttempted k aim s (Tried true) y
-        turned_attempt turned retires informed quiet = record {
-          proceeds = all_turned k aim.key aim.hard s t room u found.0 found.1 listed true x takes same turn aim.salt found.2 y advanced turned
-              retires informed;
+    pub turned_attempt : (z : SeatAt) → TriesTurn k u turn Turned z → HasAttempted k aim s (Tried true) z
+    turned_attempt z tries =
+        let all = tried_found Turned z tries in
+        let x = tries.taken in record {
+          proceeds = all.proceeds;
           attempts = record {
-            turn = record { turn = turn; reading = found.0; made = true; before = x.view; after = y.view };
+            turn = record { turn = turn; reading = found.0; made = true; before = x.view; after = z.view };
             made = refl;
-            before = between_takes k aim.key aim.hard s t room u found.0 found.1 listed true x takes same;
-            tried = was_tried k aim.key aim.hard s t room u found.0 found.1 listed true x takes same turn aim.salt found.2 y advanced true turned;
+            before = before_found x tries.takes tries.same;
+            tried = was_tried x tries.takes tries.same true z.view tries.came.turned;
             behind = record { updates = left_none aim.key advanced_same; waits = refl; retired = refl };
           };
-          tickets = turned_tickets k aim.key aim.hard s t room u found.0 found.1 listed true x takes same turn aim.salt found.2 y advanced turned;
-          quiet = quiet;
+          tickets = all.tickets;
+          quiet = all.quiet;
         }
 
-        module _ (none : HasTurnedNone x.view turn y.view) (still : IsQuietButHand y) (same_list : y.listed ≡ x.listed) where
-          pub held_there : (held : Held) × (y.view.hands.hand ≡ Some held) × (held.raised ≡ false)
-          held_there = held_still k aim.key aim.hard s t room u found.0 found.1 listed true x takes same turn aim.salt found.2 y advanced none
-              still same_list refl
+    pub lost_attempt : (z : SeatAt) → TriesTurn k u turn Refused z → HasAttempted k aim s (Tried false) z
+    lost_attempt z tries =
+        let all = tried_found Refused z tries in
+        let x = tries.taken in
+        let lost = tries.came in
+        let goes = goes_back lost.back in record {
+          proceeds = all.proceeds;
+          attempts = record {
+            turn = record { turn = turn; reading = found.0; made = false; before = x.view; after = lost.refused.view };
+            made = refl;
+            before = before_found x tries.takes tries.same;
+            tried = was_tried x tries.takes tries.same false lost.refused.view lost.none;
+            behind = record { updates = left_none aim.key goes.advanced; waits = goes.waits; retired = goes.retired };
+          };
+          tickets = all.tickets;
+          quiet = all.quiet;
+        }
 
-          pub lost_attempt : (z : SeatAt) → PutsBack y.view held_there.0.slot z.view → z.listed ≡ y.listed → IsInformed z.view
-              → HasAttempted k aim s (Tried false) z
-          lost_attempt z back last told =
-              let on = all_lost k aim.key aim.hard s t room u found.0 found.1 listed true x takes same turn aim.salt found.2 y advanced none
-              still same_list z held_there.0.slot back last told in record {
-                proceeds = on;
-                attempts = record {
-                  turn = record { turn = turn; reading = found.0; made = false; before = x.view; after = y.view };
-                  made = refl;
-                  before = between_takes k aim.key aim.hard s t room u found.0 found.1 listed true x takes same;
-                  tried = was_tried k aim.key aim.hard s t room u found.0 found.1 listed true x takes same turn aim.salt found.2 y advanced
-                      false none;
-                  behind = lost_behind k aim.key aim.hard s t room u found.0 found.1 listed true x takes same turn aim.salt found.2 y advanced
-                      none still same_list z held_there.0.slot back last told;
-                };
-                tickets = lost_tickets k aim.key aim.hard s t room u found.0 found.1 listed true x takes same turn aim.salt found.2 y advanced
-                    none still same_list z held_there.0.slot back last told;
-                quiet = lost_quiet k aim.key aim.hard s t room u found.0 found.1 listed true x takes same turn aim.salt found.2 y advanced none
-                    still same_list z held_there.0.slot back last told;
-              }
+    pub none_attempt : (z : SeatAt) → TriesTurn k u turn NoneFree z → HasAttempted k aim s (EndedBy NoSlot) z
+    none_attempt z tries =
+        let all = tried_found NoneFree z tries in record {
+          proceeds = all.proceeds;
+          attempts = (
+            between_takes k aim.key aim.hard s t room u found.0 found.1 listed false z tries.0 tries.1,
+            (tries.0.none refl).full,
+            (λ e. absurd (let other : NoSlot ≡ Spent = e in cc)),
+          );
+          tickets = all.tickets;
+          quiet = all.quiet;
+        }
 
 -- Turns that were tried, one after another, with nothing behind the last one yet.
 abbrev pub TriedSo : Shape → Aim → View → List TurnTried → View → Type 0

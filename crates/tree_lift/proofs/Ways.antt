@@ -401,19 +401,21 @@ module _ (k : Shape) (key salt : ℕ) where
                   child_generation = child_generation;
                 }) third
             records_turn parent_generation node_generation child_generation parent_half node_half child_half = record {
-              three = record {
-                parent_slot = there.parent_slot;
-                node_slot = there.node_slot;
-                child_slot = x.child_slot;
-                node_apart = λ e. node_apart (sym e);
-                child_apart = λ e. child_apart (sym e);
-                child_off = child_off;
-                some_node = there.some_node;
-                some_child = x.some_child;
+              ages = record {
+                three = record {
+                  parent_slot = there.parent_slot;
+                  node_slot = there.node_slot;
+                  child_slot = x.child_slot;
+                  node_apart = λ e. node_apart (sym e);
+                  child_apart = λ e. child_apart (sym e);
+                  child_off = child_off;
+                  some_node = there.some_node;
+                  some_child = x.some_child;
+                };
+                parent_age = (parent_life, known_is (Life at.parent) parent_life parent_known, parent_half);
+                node_age = (node_life, known_is (Life at.node) node_life node_known, node_half);
+                child_age = (child_life, known_is (Life c.child.slot) child_life child_known, child_half);
               };
-              parent_age = (parent_life, known_is (Life at.parent) parent_life parent_known, parent_half);
-              node_age = (node_life, known_is (Life at.node) node_life node_known, node_half);
-              child_age = (child_life, known_is (Life c.child.slot) child_life child_known, child_half);
               node_key = at.key;
               child_key = c.child.key;
               above = there.above;

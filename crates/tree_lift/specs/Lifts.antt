@@ -1,11 +1,12 @@
 -- Lifts: the room that a turn needs, what a lift leaves, and what it answers.
-use Rattle.std.specs.Prelude.{◌≡◌, ◌≢◌, ◌⊎◌, ◌+◌, ◌<◌, ◌≤◌, Bool, true, false, [], length, Some, None, if◌then◌else◌, ℕ, List, ◌∷◌}
+use Rattle.std.specs.Prelude.{◌≡◌, ◌≢◌, ◌⊎◌, ◌+◌, ◌<◌, ◌≤◌, Bool, true, false, [], length, Some, None, if◌then◌else◌, ℕ, List, ◌∷◌, ◌++◌}
 use Rattle.core_state.specs.declared.shape.Shape.{Shape}
 use Rattle.core_state.specs.declared.view.Held.{Held}
 use Rattle.core_state.specs.declared.view.View.{View}
 use Rattle.seat_table.specs.Gains.{IsFull, IsInformed}
 use Rattle.seat_table.specs.Seats.{SeatAt, IsQuietSeat}
 use Rattle.node_slots.specs.Reclaiming.{HasReclaimed}
+use Rattle.node_slots.specs.Slots.{PutsBack}
 use Rattle.citrus_tree.specs.Going.{Goes, IsOfTry, KeepsSeat, KeepsSlots, KeepsWait}
 use Rattle.tree_turn.specs.Turns.{IsQuietButHand, HasTurned, HasTurnedNone}
 use Rattle.std.specs.List.{AllByRecursion}
@@ -19,6 +20,8 @@ use Rattle.tree_lift.specs.declared.lifting.Attempt.{Attempt}
 use Rattle.tree_lift.specs.declared.lifting.Lifted.{Lifted}
 use Rattle.tree_lift.specs.declared.lifting.Attempt.TheVariants.{Tried, Ended}
 use Rattle.tree_lift.specs.declared.lifting.Stop.{Stop}
+use Rattle.tree_lift.specs.declared.trying.Outcome.{Outcome}
+use Rattle.tree_lift.specs.declared.trying.Outcome.TheVariants.{Turned, Refused, NoSlot as NoneFree}
 use Rattle.tree_lift.specs.declared.lifting.Stop.TheVariants.{Level, NoRoom, NoSlot, Spent}
 use Rattle.tree_lift.specs.Ways.{RecordsTurn, Finds}
 use Rattle.prcu_model.specs.declared.operation.Op.{Op}
@@ -93,6 +96,43 @@ pub record TakesSlots (k : Shape) (s : SeatAt) (some : Bool) (t : SeatAt) : Type
   pub both : some ≡ true → HasBoth t
   pub none : some ≡ false → HasNone k t
   pub informed : IsInformed s.view → IsInformed t.view
+
+-- The tickets for a turn: one for the turn itself, one for a slot in hand and, where the place has no spare, one for that.
+abbrev pub CanPayTurn : View → Type 0
+CanPayTurn v = (3 ≤ v.allowance.tickets) ⊎ ((2 ≤ v.allowance.tickets) × (v.hands.spare ≢ None))
+
+-- A turn was made: the two that changed places are listed as retired, and the seat is quiet again.
+pub record MakesTurn (s : SeatAt) (turn : Turn) (t : SeatAt) : Type 0 where
+  pub advanced : HasAdvanced s.view t.view []
+  pub turned : HasTurned s.view turn t.view
+  pub retires : t.listed ≡ s.listed ++ turn.node ∷ (turn.child ∷ [])
+  pub informed : IsInformed t.view
+  pub quiet : IsQuietSeat t
+
+-- A turn wasn't made, for its cause, and then the slot in hand was put back.
+pub record RefusesTurn (s : SeatAt) (turn : Turn) (t : SeatAt) : Type 0 where
+  pub refused : SeatAt
+  pub advanced : HasAdvanced s.view refused.view []
+  pub none : HasTurnedNone s.view turn refused.view
+  pub still : IsQuietButHand refused
+  pub same_list : refused.listed ≡ s.listed
+  pub slot : ℕ
+  pub back : PutsBack refused.view slot t.view
+  pub kept : t.listed ≡ refused.listed
+  pub informed : IsInformed t.view
+
+-- The place took a slot in hand and has a spare, and then the turn was tried.
+pub record HasTriedWith (k : Shape) (s : SeatAt) (comes : SeatAt → Type 0) : Type 0 where
+  pub taken : SeatAt
+  pub takes : TakesSlots k s true taken
+  pub same : taken.listed ≡ s.listed
+  pub came : comes taken
+
+-- what came of a turn that was tried
+abbrev pub TriesTurn : Shape → SeatAt → Turn → Outcome → SeatAt → Type 0
+TriesTurn k s turn Turned t = HasTriedWith k s (λ taken. MakesTurn taken turn t)
+TriesTurn k s turn Refused t = HasTriedWith k s (λ taken. RefusesTurn taken turn t)
+TriesTurn k s turn NoneFree t = TakesSlots k s false t × (t.listed ≡ s.listed)
 
 -- What a lift leaves, and what it answers.
 -- Source: docs/TREE_CALLS.md, "Lifts".

@@ -152,12 +152,16 @@ pub record IsCrossing (k : Shape) (key salt : ℕ) (c : Crossing) (r : Reading) 
   pub is : r ≡ went_down earlier c.at.node c.at.turn c.child
   pub rises_above : rises salt c.child.key c.at.key ≡ true
 
--- what a section found out of the topmost node on the way to the key whose child on the way is to stand above it
-pub record RecordsTurn (k : Shape) (key salt : ℕ) (t : Turn) (r : Reading) : Type 0 where
+-- The three of a turn are slots of the table, apart from each other, and a section loaded their generations.
+pub record HasAges (k : Shape) (t : Turn) (r : Reading) : Type 0 where
   pub three : AreThree k t
   pub parent_age : LoadedGeneration r t.parent t.parent_generation
   pub node_age : LoadedGeneration r t.node t.node_generation
   pub child_age : LoadedGeneration r t.child t.child_generation
+
+-- what a section found out of the topmost node on the way to the key whose child on the way is to stand above it
+pub record RecordsTurn (k : Shape) (key salt : ℕ) (t : Turn) (r : Reading) : Type 0 where
+  pub ages : HasAges k t r
   pub node_key : ℕ
   pub child_key : ℕ
   pub above : List ℕ

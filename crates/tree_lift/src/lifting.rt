@@ -7,11 +7,10 @@ ghost use Rattle.citrus_tree.specs.Going.{KeepsSeat};
 ghost use Rattle.tree_lift.specs.Lifts.{EndsBy, HasAttempted, HasLifted, LeavesNoUpdate};
 
 use crate::finding::find_turn;
-use crate::room::{make_room, take_slots};
-use node_slots::put_back;
+use crate::room::make_room;
+use crate::trying::{Outcome, try_turn};
 use patience::Patience;
 use seat_table::{CitrusTable, Seat, WaitPart};
-use tree_turn::make_turn;
 
 /// What a lift is asked for.
 #[derive(Clone, Copy)]
@@ -104,7 +103,7 @@ pub fn lift<P: Patience, W: WaitPart>(
     })
 }
 
-// One attempt at a turn. A slot that it took in hand and didn't link is put back.
+// One attempt at a turn.
 fn make_attempt<P: Patience, W: WaitPart>(
     patience: &P,
     table: &CitrusTable<W>,
@@ -124,12 +123,9 @@ fn make_attempt<P: Patience, W: WaitPart>(
     let Some(turn) = find_turn(table, seat, aim.key, aim.salt) else {
         return Ok(Attempt::Ended { stop: Stop::Level });
     };
-    if !take_slots(patience, table, seat)? {
-        return Ok(Attempt::Ended { stop: Stop::NoSlot });
+    match try_turn(patience, table, seat, turn)? {
+        Outcome::Turned => Ok(Attempt::Tried { turned: true }),
+        Outcome::Refused => Ok(Attempt::Tried { turned: false }),
+        Outcome::NoSlot => Ok(Attempt::Ended { stop: Stop::NoSlot }),
     }
-    if make_turn(table, seat, turn) {
-        return Ok(Attempt::Tried { turned: true });
-    }
-    put_back(table, seat);
-    Ok(Attempt::Tried { turned: false })
 }

@@ -54,7 +54,8 @@ pub fn most_keys(slots: u64, free: u64) -> u64
 }
 
 /// How often a turn is to be tried behind a put whose way led over so many slots, in a tree of so many keys: 24 times where the way is
-/// deep, and else never. So many turns retire 48 slots, fewer than the room of the library's places: so a lift stands still once at most.
+/// deep, and else never. So many turns retire 48 slots: a lift stands still once at most where a place keeps so many back, and as often as
+/// its room goes into 48 where it was opened for fewer.
 pub fn attempts_behind(depth: u64, size: u64) -> u32
     ensures tried { AreTriedBehind depth size result }
     ensures few { result ≤ 24 }

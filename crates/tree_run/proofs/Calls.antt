@@ -31,7 +31,7 @@ use Rattle.citrus_tree.proofs.Clients.{met_its_own, chain_told}
 use Rattle.tree_lift.proofs.Calls.{call_answers, IsPlain, ended_plain, began_plain, no_plain, both_plain, answered_longer, answered_earlier, told_answers}
 use Rattle.prcu_marks.proofs.Callers.{told_meets}
 use Rattle.citrus_tree.specs.Going.{KeepsSlots}
-use Rattle.grace_cookie.proofs.Keeping.{cookies_stay, stay_retired}
+use Rattle.grace_cookie.proofs.Keeping.{cookies_stay, not_over, stay_retired}
 use Rattle.tree_lift.specs.Lifts.{IsToldThenLifts}
 use Rattle.tree_lift.specs.Lifts as tree
 
@@ -45,7 +45,7 @@ back_advanced c s number t back = ⊎_elim
       ap (λ (z : View). z.counts.waits) e,
     ))
     (λ (some : GivesSome c s number t).
-    let g = some.gives in
+    let g = some.first.gives in
     let marks : List Mark = return_marks (held_list s.view.hands.spare) (take c.slots s.listed) in (
       record {
         steps = g.steps;
@@ -355,13 +355,13 @@ pub call_keeps : (k : Shape) (op : Op) (told : Told) (s t : SeatAt) → IsToldTh
 call_keeps k op told s t is slots =
     let answers = told_answers k s.view t.view op told is in record {
       latest = record { place = answers.place; seen = answers.since; waits = slots.waits; wait = slots.wait };
-      retired = λ same. let later = slots.retired same in stay_retired s.view t.view later.0 later.1;
-      listed = slots.listed;
+      slots = λ same. let none = slots.slots same in
+          record { retired = stay_retired s.view t.view none.retired.0 none.retired.1; listed = none.listed };
     }
 
 pub good_stays : (k : Shape) (cookie : Option CookieAt) (s t : SeatAt) → KeepsCookies s t → IsGood k s cookie → IsGood k t cookie
 good_stays k None s t keeps good = tt
-good_stays k (Some c) s t keeps good = let still = cookies_stay k c s t keeps good.1 good.2 in (good.0, still.0, still.1, good.3)
+good_stays k (Some c) s t keeps good = let still = cookies_stay k c s t keeps (not_over c good.0) good.1 good.2 in (good.0, still.0, still.1, good.3)
 
 -- what is done about the cookie before a call, the call, and what is done about the cookie after it
 pub made_call : (shape : Shape) (table : TableAt) (cookie left held : Option CookieAt) (s ready mid t : SeatAt) (op : Op) (told : Told)

@@ -33,7 +33,8 @@ pub(crate) fn hire<'a, W: WaitPart, G: Gate>(
         let script = scripts.script(i);
         let used = tickets_for(cookies, script.len() as u64);
         let left = rest.tickets() - used;
-        let (mine, others) = rest.split(table, last - i, left);
+        let list = rest.empty_list(alloc)?;
+        let (mine, others) = rest.split(table, last - i, left, list);
         rest = others;
         hire_one(&mut workers, alloc, table, mine, gate, script, cookies)?;
     }

@@ -18,6 +18,7 @@ mod cookies;
 mod endings;
 mod rule;
 mod shapes;
+mod sinking;
 
 // A salt that leaves each key as it is.
 const NO_SALT: u64 = 0;

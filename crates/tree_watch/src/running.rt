@@ -83,7 +83,8 @@ pub fn run_watched<R: Threads + Wait + Sync, W: WaitPart + Send + Sync, G: Gate 
     let tickets = tickets_for(false, u64::from(scripts.ops()));
     let places = scripts.count() + 1;
     let (table, seat) = CitrusTable::new(alloc, slots + SLOTS_OF_ONE_PLACE, places, tickets)?;
-    let (workers, lister) = seat.split(&table, 1, 0);
+    let list = seat.empty_list(alloc)?;
+    let (workers, lister) = seat.split(&table, 1, 0, list);
     let snapshots = Snapshots::empty(alloc)?;
     let watched = run_beside(
         rt, alloc, &table, workers, lister, scripts, keys, snapshots, gate,

@@ -1,7 +1,7 @@
 use crate::handle::Handle;
 use crate::lanes::{open_sets, Lanes, LANES};
 use crate::lent::Lent;
-use crate::library::{citrus_open_with, citrus_share, status, RawHandle, RawOptions};
+use crate::library::{citrus_open_keeping, citrus_open_with, citrus_share, status, RawHandle, RawOptions};
 use crate::pool::Pool;
 use crate::turns::Turns;
 use crate::{Error, ALL_TICKETS, MAX_HANDLES, MAX_PAIRS};
@@ -52,6 +52,7 @@ pub struct Builder {
     in_turn: bool,
     lane_sets: u32,
     salt: Option<u64>,
+    keep: Option<u32>,
 }
 
 impl Builder {
@@ -78,6 +79,23 @@ impl Builder {
         Builder { salt: Some(salt), ..self }
     }
 
+    /// How many slots of removed pairs each handle may keep back, until no reader can stand there: 16 or more. Where nothing is said, or 0, it is an
+    /// eighth of the pairs that there are for each handle, but 64 at least and 65,536 at most, and no more than 2^30 slots allow.
+    ///
+    /// While a reader stays each removal keeps back one or more; a handle that keeps back so many removes nothing until the reader leaves, and adds
+    /// few pairs of keys that come in order, since it turns no nodes. So with more of them updates go on for longer beside a
+    /// [`Guard`](crate::Guard) that stays, or a thread that the system has stopped in a lookup.
+    /// Each slot takes 72 bytes, for each handle and each lane, and 8 more once it is used.
+    ///
+    /// ```
+    /// let index = citrus_map::Index::builder(1_000, 2).keep(4_096).build()?;
+    /// assert_eq!(index.handle()?.stats().room, 4_096);
+    /// # Ok::<(), citrus_map::Error>(())
+    /// ```
+    pub fn keep(self, slots: u32) -> Builder {
+        Builder { keep: Some(slots), ..self }
+    }
+
     /// Whether updates take turns, one at a time; they don't where nothing is said. It is for programs with many more threads that update than
     /// processors: there updates try again and again while the system has stopped a thread with a lock, and one that waits for its turn yields
     /// the processor, and then sleeps. With as many threads as processors turns make updates slower. Lookups, lists and waits take none.
@@ -94,14 +112,14 @@ impl Builder {
     /// Makes the index, with nothing in it. It takes all its memory at once.
     ///
     /// # Errors
-    /// [`Error::Pairs`] and [`Error::Handles`] where a number is out of range, [`Error::NoMemory`].
+    /// [`Error::Pairs`], [`Error::Handles`] and [`Error::Keep`] where a number is out of range, [`Error::NoMemory`].
     pub fn build(self) -> Result<Index, Error> {
         self.build_with(ALL_TICKETS)
     }
 
     /// The same with so many tickets in all, which its handles share.
     pub(crate) fn build_with(self, tickets: u64) -> Result<Index, Error> {
-        let Builder { pairs, handles, waiter, in_turn, lane_sets, salt } = self;
+        let Builder { pairs, handles, waiter, in_turn, lane_sets, salt, keep } = self;
         if !(1..=MAX_PAIRS).contains(&pairs) {
             return Err(Error::Pairs);
         }
@@ -111,10 +129,8 @@ impl Builder {
         if lane_sets > (MAX_HANDLES - handles) / LANES {
             return Err(Error::Handles);
         }
-        let mut first = RawHandle::CLOSED;
         let options = RawOptions::new(pairs, handles + lane_sets * LANES, waiter.number(), salt.unwrap_or_else(drawn));
-        // SAFETY: `first` is a closed handle of our own, and `options` a whole record.
-        done(unsafe { citrus_open_with(&mut first, &options) })?;
+        let mut first = opened(&options, keep)?;
         let lanes = open_sets(&mut first, lane_sets)?;
         let mut all = Vec::with_capacity(handles as usize);
         for _ in 1..handles {
@@ -128,6 +144,20 @@ impl Builder {
     }
 }
 
+/// The first handle of a new index, whose pairs and handles are in range. Where nothing is said of what handles keep back, the library says it.
+fn opened(options: &RawOptions, keep: Option<u32>) -> Result<RawHandle, Error> {
+    let mut first = RawHandle::CLOSED;
+    // SAFETY: `first` is a closed handle of our own, and `options` a whole record. The same holds at the other call.
+    let told = match keep {
+        Some(keep) => unsafe { citrus_open_keeping(&mut first, options, keep) },
+        None => unsafe { citrus_open_with(&mut first, options) },
+    };
+    match told {
+        status::BAD_ARGUMENT if keep.is_some() => Err(Error::Keep),
+        told => done(told).map(|()| first),
+    }
+}
+
 /// The part of the tickets that each handle of an index has, where so many share them.
 pub(crate) fn fair_share(tickets: u64, handles: u32) -> u64 {
     tickets / u64::from(handles)
@@ -138,7 +168,7 @@ fn drawn() -> u64 {
     RandomState::new().build_hasher().finish()
 }
 
-/// Tells the causes of `citrus_open_with` and `citrus_share` that arguments in range may have.
+/// Tells the causes of an open and of `citrus_share` that arguments in range may have.
 fn done(status: i32) -> Result<(), Error> {
     match status {
         status::DONE => Ok(()),
@@ -160,8 +190,8 @@ pub struct Index {
 impl Index {
     /// A new index for 1 to [`MAX_PAIRS`] pairs, and 1 to [`MAX_HANDLES`] handles that may be out at one time.
     ///
-    /// So many pairs always fit: no insert finds the index full while it has fewer. Up to 68 more fit for each handle, as long as
-    /// the handles don't keep back what removals freed.
+    /// So many pairs always fit: no insert finds the index full while it has fewer. More fit as long as the handles don't keep back all the slots
+    /// that there are for what removals freed ([`Builder::keep`]).
     ///
     /// # Errors
     /// [`Error::Pairs`] and [`Error::Handles`] where a number is out of range, [`Error::NoMemory`].
@@ -180,7 +210,7 @@ impl Index {
 
     /// The same as [`Index::new`], with more to say before the index is made.
     pub fn builder(pairs: u32, handles: u32) -> Builder {
-        Builder { pairs, handles, waiter: Waiter::default(), in_turn: false, lane_sets: 0, salt: None }
+        Builder { pairs, handles, waiter: Waiter::default(), in_turn: false, lane_sets: 0, salt: None, keep: None }
     }
 
     /// A handle for a thread. It goes back to the index when it is dropped.

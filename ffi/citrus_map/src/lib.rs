@@ -41,8 +41,8 @@
 //! to the pool when it is dropped. Or it calls by the index itself, which lends it a handle for the call: see [`Index::lend`].
 //!
 //! # While a value is read
-//! A [`Guard`] of a map, and a [`Section`] or [`Held`] of an index, is for a moment, as the guard of a lock. Updates wait for the readers near
-//! their key, sometimes for all, and keep locks meanwhile. So:
+//! A [`Guard`] of a map, and a [`Section`] or [`Held`] of an index, is for a moment, as the guard of a lock. Removals may wait for the readers near
+//! their key, with locks, and updates for all where their handle has no room for more slots ([`Builder::keep`]), or no slot is free. So:
 //! - the handle that has a guard makes no other call: that doesn't compile;
 //! - its thread makes no update and no wait by another handle of the same map: these answer [`Error::Holds`] and do nothing. Lookups, lists and
 //!   guards by another handle are free;
@@ -63,7 +63,8 @@
 //! - All memory is taken when the index is made, but for lists, which take theirs by the call, and a map's values, each in a box of its own.
 //! - The tree stays shallow in whatever order keys come: an insertion that went deep turns nodes on its way. How deep it is isn't proved, and
 //!   who chooses keys by the library's rule can make it a path.
-//! - A removal waits for lookups under way near its key, and every sixtieth or so of a handle for all lookups and lists under way.
+//! - A removal may wait for lookups under way near its key, and waits for all lookups and lists under way where its handle keeps back as many
+//!   slots as it may, as does an insertion that would need turns then: [`Builder::keep`].
 //! - Where another thread has the lock of a node, an update yields the processor and tries again; a removal that has locks itself spins. With
 //!   many more threads that update than processors updates may take turns: [`Builder::updates_in_turn`].
 //! - A list that updates came in between in four tries keeps them off for a walk, some 30 ns a pair: see [`Handle::page`].
@@ -114,7 +115,7 @@ pub const MAX_HANDLES: u32 = 1_024;
 /// The greatest number of pairs that one list tells.
 pub const MAX_ROOM: usize = 1 << 30;
 
-/// The tickets of an index; an update uses at most 16 of them.
+/// The tickets of an index.
 const ALL_TICKETS: u64 = 1 << 57;
 
 /// The README's program is tried with the other examples.

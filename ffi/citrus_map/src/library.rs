@@ -113,6 +113,7 @@ pub(crate) mod status {
     pub(crate) const NEW: i32 = 5;
     pub(crate) const DIFFERENT: i32 = 6;
     pub(crate) const BUSY: i32 = 7;
+    pub(crate) const BAD_ARGUMENT: i32 = -2;
     pub(crate) const NO_MEMORY: i32 = -3;
     pub(crate) const SPENT: i32 = -4;
     pub(crate) const LOST: i32 = -5;
@@ -123,6 +124,7 @@ pub(crate) mod status {
 // and lead to memory of their type. Whatever else a call may ask the library tests itself.
 extern "C" {
     pub(crate) fn citrus_open_with(handle: *mut RawHandle, options: *const RawOptions) -> i32;
+    pub(crate) fn citrus_open_keeping(handle: *mut RawHandle, options: *const RawOptions, keep: u32) -> i32;
     pub(crate) fn citrus_share(handle: *mut RawHandle, handles: u32, tickets: u64, other: *mut RawHandle) -> i32;
     pub(crate) fn citrus_stats(handle: *mut RawHandle, stats: *mut RawStats) -> i32;
     pub(crate) fn citrus_close(handle: *mut RawHandle);

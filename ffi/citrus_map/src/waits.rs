@@ -78,7 +78,8 @@ impl Handle {
     }
 
     /// Begins such a wait and comes back at once; [`poll`](Handle::poll) tells when it is over. A handle has one wait under way: any other
-    /// takes its place, and so do those that its removals and insertions make.
+    /// takes its place, and so does a removal or an insertion that waits for readers. A wait that the handle would begin for the slots that it
+    /// keeps back doesn't. So poll until the end is told: before that the handle gives no slots back without standing still.
     ///
     /// # Errors
     /// [`Error::Spent`] and [`Error::Lost`].
@@ -131,8 +132,7 @@ impl Handle {
 
     /// Makes the tree shallow above the keys of the range, for later lookups: it goes to the first 256 of them in order and turns nodes on the
     /// way, until so many turns were tried. 0 turns are taken as 1. No pair changes. Insertions do the same on their own ways, so this is
-    /// for a tree that nobody puts to any more. A turn takes two slots that are free; an index with 68 pairs more than it was made for may have
-    /// none.
+    /// for a tree that nobody puts to any more. A turn takes two slots that are free; an index with more pairs than it was made for may have none.
     /// Where it isn't finished it tells the key to go on with:
     ///
     /// # Errors

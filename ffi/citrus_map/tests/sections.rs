@@ -196,6 +196,46 @@ fn a_forgotten_section_is_left_before_its_handle_waits_for_a_turn() {
     });
 }
 
+/// Each pair that goes stands at the end of its way, so its removal keeps back one slot. The guard stays until all are gone; where they wait for
+/// it, it goes after a time.
+#[test]
+fn removals_go_on_beside_a_guard_that_stays() {
+    const REMOVALS: u64 = 4_000;
+    for waiter in WAITERS {
+        let index = Index::builder(10, 2).waiter(waiter).keep(4_096).build().unwrap();
+        let (mut reader, writer) = (index.handle().unwrap(), index.handle().unwrap());
+        writer.insert(0, 7).unwrap();
+        let (is_held, are_gone) = (Barrier::new(2), AtomicBool::new(false));
+        thread::scope(|scope| {
+            let (is_held, are_gone) = (&is_held, &are_gone);
+            let reading = scope.spawn(move || {
+                let held = reader.hold(0).unwrap().unwrap();
+                is_held.wait();
+                let begun = Instant::now();
+                while !are_gone.load(SeqCst) && begun.elapsed() < Duration::from_secs(20) {
+                    thread::sleep(Duration::from_millis(1));
+                }
+                assert!(are_gone.load(SeqCst), "removals wait for the guard");
+                held.value()
+            });
+            is_held.wait();
+            for round in 0..REMOVALS {
+                let key = 1 + round % 9;
+                assert_eq!(writer.insert(key, round), Ok(true));
+                assert_eq!(writer.remove(key), Ok(Some(round)));
+            }
+            assert_eq!((writer.stats().kept, writer.stats().room), (REMOVALS, 4_096));
+            are_gone.store(true, SeqCst);
+            assert_eq!(reading.join().unwrap(), 7);
+        });
+        // Nobody reads any more, so what is kept back goes back.
+        for round in 0..REMOVALS {
+            assert_eq!((writer.insert(5, round), writer.remove(5)), (Ok(true), Ok(Some(round))));
+        }
+        assert!(writer.stats().kept < 4_096);
+    }
+}
+
 #[test]
 fn a_tree_is_tidied_range_by_range() {
     let index = Index::new(2_000, 1).unwrap();
@@ -245,14 +285,16 @@ fn a_fixed_salt_makes_the_same_tree_and_drawn_ones_make_others() {
 fn a_turn_takes_free_slots() {
     let index = Index::new(2_000, 1).unwrap();
     let handle = index.handle().unwrap();
-    for i in 0..2_068 {
-        let key = i * 1_237 % 2_068;
-        handle.insert(key, !key).unwrap();
+    // As many pairs as there are slots, with those for what the handle may keep back.
+    let slots = handle.stats().slots;
+    for i in 0..slots {
+        let key = i * 1_237 % slots;
+        assert_eq!(handle.insert(key, !key), Ok(true));
     }
     let mut told = handle.tidy(.., 1_000);
     while let Ok(Tidied { next: Some(next), .. }) = told {
         told = handle.tidy(next.., 1_000);
     }
     assert_eq!(told, Err(Error::Full));
-    assert_eq!(handle.list(..).unwrap().len(), 2_068);
+    assert_eq!(handle.list(..).unwrap().len() as u64, slots);
 }

@@ -1,5 +1,5 @@
 //! `citrus_server [--bind ADDRESS] [--port N] [--pairs N] [--workers N] [--connections N] [--timeout SECONDS] [--waiter eer|domain|deer]
-//! [--salt N]`
+//! [--keep N] [--salt N]`
 
 use citrus_map::{Error, Index, Waiter, LANES, MAX_HANDLES, MAX_PAIRS};
 use citrus_server::files;
@@ -9,7 +9,7 @@ use std::thread::available_parallelism;
 use std::time::Duration;
 
 const USAGE: &str = "usage: citrus_server [--bind ADDRESS] [--port N] [--pairs N] [--workers N] [--connections N] [--timeout SECONDS] \
-                     [--waiter eer|domain|deer] [--salt N]";
+                     [--waiter eer|domain|deer] [--keep N] [--salt N]";
 /// Where the system doesn't say how many processors there are.
 const SOME_WORKERS: usize = 4;
 /// Above that the times of a worker's connections take it too long to look through.
@@ -24,6 +24,8 @@ struct Options {
     connections: Option<usize>,
     idle: Option<Duration>,
     waiter: Waiter,
+    /// What the library takes where nothing is said.
+    keep: Option<u32>,
     /// Drawn where nothing is said.
     salt: Option<u64>,
 }
@@ -39,6 +41,7 @@ impl Default for Options {
             connections: None,
             idle: Limits::default().idle,
             waiter: Waiter::Eer,
+            keep: None,
             salt: None,
         }
     }
@@ -57,6 +60,7 @@ impl Options {
                 "--connections" => options.connections = Some(value.parse().ok()?),
                 "--timeout" => options.idle = Some(Duration::from_secs(value.parse().ok()?)).filter(|time| !time.is_zero()),
                 "--waiter" => options.waiter = waiter(&value)?,
+                "--keep" => options.keep = Some(value.parse().ok()?),
                 "--salt" => options.salt = Some(value.parse().ok()?),
                 _ => return None,
             }
@@ -83,6 +87,7 @@ impl Options {
     fn index(&self) -> Result<Index, Error> {
         let lanes = self.workers.min((MAX_HANDLES - self.workers) / LANES);
         let builder = Index::builder(self.pairs, self.workers).lanes(lanes).waiter(self.waiter);
+        let builder = self.keep.map_or(builder, |keep| builder.keep(keep));
         self.salt.map_or(builder, |salt| builder.salt(salt)).build()
     }
 
@@ -93,6 +98,9 @@ impl Options {
         }
         if !(1..=MAX_PAIRS).contains(&self.pairs) {
             return Err(format!("--pairs is from 1 to {MAX_PAIRS}"));
+        }
+        if matches!(self.keep, Some(1..=15)) {
+            return Err("--keep is 0, or 16 or more".into());
         }
         let limits = Limits { connections: self.connections()?, idle: self.idle };
         let index = self.index().map_err(|error| error.to_string())?;

@@ -4,6 +4,7 @@ use citrus_map::Index;
 use citrus_server::server::{Limits, Server};
 use std::io::{Read, Write};
 use std::net::{Shutdown, SocketAddr, TcpStream};
+use std::process::Command;
 use std::thread;
 use std::time::{Duration, Instant};
 
@@ -358,6 +359,20 @@ fn an_index_without_a_handle_has_no_server() {
     let index = Index::new(10, 1).unwrap();
     let _taken = index.handle().unwrap();
     assert!(Server::bind("127.0.0.1:0", index, Limits::default()).is_err());
+}
+
+#[test]
+fn options_out_of_range_start_no_server() {
+    let refused = [
+        (["--keep", "15"], "--keep is 0, or 16 or more"),
+        (["--keep", "1073741824"], "a handle keeps back 16 slots or more, and an index has 1,073,741,824 at most"),
+        (["--pairs", "0"], "--pairs is from 1 to 1073672192"),
+    ];
+    for (words, cause) in refused {
+        let told = Command::new(env!("CARGO_BIN_EXE_citrus_server")).args(["--port", "0"]).args(words).output().unwrap();
+        assert_eq!(told.status.code(), Some(1), "{words:?}");
+        assert_eq!(String::from_utf8_lossy(&told.stderr), format!("citrus_server: {cause}\n"));
+    }
 }
 
 #[test]

@@ -1,5 +1,5 @@
 //! A node with at most one child is taken out.
-ghost use Rattle.std.specs.Prelude.{◌≡◌, ◌+◌, ◌*◌, ◌^◌, ◌<◌, ◌==◌, if◌then◌else◌, ℕ, Bool, List, [], ◌∷◌, ◌++◌, length, None, IfOk, IfErr};
+ghost use Rattle.std.specs.Prelude.{◌≡◌, ◌+◌, ◌*◌, ◌^◌, ◌<◌, ◌==◌, if◌then◌else◌, ℕ, [], ◌∷◌, ◌++◌, length, None, IfOk, IfErr};
 ghost use Rattle.prcu_model.specs.declared.operation.Op.TheVariants.{Del};
 ghost use Rattle.core_points.specs.declared.stage.Last.TheVariants as last;
 ghost use Rattle.core_points.specs.declared.stage.Stage.TheVariants as at;
@@ -10,7 +10,7 @@ ghost use Rattle.seat_table.specs.Sections.{HasMade};
 ghost use Rattle.seat_table.specs.Seats.{AreListed, shape_of};
 ghost use Rattle.tree_points.specs.Points.{HasLocks, IsAt, IsDone};
 ghost use Rattle.citrus_tree.specs.Deletes.{StandsAt, Comes, KeepsAll, KeepsWaits, HasDone, AreLivesSmall, TakesValue, locked_slots, relinked_at, retired_slots};
-ghost use Rattle.citrus_tree.specs.Going.{KeepsSlots, retired_marks};
+ghost use Rattle.citrus_tree.specs.Going.{KeepsSlots, RetiresBehind};
 
 use crate::commit::{close_commit, open_commit};
 use core_points::stage::Node;
@@ -77,7 +77,7 @@ fn link_past<P: Patience, W: WaitPart>(
     ensures took { IfOk result (λ answer. TakesValue seat.old.view node.node key answer seat.new.view) }
     ensures locked { IfOk result (λ _. locked_slots seat.new.view ≡ locked_slots seat.old.view) }
     ensures retired { IfOk result (λ _. retired_slots seat.new.view ≡ retired_slots seat.old.view ++ node.node ∷ []) }
-    ensures stay { IfOk result (λ _. (later : List (ℕ × ℕ × Bool)) × (retired_marks seat.new.view ≡ retired_marks seat.old.view ++ later)) }
+    ensures stay { IfOk result (λ _. RetiresBehind seat.old.view seat.new.view) }
     ensures waits { IfOk result (λ _. KeepsWaits seat.old.view seat.new.view) }
     ensures tired { IfErr result (λ _. HasMade (P.least patience.now) seat.new.view) }
 {

@@ -14,7 +14,7 @@ ghost use Rattle.seat_table.specs.Seats.{AreListed, IsSlotOf, shape_of};
 ghost use Rattle.seat_table.specs.Waits.{HasWaited};
 ghost use Rattle.tree_points.specs.Points.{HasLocks, IsAt, IsDone, HasAdvanced};
 ghost use Rattle.citrus_tree.specs.Deletes.{StandsAt, Comes, KeepsAll, KeepsRest, KeepsWaits, HasDeleted, HasCopied, AreLivesSmall, KeepsValue, RetiresIf, TakesValue, locked_slots, retired_slots};
-ghost use Rattle.citrus_tree.specs.Going.{KeepsSlots, KeepsWait};
+ghost use Rattle.citrus_tree.specs.Going.{GivesNoneBack, KeepsSlots, KeepsWait, RetiresBehind};
 ghost use Rattle.citrus_tree.specs.Replies.{IsUnlinkedSince};
 
 use crate::commit::{close_commit, open_commit};
@@ -53,6 +53,7 @@ pub(crate) fn shift<P: Patience, W: WaitPart, G: Gate>(
     ensures same { IfOk result (λ answer. IfNone answer (KeepsRest seat.old.view seat.new.view)) }
     ensures waits { IfOk result (λ answer. IfSome answer (λ _. KeepsWait seat.old.view seat.new.view)) }
     ensures slots { IfOk result (λ _. KeepsSlots seat.old seat.new) }
+    ensures stays { IfOk result (λ _. GivesNoneBack seat.old seat.new) }
     ensures listed { IfOk result (λ _. AreListed seat.new) }
     ensures informed { IfOk result (λ answer. IfSome answer (λ number. IsInformed seat.new.view)) }
     ensures tired { IfErr result (λ _. HasMade (P.least patience.now) seat.new.view) }
@@ -155,6 +156,7 @@ fn link_copy<P: Patience, W: WaitPart>(
     ensures took { IfOk result (λ answer. TakesValue seat.old.view node.node key answer seat.new.view) }
     ensures locked { IfOk result (λ _. locked_slots seat.new.view ≡ locked_slots seat.old.view) }
     ensures retired { IfOk result (λ _. retired_slots seat.new.view ≡ retired_slots seat.old.view ++ node.node ∷ []) }
+    ensures stay { IfOk result (λ _. RetiresBehind seat.old.view seat.new.view) }
     ensures waits { IfOk result (λ _. KeepsWaits seat.old.view seat.new.view) }
     ensures tired { IfErr result (λ _. HasMade (P.least patience.now) seat.new.view) }
 {
@@ -201,6 +203,7 @@ fn finish<P: Patience, W: WaitPart, G: Gate>(
     ensures later { IfOk result (λ _. seat.old.view.counts.waits < seat.new.view.counts.waits) }
     ensures unlinked { IfOk result (λ _. IsUnlinkedSince seat.old.view.seen moving.successor.slot seat.new.view.seen) }
     ensures listing { IfOk result (λ _. seat.new.listed ≡ seat.old.listed ++ moving.node.node ∷ (moving.successor.slot ∷ [])) }
+    ensures stays { IfOk result (λ _. GivesNoneBack seat.old seat.new) }
     ensures listed { IfOk result (λ _. AreListed seat.new) }
     ensures informed { IfOk result (λ _. IsInformed seat.new.view) }
     ensures tired { IfErr result (λ _. HasMade (P.least patience.now) seat.new.view) }
@@ -231,6 +234,7 @@ fn unlink_old<W: WaitPart>(table: &CitrusTable<W>, seat: &mut Seat<W>, moving: M
     ensures gone { HasAdvanced seat.old.view seat.new.view [] }
     ensures unlinked { IsUnlinkedSince seat.old.view.seen moving.successor.slot seat.new.view.seen }
     ensures retired { retired_slots seat.new.view ≡ retired_slots seat.old.view ++ moving.successor.slot ∷ [] }
+    ensures stay { RetiresBehind seat.old.view seat.new.view }
     ensures waits { KeepsWaits seat.old.view seat.new.view }
 {
     let node = moving.node;

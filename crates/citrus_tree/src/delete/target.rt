@@ -8,7 +8,7 @@ ghost use Rattle.seat_table.specs.Gains.{IsInformed, StoodInside};
 ghost use Rattle.seat_table.specs.Sections.{HasStepped};
 ghost use Rattle.seat_table.specs.Seats.{shape_of};
 ghost use Rattle.tree_points.specs.Points.{IsAt, IsDone};
-ghost use Rattle.citrus_tree.specs.Deletes.{StandsAt, Comes, OnlyLoads, HasSearched, walked_to};
+ghost use Rattle.citrus_tree.specs.Deletes.{StandsAt, Comes, OnlyLoads, HasSearched, HasTwo, FoundTwoChildren, walked_to};
 ghost use Rattle.citrus_tree.specs.Going.{MayBegin};
 ghost use Rattle.citrus_tree.specs.Replies.{WasAnswered};
 
@@ -35,6 +35,7 @@ pub(crate) fn find_target<W: WaitPart, G: Gate>(
         ((kept : ℕ) → MayBegin (shape_of W.WAY table.now) (Del key) kept seat.old.view
         → IsDone (shape_of W.WAY table.now) (Del key) kept seat.new.view) }
     ensures absent { IfNone result (WasAnswered seat.old.view key None seat.new.view) }
+    ensures two { IfSome result (λ target. HasTwo target → FoundTwoChildren key seat.new.view) }
     ensures searched { HasSearched seat.old.view key seat.new.view }
     ensures informed { IsInformed seat.new.view }
     ensures stepped { HasStepped seat.old.view seat.new.view }

@@ -68,38 +68,39 @@ fn time_tree<R: Threads + Wait + Sync + Runtime, W: WaitPart + Sync>(
         return Err(io::Error::from(io::ErrorKind::OutOfMemory));
     };
     let seated = Seated::new(&table, seat);
-    time(rt, tree_calls(rt, seated, crew, row, rounds))
+    time(rt, tree_calls(rt, alloc, seated, crew, row, rounds)?)
 }
 
 // So many operations on the tree by each of the threads, the first of which has put the keys that come first.
 fn tree_calls<'a, R: Wait, W: WaitPart>(
     rt: &R,
+    alloc: Global,
     seated: Seated<'a, W>,
     crew: Crew,
     row: Row,
     rounds: u32,
-) -> Crewed<Calls<TreeClient<'a, W, OpenGate>>>
+) -> io::Result<Crewed<Calls<TreeClient<'a, W, OpenGate>>>>
     requires places { count_of crew ≤ seated }
 {
     match crew {
-        Crew::One => Crewed::One(calls_of(filled(rt, seated, row), row, rounds, 0)),
+        Crew::One => Ok(Crewed::One(calls_of(filled(rt, seated, row), row, rounds, 0))),
         Crew::Two => {
-            let (first, second) = seated.halves(1);
+            let (first, second) = seated.halves(alloc, 1)?;
             let client = filled(rt, first, row);
-            Crewed::Two(
+            Ok(Crewed::Two(
                 calls_of(client, row, rounds, 0),
                 calls_of(second.client(), row, rounds, 1),
-            )
+            ))
         }
         Crew::Four => {
-            let (half, rest) = seated.halves(2);
-            let (first, second) = half.halves(1);
-            let (third, fourth) = rest.halves(1);
+            let (half, rest) = seated.halves(alloc, 2)?;
+            let (first, second) = half.halves(alloc, 1)?;
+            let (third, fourth) = rest.halves(alloc, 1)?;
             let client = filled(rt, first, row);
-            Crewed::Four(
+            Ok(Crewed::Four(
                 two_of(client, second.client(), row, rounds, 0),
                 two_of(third.client(), fourth.client(), row, rounds, 2),
-            )
+            ))
         }
     }
 }

@@ -96,7 +96,10 @@ fn measure<R: Threads + Wait + Sync + Runtime, W: WaitPart + Sync>(
     let Ok((table, seat)) = CitrusTable::<W>::new(alloc, KEYS + 64, 2, 1 << 36) else {
         return Err(io::Error::from(io::ErrorKind::OutOfMemory));
     };
-    let (writer, reader) = seat.split(&table, 1, 0);
+    let Ok(list) = seat.empty_list(alloc) else {
+        return Err(io::Error::from(io::ErrorKind::OutOfMemory));
+    };
+    let (writer, reader) = seat.split(&table, 1, 0, list);
     let writer = fill(rt, Seated::new(&table, writer), KEYS);
     let stop = Mutex::new(false);
     let work = work_of(row, ask);

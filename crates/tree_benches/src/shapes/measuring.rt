@@ -85,8 +85,8 @@ fn measure<R: Threads + Wait + Sync + Runtime>(
     let Ok((table, seat)) = CitrusTable::<Eer>::new(alloc, slots, places, 1 << 36) else {
         return Err(io::Error::from(io::ErrorKind::OutOfMemory));
     };
-    let (crewed, walker) = Seated::new(&table, seat).halves(1);
-    let worked = time(rt, crew_of(crewed, row))?;
+    let (crewed, walker) = Seated::new(&table, seat).halves(alloc, 1)?;
+    let worked = time(rt, crew_of(alloc, crewed, row)?)?;
     let keys = u64::from(row.keys);
     let puts = keys.wrapping_mul(u64::from(row.order.times()));
     let ways = measure_ways(rt, walker, row.order, keys, puts);
@@ -94,39 +94,48 @@ fn measure<R: Threads + Wait + Sync + Runtime>(
 }
 
 // A job of each thread.
-fn crew_of<'a>(seated: Seated<'a, Eer>, row: Row) -> Crewed<Growing<TreeClient<'a, Eer, OpenGate>>>
+fn crew_of<'a>(
+    alloc: Global,
+    seated: Seated<'a, Eer>,
+    row: Row,
+) -> io::Result<Crewed<Growing<TreeClient<'a, Eer, OpenGate>>>>
     requires places { count_of row.crew ≤ seated }
 {
     match row.crew {
-        Crew::One => Crewed::One(growing(seated, row, 0)),
+        Crew::One => Ok(Crewed::One(growing(seated, row, 0))),
         Crew::Two => {
-            let (first, second) = seated.halves(1);
-            Crewed::Two(growing(first, row, 0), growing(second, row, 1))
+            let (first, second) = two_of(alloc, seated, row, 0)?;
+            Ok(Crewed::Two(first, second))
         }
         Crew::Four => {
-            let (half, rest) = seated.halves(2);
-            Crewed::Four(two_of(half, row, 0), two_of(rest, row, 2))
+            let (half, rest) = seated.halves(alloc, 2)?;
+            let first = two_of(alloc, half, row, 0)?;
+            let second = two_of(alloc, rest, row, 2)?;
+            Ok(Crewed::Four(first, second))
         }
     }
 }
 
 // Those of two threads.
 fn two_of<'a>(
+    alloc: Global,
     seated: Seated<'a, Eer>,
     row: Row,
     remainder: u32,
-) -> (
-    Growing<TreeClient<'a, Eer, OpenGate>>,
-    Growing<TreeClient<'a, Eer, OpenGate>>,
-)
+) -> io::Result<
+    (
+        Growing<TreeClient<'a, Eer, OpenGate>>,
+        Growing<TreeClient<'a, Eer, OpenGate>>,
+    ),
+>
     requires places { 2 ≤ seated }
     requires remainder { remainder ≤ 2 }
 {
-    let (first, second) = seated.halves(1);
-    (
+    let (first, second) = seated.halves(alloc, 1)?;
+    Ok((
         growing(first, row, remainder),
         growing(second, row, remainder + 1),
-    )
+    ))
 }
 
 // That of one.

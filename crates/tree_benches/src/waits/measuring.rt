@@ -72,12 +72,14 @@ fn time_rounds<R: Threads + Wait + Sync + Runtime, W: WaitPart + Sync>(
     let crewed = match crew {
         Crew::One => Crewed::One(rounds_of(seated, work, count)),
         Crew::Two => {
-            let (first, second) = two_of(seated, work, count);
+            let (first, second) = two_of(alloc, seated, work, count)?;
             Crewed::Two(first, second)
         }
         Crew::Four => {
-            let (half, rest) = seated.halves(2);
-            Crewed::Four(two_of(half, work, count), two_of(rest, work, count))
+            let (half, rest) = seated.halves(alloc, 2)?;
+            let first = two_of(alloc, half, work, count)?;
+            let second = two_of(alloc, rest, work, count)?;
+            Crewed::Four(first, second)
         }
     };
     time(rt, crewed)
@@ -85,17 +87,18 @@ fn time_rounds<R: Threads + Wait + Sync + Runtime, W: WaitPart + Sync>(
 
 // The work by two, which share the tickets.
 fn two_of<'a, W: WaitPart>(
+    alloc: Global,
     seated: Seated<'a, W>,
     work: Work,
     count: u32,
-) -> (Rounds<'a, W>, Rounds<'a, W>)
+) -> io::Result<(Rounds<'a, W>, Rounds<'a, W>)>
     requires places { 2 ≤ seated }
 {
-    let (first, second) = seated.halves(1);
-    (
+    let (first, second) = seated.halves(alloc, 1)?;
+    Ok((
         rounds_of(first, work, count),
         rounds_of(second, work, count),
-    )
+    ))
 }
 
 // The work by one.

@@ -109,7 +109,8 @@ fn list_beside<R: Threads + Wait + Sync + Abort, W: WaitPart + Sync>(
     requires way { W.WAY ≤ 2 }
 {
     let (table, seat) = CitrusTable::<W>::new(alloc, 200, 2, TICKETS)?;
-    let (mut lifter, lister) = seat.split(&table, 1, 0);
+    let list = seat.empty_list(alloc)?;
+    let (mut lifter, lister) = seat.split(&table, 1, 0, list);
     put_listed(rt, &table, &mut lifter);
     let page = Page::new(alloc, 128)?;
     let gate = Barrier::new(2);

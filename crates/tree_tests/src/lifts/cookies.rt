@@ -67,7 +67,8 @@ fn lift_beside<R: Abort + Wait>(
 #[test]
 fn slots_of_lifts_go_back_once_the_cookie_is_over(rt: HostRuntime) -> Result<(), Fail> {
     let (table, seat) = CitrusTable::<Eer>::new(rt.alloc(), 100, 2, 1000)?;
-    let (mut writer, mut reader) = seat.split(&table, 1, 4);
+    let list = seat.empty_list(rt.alloc())?;
+    let (mut writer, mut reader) = seat.split(&table, 1, 4, list);
     put_path(&rt, &table, &mut writer);
     let before = lift_beside(&rt, &table, &mut writer, 2, false);
     assert!(rt; writer.tickets() > 0);

@@ -141,7 +141,8 @@ fn a_full_table_is_lifted_as_far_as_there_are_slots(rt: HostRuntime) -> Result<(
 #[test]
 fn a_lock_that_another_holds_costs_an_attempt(rt: HostRuntime) -> Result<(), Fail> {
     let (table, seat) = CitrusTable::<Eer>::new(rt.alloc(), 20, 2, 1000)?;
-    let (mut seat, mut other) = seat.split(&table, 1, 100);
+    let list = seat.empty_list(rt.alloc())?;
+    let (mut seat, mut other) = seat.split(&table, 1, 100, list);
     put_path(&rt, &table, &mut seat, 4);
     let Lock::Held = try_lock(&table, &mut other, 0) else {
         panic!(rt; "nobody holds the root");

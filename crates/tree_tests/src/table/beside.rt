@@ -61,7 +61,8 @@ fn found_beside<R: Threads + Wait + Sync, W: WaitPart + Sync>(
     requires way { W.WAY ≤ 2 }
 {
     let (table, seat) = CitrusTable::<W>::new(alloc, 1, 2, 4)?;
-    let (b, a) = seat.split(&table, 1, 2);
+    let list = seat.empty_list(alloc)?;
+    let (b, a) = seat.split(&table, 1, 2, list);
     let gate = Barrier::new(2);
     let (_, found) = join(
         rt,

@@ -31,7 +31,12 @@ fn joined<R: Wait + Abort, W: WaitPart>(
 }
 
 // A seat reads, waits by a poll, and gives a place away: so many tickets it has left.
-fn goes_on<R: Abort, W: WaitPart>(rt: &R, table: &CitrusTable<W>, mut seat: Seat<W>) -> u64
+fn goes_on<R: Abort, W: WaitPart>(
+    rt: &R,
+    alloc: Global,
+    table: &CitrusTable<W>,
+    mut seat: Seat<W>,
+) -> Result<u64, Fail>
     requires table { seat.table ≡ table.now }
     requires quiet { IsQuietSeat seat }
 {
@@ -42,8 +47,9 @@ fn goes_on<R: Abort, W: WaitPart>(rt: &R, table: &CitrusTable<W>, mut seat: Seat
     let polled = W::poll(table, &mut seat, &mut grace);
     assert_same(rt, polled, Poll::Over, "the poll");
     assert!(rt; seat.unused() != 0);
-    let (first, _second) = seat.split(table, 1, 0);
-    first.tickets()
+    let list = seat.empty_list(alloc)?;
+    let (first, _second) = seat.split(table, 1, 0, list);
+    Ok(first.tickets())
 }
 
 // The table has eight tickets, of which the waiter has six. It waits once by itself, and once with those of both.
@@ -51,9 +57,10 @@ fn joins_and_goes_on<R: Wait + Abort, W: WaitPart>(rt: &R, alloc: Global) -> Res
     requires way { W.WAY ≤ 2 }
 {
     let (table, seat) = CitrusTable::<W>::new(alloc, 1, 3, 8)?;
-    let (waiter, reader) = seat.split(&table, 1, 2);
+    let list = seat.empty_list(alloc)?;
+    let (waiter, reader) = seat.split(&table, 1, 2, list);
     let both = joined(rt, &table, waiter, reader);
-    Ok(goes_on(rt, &table, both))
+    goes_on(rt, alloc, &table, both)
 }
 
 #[test]

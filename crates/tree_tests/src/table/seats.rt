@@ -31,7 +31,8 @@ fn a_seat_is_split_and_joined(rt: HostRuntime) -> Result<(), Fail> {
     assert_same(&rt, (table.slots(), table.places()), (5, 4), "the table");
     let seen = (seat.free_seen(), seat.front_seen(), seat.waits());
     assert_same(&rt, seen, (5, 0, 0), "the first seat");
-    let (a, b) = seat.split(&table, 3, 6);
+    let list = seat.empty_list(rt.alloc())?;
+    let (a, b) = seat.split(&table, 3, 6, list);
     assert_same(&rt, allowance(&a), (0, 0, 2), "one half");
     assert_same(&rt, allowance(&b), (1, 2, 6), "the other half");
     let slots = (a.spare(), b.spare(), b.in_hand());

@@ -8,7 +8,8 @@ use waiters::{Domain, Eer};
 #[test]
 fn a_reader_that_came_later_is_not_waited_for(rt: HostRuntime) -> Result<(), Fail> {
     let (table, seat) = CitrusTable::<Eer>::new(rt.alloc(), 1, 2, 4)?;
-    let (mut b, mut a) = seat.split(&table, 1, 2);
+    let list = seat.empty_list(rt.alloc())?;
+    let (mut b, mut a) = seat.split(&table, 1, 2, list);
     wait_for_readers(&rt, &table, &mut b, Keys::all());
     let mut grace = Eer::begin(&table, &mut b, Keys::all());
     Eer::enter(&table, &mut a, 7);
@@ -26,7 +27,8 @@ fn a_reader_that_came_later_is_not_waited_for(rt: HostRuntime) -> Result<(), Fai
 #[test]
 fn the_second_waiter_turns_the_gate_of_each_class_of_its_keys(rt: HostRuntime) -> Result<(), Fail> {
     let (table, seat) = CitrusTable::<Domain>::new(rt.alloc(), 1, 2, 8)?;
-    let (mut waiter, mut reader) = seat.split(&table, 1, 4);
+    let list = seat.empty_list(rt.alloc())?;
+    let (mut waiter, mut reader) = seat.split(&table, 1, 4, list);
     Domain::enter(&table, &mut reader, 100);
     wait_for_readers(&rt, &table, &mut waiter, Keys::between(61, 66));
     assert_same(&rt, waiter.turns(), 5, "the turns");

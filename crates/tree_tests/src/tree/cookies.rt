@@ -2,7 +2,7 @@
 //! spares, and slot 3 begins free.
 ghost use Rattle.std.specs.Prelude.{◌≡◌};
 ghost use Rattle.seat_table.specs.Seats.{IsQuietSeat};
-ghost use Rattle.grace_cookie.specs.Cookies.{KeepsCookies};
+ghost use Rattle.grace_cookie.specs.Cookies.{KeepsCookies, KeepsListed};
 
 use super::*;
 use citrus_tree::get;
@@ -21,6 +21,7 @@ fn get_beside(table: &CitrusTable<Eer>, seat: &mut Seat<Eer>) -> Reply
     ensures table { seat.new.table ≡ seat.old.table }
     ensures quiet { IsQuietSeat seat.new }
     ensures keeps { KeepsCookies seat.old seat.new }
+    ensures listed { KeepsListed seat.old seat.new }
 {
     let Told { reply, number: _ } = get(table, seat, &OpenGate, 5);
     reply
@@ -29,7 +30,8 @@ fn get_beside(table: &CitrusTable<Eer>, seat: &mut Seat<Eer>) -> Reply
 #[test]
 fn slots_go_back_once_the_cookie_is_over(rt: HostRuntime) -> Result<(), Fail> {
     let (table, seat) = CitrusTable::<Eer>::new(rt.alloc(), 1, 2, 64)?;
-    let (writer, mut reader) = seat.split(&table, 1, 4);
+    let list = seat.empty_list(rt.alloc())?;
+    let (writer, mut reader) = seat.split(&table, 1, 4, list);
     let calls = [call!(put 5 50 new 1), call!(del 5 gone 2)];
     let mut writer = run(&rt, &table, writer, "a slot is retired", &calls);
     assert!(rt; writer.tickets() > 0);
@@ -82,7 +84,8 @@ fn a_later_wait_gives_the_cookie_up(rt: HostRuntime) -> Result<(), Fail> {
 #[test]
 fn a_cookie_for_some_keys_waits_for_their_readers_alone(rt: HostRuntime) -> Result<(), Fail> {
     let (table, seat) = CitrusTable::<Eer>::new(rt.alloc(), 1, 2, 8)?;
-    let (mut writer, mut reader) = seat.split(&table, 1, 4);
+    let list = seat.empty_list(rt.alloc())?;
+    let (mut writer, mut reader) = seat.split(&table, 1, 4, list);
     let keys = Keys::between(4, 9);
     Eer::enter(&table, &mut reader, 10);
     let mut beside = start(&table, &mut writer, keys);

@@ -107,7 +107,8 @@ fn crew<'a, W: WaitPart>(
         let calls = scripts.script(i).len();
         let tickets = TICKETS * calls as u64;
         assert!(rt; 0 < rest.unused() && tickets <= rest.tickets());
-        let (left, own) = rest.split(table, 1, tickets);
+        let list = rest.empty_list(alloc)?;
+        let (left, own) = rest.split(table, 1, tickets, list);
         rest = left;
         let client = Lifter::new(table, own, u64::from(i));
         workers.push(Worker::new(alloc, client, calls as u32)?)?;

@@ -222,9 +222,9 @@ fn put_and_delete<R: Abort + Wait>(
     room: u32,
     times: u32,
 ) -> Result<Left, Fail>
-    requires room { (16 ≤ room) × (room ≤ 256) }
+    requires room { (16 ≤ room) × (room ≤ 1000) }
 {
-    let (table, mut seat) = CitrusTable::<Eer>::with_room(alloc, 37, 1, room, 1024)?;
+    let (table, mut seat) = CitrusTable::<Eer>::with_room(alloc, 2 * room + 5, 1, room, 10_000)?;
     for time in 0..times {
         let put = 2 * u64::from(time) + 1;
         let del = put + 1;
@@ -240,6 +240,7 @@ fn many_retired_slots_are_given_back(rt: HostRuntime) -> Result<(), Fail> {
         (15, (Some(1), 15, 0)),
         (16, (Some(1), 1, 1)),
         (17, (Some(1), 2, 1)),
+        (100, (Some(1), 10, 6)),
     ] {
         assert_same(
             &rt,
@@ -253,10 +254,15 @@ fn many_retired_slots_are_given_back(rt: HostRuntime) -> Result<(), Fail> {
 
 #[test]
 fn a_place_with_more_room_keeps_more_retired_slots(rt: HostRuntime) -> Result<(), Fail> {
-    for (times, left) in [(23, (Some(1), 23, 0)), (24, (Some(1), 1, 1))] {
+    for (room, times, left) in [
+        (24, 23, (Some(1), 23, 0)),
+        (24, 24, (Some(1), 1, 1)),
+        (1000, 999, (Some(1), 999, 0)),
+        (1000, 1000, (Some(1), 1, 1)),
+    ] {
         assert_same(
             &rt,
-            put_and_delete(&rt, rt.alloc(), 24, times)?,
+            put_and_delete(&rt, rt.alloc(), room, times)?,
             left,
             times,
         );

@@ -11,7 +11,8 @@ use waiters::Eer;
 #[test]
 fn a_reservation_is_lost_and_then_held(rt: HostRuntime) -> Result<(), Fail> {
     let (table, seat) = CitrusTable::<Eer>::new(rt.alloc(), 1, 2, 8)?;
-    let (mut first, mut second) = seat.split(&table, 1, 4);
+    let list = seat.empty_list(rt.alloc())?;
+    let (mut first, mut second) = seat.split(&table, 1, 4, list);
     let Reserve::Lost { found: count } = reserve(&table, &mut first, 2) else {
         panic!(rt; "the count is 1");
     };
@@ -35,7 +36,8 @@ fn a_reservation_is_lost_and_then_held(rt: HostRuntime) -> Result<(), Fail> {
 #[test]
 fn a_slot_that_was_put_back_has_the_next_generation(rt: HostRuntime) -> Result<(), Fail> {
     let (table, seat) = CitrusTable::<Eer>::new(rt.alloc(), 1, 2, 8)?;
-    let (mut first, mut second) = seat.split(&table, 1, 4);
+    let list = seat.empty_list(rt.alloc())?;
+    let (mut first, mut second) = seat.split(&table, 1, 4, list);
     let Taken::Slot { slot, generation } = take(&rt, &table, &mut first) else {
         panic!(rt; "slot 3 is free");
     };
@@ -56,7 +58,8 @@ fn a_slot_that_was_put_back_has_the_next_generation(rt: HostRuntime) -> Result<(
 #[test]
 fn a_slot_is_taken_near_another_or_else_on_a_line_of_its_own(rt: HostRuntime) -> Result<(), Fail> {
     let (table, seat) = CitrusTable::<Eer>::new(rt.alloc(), 8, 2, 8)?;
-    let (mut first, mut second) = seat.split(&table, 1, 4);
+    let list = seat.empty_list(rt.alloc())?;
+    let (mut first, mut second) = seat.split(&table, 1, 4, list);
     first.note_near(&table, 4);
     let Taken::Slot { slot: beside, .. } = take(&rt, &table, &mut first) else {
         panic!(rt; "slots 3 to 10 are free");
@@ -72,7 +75,8 @@ fn a_slot_is_taken_near_another_or_else_on_a_line_of_its_own(rt: HostRuntime) ->
 #[test]
 fn a_lock_that_is_held_is_busy(rt: HostRuntime) -> Result<(), Fail> {
     let (table, seat) = CitrusTable::<Eer>::new(rt.alloc(), 1, 2, 8)?;
-    let (mut first, mut second) = seat.split(&table, 1, 4);
+    let list = seat.empty_list(rt.alloc())?;
+    let (mut first, mut second) = seat.split(&table, 1, 4, list);
     let Lock::Held = try_lock(&table, &mut first, 0) else {
         panic!(rt; "nobody holds it");
     };

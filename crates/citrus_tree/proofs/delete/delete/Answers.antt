@@ -5,16 +5,18 @@ use Rattle.seat_table.specs.Gains.{IsInformed}
 use Rattle.citrus_tree.specs.Replies.{RetiresInOrder, WasAnswered}
 use Rattle.citrus_tree.specs.declared.delete.Deleted.{Deleted}
 use Rattle.citrus_tree.specs.Going.{KeepsWait, MayBegin}
-use Rattle.citrus_tree.specs.Deletes.{HasDeleted, KeepsRest, TellsTaken}
+use Rattle.citrus_tree.specs.Deletes.{FoundTwoChildren, HasDeleted, HasTwo, KeepsRest, KeepsWaits, TellsTaken}
 use Rattle.core_points.specs.declared.stage.Target.{Target}
 use Rattle.prcu_model.specs.declared.operation.Op.TheVariants.{Del}
 use Rattle.tree_points.specs.Points.{IsAt, IsDone}
 use Rattle.seat_table.specs.Seats.{shape_of}
 use Rattle.std.specs.declared.option.Option.{Option}
-use Rattle.std.proofs.Common.{refl, ◌∙◌, subst, ℕ, ◌≡◌, true, arith}
-use Rattle.citrus_tree.proofs.DeleteTries.{absent_begins, absent_dels, absent_wait, gone_begins, gone_dels, gone_wait, listed_still, rests_begins, rests_way, tried_retires, tries_again, tries_first, tells_gone}
+use Rattle.std.proofs.Common.{refl, ◌∙◌, ap, length, subst, ℕ, ◌≡◌, true, arith}
+use Rattle.citrus_tree.proofs.DeleteTries.{absent_begins, absent_dels, absent_wait, gone_begins, gone_dels, gone_wait, listed_still, rests_begins, rests_wait, rests_way, tried_retires, tries_again, tries_first, tells_gone, searched_waits, waits_on}
+use Rattle.citrus_tree.proofs.DeleteSearches.{left_there, rest_none}
 use Rattle.citrus_tree.proofs.Replacing.{rests_at}
-use Rattle.citrus_tree.proofs.Leavings.{searched_slots, slots_on, slots_self}
+use Rattle.citrus_tree.proofs.Leavings.{none_back_on, none_back_same, searched_slots, slots_on, slots_self}
+use Rattle.citrus_tree.proofs.DeleteMoves.{few_retired}
 use Rattle.seat_table.proofs.SeveralSteps.{prefix_steps}
 use Rattle.citrus_tree.proofs.delete.delete.Goals as goal
 
@@ -25,6 +27,7 @@ loop-round-init g c = record {
   same = refl;
   tries = tries_first _ c.args.key c.args.seat.now.view;
   slots = slots_self c.args.seat.now;
+  stays = none_back_same c.args.seat.now c.args.seat.now refl refl;
   made = omega arith;
 }
 
@@ -116,6 +119,10 @@ loop-round-preserved g c = record {
       (searched_slots c.args.seat.now c.loop-round.seat c.find_target.new.seat c.args.key c.loop-round.invariant.slots
       c.find_target.ensures.searched
       c.find_target.ensures.seat.1) c.in_ok-taken.ensures.slots;
+  stays = none_back_on c.args.seat.now c.find_target.new.seat c.delete_node.new.seat
+      (none_back_on c.args.seat.now c.loop-round.seat c.find_target.new.seat c.loop-round.invariant.stays
+      (none_back_same c.loop-round.seat c.find_target.new.seat c.find_target.ensures.searched.stay c.find_target.ensures.seat.1))
+      c.in_ok-taken.ensures.stays;
   made =
       let made = c.loop-round.invariant.made in
       let found = c.find_target.ensures.stepped in
@@ -154,7 +161,7 @@ pub returns-in-Some-2-clause-value : goal.returns-in-Some-2-clause-value
 returns-in-Some-2-clause-value g c e =
     tells_gone c.loop-round.invariant.tries c.find_target.ensures.searched c.delete_node.new.seat.view c.in-Some-2.taken.number
     c.in-Some-2.taken.value
-    ((subst (λ (r : Option Deleted). IfSome r (λ taken. c.args.tells_value ≡ true
+    ((subst (λ (r : Option Deleted). IfSome r (λ taken. c.args.manner.tells_value ≡ true
     → TellsTaken c.find_target.new.seat.view c.args.key taken.number taken.value c.delete_node.new.seat.view)) c.in-Some-2.is
     c.in_ok-taken.ensures.value) e)
 
@@ -188,3 +195,104 @@ returns-in-Err-clause-done g c kept a = rests_at refl ((subst (λ (r : Option De
     → IsAt (shape_of g.W.WaitWords.WAY c.args.table.now) (Del c.args.key) kept
     (at.TargetLock target 0) c.find_target.new.seat.view)) c.in-Some.is c.find_target.ensures.found) kept
     (c.loop-round.invariant.tries.ready kept a)))
+
+pub returns-in-Err-clause-wait : goal.returns-in-Err-clause-wait
+returns-in-Err-clause-wait g c = rests_wait c.loop-round.invariant.tries c.find_target.ensures.searched
+    (subst (λ (r : Option Deleted). IfNone r (KeepsRest c.find_target.new.seat.view c.delete_node.new.seat.view)) c.in_default-2.is
+    c.in_ok-taken.ensures.same)
+
+pub returns-in_default-clause-stays : goal.returns-in_default-clause-stays
+returns-in_default-clause-stays g c = none_back_on c.args.seat.now c.loop-round.seat c.find_target.new.seat c.loop-round.invariant.stays
+    (none_back_same c.loop-round.seat c.find_target.new.seat c.find_target.ensures.searched.stay c.find_target.ensures.seat.1)
+
+pub returns-in-Some-2-clause-stays : goal.returns-in-Some-2-clause-stays
+returns-in-Some-2-clause-stays g c =
+    let found = none_back_on c.args.seat.now c.loop-round.seat c.find_target.new.seat c.loop-round.invariant.stays
+    (none_back_same c.loop-round.seat c.find_target.new.seat c.find_target.ensures.searched.stay c.find_target.ensures.seat.1) in
+    none_back_on c.args.seat.now c.find_target.new.seat c.delete_node.new.seat found c.in_ok-taken.ensures.stays
+
+pub returns-in-Err-clause-stays : goal.returns-in-Err-clause-stays
+returns-in-Err-clause-stays g c =
+    let found = none_back_on c.args.seat.now c.loop-round.seat c.find_target.new.seat c.loop-round.invariant.stays
+    (none_back_same c.loop-round.seat c.find_target.new.seat c.find_target.ensures.searched.stay c.find_target.ensures.seat.1) in
+    none_back_on c.args.seat.now c.find_target.new.seat c.delete_node.new.seat found c.in_ok-taken.ensures.stays
+
+pub returns-in_default-clause-few : goal.returns-in_default-clause-few
+returns-in_default-clause-few g c =
+    let same = ap length (c.find_target.ensures.seat.1 ∙ c.loop-round.invariant.same) in omega (arith, same)
+
+pub returns-in-Some-2-clause-few : goal.returns-in-Some-2-clause-few
+returns-in-Some-2-clause-few g c =
+    let same = ap length (c.find_target.ensures.seat.1 ∙ c.loop-round.invariant.same) in
+    let few = few_retired c.find_target.new.seat c.delete_node.new.seat c.args.key c.in-Some-2.taken.number
+    (subst (λ (r : Option Deleted). IfSome r
+    (λ taken. RetiresInOrder c.find_target.new.seat c.args.key taken.number c.delete_node.new.seat)) c.in-Some-2.is
+    c.in_ok-taken.ensures.retires) in omega (arith, same, few)
+
+pub returns-in-Err-clause-few : goal.returns-in-Err-clause-few
+returns-in-Err-clause-few g c =
+    let same = ap length ((subst
+    (λ (r : Option Deleted). IfNone r (c.delete_node.new.seat.listed ≡ c.find_target.new.seat.listed)) c.in_default-2.is
+    c.in_ok-taken.ensures.kept) ∙ c.find_target.ensures.seat.1 ∙ c.loop-round.invariant.same) in omega (arith, same)
+
+pub returns-in_default-clause-unwaited : goal.returns-in_default-clause-unwaited
+returns-in_default-clause-unwaited g c = λ leaves. searched_waits c.loop-round.invariant.tries c.find_target.ensures.searched
+
+pub returns-in-Some-2-clause-unwaited : goal.returns-in-Some-2-clause-unwaited
+returns-in-Some-2-clause-unwaited g c = λ leaves.
+    waits_on (searched_waits c.loop-round.invariant.tries c.find_target.ensures.searched)
+    ((subst (λ (r : Option Deleted). IfSome r (λ _. c.in-Some.target.successor ≡ None
+    → KeepsWaits c.find_target.new.seat.view c.delete_node.new.seat.view)) c.in-Some-2.is c.in_ok-taken.ensures.unwaited)
+    (c.is_left.ensures.taken c.if-is_left.false leaves))
+
+pub returns-in-Err-clause-unwaited : goal.returns-in-Err-clause-unwaited
+returns-in-Err-clause-unwaited g c = λ leaves.
+    waits_on (searched_waits c.loop-round.invariant.tries c.find_target.ensures.searched)
+    (subst (λ (r : Option Deleted). IfNone r (KeepsRest c.find_target.new.seat.view c.delete_node.new.seat.view)) c.in_default-2.is
+    c.in_ok-taken.ensures.same).waits
+
+pub returns-then-is_left-clause-done : goal.returns-then-is_left-clause-done
+returns-then-is_left-clause-done g c kept a = left_there ((subst (λ (r : Option Target). IfSome r (λ target. (kept : ℕ)
+    → MayBegin (shape_of g.W.WaitWords.WAY c.args.table.now) (Del c.args.key) kept c.loop-round.seat.view
+    → IsAt (shape_of g.W.WaitWords.WAY c.args.table.now) (Del c.args.key) kept
+    (at.TargetLock target 0) c.find_target.new.seat.view)) c.in-Some.is c.find_target.ensures.found) kept
+    (c.loop-round.invariant.tries.ready kept a))
+
+pub returns-then-is_left-clause-asked : goal.returns-then-is_left-clause-asked
+returns-then-is_left-clause-asked g c = (c.is_left.ensures.left c.if-is_left.true).0
+
+pub returns-then-is_left-clause-two : goal.returns-then-is_left-clause-two
+returns-then-is_left-clause-two g c =
+    (subst (λ (r : Option Target). IfSome r (λ target. HasTwo target → FoundTwoChildren c.args.key c.find_target.new.seat.view)) c.in-Some.is
+    c.find_target.ensures.two) (c.is_left.ensures.left c.if-is_left.true).1
+
+pub returns-then-is_left-clause-left : goal.returns-then-is_left-clause-left
+returns-then-is_left-clause-left g c =
+    rests_way c.loop-round.invariant.tries c.find_target.ensures.searched (rest_none c.find_target.new.seat.view)
+
+pub returns-then-is_left-clause-begins : goal.returns-then-is_left-clause-begins
+returns-then-is_left-clause-begins g c = absent_begins c.loop-round.invariant.tries c.find_target.ensures.searched
+
+pub returns-then-is_left-clause-wait : goal.returns-then-is_left-clause-wait
+returns-then-is_left-clause-wait g c = absent_wait c.loop-round.invariant.tries c.find_target.ensures.searched
+
+pub returns-then-is_left-clause-unwaited : goal.returns-then-is_left-clause-unwaited
+returns-then-is_left-clause-unwaited g c = λ leaves. searched_waits c.loop-round.invariant.tries c.find_target.ensures.searched
+
+pub returns-then-is_left-clause-slots : goal.returns-then-is_left-clause-slots
+returns-then-is_left-clause-slots g c =
+    searched_slots c.args.seat.now c.loop-round.seat c.find_target.new.seat c.args.key c.loop-round.invariant.slots
+    c.find_target.ensures.searched
+    c.find_target.ensures.seat.1
+
+pub returns-then-is_left-clause-listed : goal.returns-then-is_left-clause-listed
+returns-then-is_left-clause-listed g c = listed_still c.loop-round.seat c.find_target.new.seat c.find_target.ensures.seat.1
+    c.find_target.ensures.searched.retired c.loop-round.invariant.listed
+
+pub returns-then-is_left-clause-stays : goal.returns-then-is_left-clause-stays
+returns-then-is_left-clause-stays g c = none_back_on c.args.seat.now c.loop-round.seat c.find_target.new.seat c.loop-round.invariant.stays
+    (none_back_same c.loop-round.seat c.find_target.new.seat c.find_target.ensures.searched.stay c.find_target.ensures.seat.1)
+
+pub returns-then-is_left-clause-few : goal.returns-then-is_left-clause-few
+returns-then-is_left-clause-few g c =
+    let same = ap length (c.find_target.ensures.seat.1 ∙ c.loop-round.invariant.same) in omega (arith, same)

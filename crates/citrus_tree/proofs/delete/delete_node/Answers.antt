@@ -1,4 +1,4 @@
-use Rattle.std.proofs.Common.{ℕ, Option, inl, subst, ◌∙◌}
+use Rattle.std.proofs.Common.{ℕ, Option, inl, subst, sym, ◌∙◌}
 use Rattle.std.specs.Prelude.{IfSome, IfNone}
 use Rattle.prcu_model.specs.declared.operation.Op.TheVariants.{Del}
 use Rattle.core_points.specs.Programs.{deleting}
@@ -11,8 +11,8 @@ use Rattle.citrus_tree.specs.Deletes.{AreLivesSmall, Comes, HasDeleted, KeepsRes
 use Rattle.citrus_tree.specs.Going.{KeepsWait}
 use Rattle.citrus_tree.proofs.DeleteUpdates.{keeps_rest, rest_of, told_taken}
 use Rattle.citrus_tree.proofs.DeleteMoves.{deleted_later, bypass_deletes, one_retired, retires_before}
-use Rattle.citrus_tree.proofs.Leavings.{rest_slots, slots_on, slots_rest, none_begun, wait_later}
-use Rattle.citrus_tree.proofs.DeleteTries.{listed_still}
+use Rattle.citrus_tree.proofs.Leavings.{none_back_on, none_back_same, rest_slots, slots_on, slots_rest, none_begun, wait_later}
+use Rattle.citrus_tree.proofs.DeleteTries.{listed_still, waits_on}
 use Rattle.citrus_tree.proofs.delete.delete_node.Goals as goal
 
 pub lock_target-requires-clause-at : goal.lock_target-requires-clause-at
@@ -246,6 +246,14 @@ returns-in-Some-2-clause-waits g c =
     (subst (λ (r : Option ℕ). IfSome r (λ number. KeepsWait c.value_where-value.new.seat.view c.shift.new.seat.view)) c.in-Some-2.is
     c.in_ok-number-in-Some-successor.ensures.waits)
 
+pub returns-in_ok-number-in-None-clause-unwaited : goal.returns-in_ok-number-in-None-clause-unwaited
+returns-in_ok-number-in-None-clause-unwaited g c = λ none.
+    waits_on (waits_on (waits_on c.lock_target.ensures.same.waits c.validate.ensures.same.waits) c.value_where-value.ensures.same.waits)
+    c.in_ok-number-in-None.ensures.waits
+
+pub returns-in-Some-2-clause-unwaited : goal.returns-in-Some-2-clause-unwaited
+returns-in-Some-2-clause-unwaited g c = λ none. absurd (let other = sym none ∙ c.in-Some-successor.is in cc)
+
 pub returns-in_ok-number-in-None-clause-retires : goal.returns-in_ok-number-in-None-clause-retires
 returns-in_ok-number-in-None-clause-retires g c =
     let a = c.requires.at in
@@ -267,3 +275,46 @@ returns-in-Some-2-clause-retires g c =
     (c.value_where-value.ensures.seat.1 ∙ c.validate.ensures.seat.1 ∙ c.lock_target.ensures.seat.1))
     (subst (λ (r : Option ℕ). RetiresIf c.value_where-value.new.seat c.args.key r c.shift.new.seat) c.in-Some-2.is
     c.in_ok-number-in-Some-successor.ensures.retires)
+
+pub returns-then-not-lock_target-clause-stays : goal.returns-then-not-lock_target-clause-stays
+returns-then-not-lock_target-clause-stays g c =
+    none_back_same c.args.seat.now c.lock_target.new.seat c.lock_target.ensures.same.stay c.lock_target.ensures.seat.1
+
+pub returns-in_default-clause-stays : goal.returns-in_default-clause-stays
+returns-in_default-clause-stays g c =
+    let locked = none_back_same c.args.seat.now c.lock_target.new.seat c.lock_target.ensures.same.stay c.lock_target.ensures.seat.1 in
+    let judged = none_back_on c.args.seat.now c.lock_target.new.seat c.validate.new.seat locked
+    (none_back_same c.lock_target.new.seat c.validate.new.seat c.validate.ensures.same.stay c.validate.ensures.seat.1) in
+    none_back_on c.args.seat.now c.validate.new.seat c.unlock_target.new.seat judged
+    (none_back_same c.validate.new.seat c.unlock_target.new.seat c.unlock_target.ensures.same.stay c.unlock_target.ensures.seat.1)
+
+pub returns-in_ok-number-in-None-clause-stays : goal.returns-in_ok-number-in-None-clause-stays
+returns-in_ok-number-in-None-clause-stays g c =
+    let locked = none_back_same c.args.seat.now c.lock_target.new.seat c.lock_target.ensures.same.stay c.lock_target.ensures.seat.1 in
+    let judged = none_back_on c.args.seat.now c.lock_target.new.seat c.validate.new.seat locked
+    (none_back_same c.lock_target.new.seat c.validate.new.seat c.validate.ensures.same.stay c.validate.ensures.seat.1) in
+    let valued = none_back_on c.args.seat.now c.validate.new.seat c.value_where-value.new.seat judged
+    (none_back_same c.validate.new.seat c.value_where-value.new.seat c.value_where-value.ensures.same.stay
+    c.value_where-value.ensures.seat.1) in
+    let past = c.in_ok-number-in-None.ensures in
+    none_back_on c.args.seat.now c.value_where-value.new.seat c.bypass.new.seat valued (past.slots.slots past.waits.count)
+
+pub returns-in-Some-2-clause-stays : goal.returns-in-Some-2-clause-stays
+returns-in-Some-2-clause-stays g c =
+    let locked = none_back_same c.args.seat.now c.lock_target.new.seat c.lock_target.ensures.same.stay c.lock_target.ensures.seat.1 in
+    let judged = none_back_on c.args.seat.now c.lock_target.new.seat c.validate.new.seat locked
+    (none_back_same c.lock_target.new.seat c.validate.new.seat c.validate.ensures.same.stay c.validate.ensures.seat.1) in
+    let valued = none_back_on c.args.seat.now c.validate.new.seat c.value_where-value.new.seat judged
+    (none_back_same c.validate.new.seat c.value_where-value.new.seat c.value_where-value.ensures.same.stay
+    c.value_where-value.ensures.seat.1) in
+    none_back_on c.args.seat.now c.value_where-value.new.seat c.shift.new.seat valued c.in_ok-number-in-Some-successor.ensures.stays
+
+pub returns-in_default-2-clause-stays : goal.returns-in_default-2-clause-stays
+returns-in_default-2-clause-stays g c =
+    let locked = none_back_same c.args.seat.now c.lock_target.new.seat c.lock_target.ensures.same.stay c.lock_target.ensures.seat.1 in
+    let judged = none_back_on c.args.seat.now c.lock_target.new.seat c.validate.new.seat locked
+    (none_back_same c.lock_target.new.seat c.validate.new.seat c.validate.ensures.same.stay c.validate.ensures.seat.1) in
+    let valued = none_back_on c.args.seat.now c.validate.new.seat c.value_where-value.new.seat judged
+    (none_back_same c.validate.new.seat c.value_where-value.new.seat c.value_where-value.ensures.same.stay
+    c.value_where-value.ensures.seat.1) in
+    none_back_on c.args.seat.now c.value_where-value.new.seat c.shift.new.seat valued c.in_ok-number-in-Some-successor.ensures.stays

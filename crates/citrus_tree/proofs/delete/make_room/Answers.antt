@@ -3,7 +3,7 @@ use Rattle.node_slots.proofs.Returns.{listed_length}
 use Rattle.node_slots.proofs.Points.{reclaim_retired}
 use Rattle.tree_points.proofs.Passing.{none_raised}
 use Rattle.citrus_tree.proofs.DeleteTries.{empty_listed, given_spare, no_spare, ready_at_once, ready_reclaimed, room_reclaimed, room_same, same_room}
-use Rattle.citrus_tree.proofs.Leavings.{slots_reclaimed, slots_self}
+use Rattle.citrus_tree.proofs.Leavings.{none_back_same, slots_reclaimed, slots_self}
 use Rattle.citrus_tree.proofs.delete.make_room.Goals as goal
 
 pub reclaim-requires-clause-outside : goal.reclaim-requires-clause-outside
@@ -98,3 +98,9 @@ returns-then-is_some-clause-at_once g c few some = refl
 pub returns-clause-at_once : goal.returns-clause-at_once
 returns-clause-at_once g c few some = absurd (some (no_spare c.spare.result c.args.seat.now.view.hands.spare c.spare.ensures
     (sym c.is_some.ensures ∙ c.if-is_some.false)))
+
+pub returns-then-retired-room-clause-stays : goal.returns-then-retired-room-clause-stays
+returns-then-retired-room-clause-stays g c = inr c.in_ok-reclaim.ensures.listed
+
+pub returns-then-is_some-clause-stays : goal.returns-then-is_some-clause-stays
+returns-then-is_some-clause-stays g c = inl (none_back_same c.args.seat.now c.args.seat.now refl refl)

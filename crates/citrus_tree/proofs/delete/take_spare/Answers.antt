@@ -5,7 +5,7 @@ use Rattle.node_slots.proofs.Points.{none_retired_now, tries_further}
 use Rattle.citrus_tree.proofs.DeleteTries.{kept_retired, may_reclaim_spare, needs_kept, ready_kept, ready_spare, room_kept, room_spare}
 use Rattle.std.proofs.Common.{[], ap, ◌∙◌, inl, inr, subst}
 use Rattle.core_state.specs.declared.view.View.{View}
-use Rattle.citrus_tree.proofs.Leavings.{slots_goes, slots_on, slots_reclaimed, slots_same, listed_on}
+use Rattle.citrus_tree.proofs.Leavings.{none_back_same, slots_goes, slots_on, slots_reclaimed, slots_same, listed_on}
 use Rattle.citrus_tree.proofs.Linking.{goes_none}
 use Rattle.citrus_tree.specs.Going.{retired_marks}
 use Rattle.citrus_tree.proofs.delete.take_spare.Goals as goal
@@ -132,3 +132,16 @@ returns-in-Slot-clause-kept g c = inl (c.keep_as_spare.ensures.seat.1 ∙ c.take
 
 pub returns-in_ok-reclaim-in-Empty-clause-kept : goal.returns-in_ok-reclaim-in-Empty-clause-kept
 returns-in_ok-reclaim-in-Empty-clause-kept g c = inr c.in_ok-reclaim-in-Empty.ensures.listed
+
+pub returns-in-Slot-clause-stays : goal.returns-in-Slot-clause-stays
+returns-in-Slot-clause-stays g c =
+    let t = c.keep_as_spare.ensures.told.goes in
+    let taken = (subst
+    (λ (r : Taken). Takes
+    (shape_of g.W.WaitWords.WAY c.args.table.now) c.args.seat.now.view r c.take.new.seat.view) c.in-Slot.is
+    c.in_ok-slot.ensures.view).rest in
+    inl (none_back_same c.args.seat.now c.keep_as_spare.new.seat (ap retired_marks t ∙ ap retired_marks taken)
+    (c.keep_as_spare.ensures.seat.1 ∙ c.take.ensures.seat.1))
+
+pub returns-in_ok-reclaim-in-Empty-clause-stays : goal.returns-in_ok-reclaim-in-Empty-clause-stays
+returns-in_ok-reclaim-in-Empty-clause-stays g c = inr c.in_ok-reclaim-in-Empty.ensures.listed

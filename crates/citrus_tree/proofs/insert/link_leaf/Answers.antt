@@ -41,13 +41,13 @@ returns-then-not-still_holds-clause-at g c kept a =
     (fails_at c.args.spot c.still_holds.result c.if-not-still_holds.true
     (c.still_holds.ensures.at _ _ (checking a c.lock.ensures.told c.if-lock-ne0.false))) c.unlock.ensures.told
 
-pub open_commit_or_give_way-requires-clause-settled : goal.open_commit_or_give_way-requires-clause-settled
-open_commit_or_give_way-requires-clause-settled g c = settled_leaf
+pub open_commit_so-requires-clause-settled : goal.open_commit_so-requires-clause-settled
+open_commit_so-requires-clause-settled g c = settled_leaf
     (holds_at c.args.spot c.still_holds.result c.if-not-still_holds.false
     (c.still_holds.ensures.at _ _ (checking c.requires.at.1 c.lock.ensures.told c.if-lock-ne0.false)))
 
-pub open_commit_or_give_way-requires-clause-paid : goal.open_commit_or_give_way-requires-clause-paid
-open_commit_or_give_way-requires-clause-paid g c = unpaid_leaf
+pub open_commit_so-requires-clause-paid : goal.open_commit_so-requires-clause-paid
+open_commit_so-requires-clause-paid g c = unpaid_leaf
     (holds_at c.args.spot c.still_holds.result c.if-not-still_holds.false
     (c.still_holds.ensures.at _ _ (checking c.requires.at.1 c.lock.ensures.told c.if-lock-ne0.false)))
 

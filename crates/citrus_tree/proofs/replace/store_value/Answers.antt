@@ -69,13 +69,13 @@ returns-then-is_other-clause-at g c kept a =
     (is_alive _ _ c.is_life-holds.ensures c.if-not-holds.false) c.locked_load-old.ensures.told (tried_none _)
     c.unlock-then-is_other.ensures.told
 
-pub open_commit_or_give_way-requires-clause-settled : goal.open_commit_or_give_way-requires-clause-settled
-open_commit_or_give_way-requires-clause-settled g c = settled c.requires.at.1 c.lock.ensures.told c.if-lock-ne0.false
+pub open_commit_so-requires-clause-settled : goal.open_commit_so-requires-clause-settled
+open_commit_so-requires-clause-settled g c = settled c.requires.at.1 c.lock.ensures.told c.if-lock-ne0.false
     c.locked_load-life.ensures.told
     (is_alive _ _ c.is_life-holds.ensures c.if-not-holds.false) c.locked_load-old.ensures.told
 
-pub open_commit_or_give_way-requires-clause-paid : goal.open_commit_or_give_way-requires-clause-paid
-open_commit_or_give_way-requires-clause-paid g c = unpaid c.requires.at.1 c.lock.ensures.told c.if-lock-ne0.false
+pub open_commit_so-requires-clause-paid : goal.open_commit_so-requires-clause-paid
+open_commit_so-requires-clause-paid g c = unpaid c.requires.at.1 c.lock.ensures.told c.if-lock-ne0.false
     c.locked_load-life.ensures.told
     (is_alive _ _ c.is_life-holds.ensures c.if-not-holds.false) c.locked_load-old.ensures.told
 

@@ -1,8 +1,8 @@
-use Rattle.std.proofs.Common.{refl, subst, arith}
+use Rattle.std.proofs.Common.{subst, arith}
 use Rattle.seat_table.specs.Seats.{shape_of}
 use Rattle.tree_lift.specs.Ways.{Finds}
-use Rattle.tree_lift.specs.Lifts.{MakesRoom, TakesSlots}
-use Rattle.tree_lift.proofs.Attempts.{has_room, held_there, level_attempt, listed_there, lost_attempt, none_attempt, quiet_found, ready_there, recorded_there, room_lacking, turned_attempt, two_found}
+use Rattle.tree_lift.specs.Lifts.{MakesRoom, TriesTurn}
+use Rattle.tree_lift.proofs.Attempts.{few_found, has_room, level_attempt, lost_attempt, none_attempt, pays_found, quiet_found, recorded_found, room_lacking, turned_attempt}
 use Rattle.tree_lift.proofs.lifting.make_attempt.Goals as goal
 
 pub make_room-requires-clause-ticket : goal.make_room-requires-clause-ticket
@@ -46,8 +46,8 @@ returns-in_default-clause-attempted g c =
     level_attempt k c.args.aim s t room c.find_turn.new.seat c.find_turn.ensures.seat.1
     (subst (λ o. Finds k t.view c.args.aim.key c.args.aim.salt o c.find_turn.new.seat.view) c.in_default.is c.find_turn.ensures.finds)
 
-pub take_slots-requires-clause-quiet : goal.take_slots-requires-clause-quiet
-take_slots-requires-clause-quiet g c =
+pub try_turn-requires-clause-quiet : goal.try_turn-requires-clause-quiet
+try_turn-requires-clause-quiet g c =
     let k = shape_of g.W.WaitWords.WAY c.args.table.now in
     let s = c.args.seat.now in
     let t = c.make_room.new.seat in
@@ -60,8 +60,8 @@ take_slots-requires-clause-quiet g c =
     let found = subst (λ o. Finds k t.view c.args.aim.key c.args.aim.salt o u.view) c.in-Some.is c.find_turn.ensures.finds in
     quiet_found k c.args.aim s t room u same turn found
 
-pub take_slots-requires-clause-tickets : goal.take_slots-requires-clause-tickets
-take_slots-requires-clause-tickets g c =
+pub try_turn-requires-clause-tickets : goal.try_turn-requires-clause-tickets
+try_turn-requires-clause-tickets g c =
     let k = shape_of g.W.WaitWords.WAY c.args.table.now in
     let s = c.args.seat.now in
     let t = c.make_room.new.seat in
@@ -72,10 +72,10 @@ take_slots-requires-clause-tickets g c =
     let same = c.find_turn.ensures.seat.1 in
     let turn = c.in-Some.turn in
     let found = subst (λ o. Finds k t.view c.args.aim.key c.args.aim.salt o u.view) c.in-Some.is c.find_turn.ensures.finds in
-    two_found k c.args.aim s t room u same turn found c.requires.tickets
+    pays_found k c.args.aim s t room u same turn found c.requires.tickets
 
-pub returns-then-not-branch-2-clause-attempted : goal.returns-then-not-branch-2-clause-attempted
-returns-then-not-branch-2-clause-attempted g c =
+pub try_turn-requires-clause-room : goal.try_turn-requires-clause-room
+try_turn-requires-clause-room g c =
     let k = shape_of g.W.WaitWords.WAY c.args.table.now in
     let s = c.args.seat.now in
     let t = c.make_room.new.seat in
@@ -86,12 +86,10 @@ returns-then-not-branch-2-clause-attempted g c =
     let same = c.find_turn.ensures.seat.1 in
     let turn = c.in-Some.turn in
     let found = subst (λ o. Finds k t.view c.args.aim.key c.args.aim.salt o u.view) c.in-Some.is c.find_turn.ensures.finds in
-    none_attempt k c.args.aim s t room u same turn found c.take_slots.new.seat
-    (subst (λ b. TakesSlots k u b c.take_slots.new.seat) c.if-not-branch-2.true c.in_ok-take_slots.ensures.takes)
-    c.take_slots.ensures.seat.1
+    few_found k c.args.aim s t room u same turn found
 
-pub make_turn-requires-clause-recorded : goal.make_turn-requires-clause-recorded
-make_turn-requires-clause-recorded g c =
+pub try_turn-requires-clause-recorded : goal.try_turn-requires-clause-recorded
+try_turn-requires-clause-recorded g c =
     let k = shape_of g.W.WaitWords.WAY c.args.table.now in
     let s = c.args.seat.now in
     let t = c.make_room.new.seat in
@@ -102,13 +100,10 @@ make_turn-requires-clause-recorded g c =
     let same = c.find_turn.ensures.seat.1 in
     let turn = c.in-Some.turn in
     let found = subst (λ o. Finds k t.view c.args.aim.key c.args.aim.salt o u.view) c.in-Some.is c.find_turn.ensures.finds in
-    let x = c.take_slots.new.seat in
-    let takes = subst (λ b. TakesSlots k u b x) c.if-not-branch-2.false c.in_ok-take_slots.ensures.takes in
-    let kept = c.take_slots.ensures.seat.1 in
-    recorded_there k c.args.aim s t room u same turn found x takes kept
+    recorded_found k c.args.aim s t room u same turn found
 
-pub make_turn-requires-clause-ready : goal.make_turn-requires-clause-ready
-make_turn-requires-clause-ready g c =
+pub returns-in-Turned-clause-attempted : goal.returns-in-Turned-clause-attempted
+returns-in-Turned-clause-attempted g c =
     let k = shape_of g.W.WaitWords.WAY c.args.table.now in
     let s = c.args.seat.now in
     let t = c.make_room.new.seat in
@@ -119,13 +114,11 @@ make_turn-requires-clause-ready g c =
     let same = c.find_turn.ensures.seat.1 in
     let turn = c.in-Some.turn in
     let found = subst (λ o. Finds k t.view c.args.aim.key c.args.aim.salt o u.view) c.in-Some.is c.find_turn.ensures.finds in
-    let x = c.take_slots.new.seat in
-    let takes = subst (λ b. TakesSlots k u b x) c.if-not-branch-2.false c.in_ok-take_slots.ensures.takes in
-    let kept = c.take_slots.ensures.seat.1 in
-    ready_there k c.args.aim s t room u same turn found x takes kept c.requires.tickets
+    turned_attempt k c.args.aim s t room u same turn found c.try_turn.new.seat
+    (subst (λ o. TriesTurn k u turn o c.try_turn.new.seat) c.in-Turned.is c.in_ok-try_turn.ensures.tries)
 
-pub make_turn-requires-clause-listed : goal.make_turn-requires-clause-listed
-make_turn-requires-clause-listed g c =
+pub returns-in-Refused-clause-attempted : goal.returns-in-Refused-clause-attempted
+returns-in-Refused-clause-attempted g c =
     let k = shape_of g.W.WaitWords.WAY c.args.table.now in
     let s = c.args.seat.now in
     let t = c.make_room.new.seat in
@@ -136,13 +129,11 @@ make_turn-requires-clause-listed g c =
     let same = c.find_turn.ensures.seat.1 in
     let turn = c.in-Some.turn in
     let found = subst (λ o. Finds k t.view c.args.aim.key c.args.aim.salt o u.view) c.in-Some.is c.find_turn.ensures.finds in
-    let x = c.take_slots.new.seat in
-    let takes = subst (λ b. TakesSlots k u b x) c.if-not-branch-2.false c.in_ok-take_slots.ensures.takes in
-    let kept = c.take_slots.ensures.seat.1 in
-    listed_there k c.args.aim s t room u same turn found x takes kept
+    lost_attempt k c.args.aim s t room u same turn found c.try_turn.new.seat
+    (subst (λ o. TriesTurn k u turn o c.try_turn.new.seat) c.in-Refused.is c.in_ok-try_turn.ensures.tries)
 
-pub returns-then-make_turn-clause-attempted : goal.returns-then-make_turn-clause-attempted
-returns-then-make_turn-clause-attempted g c =
+pub returns-in-NoSlot-clause-attempted : goal.returns-in-NoSlot-clause-attempted
+returns-in-NoSlot-clause-attempted g c =
     let k = shape_of g.W.WaitWords.WAY c.args.table.now in
     let s = c.args.seat.now in
     let t = c.make_room.new.seat in
@@ -153,72 +144,5 @@ returns-then-make_turn-clause-attempted g c =
     let same = c.find_turn.ensures.seat.1 in
     let turn = c.in-Some.turn in
     let found = subst (λ o. Finds k t.view c.args.aim.key c.args.aim.salt o u.view) c.in-Some.is c.find_turn.ensures.finds in
-    let x = c.take_slots.new.seat in
-    let takes = subst (λ b. TakesSlots k u b x) c.if-not-branch-2.false c.in_ok-take_slots.ensures.takes in
-    let kept = c.take_slots.ensures.seat.1 in
-    let e = c.make_turn.ensures in
-    let yes = c.if-make_turn.true in
-    turned_attempt k c.args.aim s t room u same turn found x takes kept c.make_turn.new.seat e.gone (e.turned yes) (e.retires yes)
-    (e.informed yes) (e.quiet yes (takes.both refl).quiet)
-
-pub put_back-requires-clause-paid : goal.put_back-requires-clause-paid
-put_back-requires-clause-paid g c =
-    let k = shape_of g.W.WaitWords.WAY c.args.table.now in
-    let s = c.args.seat.now in
-    let t = c.make_room.new.seat in
-    let room = has_room k c.args.aim.key c.args.aim.hard s t
-    (subst (λ b. MakesRoom k c.args.aim.hard s b t) c.if-not-branch.false c.in_ok-make_room.ensures.room)
-    c.in_ok-make_room.ensures.informed c.requires.quiet in
-    let u = c.find_turn.new.seat in
-    let same = c.find_turn.ensures.seat.1 in
-    let turn = c.in-Some.turn in
-    let found = subst (λ o. Finds k t.view c.args.aim.key c.args.aim.salt o u.view) c.in-Some.is c.find_turn.ensures.finds in
-    let x = c.take_slots.new.seat in
-    let takes = subst (λ b. TakesSlots k u b x) c.if-not-branch-2.false c.in_ok-take_slots.ensures.takes in
-    let kept = c.take_slots.ensures.seat.1 in
-    let e = c.make_turn.ensures in
-    let no = c.if-make_turn.false in
-    (e.still no (takes.both refl).quiet).quiet.view.owes
-
-pub put_back-requires-clause-hand : goal.put_back-requires-clause-hand
-put_back-requires-clause-hand g c =
-    let k = shape_of g.W.WaitWords.WAY c.args.table.now in
-    let s = c.args.seat.now in
-    let t = c.make_room.new.seat in
-    let room = has_room k c.args.aim.key c.args.aim.hard s t
-    (subst (λ b. MakesRoom k c.args.aim.hard s b t) c.if-not-branch.false c.in_ok-make_room.ensures.room)
-    c.in_ok-make_room.ensures.informed c.requires.quiet in
-    let u = c.find_turn.new.seat in
-    let same = c.find_turn.ensures.seat.1 in
-    let turn = c.in-Some.turn in
-    let found = subst (λ o. Finds k t.view c.args.aim.key c.args.aim.salt o u.view) c.in-Some.is c.find_turn.ensures.finds in
-    let x = c.take_slots.new.seat in
-    let takes = subst (λ b. TakesSlots k u b x) c.if-not-branch-2.false c.in_ok-take_slots.ensures.takes in
-    let kept = c.take_slots.ensures.seat.1 in
-    let e = c.make_turn.ensures in
-    let no = c.if-make_turn.false in
-    held_there k c.args.aim s t room u same turn found x takes kept c.make_turn.new.seat e.gone (e.refused no)
-    (e.still no (takes.both refl).quiet) (e.same_list no)
-
-pub returns-clause-attempted : goal.returns-clause-attempted
-returns-clause-attempted g c =
-    let k = shape_of g.W.WaitWords.WAY c.args.table.now in
-    let s = c.args.seat.now in
-    let t = c.make_room.new.seat in
-    let room = has_room k c.args.aim.key c.args.aim.hard s t
-    (subst (λ b. MakesRoom k c.args.aim.hard s b t) c.if-not-branch.false c.in_ok-make_room.ensures.room)
-    c.in_ok-make_room.ensures.informed c.requires.quiet in
-    let u = c.find_turn.new.seat in
-    let same = c.find_turn.ensures.seat.1 in
-    let turn = c.in-Some.turn in
-    let found = subst (λ o. Finds k t.view c.args.aim.key c.args.aim.salt o u.view) c.in-Some.is c.find_turn.ensures.finds in
-    let x = c.take_slots.new.seat in
-    let takes = subst (λ b. TakesSlots k u b x) c.if-not-branch-2.false c.in_ok-take_slots.ensures.takes in
-    let kept = c.take_slots.ensures.seat.1 in
-    let e = c.make_turn.ensures in
-    let no = c.if-make_turn.false in
-    let held = held_there k c.args.aim s t room u same turn found x takes kept c.make_turn.new.seat e.gone (e.refused no)
-    (e.still no (takes.both refl).quiet) (e.same_list no) in
-    lost_attempt k c.args.aim s t room u same turn found x takes kept c.make_turn.new.seat e.gone (e.refused no)
-    (e.still no (takes.both refl).quiet) (e.same_list no) c.put_back.new.seat (c.put_back.ensures.view held.0 held.1)
-    c.put_back.ensures.seat.1 c.put_back.ensures.informed
+    none_attempt k c.args.aim s t room u same turn found c.try_turn.new.seat
+    (subst (λ o. TriesTurn k u turn o c.try_turn.new.seat) c.in-NoSlot.is c.in_ok-try_turn.ensures.tries)

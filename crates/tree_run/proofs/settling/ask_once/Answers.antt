@@ -6,7 +6,7 @@ use Rattle.tree_run.proofs.Calls.{found_informed, informed_sound}
 use Rattle.tree_run.proofs.settling.ask_once.Goals as goal
 
 pub give_back-requires-clause-unraised : goal.give_back-requires-clause-unraised
-give_back-requires-clause-unraised g c = λ latest. quiet_unraised c.ask.new.seat.view (c.ask.ensures.quiet c.requires.quiet).view _
+give_back-requires-clause-unraised g c = quiet_unraised c.ask.new.seat.view (c.ask.ensures.quiet c.requires.quiet).view _
 
 pub give_back-requires-clause-everybody : goal.give_back-requires-clause-everybody
 give_back-requires-clause-everybody g c =

@@ -10,8 +10,9 @@ use Rattle.tree_points.specs.Points.{IsDone, HasAdvanced}
 use Rattle.tree_points.proofs.Locks.{advanced_on, advanced_waited}
 use Rattle.tree_points.proofs.Waits.{waits_move}
 use Rattle.citrus_tree.specs.Deletes.{retired_slots}
+use Rattle.citrus_tree.specs.Going.{retired_marks}
 use Rattle.citrus_tree.proofs.DeleteUpdates.{no_lock}
-use Rattle.citrus_tree.proofs.DeleteMoves.{in_slots, waited_for, waited_keeps, node_retired, old_retired, node_unlisted, old_unlisted, two_listed, length_more, unlinked_on}
+use Rattle.citrus_tree.proofs.DeleteMoves.{in_slots, waited_for, waited_keeps, waited_stays, node_retired, old_retired, node_unlisted, old_unlisted, two_listed, length_more, unlinked_on}
 use Rattle.citrus_tree.proofs.Leavings.{waited_later, first_stays, waited_first}
 use Rattle.citrus_tree.specs.Replies.{IsUnlinkedSince}
 use Rattle.citrus_tree.proofs.DeleteTries.{same_room}
@@ -175,3 +176,17 @@ returns-clause-listing g c =
     (c.list_retired.ensures.listed ∙ ap (λ xs. xs ++ c.args.moving.node.node ∷ [])
     ((c.unlock_all.ensures.seat).1 ∙ (c.unlink_old.ensures.seat).1 ∙ (c.wait_in_grace.ensures.seat).1))
     ∙ append_assoc c.args.seat.now.listed (c.args.moving.node.node ∷ []) (c.args.moving.successor.slot ∷ [])
+
+pub returns-clause-stays : goal.returns-clause-stays
+returns-clause-stays g c =
+    let same = (c.list_retired-2.ensures.seat).1 ∙ (c.list_retired.ensures.seat).1 in
+    let waited = waited_stays (waited_for (c.args.key + 1) c.args.moving.next_key c.between.ensures c.in_ok-wait_in_grace.ensures.waited)
+    (λ none. omega arith) in
+    let gone = c.unlink_old.ensures.stay in
+    record {
+      retired = (
+        gone.0,
+        ap retired_marks same ∙ c.unlock_all.ensures.same.stay ∙ gone.1 ∙ ap (λ xs. xs ++ gone.0) waited,
+      );
+      listed = (c.args.moving.node.node ∷ (c.args.moving.successor.slot ∷ []), returns-clause-listing g c);
+    }

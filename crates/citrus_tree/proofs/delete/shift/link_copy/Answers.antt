@@ -9,7 +9,7 @@ use Rattle.tree_points.specs.Points.{IsAt}
 use Rattle.tree_points.proofs.Updates.{passes_copy_mark, needs_store_copy, passes_store_copy}
 use Rattle.citrus_tree.specs.Deletes.{HasCopied, TakesValue}
 use Rattle.citrus_tree.proofs.DeleteMoves.{opened_keeps, closed_keeps, half_two, copy_paid}
-use Rattle.citrus_tree.proofs.DeleteUpdates.{keeps_on, keeps_mark, copy_made, copy_locked, copy_retired, copy_takes, copy_waits, copied_later, copied_still, takes_more, takes_since, value_mark, value_on, value_opened}
+use Rattle.citrus_tree.proofs.DeleteUpdates.{keeps_on, keeps_mark, copy_made, copy_locked, copy_retired, copy_stay, copy_takes, copy_waits, copied_later, copied_still, takes_more, takes_since, value_mark, value_on, value_opened}
 use Rattle.citrus_tree.proofs.DeleteTries.{waits_on}
 use Rattle.citrus_tree.proofs.delete.shift.link_copy.Goals as goal
 
@@ -106,3 +106,14 @@ returns-clause-waits g c =
     (opened_keeps c.mark.new.seat.view c.open_commit.new.seat.view c.in_ok-front.front c.in_ok-front.ensures.opened) in
     waits_on first.waits (waits_on (copy_waits k _ _ _ _ _ _ _ _ _ _ _ c.link_copy.ensures.told)
     (closed_keeps c.link_copy.new.seat.view c.close_commit.new.seat.view c.close_commit.ensures.closed).waits)
+
+pub returns-clause-stay : goal.returns-clause-stay
+returns-clause-stay g c =
+    let k = (shape_of g.W.WaitWords.WAY c.args.table.now) in
+    let gone = copy_stay k _ _ _ _ _ _ _ _ _ _ _ c.link_copy.ensures.told in (
+      gone.0,
+      (closed_keeps c.link_copy.new.seat.view c.close_commit.new.seat.view c.close_commit.ensures.closed).stay ∙ gone.1
+          ∙ ap (λ xs. xs ++ gone.0)
+          ((opened_keeps c.mark.new.seat.view c.open_commit.new.seat.view c.in_ok-front.front c.in_ok-front.ensures.opened).stay
+          ∙ (keeps_mark k _ _ _ _ _ c.mark.ensures.told).stay),
+    )

@@ -1,4 +1,4 @@
-use Rattle.std.proofs.Common.{◌+◌, inl, [], ◌∷◌, ◌++◌, length, sym, ap, subst, ◌∙◌, arith}
+use Rattle.std.proofs.Common.{◌+◌, inl, [], ◌∷◌, ◌++◌, length, sym, ap, subst, ◌∙◌, append-nil, arith}
 use Rattle.prcu_model.specs.declared.operation.Op.TheVariants.{Del}
 use Rattle.list_laws.specs.Counts.{times}
 use Rattle.core_points.specs.DeleteFacts.{all_locks}
@@ -7,7 +7,7 @@ use Rattle.seat_table.specs.Seats.{shape_of}
 use Rattle.tree_points.proofs.Locks.{needs_copy_lock, passes_copy_lock_free, passes_copy_lock_busy, locks_copy_lock, advanced_on}
 use Rattle.citrus_tree.proofs.DeleteUpdates.{keeps_rest, locks_busy, rest_lock, rest_of, spare_lock, copy_aside, takes_more, takes_since, value_lock, value_on}
 use Rattle.citrus_tree.proofs.DeleteMoves.{few_moved, has_spare, one_listed, move_deletes, retires_before, two_retired}
-use Rattle.citrus_tree.proofs.Leavings.{slots_later, slots_rest, none_begun, wait_later}
+use Rattle.citrus_tree.proofs.Leavings.{none_back_on, none_back_same, slots_later, slots_rest, none_begun, wait_later}
 use Rattle.citrus_tree.proofs.DeleteTries.{listed_still}
 use Rattle.citrus_tree.proofs.delete.shift.shift.Goals as goal
 
@@ -179,3 +179,24 @@ returns-clause-took g c =
     takes_more _ c.in_ok-finish.ensures.waited.begins
     (takes_since (advanced_on filled.same.advanced (rest_lock k _ _ _ _ c.lock.ensures.told).advanced)
     (value_on filled.value (value_lock _ c.args.node.node apart c.lock.ensures.told)) c.in_ok-number.ensures.took)
+
+pub returns-then-lock-ne0-clause-stays : goal.returns-then-lock-ne0-clause-stays
+returns-then-lock-ne0-clause-stays g c =
+    let rest = keeps_rest _ _ _ (rest_of _ _ c.fill_copy-next_key.ensures.same)
+    (keeps_rest _ _ _ (rest_lock
+    (shape_of g.W.WaitWords.WAY c.args.table.now) _ _ _ _ c.lock.ensures.told) c.unlock_target.ensures.same) in
+    none_back_same c.args.seat.now c.unlock_target.new.seat rest.stay
+    (c.unlock_target.ensures.seat.1 ∙ c.lock.ensures.seat.1 ∙ c.fill_copy-next_key.ensures.seat.1)
+
+pub returns-clause-stays : goal.returns-clause-stays
+returns-clause-stays g c =
+    let locked = rest_lock (shape_of g.W.WaitWords.WAY c.args.table.now) _ _ _ _ c.lock.ensures.told in
+    let linked = c.in_ok-number.ensures.stay in
+    none_back_on c.args.seat.now c.link_copy.new.seat c.finish.new.seat (record {
+      retired = (linked.0, linked.1 ∙ ap (λ xs. xs ++ linked.0) (locked.stay ∙ c.fill_copy-next_key.ensures.same.stay));
+      listed = (
+        [],
+        c.link_copy.ensures.seat.1 ∙ c.lock.ensures.seat.1 ∙ c.fill_copy-next_key.ensures.seat.1
+            ∙ sym (append-nil c.args.seat.now.listed),
+      );
+    }) c.in_ok-finish.ensures.stays

@@ -121,3 +121,19 @@ returns-clause-unlinked g c =
     (keeps_locked_load k _ _ _ _ _ c.locked_load-right.ensures.told) in
     unlinked_on first.advanced.begins (parent_unlinks k _ _ _ _ _ _ c.unlink_left.ensures.told).unlinked
     (c.settle_side-2.ensures.same).advanced.begins
+
+pub returns-then-successor-node-clause-stay : goal.returns-then-successor-node-clause-stay
+returns-then-successor-node-clause-stay g c =
+    let k = (shape_of g.W.WaitWords.WAY c.args.table.now) in
+    let first = keeps_on _ _ _ (keeps_mark k _ _ _ _ _ c.mark.ensures.told)
+    (keeps_locked_load k _ _ _ _ _ c.locked_load-right.ensures.told) in
+    let gone = (copy_unlinks k _ _ _ _ _ _ c.unlink_right.ensures.told).stay in
+    (gone.0, (c.settle_side.ensures.same).stay ∙ gone.1 ∙ ap (λ xs. xs ++ gone.0) first.stay)
+
+pub returns-clause-stay : goal.returns-clause-stay
+returns-clause-stay g c =
+    let k = (shape_of g.W.WaitWords.WAY c.args.table.now) in
+    let first = keeps_on _ _ _ (keeps_mark k _ _ _ _ _ c.mark.ensures.told)
+    (keeps_locked_load k _ _ _ _ _ c.locked_load-right.ensures.told) in
+    let gone = (parent_unlinks k _ _ _ _ _ _ c.unlink_left.ensures.told).stay in
+    (gone.0, (c.settle_side-2.ensures.same).stay ∙ gone.1 ∙ ap (λ xs. xs ++ gone.0) first.stay)

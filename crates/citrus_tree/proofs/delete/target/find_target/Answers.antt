@@ -4,7 +4,7 @@ use Rattle.citrus_tree.specs.declared.descent.Descent.{Descent}
 use Rattle.prcu_model.specs.declared.operation.Op.TheVariants.{Del}
 use Rattle.seat_table.specs.Seats.{shape_of}
 use Rattle.tree_points.proofs.Passing.{inside_leave}
-use Rattle.citrus_tree.proofs.DeleteSearches.{answered_now, at_end, at_parent, at_target, searched_found, searched_missed, seated_by}
+use Rattle.citrus_tree.proofs.DeleteSearches.{answered_now, at_end, at_parent, at_target, found_two, searched_found, searched_missed, seated_by}
 use Rattle.citrus_tree.proofs.Searching.{looked_missed}
 use Rattle.seat_table.proofs.SeveralSteps.{makes_steps}
 use Rattle.citrus_tree.proofs.Leavings.{search_steps}
@@ -47,6 +47,17 @@ returns-in-Found-clause-found g c = λ kept a.
     (subst (λ (d : Descent). IsSearching c.args.seat.now.view c.args.key
     (state_of d) c.descend.new.seat.view) c.in-Found.is c.descend.ensures.searching)))
     c.load_target-target.ensures.inside c.leave.ensures.left
+
+pub returns-in-Found-clause-two : goal.returns-in-Found-clause-two
+returns-in-Found-clause-two g c = λ two.
+    let a = c.requires.at in
+    found_two (c.load_target-target.ensures.at (Del c.args.key) a.0
+    (at_parent (a.1.at (seated_by c.descend.ensures.place
+    (subst (λ (d : Descent). IsSearching c.args.seat.now.view c.args.key
+    (state_of d) c.descend.new.seat.view) c.in-Found.is c.descend.ensures.searching)))
+    (subst (λ (d : Descent). IsSearching c.args.seat.now.view c.args.key
+    (state_of d) c.descend.new.seat.view) c.in-Found.is c.descend.ensures.searching)))
+    c.leave.ensures.left two
 
 pub returns-in-Found-clause-searched : goal.returns-in-Found-clause-searched
 returns-in-Found-clause-searched g c =

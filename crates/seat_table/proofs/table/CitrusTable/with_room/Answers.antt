@@ -16,7 +16,8 @@ invariant_of-seat g c =
       room = c.args.room;
       tickets = c.args.tickets;
     } in
-    first_room g.W.WaitWords.WAY k c.waiter_of-waiter.ensures (search rules) _ _ (search rules)
+    let first = first_room g.W.WaitWords.WAY k c.waiter_of-waiter.ensures (search rules) _ _ (search rules) in
+    (first.0, first.1, search rules)
 
 pub invariant_of-result : goal.invariant_of-result
 invariant_of-result g c =

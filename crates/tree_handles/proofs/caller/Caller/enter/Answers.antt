@@ -1,7 +1,7 @@
 use Rattle.std.proofs.Common.{rules}
-use Rattle.tree_handles.proofs.Callers.{cookie_entered}
+use Rattle.tree_handles.proofs.Cookies.{cookies_entered}
 use Rattle.tree_handles.proofs.caller.Caller.enter.Goals as goal
 
--- the cookie is good still
+-- the cookies are good still
 pub invariant_of-self : goal.invariant_of-self
-invariant_of-self g c = (search rules, search rules, λ kept. cookie_entered c.enter.ensures.entered (c.self.invariant.2 kept))
+invariant_of-self g c = (search rules, search rules, λ kept. cookies_entered c.enter.ensures.entered c.enter.ensures.seat.1 (c.self.invariant.2 kept))

@@ -2,10 +2,17 @@ use Rattle.std.proofs.Common.{rules, ◌≡◌, List, sym, subst, ◌∙◌}
 use Rattle.core_state.specs.declared.view.View.{View}
 use Rattle.core_state.specs.Steps.{first_of}
 use Rattle.list_laws.specs.Counts.{Each}
-use Rattle.seat_table.specs.Seats.{SeatAt, IsQuietSeat}
+use Rattle.seat_table.specs.Seats.{SeatAt, TableAt, IsEmptyFor, IsQuietSeat}
 use Rattle.tree_handles.specs.Lanes.{AreSplitOff}
-use Rattle.tree_handles.proofs.LaneLists.{each_more, split_one_more}
+use Rattle.tree_handles.proofs.LaneLists.{each_more, empty_left, empty_taken, split_one_more}
 use Rattle.tree_handles.proofs.caller.Caller.lanes.Goals as goal
+
+-- the list is empty for the table of the caller as it is by now
+pub split_off-requires-clause-list : goal.split_off-requires-clause-list
+split_off-requires-clause-list g c =
+    let before = c.loop-given.invariant in
+    subst (λ (t : TableAt). IsEmptyFor t c.in-Some-pop.list) (sym before.index.table)
+    (empty_taken _ _ c.pop.ensures.items c.in-Some-pop.is before.lists)
 
 pub loop-given-preserved : goal.loop-given-preserved
 loop-given-preserved g c =
@@ -16,6 +23,8 @@ loop-given-preserved g c =
     let has_table = λ (s : SeatAt). s.table ≡ first.table in
     let pushed = sym c.push_reserved.ensures.items in record {
       few = search rules;
+      lists = empty_left _ _ c.pop.ensures.items c.in-Some-pop.is before.lists (search rules);
+      left_is = search rules;
       index = search rules;
       may = search rules;
       places = search rules;

@@ -1,15 +1,17 @@
-use Rattle.std.proofs.Common.{◌≡◌, ◌+◌, ◌≤◌, length}
+use Rattle.std.proofs.Common.{◌≡◌, ◌+◌, ◌-◌, ◌≤◌, length}
 use Rattle.std.specs.Vec.{vec_len, vec_capacity}
 use Rattle.list_laws.specs.Counts.{Each}
 use Rattle.seat_table.specs.Seats.{SeatAt, IsQuietSeat}
 use Rattle.tree_handles.specs.Callers.{IsSameCaller, MayGoOn}
-use Rattle.tree_handles.specs.Lanes.{AreSplitOff}
+use Rattle.tree_handles.specs.Lanes.{AreEmptyFor, AreSplitOff}
 use Rattle.tree_handles.proofs.caller.Caller.lanes.Given as goal
 
 -- so many seats were split off
 abbrev pub invariant-loop-given : goal.invariant-loop-given
 invariant-loop-given g l = record {
   few : l.given ≤ l.count;
+  lists : AreEmptyFor l.fn.self.table (l.count - l.given) l.lists.items;
+  left_is : vec_len l.lists ≡ l.count - l.given;
   index : IsSameCaller l.fn.self l.self;
   may : MayGoOn l.self;
   places : l.self.seat.view.allowance.places + l.given ≡ l.fn.self.seat.view.allowance.places;

@@ -1,5 +1,5 @@
 use Rattle.std.proofs.Common.{rules, arith}
-use Rattle.tree_handles.proofs.Callers.{cookie_called}
+use Rattle.tree_handles.proofs.Cookies.{cookies_after, keeper_after, keeps_keeper}
 use Rattle.citrus_tree.specs.Going.{KeepsSeat}
 use Rattle.citrus_tree.proofs.Leavings.{keeps_more}
 use Rattle.tree_handles.specs.Calls.{lift_tickets}
@@ -8,11 +8,21 @@ use Rattle.tree_handles.proofs.caller.Caller.lift_behind.Goals as goal
 -- the lift made as many attempts as it was paid for, at most
 pub returns-in-Ok-clause-behind : goal.returns-in-Ok-clause-behind
 returns-in-Ok-clause-behind g c =
-    let all : KeepsSeat lift_tickets c.self.inside.seat c.lift.new.seat =
+    let all : KeepsSeat lift_tickets c.self.inside.seat c.lift-lifted.new.seat =
     keeps_more (let few = c.attempts_behind-attempts.ensures.few in omega arith) c.in-Ok.ensures.keeps in
     search rules
 
--- the cookie is good still
-pub invariant_of-self : goal.invariant_of-self
-invariant_of-self g c = let e = c.in-Ok.ensures in
-    (search rules, search rules, λ kept. cookie_called e.keeps (c.self.invariant.2 kept))
+-- the keeper is there still where no wait was begun
+pub returns-in-Ok-clause-keeper : goal.returns-in-Ok-clause-keeper
+returns-in-Ok-clause-keeper g c = keeps_keeper c.self.view_is (λ _. keeper_after c.self.inside.seat c.lift-lifted.new.seat _ c.in-Ok.is c.lift-lifted.ensures.keeps c.forget_if.ensures.gone
+    (λ same. c.forget_if.ensures.kept same) c.waits-waits.ensures c.waits.ensures)
+
+-- the cookies are good still, without the keeper where a wait was begun
+pub invariant_of-self-in-Ok : goal.invariant_of-self-in-Ok
+invariant_of-self-in-Ok g c = (
+  search rules,
+  search rules,
+  λ kept. cookies_after _ c.in-Ok.is c.lift-lifted.ensures.keeps c.forget_if.ensures.gone
+      (λ same. c.forget_if.ensures.kept same) c.waits-waits.ensures c.waits.ensures
+      (c.self.invariant.2 kept),
+)

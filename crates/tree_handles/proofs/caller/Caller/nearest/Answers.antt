@@ -4,18 +4,18 @@ use Rattle.exact_list.specs.declared.nearest.Nearest.{Nearest}
 use Rattle.exact_list.specs.Loads.{HasListed, IsOneWayDown}
 use Rattle.exact_list.specs.Tries.{HasGivenWay}
 use Rattle.tree_handles.specs.declared.spinning.InTheWay.{InTheWay}
-use Rattle.tree_handles.proofs.Callers.{cookie_gave_way, cookie_listed}
+use Rattle.tree_handles.proofs.Cookies.{cookies_gave_way, cookies_listed}
 use Rattle.tree_handles.proofs.caller.Caller.nearest.Goals as goal
 
--- the cookie is good still
+-- the cookies are good still
 pub invariant_of-self : goal.invariant_of-self
 invariant_of-self g c =
     let came = IfOk-at_ok (λ (nearest : Nearest). HasListed c.self.inside.seat.view c.args.from nearest.front 4
     (IsOneWayDown nearest.pair) c.nearest_always.new.seat.view) c.in-Ok-Ok.field-0-is c.in-Ok-Ok.ensures.came in
-    (search rules, search rules, λ kept. cookie_listed came (c.self.invariant.2 kept))
+    (search rules, search rules, λ kept. cookies_listed came c.nearest_always.ensures.seat.1 (c.self.invariant.2 kept))
 
 pub invariant_of-self-in-Ok-Err : goal.invariant_of-self-in-Ok-Err
 invariant_of-self-in-Ok-Err g c =
     let gave = IfErr-at_err (λ (_ : InTheWay). HasGivenWay c.self.inside.seat.view c.args.from 4 c.nearest_always.new.seat.view)
     c.in-Ok-Err.field-0-is c.in-Ok-Err.ensures.busy in
-    (search rules, search rules, λ kept. cookie_gave_way gave (c.self.invariant.2 kept))
+    (search rules, search rules, λ kept. cookies_gave_way gave c.nearest_always.ensures.seat.1 (c.self.invariant.2 kept))

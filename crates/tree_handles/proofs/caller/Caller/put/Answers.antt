@@ -1,23 +1,25 @@
-use Rattle.std.proofs.Common.{rules}
-use Rattle.tree_handles.proofs.Callers.{cookie_called}
+use Rattle.std.proofs.Common.{refl, inr}
+use Rattle.std.proofs.lemmas.Result.{IfErr-weaker, IfOk-weaker}
+use Rattle.prcu_model.specs.declared.operation.Op.TheVariants.{Put}
+use Rattle.tree_handles.proofs.Callers.{caused_ready, caused_tended}
 use Rattle.tree_handles.proofs.caller.Caller.put.Goals as goal
 
--- the seat as the put left it, and what came behind
-pub returns-in-Ok-Ok-clause-called : goal.returns-in-Ok-Ok-clause-called
-returns-in-Ok-Ok-clause-called g c = record {
-  index = search rules;
-  before = search rules;
-  enough = search rules;
-  answered = c.put.new.seat;
-  tells = search rules;
-  behind = c.lift_behind.ensures.behind;
+pub returns-then-owes_turns-clause-cause : goal.returns-then-owes_turns-clause-cause
+returns-then-owes_turns-clause-cause g c = record {
+  ready = c.see_to_keeper.new.self;
+  gets = record { tended = c.see_to_keeper.new.self; sees = c.see_to_keeper.ensures.sees; turns = refl };
+  busy = inr (c.owes_turns.ensures.holds c.if-owes_turns.true);
 }
 
--- the cookie is good still
-pub invariant_of-self : goal.invariant_of-self
-invariant_of-self g c = let e = c.in-Ok-Ok.ensures in
-    (search rules, search rules, λ kept. cookie_called e.keeps (c.self.invariant.2 kept))
+pub returns-clause-called : goal.returns-clause-called
+returns-clause-called g c = IfOk-weaker c.put_tended.result _ _ (λ told called. record {
+  ready = c.see_to_keeper.new.self;
+  gets = record { tended = c.see_to_keeper.new.self; sees = c.see_to_keeper.ensures.sees; turns = refl };
+  called = called;
+}) c.put_tended.ensures.called
 
-pub invariant_of-self-in-Ok-Err : goal.invariant_of-self-in-Ok-Err
-invariant_of-self-in-Ok-Err g c = let e = c.in-Ok-Err.ensures in
-    (search rules, search rules, λ kept. cookie_called e.keeps (c.self.invariant.2 kept))
+pub returns-clause-cause : goal.returns-clause-cause
+returns-clause-cause g c = IfErr-weaker c.put_tended.result _ _ (λ status cause. caused_tended (Put c.args.key c.args.value) status c.args.self.now
+    c.see_to_keeper.new.self c.put_tended.new.self c.in_default.ensures.none.0 c.in_default.ensures.none.1
+    (record { tended = c.see_to_keeper.new.self; sees = c.see_to_keeper.ensures.sees; turns = refl })
+    (caused_ready (Put c.args.key c.args.value) status c.see_to_keeper.new.self c.put_tended.new.self cause)) c.put_tended.ensures.cause

@@ -12,6 +12,8 @@ returns-clause-keeps g c =
         waits = slots.waits;
         wait = slots.wait;
       };
-      retired = λ same. let later = slots.retired same in stay_retired c.args.seat.now.view c.lift.new.seat.view later.0 later.1;
-      listed = slots.listed;
+      slots = λ same. let none = slots.slots same in record {
+        retired = stay_retired c.args.seat.now.view c.lift.new.seat.view none.retired.0 none.retired.1;
+        listed = none.listed;
+      };
     }

@@ -7,16 +7,18 @@ pub ask-requires-2-clause-of : goal.ask-requires-2-clause-of
 ask-requires-2-clause-of g c =
     (cookies_stay
     (shape_of 0 c.in_ok-table.table) c.ask.new.cookie c.ask.new.seat c.get_beside-reply.new.seat c.get_beside-reply.ensures.keeps
+    (λ _. c.get_beside-reply.ensures.listed)
     c.ask.ensures.of (c.ask.ensures.kept c.start-cookie.ensures.kept)).0
 
 pub give_back-given-requires-clause-kept : goal.give_back-given-requires-clause-kept
 give_back-given-requires-clause-kept g c = c.ask-2.ensures.kept
     (cookies_stay
     (shape_of 0 c.in_ok-table.table) c.ask.new.cookie c.ask.new.seat c.get_beside-reply.new.seat c.get_beside-reply.ensures.keeps
+    (λ _. c.get_beside-reply.ensures.listed)
     c.ask.ensures.of (c.ask.ensures.kept c.start-cookie.ensures.kept)).1
 
 pub give_back-given-requires-clause-unraised : goal.give_back-given-requires-clause-unraised
-give_back-given-requires-clause-unraised g c = λ _. quiet_unraised c.ask-2.new.seat.view
+give_back-given-requires-clause-unraised g c = quiet_unraised c.ask-2.new.seat.view
     (c.ask-2.ensures.quiet c.get_beside-reply.ensures.quiet).view _
 
 pub give_back-given-requires-clause-everybody : goal.give_back-given-requires-clause-everybody

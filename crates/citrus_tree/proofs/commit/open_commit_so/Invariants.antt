@@ -5,7 +5,7 @@ use Rattle.prcu_model.specs.declared.operation.Op.{Op}
 use Rattle.seat_table.specs.Seats.{shape_of}
 use Rattle.tree_points.specs.Points.{IsAt}
 use Rattle.citrus_tree.specs.Going.{LosesFront}
-use Rattle.citrus_tree.proofs.commit.open_commit_or_give_way.Given as goal
+use Rattle.citrus_tree.proofs.commit.open_commit_so.Given as goal
 
 abbrev pub invariant-loop-round : goal.invariant-loop-round
 invariant-loop-round g l = record {

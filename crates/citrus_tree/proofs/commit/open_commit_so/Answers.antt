@@ -2,7 +2,7 @@ use Rattle.std.proofs.Common.{rules, arith}
 use Rattle.seat_table.specs.Seats.{shape_of}
 use Rattle.citrus_tree.proofs.Leavings.{tried_none, may_open, opens, opens_at, tries, tries_at, any_begins}
 use Rattle.seat_table.proofs.SeveralSteps.{told_steps}
-use Rattle.citrus_tree.proofs.commit.open_commit_or_give_way.Goals as goal
+use Rattle.citrus_tree.proofs.commit.open_commit_so.Goals as goal
 
 pub loop-round-init : goal.loop-round-init
 loop-round-init g c = record {

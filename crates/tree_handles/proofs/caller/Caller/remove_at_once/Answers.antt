@@ -1,0 +1,53 @@
+use Rattle.std.proofs.Common.{rules}
+use Rattle.seat_table.specs.Seats.{shape_of}
+use Rattle.citrus_tree.specs.Deletes.{DelGaveWay, DelTells}
+use Rattle.tree_handles.proofs.Callers.{nothing_behind}
+use Rattle.tree_handles.proofs.Cookies.{cookies_unless, keeper_told, keeps_keeper, same_waits}
+use Rattle.tree_handles.proofs.caller.Caller.remove_at_once.Goals as goal
+
+pub returns-in-Ok-Ok-clause-taken : goal.returns-in-Ok-Ok-clause-taken
+returns-in-Ok-Ok-clause-taken g c =
+    let told : DelTells (shape_of g.W.WaitWords.WAY c.table-table.result.now) c.self.inside.seat c.args.key c.in-Ok-Ok.removed.told
+    c.remove-answer.new.seat = search rules in (
+      c.in-Ok-Ok.removed.told,
+      nothing_behind (search rules) (keeps_keeper c.self.view_is (λ _. keeper_told c.self.inside.seat c.remove-answer.new.seat 4 told.keeps c.forget_if.ensures.gone
+          (λ same. c.forget_if.ensures.kept same) c.waits-waits.ensures c.waits.ensures))
+          (search rules) (search rules) (search rules) (search rules),
+      search rules,
+    )
+
+pub returns-in-Ok-Err-clause-cause : goal.returns-in-Ok-Err-clause-cause
+returns-in-Ok-Err-clause-cause g c =
+    let left : DelGaveWay (shape_of g.W.WaitWords.WAY c.table-table.result.now) c.self.inside.seat c.args.key
+    c.remove-answer.new.seat = search rules in record {
+      index = search rules;
+      keeper = keeps_keeper c.self.view_is (λ _. keeper_told c.self.inside.seat c.remove-answer.new.seat 4 left.keeps c.forget_if.ensures.gone
+          (λ same. c.forget_if.ensures.kept same) c.waits-waits.ensures c.waits.ensures);
+      before = search rules;
+      enough = search rules;
+      gave = search rules;
+      begins = search rules;
+      keeps = search rules;
+      may = search rules;
+    }
+
+-- the cookies are good still, without the keeper where a wait was begun
+pub invariant_of-self : goal.invariant_of-self
+invariant_of-self g c =
+    let told : DelTells (shape_of g.W.WaitWords.WAY c.table-table.result.now) c.self.inside.seat c.args.key c.in-Ok-Ok.removed.told
+    c.remove-answer.new.seat = search rules in (
+      search rules,
+      search rules,
+      λ kept. cookies_unless told.keeps _ c.forget_if.ensures.gone (λ same. c.forget_if.ensures.kept same)
+          (λ same. told.keeps.slots.slots (same_waits same c.waits-waits.ensures c.waits.ensures)) (c.self.invariant.2 kept),
+    )
+
+pub invariant_of-self-in-Ok-Err : goal.invariant_of-self-in-Ok-Err
+invariant_of-self-in-Ok-Err g c =
+    let left : DelGaveWay (shape_of g.W.WaitWords.WAY c.table-table.result.now) c.self.inside.seat c.args.key
+    c.remove-answer.new.seat = search rules in (
+      search rules,
+      search rules,
+      λ kept. cookies_unless left.keeps _ c.forget_if.ensures.gone (λ same. c.forget_if.ensures.kept same)
+          (λ same. left.keeps.slots.slots (same_waits same c.waits-waits.ensures c.waits.ensures)) (c.self.invariant.2 kept),
+    )

@@ -1,0 +1,118 @@
+-- The cookies of a caller: the one that its user may ask about, and its keeper, by which it gives retired slots back without waiting.
+-- What is done about the keeper before an update.
+-- Source: docs/TREE_CALLS.md, "Cookies".
+use Rattle.std.specs.Prelude.{◌≡◌, ◌≢◌, ◌⊎◌, ℕ, ◌+◌, ◌-◌, ◌/◌, ◌≤◌, false, min, List, [], ◌∷◌, length, Option, Some, None}
+use Rattle.prcu_marks.specs.declared.mark.Mark.{Mark}
+use Rattle.prcu_marks.specs.declared.mark.Mark.TheVariants.{Ended}
+use Rattle.prcu_marks.specs.Marks.{greatest_key}
+use Rattle.core_state.specs.declared.shape.Shape.{Shape}
+use Rattle.core_state.specs.declared.view.View.{View}
+use Rattle.seat_table.specs.Sections.{HasBegun}
+use Rattle.seat_table.specs.Seats.{SeatAt, shape_of}
+use Rattle.tree_points.specs.Points.{HasAdvanced}
+use Rattle.grace_cookie.specs.declared.answers.Ask.{Ask}
+use Rattle.grace_cookie.specs.declared.answers.Ask.TheVariants.{Over, NotYet, GivenUp}
+use Rattle.grace_cookie.specs.Cookies.{CookieAt, everybody, IsOf, HasKept, IsSameCookie, Asked, GivesFirst}
+use Rattle.tree_handles.specs.Callers.{CallerAt, KeepsCookie, MayGoOn}
+
+-- The cookie of a caller, if it has one, wasn't found over, and is of the seat that knows this.
+pub record HasCookie (k : Shape) (cookie : Option CookieAt) (v : View) : Type 0 where
+  pub each : (c : CookieAt) → cookie ≡ Some c → (c.over ≡ false) × IsOf k c v
+
+-- The keeper, if there is one, is for everybody and of this seat, and what was retired at its start is kept.
+pub record HasKeeper (k : Shape) (keeper : Option CookieAt) (s : SeatAt) : Type 0 where
+  pub each : (c : CookieAt) → keeper ≡ Some c → IsOf k c s.view × HasKept c s × (c.keys ≡ everybody)
+
+-- The same of both, which are of two waits of the place.
+pub record HasCookies (k : Shape) (cookie keeper : Option CookieAt) (s : SeatAt) : Type 0 where
+  pub of_user : HasCookie k cookie s.view
+  pub of_caller : HasKeeper k keeper s
+  pub apart : (c other : CookieAt) → keeper ≡ Some c → cookie ≡ Some other → other.count ≢ c.count
+
+-- so many slots go back at a time, at most
+abbrev pub most_given : ℕ
+most_given = 256
+
+-- The keeper stays as long as slots of it are left.
+abbrev pub StaysFor : CookieAt → Option CookieAt → Type 0
+StaysFor c left = ((c.slots ≡ 0) × (left ≡ None)) ⊎ ((1 ≤ c.slots) × (left ≡ Some c))
+
+-- By the answer about the keeper. Where it is over the first of its slots went back, and it is kept for the others. Where it isn't, it is kept
+-- as it is. Where it was given up there is none any more.
+abbrev pub GivesBy : Ask → CookieAt → SeatAt → Option CookieAt → SeatAt → Type 0
+GivesBy Over keeper s left t = (n : ℕ) × (n ≡ min keeper.slots most_given) × GivesFirst n s t
+    × StaysFor (record keeper { slots = keeper.slots - n }) left
+GivesBy (NotYet why) keeper s left t = (left ≡ Some keeper) × (t ≡ s)
+GivesBy (GivenUp latest) keeper s left t = (left ≡ None) × (t ≡ s)
+
+-- The keeper was asked about once.
+pub record WasTended (k : Shape) (keeper : CookieAt) (s : SeatAt) (left : Option CookieAt) (t : SeatAt) : Type 0 where
+  pub answer : Ask
+  pub now : CookieAt
+  pub between : SeatAt
+  pub same : IsSameCookie keeper now
+  pub asked : Asked k keeper s.view answer now between.view
+  pub listed : between.listed ≡ s.listed
+  pub gives : GivesBy answer now between left t
+
+-- Where there was none nothing was done.
+abbrev pub TendsTo : Shape → Option CookieAt → SeatAt → Option CookieAt → SeatAt → Type 0
+TendsTo k None s left t = (left ≡ None) × (t ≡ s)
+TendsTo k (Some keeper) s left t = WasTended k keeper s left t
+
+-- What that leaves of the seat but for its slots. Of marks at most the end of the keeper's wait.
+pub record LeavesEnd (keeper : Option CookieAt) (v w : View) : Type 0 where
+  pub ended : List Mark
+  pub advanced : HasAdvanced v w ended
+  pub ends : (ended ≡ []) ⊎ ((c : CookieAt) × (keeper ≡ Some c) × (ended ≡ Ended v.allowance.place c.count ∷ []))
+  pub allowance : w.allowance ≡ v.allowance
+  pub waits : w.counts.waits ≡ v.counts.waits
+
+-- What a caller does before an update: it asks about its keeper.
+pub record Tends (c d : CallerAt) : Type 0 where
+  pub index : KeepsCookie c d
+  pub tends : TendsTo (shape_of c.way c.table) c.keeper c.seat d.keeper d.seat
+  pub leaves : LeavesEnd c.keeper c.seat.view d.seat.view
+  pub may : MayGoOn d
+
+-- a wait that the user began is the latest of the place
+abbrev pub HasLatest : Option CookieAt → View → Type 0
+HasLatest cookie v = (c : CookieAt) × (cookie ≡ Some c) × (v.counts.waits ≡ c.count + 1)
+
+-- so many slots are kept before a keeper is begun: half of the room, where that is less than 32
+abbrev pub many_kept : ℕ → ℕ
+many_kept room = min 32 (room / 2)
+
+-- A keeper may be begun: there is none, enough slots are kept back, an update's tickets are left behind it, and no wait that the user began is
+-- the latest one.
+pub record CanBegin (keeper cookie : Option CookieAt) (s : SeatAt) : Type 0 where
+  pub none : keeper ≡ None
+  pub many : many_kept s.table.room ≤ length s.listed
+  pub paid : 5 ≤ s.view.allowance.tickets
+  pub free : HasLatest cookie s.view → ⊥
+
+-- A keeper was begun, by a wait for everybody: it is for all slots that are retired.
+pub record HasBegunKeeper (keeper cookie : Option CookieAt) (s : SeatAt) (left : Option CookieAt) (t : SeatAt) : Type 0 where
+  pub can : CanBegin keeper cookie s
+  pub begun : HasBegun s.view 0 greatest_key t.view
+  pub listed : t.listed ≡ s.listed
+  pub c : CookieAt
+  pub left_is : left ≡ Some c
+  pub count : c.count ≡ s.view.counts.waits
+  pub slots : c.slots ≡ length s.view.hands.retired
+
+-- It was begun just where it may be.
+abbrev pub BeginsKeeper : Option CookieAt → Option CookieAt → SeatAt → Option CookieAt → SeatAt → Type 0
+BeginsKeeper keeper cookie s left t = ((CanBegin keeper cookie s → ⊥) × (left ≡ keeper) × (t ≡ s)) ⊎ HasBegunKeeper keeper cookie s left t
+
+-- What a caller does first: it begins a keeper where it may, by one ticket.
+pub record StartsKeeper (c d : CallerAt) : Type 0 where
+  pub index : KeepsCookie c d
+  pub begins : BeginsKeeper c.keeper c.cookie c.seat d.keeper d.seat
+  pub may : MayGoOn d
+
+-- What a caller does about its keeper before an update: it begins one where it may, and then asks once about the one that it has.
+pub record SeesToKeeper (c d : CallerAt) : Type 0 where
+  pub begun : CallerAt
+  pub starts : StartsKeeper c begun
+  pub tends : Tends begun d

@@ -1,0 +1,156 @@
+//! Removes: by a copy of the successor, which waits for readers; or by turns, where a reader is known to stay.
+ghost use Rattle.std.specs.Prelude.{◌≡◌, ◌≤◌, ◌+◌, false, true, IfOk, IfErr, IfNone, IfSome};
+ghost use Rattle.prcu_model.specs.declared.operation.Op.TheVariants.{Del};
+ghost use Rattle.seat_table.specs.Seats.{shape_of};
+ghost use Rattle.citrus_tree.specs.Deletes.{FoundTwoChildren, WaitsOnceAtMost};
+ghost use Rattle.tree_lift.specs.Lifts.{LeavesNoUpdate};
+ghost use Rattle.tree_handles.specs.Callers.{CallerAt, IsSameCaller, MayGoOn};
+ghost use Rattle.tree_handles.specs.Calls.{CausedBy, CausedReady, CausedTended, HasTurnedDown, IsBusy, IsLost, IsRemoved, IsRemovedReady, IsRemovedTended, LacksRoom, MeetsLastingReader};
+ghost use Rattle.tree_handles.specs.declared.status.Status.TheVariants.{Lost};
+
+use super::{Caller, TICKETS};
+use crate::keeper::forget_if;
+use crate::spinning::{GaveUp, InTheWay, Spinning};
+use crate::status::Status;
+use citrus_tree::patient::{remove, remove_by_bypass};
+use prcu_marks::OpenGate;
+use seat_table::WaitPart;
+use tree_lift::{Sunk, turn_down};
+
+/// So many slots are kept back where a reader is known to stay: four times as many as a keeper is begun for.
+const MANY_BEHIND: usize = 128;
+
+/// How often a node is turned down for a remove, at most. One to two turns are enough as a rule.
+const MOST_TURNS: u32 = 64;
+
+/// How many tickets a remove by turns leaves before each of them: three for the turn, and four for each of the two removes around it.
+const TURN_TICKETS: u64 = 11;
+
+impl<W: WaitPart> Caller<W> {
+    /// Takes the key's pair out, where it is present, and tells its value. Where others are in its way it spins, or is busy; and so it is where
+    /// its place has no room for what it takes out, until the keeper is over.
+    pub(crate) fn remove(&mut self, key: u64) -> Result<Option<u64>, Status>
+        ensures taken { IfOk result (λ value. IsRemovedTended self.old key value self.new) }
+        ensures cause { IfErr result (λ status. CausedTended (Del key) status self.old self.new) }
+    {
+        if let Some(status) = self.hindrance(TICKETS) {
+            return Err(status);
+        }
+        self.see_to_keeper();
+        self.remove_ready(key)
+    }
+
+    // The same, but for what is done about the keeper: by turns where a reader is known to stay.
+    fn remove_ready(&mut self, key: u64) -> Result<Option<u64>, Status>
+        requires may { MayGoOn self.old }
+        requires tickets { 4 ≤ self.old.seat.view.allowance.tickets }
+        ensures taken { IfOk result (λ value. IsRemovedReady self.old key value self.new) }
+        ensures cause { IfErr result (λ status. (ready : CallerAt) × HasTurnedDown key self.old ready × CausedReady (Del key) status ready self.new) }
+    {
+        if self.lacks_room() {
+            return Err(Status::Busy);
+        }
+        if self.meets_lasting_reader() {
+            return self.remove_by_turns(key);
+        }
+        self.remove_at_once(key)
+    }
+
+    // Whether a reader is known to stay.
+    fn meets_lasting_reader(&self) -> bool
+        ensures holds { result ≡ true → MeetsLastingReader self.now }
+        ensures fails { result ≡ false → MeetsLastingReader self.now → ⊥ }
+    {
+        self.keeper.is_some() && self.seat.retired().len() >= MANY_BEHIND
+    }
+
+    // Removes the key's pair so that the readers of a move aren't waited for, unless so many turns come to nothing: while the key's node has two
+    // children it is turned down.
+    fn remove_by_turns(&mut self, key: u64) -> Result<Option<u64>, Status>
+        requires may { MayGoOn self.old }
+        requires tickets { 4 ≤ self.old.seat.view.allowance.tickets }
+        requires room { LacksRoom self.old self.old → ⊥ }
+        requires reader { MeetsLastingReader self.old }
+        ensures taken { IfOk result (λ value. IsRemovedReady self.old key value self.new) }
+        ensures cause { IfErr result (λ status. (ready : CallerAt) × HasTurnedDown key self.old ready × CausedReady (Del key) status ready self.new) }
+    {
+        for times in 0..MOST_TURNS {
+            if self.seat.tickets() < TURN_TICKETS {
+                break;
+            }
+            if self.lacks_room() {
+                return Err(Status::Busy);
+            }
+            if let Some(value) = self.bypass(key)? {
+                return Ok(value);
+            }
+            self.turn_down(key)?;
+        }
+        self.remove_at_once(key)
+    }
+
+    // Takes the pair out where its node has one child at most. `None` where it has two, and then no update was made.
+    fn bypass(&mut self, key: u64) -> Result<Option<Option<u64>>, Status>
+        requires may { MayGoOn self.old }
+        requires tickets { 4 ≤ self.old.seat.view.allowance.tickets }
+        ensures taken { IfOk result (λ answer. IfSome answer (λ value. IsRemoved self.old key value self.new)) }
+        ensures two { IfOk result (λ answer. IfNone answer (IsBusy (Del key) self.old self.new × FoundTwoChildren key self.new.seat.view)) }
+        ensures waits { IfOk result (λ _. WaitsOnceAtMost (shape_of self.old.way self.old.table) self.old.seat.view self.new.seat.view) }
+        ensures cause { IfErr result (λ status. CausedBy (Del key) status self.old self.new) }
+    {
+        let table = self.shared.table();
+        let waits = self.seat.waits();
+        let answer = remove_by_bypass(&Spinning, table, &mut self.seat, &OpenGate, key);
+        forget_if(self.seat.waits() != waits, &mut self.keeper);
+        match answer {
+            Ok(Ok(Some(removed))) => Ok(Some(removed.value)),
+            Ok(Ok(None)) => Ok(None),
+            Ok(Err(InTheWay)) => Err(Status::Busy),
+            Err(GaveUp) => {
+                self.lost = true;
+                Err(Status::Lost)
+            }
+        }
+    }
+
+    // Turns the key's node down, where it has two children. It waits for nobody.
+    fn turn_down(&mut self, key: u64) -> Result<Sunk, Status>
+        requires may { MayGoOn self.old }
+        requires tickets { 3 ≤ self.old.seat.view.allowance.tickets }
+        ensures index { IsSameCaller self.old self.new }
+        ensures updates { IfOk result (λ _. LeavesNoUpdate self.old.seat.view key self.new.seat.view) }
+        ensures waits { IfOk result (λ _. self.new.seat.view.counts.waits ≡ self.old.seat.view.counts.waits) }
+        ensures tickets { IfOk result (λ _. self.old.seat.view.allowance.tickets ≤ self.new.seat.view.allowance.tickets + 3) }
+        ensures may { IfOk result (λ _. MayGoOn self.new) }
+        ensures lost { IfErr result (λ status. (status ≡ Lost) × IsLost self.old self.new) }
+    {
+        match turn_down(&Spinning, self.shared.table(), &mut self.seat, key) {
+            Ok(sunk) => Ok(sunk),
+            Err(GaveUp) => {
+                self.lost = true;
+                Err(Status::Lost)
+            }
+        }
+    }
+
+    // Removes the key's pair by the copy of its successor where its node has two children: then it waits for the readers between the two.
+    fn remove_at_once(&mut self, key: u64) -> Result<Option<u64>, Status>
+        requires may { MayGoOn self.old }
+        requires tickets { 4 ≤ self.old.seat.view.allowance.tickets }
+        ensures taken { IfOk result (λ value. IsRemoved self.old key value self.new) }
+        ensures cause { IfErr result (λ status. CausedBy (Del key) status self.old self.new) }
+    {
+        let table = self.shared.table();
+        let waits = self.seat.waits();
+        let answer = remove(&Spinning, table, &mut self.seat, &OpenGate, key);
+        forget_if(self.seat.waits() != waits, &mut self.keeper);
+        match answer {
+            Ok(Ok(removed)) => Ok(removed.value),
+            Ok(Err(InTheWay)) => Err(Status::Busy),
+            Err(GaveUp) => {
+                self.lost = true;
+                Err(Status::Lost)
+            }
+        }
+    }
+}
