@@ -271,6 +271,16 @@ void citrus_close(citrus_handle *handle);
  * still; LOST, where `handle` is. `handle` is as it was, and at all but DONE `other` too. */
 CITRUS_STATUS_MATTERS int32_t citrus_reopen(citrus_handle *handle, citrus_handle *other);
 
+/* What a call that was in vain so many times does before it is made again: it yields the processor, and from the 200th time on it sleeps. Of the
+ * calls that sleep this is the one that the C library declares in strict C too. */
+static inline void citrus_rest(uint64_t times) {
+    struct timeval moment;
+    moment.tv_sec = 0;
+    moment.tv_usec = 100;
+    if (times < 200) sched_yield();
+    else select(0, CITRUS_NULL, CITRUS_NULL, CITRUS_NULL, &moment);
+}
+
 /* Tells the key's value. If values are pointers, take citrus_hold.
  * It takes no lock and waits for nobody: a few stores, and two or three loads for each level of the tree. Writers can make its way longer, but
  * not without end: it makes at most three steps for each slot of the index, and four more. It needs 4 tickets and uses none.
@@ -279,7 +289,7 @@ CITRUS_STATUS_MATTERS int32_t citrus_get(citrus_handle *handle, uint64_t key, ui
 
 /* The updates. Each searches as a get does, locks the few nodes that it changes, and begins again if another thread changed them first. If
  * another thread is in its way it spins for some hundred turns, and then it yields the processor and begins anew. The library can't yield:
- * there such a call ends as CITRUS_BUSY, with no lock, no slot and no section, and these functions yield and call it again. Whoever has
+ * there such a call ends as CITRUS_BUSY, with no lock, no slot and no section, and these functions yield, or sleep, and call it again. Whoever has
  * something better to do meanwhile calls citrus_insert_once and its like. Only a remove or a turn of nodes that has its locks spins until it
  * is through, while another thread's update is being stored; and so does an update that waits for readers. An update waits for a list that
  * keeps updates off, and for readers, which are inside a call or a section, only as said below.
@@ -301,7 +311,7 @@ CITRUS_STATUS_MATTERS int32_t citrus_get(citrus_handle *handle, uint64_t key, ui
  *   - An insert that finds no free slot waits for all readers, if its handle keeps slots back.
  *   - A remove of a node with two children puts the next pair in its place, and then waits, with up to five nodes locked, for the readers whose key is
  *     above its own and at most the next one; with CITRUS_DOMAIN and CITRUS_DEER also for those whose key has the class of one of these. But if
- *     the handle keeps back 128 slots, and its own wait is under way, a reader is known to stay: then turns bring the node down until it has one
+ *     the handle keeps back 48 slots, and its own wait is under way, a reader is known to stay: then turns bring the node down until it has one
  *     child, and the remove waits for none of them. It makes 64 at most, and none with fewer than 11 tickets; then it goes on as above.
  * Gets and lists are held up by no reader, replaces and compares only behind an update that waits with their node locked. Hold briefly all the
  * same, and take no more threads than processors. */
@@ -316,8 +326,9 @@ CITRUS_STATUS_MATTERS int32_t citrus_get(citrus_handle *handle, uint64_t key, ui
 CITRUS_STATUS_MATTERS int32_t citrus_insert_once(citrus_handle *handle, uint64_t key, uint64_t value);
 
 CITRUS_STATUS_MATTERS static inline int32_t citrus_insert(citrus_handle *handle, uint64_t key, uint64_t value) {
+    uint64_t times = 0;
     int32_t status;
-    while ((status = citrus_insert_once(handle, key, value)) == CITRUS_BUSY) sched_yield();
+    while ((status = citrus_insert_once(handle, key, value)) == CITRUS_BUSY) citrus_rest(times++);
     return status;
 }
 
@@ -326,8 +337,9 @@ CITRUS_STATUS_MATTERS static inline int32_t citrus_insert(citrus_handle *handle,
 CITRUS_STATUS_MATTERS int32_t citrus_replace_once(citrus_handle *handle, uint64_t key, uint64_t value, uint64_t *old);
 
 CITRUS_STATUS_MATTERS static inline int32_t citrus_replace(citrus_handle *handle, uint64_t key, uint64_t value, uint64_t *old) {
+    uint64_t times = 0;
     int32_t status;
-    while ((status = citrus_replace_once(handle, key, value, old)) == CITRUS_BUSY) sched_yield();
+    while ((status = citrus_replace_once(handle, key, value, old)) == CITRUS_BUSY) citrus_rest(times++);
     return status;
 }
 
@@ -339,8 +351,9 @@ CITRUS_STATUS_MATTERS static inline int32_t citrus_replace(citrus_handle *handle
 CITRUS_STATUS_MATTERS int32_t citrus_compare_once(citrus_handle *handle, uint64_t key, uint64_t expected, uint64_t value, uint64_t *found);
 
 CITRUS_STATUS_MATTERS static inline int32_t citrus_compare(citrus_handle *handle, uint64_t key, uint64_t expected, uint64_t value, uint64_t *found) {
+    uint64_t times = 0;
     int32_t status;
-    while ((status = citrus_compare_once(handle, key, expected, value, found)) == CITRUS_BUSY) sched_yield();
+    while ((status = citrus_compare_once(handle, key, expected, value, found)) == CITRUS_BUSY) citrus_rest(times++);
     return status;
 }
 
@@ -350,8 +363,9 @@ CITRUS_STATUS_MATTERS static inline int32_t citrus_compare(citrus_handle *handle
 CITRUS_STATUS_MATTERS int32_t citrus_upsert_once(citrus_handle *handle, uint64_t key, uint64_t value, uint64_t *old);
 
 CITRUS_STATUS_MATTERS static inline int32_t citrus_upsert(citrus_handle *handle, uint64_t key, uint64_t value, uint64_t *old) {
+    uint64_t times = 0;
     int32_t status;
-    while ((status = citrus_upsert_once(handle, key, value, old)) == CITRUS_BUSY) sched_yield();
+    while ((status = citrus_upsert_once(handle, key, value, old)) == CITRUS_BUSY) citrus_rest(times++);
     return status;
 }
 
@@ -362,8 +376,9 @@ CITRUS_STATUS_MATTERS static inline int32_t citrus_upsert(citrus_handle *handle,
 CITRUS_STATUS_MATTERS int32_t citrus_remove_once(citrus_handle *handle, uint64_t key, uint64_t *old);
 
 CITRUS_STATUS_MATTERS static inline int32_t citrus_remove(citrus_handle *handle, uint64_t key, uint64_t *old) {
+    uint64_t times = 0;
     int32_t status;
-    while ((status = citrus_remove_once(handle, key, old)) == CITRUS_BUSY) sched_yield();
+    while ((status = citrus_remove_once(handle, key, old)) == CITRUS_BUSY) citrus_rest(times++);
     return status;
 }
 
@@ -383,8 +398,9 @@ CITRUS_STATUS_MATTERS static inline int32_t citrus_remove(citrus_handle *handle,
 CITRUS_STATUS_MATTERS int32_t citrus_list_once(citrus_handle *handle, uint64_t low, uint64_t high, citrus_pair *pairs, size_t room, size_t *count, uint64_t *next);
 
 CITRUS_STATUS_MATTERS static inline int32_t citrus_list(citrus_handle *handle, uint64_t low, uint64_t high, citrus_pair *pairs, size_t room, size_t *count, uint64_t *next) {
+    uint64_t times = 0;
     int32_t status;
-    while ((status = citrus_list_once(handle, low, high, pairs, room, count, next)) == CITRUS_BUSY) sched_yield();
+    while ((status = citrus_list_once(handle, low, high, pairs, room, count, next)) == CITRUS_BUSY) citrus_rest(times++);
     return status;
 }
 
@@ -393,8 +409,9 @@ CITRUS_STATUS_MATTERS static inline int32_t citrus_list(citrus_handle *handle, u
 CITRUS_STATUS_MATTERS int32_t citrus_first_once(citrus_handle *handle, uint64_t low, uint64_t *key, uint64_t *value);
 
 CITRUS_STATUS_MATTERS static inline int32_t citrus_first(citrus_handle *handle, uint64_t low, uint64_t *key, uint64_t *value) {
+    uint64_t times = 0;
     int32_t status;
-    while ((status = citrus_first_once(handle, low, key, value)) == CITRUS_BUSY) sched_yield();
+    while ((status = citrus_first_once(handle, low, key, value)) == CITRUS_BUSY) citrus_rest(times++);
     return status;
 }
 
@@ -403,8 +420,9 @@ CITRUS_STATUS_MATTERS static inline int32_t citrus_first(citrus_handle *handle, 
 CITRUS_STATUS_MATTERS int32_t citrus_last_once(citrus_handle *handle, uint64_t low, uint64_t high, uint64_t *key, uint64_t *value);
 
 CITRUS_STATUS_MATTERS static inline int32_t citrus_last(citrus_handle *handle, uint64_t low, uint64_t high, uint64_t *key, uint64_t *value) {
+    uint64_t times = 0;
     int32_t status;
-    while ((status = citrus_last_once(handle, low, high, key, value)) == CITRUS_BUSY) sched_yield();
+    while ((status = citrus_last_once(handle, low, high, key, value)) == CITRUS_BUSY) citrus_rest(times++);
     return status;
 }
 
@@ -428,8 +446,9 @@ CITRUS_STATUS_MATTERS static inline int32_t citrus_last(citrus_handle *handle, u
 CITRUS_STATUS_MATTERS int32_t citrus_tidy_once(citrus_handle *handle, uint64_t low, uint64_t high, uint32_t turns, uint32_t *made, uint64_t *next);
 
 CITRUS_STATUS_MATTERS static inline int32_t citrus_tidy(citrus_handle *handle, uint64_t low, uint64_t high, uint32_t turns, uint32_t *made, uint64_t *next) {
+    uint64_t times = 0;
     int32_t status;
-    while ((status = citrus_tidy_once(handle, low, high, turns, made, next)) == CITRUS_BUSY) sched_yield();
+    while ((status = citrus_tidy_once(handle, low, high, turns, made, next)) == CITRUS_BUSY) citrus_rest(times++);
     return status;
 }
 
@@ -483,15 +502,6 @@ CITRUS_STATUS_MATTERS int32_t citrus_begin(citrus_handle *handle, uint64_t low, 
  * DONE where it is over, which is told once; UNCHANGED where a reader is left; MOVED where its end was told, or another wait of the handle
  * took its place: then begin again; CLOSED; HOLDS; LOST. */
 CITRUS_STATUS_MATTERS int32_t citrus_poll(citrus_handle *handle, uint64_t cookie);
-
-/* What a wait does after so many polls. Of the calls that sleep this is the one that the C library declares in strict C too. */
-static inline void citrus_rest(uint64_t polls) {
-    struct timeval moment;
-    moment.tv_sec = 0;
-    moment.tv_usec = 100;
-    if (polls < 200) sched_yield();
-    else select(0, CITRUS_NULL, CITRUS_NULL, CITRUS_NULL, &moment);
-}
 
 /* Waits until every section with a key from low to high, both included, that any handle entered before has been left. To free many objects
  * after one wait take a range with all their keys, or 0 to UINT64_MAX: it waits for more readers then.

@@ -159,7 +159,7 @@ static uint64_t change_all(citrus_handle *by, uint64_t *state) {
     return gone;
 }
 
-/* At first each takes a copy of its successor, which keeps back two slots, and waits for readers above its key and up to the next one. Once 128 slots
+/* At first each takes a copy of its successor, which keeps back two slots, and waits for readers above its key and up to the next one. Once 48 slots
  * are kept back its node is turned down, and each turn keeps back two. */
 static void so_do_removes_of_nodes_with_two_children(uint32_t waiter) {
     struct scene scene;

@@ -1,9 +1,9 @@
 /* Nodes with two children beside a reader that stays. A remove of one copies its successor, and waits for readers above its key and up to the next
- * one; but once a handle keeps back 128 slots and its own wait for all readers isn't over, the node is turned down until it has one child, and the
+ * one; but once a handle keeps back 48 slots and its own wait for all readers isn't over, the node is turned down until it has one child, and the
  * remove comes back. What a handle does for its slots takes nothing from what it began for its user. */
 #include "stays.h"
 
-enum { KEEP = 4096, MANY = 128, BEGINS_TO_WAIT = 32, HIGH = 1000000 };
+enum { KEEP = 4096, MANY = 48, BEGINS_TO_WAIT = 32, HIGH = 1000000 };
 
 /* Below the first key two more, and above it a way that goes to the left: so the first one has two children, and the next key is at the way's end. */
 enum { TOP = 500, NEXT = 510 };

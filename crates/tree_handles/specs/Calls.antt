@@ -105,7 +105,7 @@ pub record IsBusy (op : Op) (c d : CallerAt) : Type 0 where
 -- A reader is known to stay: the keeper isn't over, though the place keeps this many slots back.
 pub record MeetsLastingReader (c : CallerAt) : Type 0 where
   pub going : c.keeper ≢ None
-  pub many : 128 ≤ length c.seat.listed
+  pub many : 48 ≤ length c.seat.listed
 
 -- A remove found two children at the key's node, and made no update. Then the node was turned down, or that was given up: no update was made
 -- either, and no wait begun.

@@ -1,7 +1,7 @@
 -- The cookies of a caller: the one that its user may ask about, and its keeper, by which it gives retired slots back without waiting.
 -- What is done about the keeper before an update.
 -- Source: docs/TREE_CALLS.md, "Cookies".
-use Rattle.std.specs.Prelude.{◌≡◌, ◌≢◌, ◌⊎◌, ℕ, ◌+◌, ◌-◌, ◌/◌, ◌≤◌, false, min, List, [], ◌∷◌, length, Option, Some, None}
+use Rattle.std.specs.Prelude.{◌≡◌, ◌≢◌, ◌⊎◌, ℕ, ◌+◌, ◌-◌, ◌*◌, ◌/◌, ◌≤◌, false, min, List, [], ◌∷◌, length, Option, Some, None}
 use Rattle.prcu_marks.specs.declared.mark.Mark.{Mark}
 use Rattle.prcu_marks.specs.declared.mark.Mark.TheVariants.{Ended}
 use Rattle.prcu_marks.specs.Marks.{greatest_key}
@@ -83,10 +83,20 @@ HasLatest cookie v = (c : CookieAt) × (cookie ≡ Some c) × (v.counts.waits �
 abbrev pub many_kept : ℕ → ℕ
 many_kept room = min 32 (room / 2)
 
--- A keeper may be begun: there is none, enough slots are kept back, an update's tickets are left behind it, and no wait that the user began is
--- the latest one.
+-- A keeper came too early: there is room for no more slots, and at least half of those that are kept back were retired behind its start.
+pub record IsOutgrown (keeper : CookieAt) (s : SeatAt) : Type 0 where
+  pub full : s.table.room ≤ length s.listed + 1
+  pub few : keeper.slots * 2 ≤ length s.listed
+
+-- A new keeper may take its place: there is none, or it came too early.
+abbrev pub MakesWay : Option CookieAt → SeatAt → Type 0
+MakesWay None s = Unit {0}
+MakesWay (Some keeper) s = IsOutgrown keeper s
+
+-- A keeper may be begun: the one that there is makes way, enough slots are kept back, an update's tickets are left behind it, and no wait that
+-- the user began is the latest one.
 pub record CanBegin (keeper cookie : Option CookieAt) (s : SeatAt) : Type 0 where
-  pub none : keeper ≡ None
+  pub place : MakesWay keeper s
   pub many : many_kept s.table.room ≤ length s.listed
   pub paid : 5 ≤ s.view.allowance.tickets
   pub free : HasLatest cookie s.view → ⊥

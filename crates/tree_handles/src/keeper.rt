@@ -3,7 +3,7 @@ ghost use Rattle.std.specs.Prelude.{◌≡◌, ◌<◌, true, false, Option, Som
 ghost use Rattle.grace_cookie.specs.Cookies.{CookieAt};
 ghost use Rattle.seat_table.specs.Seats.{IsQuietSeat, shape_of};
 ghost use Rattle.grace_cookie.specs.declared.answers.Ask.TheVariants.{Over};
-ghost use Rattle.tree_handles.specs.Keepers.{BeginsKeeper, CanBegin, GivesBy, HasCookies, HasKeeper, HasLatest, LeavesEnd, TendsTo};
+ghost use Rattle.tree_handles.specs.Keepers.{BeginsKeeper, CanBegin, GivesBy, HasCookies, HasKeeper, HasLatest, LeavesEnd, MakesWay, TendsTo};
 
 use grace_cookie::{Ask, Cookie, ask, give_some, start};
 use key_interval::Keys;
@@ -80,8 +80,24 @@ fn is_latest<W: WaitPart>(seat: &Seat<W>, cookie: &Option<Cookie<W>>) -> bool
     seat.waits() - cookie.number() == 1
 }
 
-// Whether a keeper may be begun: there is none, enough slots are kept back, an update's tickets are left behind it, and the wait that the user
-// may ask about is none, or isn't the place's latest, since a later one would give it up.
+// Whether a new keeper may take the place of this one: there is none, or it came too early. Where the room is full, and most of what fills it
+// was retired behind the keeper's start, its end would make room for little, and the wait for the rest would begin then only.
+fn makes_way<W: WaitPart>(seat: &Seat<W>, keeper: &Option<Cookie<W>>) -> bool
+    ensures holds { result ≡ true → MakesWay keeper.now seat.now }
+    ensures fails { result ≡ false → MakesWay keeper.now seat.now → ⊥ }
+{
+    let Some(keeper) = keeper else {
+        return true;
+    };
+    let kept = seat.retired().len();
+    if seat.room() > kept + 1 {
+        return false;
+    }
+    keeper.slots() as usize * 2 <= kept
+}
+
+// Whether a keeper may be begun: enough slots are kept back, the one that there is makes way, an update's tickets are left behind it, and the
+// wait that the user may ask about is none, or isn't the place's latest, since a later one would give it up.
 fn can_begin<W: WaitPart>(
     seat: &Seat<W>,
     keeper: &Option<Cookie<W>>,
@@ -94,7 +110,7 @@ fn can_begin<W: WaitPart>(
     if seat.retired().len() < MANY_KEPT.min(seat.room() / 2) {
         return false;
     }
-    if keeper.is_some() {
+    if !makes_way(seat, keeper) {
         return false;
     }
     if seat.tickets() < PAID {

@@ -65,8 +65,8 @@
 //!   who chooses keys by the library's rule can make it a path.
 //! - A removal may wait for lookups under way near its key, and waits for all lookups and lists under way where its handle keeps back as many
 //!   slots as it may, as does an insertion that would need turns then: [`Builder::keep`].
-//! - Where another thread has the lock of a node, an update yields the processor and tries again; a removal that has locks itself spins. With
-//!   many more threads that update than processors updates may take turns: [`Builder::updates_in_turn`].
+//! - Where another thread has the lock of a node, an update yields the processor, or sleeps, and tries again; a removal that has locks itself
+//!   spins. With many more threads that update than processors updates may take turns: [`Builder::updates_in_turn`].
 //! - A list that updates came in between in four tries keeps them off for a walk, some 30 ns a pair: see [`Handle::page`].
 //!
 //! # Limits
@@ -92,6 +92,7 @@ mod map;
 mod map_lists;
 mod node;
 mod pool;
+mod rest;
 mod sections;
 #[cfg(test)]
 mod spent;

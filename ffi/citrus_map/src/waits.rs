@@ -1,15 +1,8 @@
 use crate::handle::{ends, Handle};
 use crate::library::*;
+use crate::rest::Rests;
 use crate::Error;
 use std::ops::RangeBounds;
-use std::thread;
-use std::time::Duration;
-
-/// So often a wait yields the processor, before it sleeps after each question whether it is over.
-const YIELDS: u32 = 200;
-
-/// So long it sleeps then.
-const MOMENT: Duration = Duration::from_micros(100);
 
 /// A wait for readers that a handle began: see [`Handle::begin`].
 #[derive(Clone, Copy, Debug, PartialEq, Eq, Hash)]
@@ -63,15 +56,11 @@ impl Handle {
         }
         self.may_wait()?;
         let cookie = self.begin(keys)?;
-        let mut yields = 0;
+        let mut rests = Rests::default();
         loop {
             match self.poll(cookie)? {
                 GracePeriod::Over => return Ok(()),
-                GracePeriod::UnderWay if yields < YIELDS => {
-                    yields += 1;
-                    thread::yield_now();
-                }
-                GracePeriod::UnderWay => thread::sleep(MOMENT),
+                GracePeriod::UnderWay => rests.rest(),
                 GracePeriod::Displaced => panic!("the library citrus gave up the handle's latest wait, which citrus.h excludes"),
             }
         }

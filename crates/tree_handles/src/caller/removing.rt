@@ -17,8 +17,9 @@ use prcu_marks::OpenGate;
 use seat_table::WaitPart;
 use tree_lift::{Sunk, turn_down};
 
-/// So many slots are kept back where a reader is known to stay: four times as many as a keeper is begun for.
-const MANY_BEHIND: usize = 128;
+/// So many slots are kept back where a reader is known to stay: half as many again as a keeper is begun for. A reader that doesn't stay leaves
+/// before that as a rule. With more a move would wait for the reader's class more often, with the waiters that have classes.
+const MANY_BEHIND: usize = 48;
 
 /// How often a node is turned down for a remove, at most. One to two turns are enough as a rule.
 const MOST_TURNS: u32 = 64;

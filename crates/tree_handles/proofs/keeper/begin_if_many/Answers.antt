@@ -2,7 +2,7 @@ use Rattle.std.proofs.Common.{Option, refl, subst, ◌∙◌}
 use Rattle.seat_table.specs.Seats.{shape_of}
 use Rattle.grace_cookie.specs.Cookies.{CookieAt}
 use Rattle.tree_handles.specs.Keepers.{HasCookies}
-use Rattle.tree_handles.proofs.Cookies.{keeper_begun}
+use Rattle.tree_handles.proofs.Cookies.{keeper_begun, without}
 use Rattle.tree_handles.proofs.Keepers.{user_earlier}
 use Rattle.tree_handles.proofs.keeper.begin_if_many.Goals as goal
 
@@ -14,8 +14,6 @@ can_begin-requires g c = record {
 
 pub returns-then-can_begin-clause-cookies : goal.returns-then-can_begin-clause-cookies
 returns-then-can_begin-clause-cookies g c =
-    let can = c.if-can_begin.ensures.holds refl in
     keeper_begun c.start.result c.start.ensures.begun c.start.ensures.seat.1 c.start.ensures.count (c.start.ensures.keys ∙ c.all.ensures)
     c.start.ensures.of c.start.ensures.kept
-    (subst (λ (z : Option CookieAt). HasCookies (shape_of g.W.WaitWords.WAY c.args.table.now) c.args.cookie.now z c.args.seat.now)
-    can.none c.requires.cookies)
+    (without c.requires.cookies)
