@@ -103,8 +103,8 @@ static inline citrus_handle citrus_closed_handle(void) {
 #define CITRUS_ALL_TICKETS 144115188075855872u
 
 /* The waiters: how a remove waits for the readers that may still stand on what it takes out. CITRUS_EER looks at the place of each handle, open
- * or not: begin with it. CITRUS_DOMAIN counts readers by key modulo 64, so its waits cost the same with many handles: try it with hundreds.
- * CITRUS_DEER has a stamp for each handle and each key modulo 64, and its lookups make one store fewer. */
+ * or not: begin with it. CITRUS_DOMAIN counts readers by key modulo 64, so its waits cost the same with many handles: try it with hundreds
+ * that are mostly idle. CITRUS_DEER has a stamp for each handle and each key modulo 64, and its lookups make one store fewer. */
 enum { CITRUS_EER = 0, CITRUS_DOMAIN = 1, CITRUS_DEER = 2 };
 
 /* What a call answers. Those below 0 say that the call did nothing, except CITRUS_LOST, and except for the tickets that an upsert's rounds used
