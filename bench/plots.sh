@@ -76,6 +76,11 @@ if [ -e "$results/crowded.csv" ]; then
     with_best "$results/crowded.csv" >"$drawn/crowded.csv"
     draw crowd -e "data='$drawn/crowded.csv'"
 fi
+if [ -e "$results/processors.csv" ]; then
+    # Rows with a thread for each processor, and the longer of both pause instructions: `PROGRAM,GETS,KEYS,PROCESSORS,MILLIONS`.
+    awk -F, -v OFS=, '/^[0-9]/ && $3 == $4 && $8 == 56 { print $5, $1, $2, $3, $10 }' "$results/processors.csv" >"$drawn/processors.csv"
+    draw processors -e "data='$drawn/processors.csv'"
+fi
 if [ -e "$results/embed.csv" ] && [ -e "$results/rust_map.csv" ]; then
     {
         grep -E '^(C library first|TBB map),' "$results/embed.csv"

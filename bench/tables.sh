@@ -255,6 +255,33 @@ shapes() {
     awk -F, '/^#/ || /^order/ { next } { printf "| %s | %s | %s | %s | %s | %s | %s |\n", $1, $2, $3, $4, $5, $6, $7 }' "$1"
 }
 
+# Millions of operations a second of a simulated machine: each row has all programs, and for two of them the lines that moved.
+processors() {
+    head_of processors threads 'a pause, ns' 'gets of 100, keys' before pairs 'pairs and kept' queue 'queue and kept' 'plain CITRUS' \
+        'lines moved an update, before' 'queue and kept' plain
+    awk -F, '/^#/ || /^gets/ { next }
+        {
+            row = $3 " | " $4 " | " $8 " | " $1 ", " $2
+            if (!(row in seen)) { seen[row]; order[++rows] = row }
+            rate[$5, row] = $10; lines[$5, row] = $13
+        }
+        function digits(value) { return value == "" ? "-" : sprintf(value < 10 ? "%.1f" : "%.0f", value) }
+        END {
+            programs = split("before;pairs;pairs and kept;queue;queue and kept;plain", names, ";")
+            for (i = 1; i <= rows; i++) {
+                line = order[i]
+                for (n = 1; n <= programs; n++) line = line " | " digits(rate[names[n], order[i]])
+                print "| " line " | " digits(lines["before", order[i]]) " | " digits(lines["queue and kept", order[i]]) " | " digits(lines["plain", order[i]]) " |"
+            }
+        }' "$1"
+}
+
+# What a wait for readers takes at 96 busy places, and what it makes of all operations.
+processors_waits() {
+    head_of 'gets of 100, keys' waiter 'looks under way' 'a wait, µs' 'million operations a second' 'lines moved an update'
+    awk -F, '/^#/ || /^gets/ { next } { printf "| %s, %s | %s | %s | %.1f | %.0f | %.0f |\n", $1, $2, $6, $7, $14 / 1000, $10, $13 }' "$1"
+}
+
 # Each row has both rules: what the library did with four attempts by all slots, and what it does.
 depth() {
     head_of 'keys come' keys 'longest way, four attempts' 'times log2' '24 attempts' 'times log2' 'slots of a way, four' '24' \
@@ -412,11 +439,11 @@ embed() {
         }'
 }
 
-# A table, and when and where it was measured.
+# A table, and when and where it was measured, or by which model.
 table() {
     "$1" "$results/$1.csv"
     echo
-    sed -n '1s/^# \([^,]*\), \(.*\)$/Measured on \1: \2./p' "$results/$1.csv"
+    sed -n '1s/^# \([0-9-]*\), \(.*\)$/Measured on \1: \2./p; 1s/^# \(By .*\)$/\1/p' "$results/$1.csv"
 }
 
 # Of the pictures that standard input names, with a caption each, those that are there: `pictures FOLDER`.
@@ -441,6 +468,7 @@ threads Operations a second of all threads together, medians: the proved tree's 
 ratio The proved tree beside the same steps in C++, minima. At 1 it takes as long as the C++, below less.
 layout What words that stand apart gain, at four threads with the first waiter, medians. Less is better.
 places How the time grows with the places of the table, medians, in the same steps in C++.
+processors Simulated: operations a second of all threads together, by the way in which callers wait for the words that all updates exchange.
 END
 }
 
@@ -461,7 +489,7 @@ if [ $# -gt 0 ]; then
 fi
 out=$top/bench/out
 mkdir -p "$out"
-for name in tree waits sections writers shapes depth threads text limits cookies embed many ratios latency crowded crowded_updates size handles stays stays_idle stays_others rust_map server; do
+for name in tree waits sections writers shapes depth threads text limits cookies embed many ratios latency crowded crowded_updates size handles stays stays_idle stays_others rust_map server processors processors_waits; do
     [ -e "$results/$name.csv" ] || continue
     grep -qxF "<!-- $name -->" "$top/docs/BENCHMARKS.md" "$top/bench/TABLES.md" || continue
     { echo; table "$name"; echo; } >"$out/table"

@@ -1,7 +1,7 @@
 #!/usr/bin/env bash
 # Tests the two answers to which no run of the library comes: CITRUS_LOST, which takes 2^64 - 1 rounds of waiting, and CITRUS_MOVED of an
 # upsert, for which others have to come between its two calls 1,000 times in a row. It copies tree_handles and citrus_c to a folder of its own,
-# lowers these numbers in the copy to 6 and to 1, builds the library of it by install.sh, and runs tests/rare.c: `rare.sh [TIMES]`. Its last
+# lowers these numbers in the copy to 7 and to 1, builds the library of it by install.sh, and runs tests/rare.c: `rare.sh [TIMES]`. Its last
 # line is `N passed, M failed`, and its status 1 where something failed.
 # The copy is proved as the library is, in some three minutes of a processor, over the crates below as they stand in the repository. So it
 # stands outside of the gate.
@@ -37,11 +37,11 @@ lower() {
     text=$(cat "$file") && printf '%s\n' "${text/"$2"/"$3"}" >"$file"
 }
 
-# A wait ends with the sixth pause, which makes the next one as long as a pause gets. The loops of the crates below keep their bound. With a
-# patience whose pauses give up a call is proved to make one step at least.
+# A wait ends with the seventh pause, which is as long as one gets, and at a word that all callers exchange with the fourth or sooner. The loops
+# of the crates below keep their bound. With a patience whose pauses give up a call is proved to make one step at least.
 lower_rounds_of_waiting() {
     # shellcheck disable=SC2016
-    lower src/spinning.rt '        Ok(())' '        if *pauses < LONG { Ok(()) } else { Err(GaveUp) }' &&
+    lower src/spinning.rt '        self.spin_once(pauses);' '        if self.spin_once(pauses) { return Err(GaveUp); }' &&
         lower specs/Calls.antt 'patient_steps = 18446744073709551615' 'patient_steps = 1'
 }
 

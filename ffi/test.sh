@@ -61,11 +61,27 @@ link_objects() { g++ -pthread "${@:2}" -L"$prefix/lib" -lcitrus -o "$room/$1"; }
 
 compile_all() {
     compile_c answers && compile_c misuse && compile_c own_keys && compile_c moments && compile_c reopened && compile_c tidy && compile_c version && compile_c salts &&
-        compile_c backtraces && compile_cpp index && compile_c always && compile_c many_handles && compile_c counters && compile_c lanes &&
+        compile_c backtraces && compile_cpp index && compile_cpp keyed && compile_c always && compile_c many_handles && compile_c counters && compile_c lanes &&
         compile_c busy && compile_c crowd &&
         compile_c memory -Wl,--wrap=malloc,--wrap=realloc,--wrap=free && compile_cpp answers && compile_cpp order && compile_cpp whole &&
-        compile_c holds && compile_c begun && compile_c keeps && compile_c turns && compile_c objects && compile_c prcu && compile_cpp map && compile_debug
+        compile_c holds && compile_c begun && compile_c keeps && compile_c turns && compile_c objects && compile_c prcu && compile_cpp map &&
+        compile_floating && compile_debug
 }
+
+# Keys are compiled in each language, by each compiler that is here.
+keys_in_each_language() {
+    local compiler language
+    for compiler in g++ clang++; do
+        hash "$compiler" 2>/dev/null || continue
+        for language in c++17 c++20 c++2b; do
+            "$compiler" "-std=$language" "${strict[@]}" "$here/tests/keys.cpp" -o "$room/keys_$compiler$language" && "$room/keys_$compiler$language" &&
+                "$compiler" "-std=$language" "${strict[@]}" -fsyntax-only "$here/tests/keyed.cpp" || return
+        done
+    done
+}
+
+# The judge of whole.cpp, with floating numbers as keys.
+compile_floating() { g++ -std=c++17 "${strict[@]}" -DFLOATING_KEYS "$here/tests/whole.cpp" -L"$prefix/lib" -lcitrus -o "$room/whole_floating"; }
 
 # A program of two files.
 compile_debug() {
@@ -167,6 +183,7 @@ threads_that_are_stopped() {
     stopped_cases_of "$room/keeps"
     stopped_cases_of "$room/turns"
     stopped_cases_of "$room/map_cpp" threads
+    stopped_cases_of "$room/keyed_cpp" threads
     for waiter in 0 1 2; do
         [ ! -x "$checker" ] || case_is "one order explains all replies, 4 threads that are stopped, waiter $waiter" \
             ordered_by stopped 100 "$room/order_cpp" $waiter 4 4000 3 4
@@ -202,6 +219,13 @@ compile_unkept() {
         g++ -std=c++17 "-I$room/unkept" "${strict[@]}" "$here/tests/map.cpp" -L"$prefix/lib" -lcitrus -o "$room/unkept_planted"
 }
 
+# Words of the headers are other ones in a copy, and the tests of keys tell of it: `fault_of_keys_is_seen HEADER FROM TO TEST`.
+fault_of_keys_is_seen() {
+    rm -rf "$room/faulty" && cp -r "$prefix/include" "$room/faulty" && grep -qF "$2" "$room/faulty/$1" && sed -i "s/$2/$3/" "$room/faulty/$1" &&
+        g++ -std=c++17 "-I$room/faulty" "${strict[@]}" "$here/tests/$4.cpp" -L"$prefix/lib" -lcitrus -o "$room/faulty_$4" &&
+        ! timeout 100 "$room/faulty_$4" >"$room/report" && grep -q '^FAILED: ' "$room/report"
+}
+
 # The fault is told of by one of 40 runs: `is_seen FAULT PROGRAM WORDS..`. A case fails, no order is found, or what was given up is read.
 is_seen() {
     local seed status
@@ -234,6 +258,8 @@ planted_faults() {
     case_is 'a fault in front of the library is told of by the C++ map: begin' is_seen begin map_planted 'threads read'
     case_is 'the C++ map compiles with a fault' compile_unkept
     case_is 'a fault of the C++ map is told of: an address that comes back' is_seen none unkept_planted 'threads update'
+    case_is 'a fault of the C++ keys is told of: negative numbers' fault_of_keys_is_seen citrus_key.hpp 'its & sign ? ~its : its | sign' 'its | sign' keys
+    case_is 'a fault of the C++ handles by keys is told of: a page that ends' fault_of_keys_is_seen citrus_keyed.hpp 'words::key_of(found.next)' std::nullopt keyed
     for fault in remove replace list; do
         case_is "a fault in a twin of the library is told of by one order of all calls: $fault" is_seen $fault whole_twin 3000 1 0 6
     done
@@ -361,10 +387,19 @@ sanitizer_reports_a_wait_left_out() {
         grep -q 'AddressSanitizer: heap-use-after-free' "$room/unwaited_told"
 }
 
+# The tests tell of a map that makes a key a word twice, for a key that answers otherwise then: a node is waited for by another key.
+a_second_word_is_told_of() {
+    local line='self.handle.insert(word, node.word())'
+    cp -r "$here/citrus_map" "$room/twice" && grep -qF "$line" "$room/twice/src/map.rs" &&
+        sed -i "s/$line/self.handle.insert(key.encode(), node.word())/" "$room/twice/src/map.rs" &&
+        ! (cd "$room/twice" && in_rust cargo test --offline --quiet --test map what_a_key_that_lies_put_in_is_waited_for) >"$room/report" 2>&1 && grep -q "taken out under a reader" "$room/report"
+}
+
 rust_maps() {
     case_is 'the cache in Rust' rust_example cache '5 swept; 3 has Some(6) letters, 4 has None'
     case_is "README's program in Rust, an example" rust_example_of README.md first '5 has Some(50)'
     case_is "the page's map in Rust" rust_example_of docs/EMBEDDING.md names $'5 is five\nSome("five") is gone'
+    case_is 'the Rust tests tell of a key that becomes a word twice' a_second_word_is_told_of
     case_is 'the Rust crate is checked, and its pages are made, without the archive' rust_links_alone_take_the_archive
     if RUSTUP_AUTO_INSTALL=0 cargo +nightly --version >/dev/null 2>&1; then
         case_is "what mustn't compile in Rust is refused for its reason" refusals_have_their_codes
@@ -384,14 +419,15 @@ case_is 'one version is named everywhere' python3 "$top/build/version.py" --chec
 cases_of "$here/tests/headers.sh" "$prefix/include"
 case_is "README's program in C" program_of README.md c/first.c '5 has 50' gcc -Wall -Wextra -Werror
 case_is "README's program in C++" program_of README.md cpp/first.cpp '5 has 50' g++ -std=c++17 -Wall -Wextra -Werror -pthread
-case_is "the page's map in C++" program_of docs/EMBEDDING.md cpp/names.cpp $'5 is five\nfive is gone' g++ -std=c++17 -Wall -Wextra -Werror -pthread
+case_is "the page's map in C++" program_of docs/EMBEDDING.md cpp/names.cpp $'-5 is negative\nnegative is gone' g++ -std=c++17 -Wall -Wextra -Werror -pthread
 case_is 'the cache in C' example '5: five' gcc -Wall -Wextra -Werror "$here/c/cache.c"
 case_is 'the cache in C++' example '5: five' g++ -std=c++17 -Wall -Wextra -Werror -pthread "$here/cpp/cache.cpp"
 if hash pkg-config 2>/dev/null; then case_is "README's program by pkg-config" with_pkg_config; else echo 'left out: pkg-config'; fi
+case_is 'words of C++ keys in each language' keys_in_each_language
 case_is 'the tests compile' compile_all
 [ -x "$room/order_cpp" ] || end
 for program in answers misuse memory moments own_keys always many_handles counters busy crowd reopened lanes tidy salts version backtraces answers_cpp index_cpp; do cases_of "$room/$program"; done
-for program in holds begun keeps turns objects prcu debug map_cpp whole_cpp; do cases_of "$room/$program"; done
+for program in holds begun keeps turns objects prcu debug map_cpp keyed_cpp whole_cpp whole_floating; do cases_of "$room/$program"; done
 if has_debugger; then case_is 'gdb names the caller of a call that hangs' gdb_names_the_caller; else echo 'left out: gdb'; fi
 threads_that_are_stopped
 [ ! -x "$room/jitter.so" ] || planted_faults

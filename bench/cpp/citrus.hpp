@@ -4,7 +4,6 @@
 #pragma once
 #include "backoff.hpp"
 #include <array>
-#include <atomic>
 #include <deque>
 #include <optional>
 #include <vector>
@@ -28,7 +27,7 @@ public:
 
     // Waits until every section that has begun is over.
     void synchronize() {
-        std::atomic_thread_fence(std::memory_order_seq_cst);
+        order_all();
         for (Time &time : times_) {
             const uint64_t then = time.value.load(std::memory_order_acquire);
             Backoff backoff;
@@ -38,16 +37,16 @@ public:
 
 private:
     struct alignas(128) Time {
-        std::atomic<uint64_t> value{1};
+        Atomic<uint64_t> value{1};
     };
     std::vector<Time> times_;
 };
 
 struct alignas(64) CitrusNode {
-    std::atomic<CitrusNode *> child[2];
+    Atomic<CitrusNode *> child[2];
     uint64_t key, value;
-    std::atomic<uint32_t> tag[2];
-    std::atomic<bool> locked, marked;
+    Atomic<uint32_t> tag[2];
+    Atomic<bool> locked, marked;
 
     void lock() {
         Backoff backoff;

@@ -34,8 +34,8 @@ struct Locks {
 constexpr Field tag_of(Field side) { return side == Left ? LeftTag : RightTag; }
 constexpr bool is_life(uint64_t life, uint64_t generation) { return life % 2 == 0 && life / 2 == generation; }
 
-template <class W> class SameTree : public TreeSlots<W> {
-    using Slots = TreeSlots<W>;
+template <class W, class Ways = Spinning> class SameTree : public TreeSlots<W, Ways> {
+    using Slots = TreeSlots<W, Ways>;
 
 public:
     using Slots::Slots;
@@ -51,6 +51,7 @@ public:
 
     // The update's number, or 0 where the key is there or the tree is full.
     uint64_t put(TreeSeat &seat, uint64_t key, uint64_t value) {
+        this->begin_call(seat);
         Backoff backoff;
         for (;;) {
             const Descent end = descend(seat, key);
@@ -68,13 +69,20 @@ public:
                 at(leaf, Left).store(0);
                 at(leaf, Right).store(0);
             }
-            if (const uint64_t number = link_leaf(seat, spot)) return number;
-            backoff.snooze();
+            const std::optional<uint64_t> number = link_leaf(seat, spot);
+            if (number && *number != 0) return *number;
+            if (number) {
+                backoff.snooze();
+            } else {
+                give_way(seat);
+                backoff = {};
+            }
         }
     }
 
     // The update's number, or 0 where the key is absent.
     uint64_t del(TreeSeat &seat, uint64_t key) {
+        this->begin_call(seat);
         this->make_room(seat);
         Backoff backoff;
         for (;;) {
@@ -154,17 +162,23 @@ protected:
         while (locks.count > 0) unlock(locks.slots[--locks.count]);
     }
 
-    // Makes the front odd. Where another's update has it odd, it is waited for.
-    uint64_t open_front(TreeSeat &seat) {
-        Backoff backoff;
+    // Makes the front odd. Where another's update has it odd, it is waited for, unless the caller gives way.
+    std::optional<uint64_t> try_front(TreeSeat &seat, bool may_give_way) {
+        Ways tries = this->tries(seat, CommonWord::Front);
         uint64_t expected = seat.front + seat.front % 2;
-        for (;; backoff.snooze()) {
+        for (;;) {
             const uint64_t found = Slots::exchange(this->front(), expected, expected + 1);
             seat.front = found == expected ? expected + 1 : found;
-            if (found == expected) return found;
+            if (found == expected) {
+                tries.end();
+                return found;
+            }
             expected = found + found % 2;
+            if (!tries.tries_on(found % 2 == 1, may_give_way)) return {};
         }
     }
+
+    uint64_t open_front(TreeSeat &seat) { return *try_front(seat, false); }
 
     uint64_t close_front(TreeSeat &seat, uint64_t front) {
         seat.front = front + 2;
@@ -172,7 +186,15 @@ protected:
         return (front + 2) / 2;
     }
 
-    uint64_t link_leaf(TreeSeat &seat, const Spot &spot) {
+    // A call that gives way ends, its caller yields the processor, and begins again.
+    void give_way(TreeSeat &seat) {
+        this->put_back(seat);
+        yield_processor();
+        this->begin_call(seat);
+    }
+
+    // The update's number, or 0 where the spot isn't as it was any more; or nothing where the caller gives way.
+    std::optional<uint64_t> link_leaf(TreeSeat &seat, const Spot &spot) {
         if (!try_lock(seat, spot.slot)) return 0;
         const uint64_t life = at(spot.slot, Life).load(), link = at(spot.slot, spot.side).load();
         const uint64_t tag = at(spot.slot, tag_of(spot.side)).load();
@@ -180,11 +202,15 @@ protected:
             unlock(spot.slot);
             return 0;
         }
-        const uint64_t front = open_front(seat);
+        const std::optional<uint64_t> front = try_front(seat, true);
+        if (!front) {
+            unlock(spot.slot);
+            return {};
+        }
         seat.tickets--;
         at(spot.slot, spot.side).store(seat.hand);
         seat.hand = 0;
-        const uint64_t number = close_front(seat, front);
+        const uint64_t number = close_front(seat, *front);
         unlock(spot.slot);
         return number;
     }

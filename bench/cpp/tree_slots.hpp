@@ -2,15 +2,16 @@
 #pragma once
 #include "backoff.hpp"
 #include "waiters.hpp"
+#include "ways.hpp"
 #include <algorithm>
 
 struct TreeSeat : Seat {
     uint32_t hand = 0, spare = 0, looked = 0, line = 0;
     uint64_t free = 0, front = 0;
-    std::vector<uint32_t> retired, noted;
+    std::vector<uint32_t> retired, noted, kept;
 };
 
-template <class W> class TreeSlots {
+template <class W, class Ways> class TreeSlots {
 public:
     using L = typename W::Layout;
     static constexpr size_t most_noted = 64;
@@ -19,7 +20,8 @@ public:
     // A place keeps back so many retired slots before it waits for all readers.
     TreeSlots(uint32_t slots, uint32_t places, uint32_t most_retired)
         : slots_(slots), places_(places), most_retired_(most_retired), rows_(uint64_t(slots) + places + 1, W::room(places)),
-          words_(rows_.end(), rows_.waiter()) {
+          words_(rows_.end(), rows_.waiter()), shared_(places) {
+        for (uint32_t place = 0; place < places; place++) owned_.emplace_back(place);
         W::set_up(words_, places);
         words_[L::free_count] = slots;
         for (uint32_t slot = 0; slot <= places; slot++) state(slot) = 1;
@@ -37,24 +39,35 @@ public:
         return seat;
     }
 
+    // As after many calls: the place keeps so many slots, where places keep any.
+    void keep(TreeSeat &seat, uint32_t count) {
+        while (Ways::keeps_slots && seat.kept.size() < count && take(seat)) {
+            seat.kept.push_back(seat.hand);
+            seat.hand = 0;
+        }
+    }
+
 protected:
-    std::atomic<uint64_t> &at(uint32_t slot, Field field) { return words_[rows_.field(slot, field)]; }
+    Atomic<uint64_t> &at(uint32_t slot, Field field) { return words_[rows_.field(slot, field)]; }
     // Loads the key of the slot of a link, and throws it away.
     void bring_near(uint64_t link) {
         if (link <= uint64_t(slots_) + places_) at(link, Key).load();
     }
-    std::atomic<uint64_t> &front() { return words_[L::front]; }
+    Atomic<uint64_t> &front() { return words_[L::front]; }
     void enter(TreeSeat &seat, uint64_t key) { W::enter(words_, seat, key); }
     void leave(TreeSeat &seat) { W::leave(words_, seat); }
+    void begin_call(TreeSeat &seat) { owned_[seat.place].own.begin_call(); }
+    Ways tries(TreeSeat &seat, CommonWord word) { return {shared_, owned_[seat.place].own, word}; }
 
     // What was found. It is the old value where the exchange was made.
-    static uint64_t exchange(std::atomic<uint64_t> &word, uint64_t old, uint64_t next) {
+    static uint64_t exchange(Atomic<uint64_t> &word, uint64_t old, uint64_t next) {
         word.compare_exchange_strong(old, next);
         return old;
     }
 
     // Takes a slot into the hand, near the one at which it will hang. Where none is free, the retired ones are waited for.
     bool take_slot(TreeSeat &seat, uint32_t near) {
+        if (take_kept(seat)) return true;
         note_near(seat, near);
         if (take(seat)) return true;
         if (seat.retired.empty()) return false;
@@ -71,7 +84,7 @@ protected:
     void make_room(TreeSeat &seat) {
         if (seat.retired.size() >= most_retired_) return reclaim(seat);
         if (seat.spare != 0) return;
-        if (!take(seat)) return reclaim(seat);
+        if (!take_kept(seat) && !take(seat)) return reclaim(seat);
         at(seat.hand, Life).load();
         seat.spare = seat.hand;
         seat.hand = 0;
@@ -106,21 +119,40 @@ private:
     uint32_t next_line(uint32_t slot) const { return slot < slots_ + places_ ? (slot | 1) + 1 : 2; }
     bool seems_free(uint32_t slot) { return slot != 0 && slot <= slots_ + places_ && state(slot).load() == 0; }
 
-    std::atomic<uint64_t> &state(uint32_t slot) { return words_[rows_.state(slot)]; }
+    Atomic<uint64_t> &state(uint32_t slot) { return words_[rows_.state(slot)]; }
 
     bool take(TreeSeat &seat) {
-        Backoff backoff;
-        uint64_t expected = std::max<uint64_t>(seat.free, 1);
-        for (;; backoff.spin()) {
-            const uint64_t found = exchange(words_[L::free_count], expected, expected - 1);
-            seat.free = found == expected ? expected - 1 : found;
-            if (found == expected) break;
-            if (found == 0) return false;
-            expected = found;
-        }
+        if (!reserve(seat)) return false;
         seat.tickets--;
         seat.hand = seize(seat);
         at(seat.hand, Life).load();
+        return true;
+    }
+
+    // Counts one free slot less, where there is one.
+    bool reserve(TreeSeat &seat) {
+        Ways tries = this->tries(seat, CommonWord::FreeCount);
+        uint64_t expected = std::max<uint64_t>(seat.free, 1);
+        for (;;) {
+            const uint64_t found = exchange(words_[L::free_count], expected, expected - 1);
+            seat.free = found == expected ? expected - 1 : found;
+            if (found == expected || found == 0) {
+                tries.end();
+                return found != 0;
+            }
+            expected = found;
+            tries.tries_on(false, false);
+        }
+    }
+
+    // Takes a slot into the hand that was waited for, where the place keeps some.
+    bool take_kept(TreeSeat &seat) {
+        if (!Ways::keeps_slots) return false;
+        if (seat.kept.empty() && 2 * seat.retired.size() >= most_retired_) reclaim(seat);
+        if (seat.kept.empty()) return false;
+        seat.hand = seat.kept.back();
+        seat.kept.pop_back();
+        raise_life(seat.hand);
         return true;
     }
 
@@ -156,6 +188,8 @@ private:
             if (seat.spare == 0) {
                 raise_life(slot);
                 seat.spare = slot;
+            } else if (Ways::keeps_slots && seat.kept.size() < most_retired_) {
+                seat.kept.push_back(slot);
             } else {
                 free_slot(seat, slot);
             }
@@ -166,4 +200,10 @@ private:
     uint32_t slots_, places_, most_retired_;
     L rows_;
     Words words_;
+    typename Ways::Shared shared_;
+    struct alignas(128) Owned {
+        typename Ways::Own own;
+        explicit Owned(uint32_t place) : own(place) {}
+    };
+    std::vector<Owned> owned_;
 };

@@ -235,11 +235,12 @@ CITRUS_STATUS_MATTERS int32_t citrus_left(citrus_handle *handle, uint32_t *handl
 typedef struct {
     size_t size;      /* sizeof(citrus_numbers), set by the caller */
     uint64_t slots;   /* slots of the index: one for each pair that it was opened for, and room + 4 for each handle */
-    uint64_t free;    /* how many of them were free when this handle last took one or gave one back; all, where it did neither yet. The others
-                       * have a pair, or are kept back by a handle */
+    uint64_t free;    /* how many of them were free when this handle last took a free one or gave one back; all, where it did neither yet. The
+                       * others have a pair, or are kept back by a handle */
     uint64_t waits;   /* waits for readers that were begun from this handle's place */
     uint64_t tickets; /* tickets of this handle */
-    uint64_t kept;    /* slots that this handle keeps back, whose pairs were removed, until no reader can stand there */
+    uint64_t kept;    /* slots that this handle keeps back, whose pairs were removed: until no reader can stand there, and fewer than 48 of
+                       * them longer, for its inserts, which ask for no free slot as long as there are some */
     uint64_t room;    /* how many it keeps back at most */
     uint32_t handles; /* how many handles the index can have at once */
     uint32_t unshared; /* how many more of them can be shared from this one */

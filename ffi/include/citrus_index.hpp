@@ -6,6 +6,14 @@
 //     auto mine = index.lend();                         // a handle for a few calls
 //     for (const citrus_pair &pair : mine->range()) std::cout << pair.key;
 //
+// Keys and values are 64-bit numbers where nothing is said. `citrus::index<K, V>` has those of types of yours, and what it lends is a
+// `citrus::keyed_handle<K, V>`:
+//
+//     citrus::index<std::chrono::sys_seconds, double> degrees(100000, 4);
+//     degrees.insert(now, 21.5);
+//
+// Where its type is named it is `citrus::index<>`.
+//
 // A thread is lent the handle that it had last, where nobody has it: so with as many handles as threads each comes to have its own, and a call
 // costs little more than by a handle that is kept. No thread keeps anything: threads may come and go.
 //
@@ -13,19 +21,58 @@
 #ifndef CITRUS_INDEX_HPP
 #define CITRUS_INDEX_HPP
 
-#include "citrus.hpp"
-// In an older language that header says so, and this one says nothing more.
+#include "citrus_keyed.hpp"
+// In an older language citrus.hpp says so, and this one says nothing more.
 #if __cplusplus >= 201703L
 #include <array>
 #include <atomic>
 
 namespace citrus {
 
-class index {
+namespace of_index {
+
+// Where a thread had a handle of an index last. It is a hint alone: it keeps nothing from others, and may lead to an index that is gone.
+struct home {
+    uint64_t index;
+    size_t place;
+};
+
+// Of so many indexes a thread knows its home; of two whose numbers are alike but for a multiple of it, that of the later one.
+inline constexpr size_t homes = 16;
+
+inline home &home_here(uint64_t index) noexcept {
+    static thread_local std::array<home, homes> known{};
+    return known[index % homes];
+}
+
+// No two indexes have the same number, and none has 0.
+inline uint64_t next_number() noexcept {
+    static std::atomic<uint64_t> made{0};
+    return made.fetch_add(1, std::memory_order_relaxed) + 1;
+}
+
+// Nor have two threads.
+inline uint64_t thread_number() noexcept {
+    static std::atomic<uint64_t> made{0};
+    static thread_local uint64_t number = 0;
+    if (!number) number = made.fetch_add(1, std::memory_order_relaxed) + 1;
+    return number;
+}
+
+} // namespace of_index
+
+template <class K = uint64_t, class V = uint64_t> class index {
+public:
+    // What it lends.
+    using handle_type = std::conditional_t<std::is_same_v<K, uint64_t> && std::is_same_v<V, uint64_t>, handle, keyed_handle<K, V>>;
+
+private:
+    using passed_key = of_keys::passed<K>;
+
     // A handle, and whether somebody has it. In lines of its own.
     struct alignas(128) place {
         std::atomic<bool> is_out{false};
-        handle its;
+        handle_type its;
 
         bool take() noexcept { return !is_out.load(std::memory_order_relaxed) && !is_out.exchange(true, std::memory_order_acquire); }
         void put_back() noexcept { is_out.store(false, std::memory_order_release); }
@@ -44,8 +91,8 @@ public:
             if (at_) at_->put_back();
         }
 
-        handle &operator*() const noexcept { return at_->its; }
-        handle *operator->() const noexcept { return &at_->its; }
+        handle_type &operator*() const noexcept { return at_->its; }
+        handle_type *operator->() const noexcept { return &at_->its; }
 
     private:
         friend class index;
@@ -58,15 +105,15 @@ public:
     index(uint32_t pairs, uint32_t handles, waiter how = waiter::eer) : index(options{pairs, handles, how}) {}
 
     // The same by options.
-    explicit index(const options &asked) : index(handle(asked), asked.handles) {}
+    explicit index(const options &asked) : index(handle_type(asked), asked.handles) {}
 
     index(const index &) = delete;
     index &operator=(const index &) = delete;
 
     // Lends a handle. Throws no_handle where all are out at this moment, in other threads' calls too.
     [[nodiscard]] lent lend() {
-        home &mine = home_here();
-        const size_t first = mine.index == number_ ? mine.place : thread_number() % places_.size();
+        of_index::home &mine = of_index::home_here(number_);
+        const size_t first = mine.index == number_ ? mine.place : of_index::thread_number() % places_.size();
         for (size_t i = 0; i < places_.size(); i++) {
             const size_t at = (first + i) % places_.size();
             if (!places_[at].take()) continue;
@@ -77,58 +124,38 @@ public:
     }
 
     // The calls below are those of `handle`, by a handle that is lent: they throw no_handle too.
-    std::optional<uint64_t> get(uint64_t key) { return lend()->get(key); }
-    bool contains(uint64_t key) { return lend()->contains(key); }
-    bool insert(uint64_t key, uint64_t value) { return lend()->insert(key, value); }
-    std::optional<uint64_t> replace(uint64_t key, uint64_t value) { return lend()->replace(key, value); }
-    compared compare_exchange(uint64_t key, uint64_t &expected, uint64_t desired) { return lend()->compare_exchange(key, expected, desired); }
-    template <class Change> std::optional<uint64_t> update(uint64_t key, Change change) { return lend()->update(key, std::move(change)); }
-    std::optional<uint64_t> upsert(uint64_t key, uint64_t value) { return lend()->upsert(key, value); }
-    std::optional<uint64_t> remove(uint64_t key) { return lend()->remove(key); }
-    page list(uint64_t low, uint64_t high, size_t room = handle::page_room) { return lend()->list(low, high, room); }
-    std::optional<citrus_pair> first(uint64_t low = 0) { return lend()->first(low); }
-    std::optional<citrus_pair> last(uint64_t high = UINT64_MAX) { return lend()->last(high); }
+    std::optional<V> get(passed_key key) { return lend()->get(key); }
+    bool contains(passed_key key) { return lend()->contains(key); }
+    bool insert(passed_key key, V value) { return lend()->insert(key, value); }
+    std::optional<V> replace(passed_key key, V value) { return lend()->replace(key, value); }
+    compared compare_exchange(passed_key key, V &expected, V desired) { return lend()->compare_exchange(key, expected, desired); }
+    template <class Change> std::optional<V> update(passed_key key, Change change) { return lend()->update(key, std::move(change)); }
+    std::optional<V> upsert(passed_key key, V value) { return lend()->upsert(key, value); }
+    std::optional<V> remove(passed_key key) { return lend()->remove(key); }
+    auto list(passed_key low, passed_key high, size_t room = handle::page_room) { return lend()->list(low, high, room); }
+    auto first() { return lend()->first(); }
+    auto first(passed_key low) { return lend()->first(low); }
+    auto last() { return lend()->last(); }
+    auto last(passed_key high) { return lend()->last(high); }
     bool empty() { return lend()->empty(); }
-    uint64_t size(uint64_t low = 0, uint64_t high = UINT64_MAX) { return lend()->size(low, high); }
+    uint64_t size() { return lend()->size(); }
+    uint64_t size(passed_key low) { return lend()->size(low); }
+    uint64_t size(passed_key low, passed_key high) { return lend()->size(low, high); }
 
 private:
-    // Where a thread had a handle of an index last. It is a hint alone: it keeps nothing from others, and may lead to an index that is gone.
-    struct home {
-        uint64_t index;
-        size_t place;
-    };
-
-    // Of so many indexes a thread knows its home; of two whose numbers are alike but for a multiple of it, that of the later one.
-    static constexpr size_t homes = 16;
-
     std::vector<place> places_;
     const uint64_t number_;
 
-    index(handle &&first, uint32_t handles) : places_(handles), number_(next(indexes())) {
+    index(handle_type &&first, uint32_t handles) : places_(handles), number_(of_index::next_number()) {
         for (size_t i = 1; i < places_.size(); i++) places_[i].its = first.share();
         places_[0].its = std::move(first);
     }
 
-    home &home_here() const noexcept {
-        static thread_local std::array<home, homes> known{};
-        return known[number_ % homes];
-    }
-
-    // No two indexes, and no two threads, have the same number. None is 0.
-    static std::atomic<uint64_t> &indexes() noexcept {
-        static std::atomic<uint64_t> made{0};
-        return made;
-    }
-
-    static uint64_t next(std::atomic<uint64_t> &made) noexcept { return made.fetch_add(1, std::memory_order_relaxed) + 1; }
-
-    static uint64_t thread_number() noexcept {
-        static std::atomic<uint64_t> made{0};
-        static thread_local uint64_t number = 0;
-        if (!number) number = next(made);
-        return number;
-    }
 };
+
+// Where nothing is said of keys and values they are numbers.
+index(uint32_t, uint32_t, waiter = waiter::eer) -> index<>;
+index(const options &) -> index<>;
 
 } // namespace citrus
 

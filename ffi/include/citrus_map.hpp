@@ -7,6 +7,11 @@
 //     if (auto text = mine.get(5)) std::cout << *text;       // it stays until `text` ends
 //     std::unique_ptr<std::string> gone = mine.remove(5);
 //
+// Keys are 64-bit numbers, and those of `citrus::map<K, T>` are of a type of yours, as citrus_key.hpp says:
+//
+//     citrus::map<std::pair<int32_t, uint32_t>, std::string> rows(100000, 2);
+//     rows.insert({-1, 5}, std::make_unique<std::string>("minus one, five"));
+//
 // What is left to owe beside what citrus.hpp says:
 //   - a map object outlives the held values that it gave, and what a held value leads to isn't used when that has ended;
 //   - while a thread has a held value of one map object it makes no update by another one of the same map. By the same one it can't: holds is
@@ -15,8 +20,8 @@
 #ifndef CITRUS_MAP_HPP
 #define CITRUS_MAP_HPP
 
-#include "citrus.hpp"
-// In an older language that header says so, and this one says nothing more.
+#include "citrus_key.hpp"
+// In an older language citrus.hpp says so, and this one says nothing more.
 #if __cplusplus >= 201703L
 #include "citrus_turns.hpp"
 #include <algorithm>
@@ -43,15 +48,18 @@ public:
     void release() const noexcept { within_.leave(); }
 
 private:
-    template <class> friend class map;
+    template <class, class> friend class map;
     explicit held(section &&within) noexcept : within_(std::move(within)) {}
 
     mutable section within_;
 };
 
+// `map<T>` has keys of 64 bits, and `map<K, T>` those of a type of yours.
+template <class K, class T = void> class map;
+
 // One of the map objects of a map, for one thread at a time. The last of them drops all that is left. Calls throw as those of `handle`; a
 // null pointer as a value is a bad_argument. Of a map object that was moved from nothing is called but an assignment.
-template <class T> class map {
+template <class T> class map<T, void> {
 public:
     // So many objects that were retired are kept at most.
     static constexpr size_t most_retired = 64;
@@ -390,6 +398,84 @@ private:
     // There is no other map object, so nobody reads or updates.
     void drop_all() {
         for (const citrus_pair &pair : own_->at.range()) give_up(pair.value);
+    }
+};
+
+// The same with keys of a type of yours: each call is that of `map<T>` with its name, by the key's word, which is made once. A range goes from
+// its low key to its high one, both among it, and where one isn't said it has no end there.
+template <class K, class T> class map {
+    static_assert(needs_key<K>());
+    using traits = key_traits<K>;
+    using by_word = map<T>;
+    using passed_key = of_keys::passed<K>;
+
+public:
+    static constexpr size_t most_retired = by_word::most_retired;
+
+    // A pair that was taken out, when the readers of its value are gone.
+    struct popped {
+        K key;
+        std::unique_ptr<T> value;
+    };
+
+    // The first map object of a new map.
+    map(uint32_t pairs, uint32_t objects, waiter how = waiter::eer, updates go = updates::beside) : its_(pairs, objects, how, go) {}
+    explicit map(const options &asked, updates go = updates::beside) : its_(asked, go) {}
+
+    map share() { return map(its_.share()); }
+
+    [[nodiscard]] held<T> get(passed_key key) { return its_.get(traits::encode(key)); }
+    bool contains(passed_key key) { return its_.contains(traits::encode(key)); }
+
+    std::optional<K> next_key() { return key_of(its_.next_key()); }
+    std::optional<K> next_key(passed_key low) { return key_of(its_.next_key(traits::encode(low))); }
+    std::optional<K> last_key() { return key_of(its_.last_key()); }
+    std::optional<K> last_key(passed_key high) { return key_of(its_.last_key(traits::encode(high))); }
+
+    bool empty() { return its_.empty(); }
+    uint64_t size() { return its_.size(); }
+    uint64_t size(passed_key low) { return its_.size(traits::encode(low)); }
+    uint64_t size(passed_key low, passed_key high) { return its_.size(traits::encode(low), traits::encode(high)); }
+
+    bool insert(passed_key key, std::unique_ptr<T> &&value) { return its_.insert(traits::encode(key), std::move(value)); }
+    std::unique_ptr<T> replace(passed_key key, std::unique_ptr<T> &&value) { return its_.replace(traits::encode(key), std::move(value)); }
+    std::unique_ptr<T> upsert(passed_key key, std::unique_ptr<T> &&value) { return its_.upsert(traits::encode(key), std::move(value)); }
+    template <class Change> std::unique_ptr<T> update(passed_key key, Change change) {
+        return its_.update(traits::encode(key), std::move(change));
+    }
+    std::unique_ptr<T> remove(passed_key key) { return its_.remove(traits::encode(key)); }
+
+    std::optional<popped> pop_first() { return popped_of(its_.pop_first()); }
+    std::optional<popped> pop_first(passed_key low) { return popped_of(its_.pop_first(traits::encode(low))); }
+    std::optional<popped> pop_last() { return popped_of(its_.pop_last()); }
+    std::optional<popped> pop_last(passed_key high) { return popped_of(its_.pop_last(traits::encode(high))); }
+
+    bool retire(passed_key key) { return its_.retire(traits::encode(key)); }
+
+    template <class Stays> uint64_t retain(passed_key low, passed_key high, Stays stays) {
+        const auto stay = [&](uint64_t word, const T &value) { return stays(traits::decode(word), value); };
+        return its_.retain(traits::encode(low), traits::encode(high), stay);
+    }
+
+    uint64_t clear() { return its_.clear(); }
+    uint64_t clear(passed_key low) { return its_.clear(traits::encode(low)); }
+    uint64_t clear(passed_key low, passed_key high) { return its_.clear(traits::encode(low), traits::encode(high)); }
+
+    void flush() { its_.flush(); }
+
+private:
+    by_word its_;
+
+    explicit map(by_word &&its) noexcept : its_(std::move(its)) {}
+
+    static std::optional<K> key_of(const std::optional<uint64_t> &word) noexcept {
+        if (!word) return std::nullopt;
+        return traits::decode(*word);
+    }
+
+    static std::optional<popped> popped_of(std::optional<typename by_word::popped> &&one) noexcept {
+        if (!one) return std::nullopt;
+        return popped{traits::decode(one->key), std::move(one->value)};
     }
 };
 

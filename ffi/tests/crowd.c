@@ -124,7 +124,7 @@ static citrus_numbers numbers_of(struct member *me, struct member *of) {
     return numbers;
 }
 
-/* Each slot that isn't free has a pair, or is kept back by a handle. An insert tells how many are free. */
+/* Each slot that isn't free has a pair, or is kept back by a handle. An insert that takes a free one tells how many are. */
 static void no_slot_is_lost(struct member *me, uint64_t pairs) {
     const struct stage *stage = me->shared;
     uint64_t kept = 0;
@@ -135,10 +135,15 @@ static void no_slot_is_lost(struct member *me, uint64_t pairs) {
 
 /* Alone, since all others have come to their end. */
 static void look_at_the_end(struct member *me, uint64_t room) {
-    uint64_t pairs = look_at_all(me);
-    member_wants(me, "an insert of the first spare key", MOST_KEYS, citrus_insert(&me->handle, MOST_KEYS, 1), CITRUS_DONE);
-    no_slot_is_lost(me, ++pairs);
-    for (uint64_t key = MOST_KEYS + 1; pairs < room; key++, pairs++)
+    uint64_t pairs = look_at_all(me), key = MOST_KEYS, kept = 0;
+    /* At first it may use slots again that its handle keeps for its inserts. */
+    do {
+        kept = numbers_of(me, me).kept;
+        member_wants(me, "an insert of a spare key", key, citrus_insert(&me->handle, key, 1), CITRUS_DONE);
+        key++, pairs++;
+    } while (numbers_of(me, me).kept < kept && pairs < room);
+    no_slot_is_lost(me, pairs);
+    for (; pairs < room; key++, pairs++)
         member_wants(me, "an insert while there is room for", room, citrus_insert(&me->handle, key, 1), CITRUS_DONE);
 }
 

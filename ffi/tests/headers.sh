@@ -45,6 +45,9 @@ cat >"$room/alone.cpp" <<'END'
 #include <citrus_map.hpp>
 #include <prcu.h>
 template class citrus::map<int>;
+template class citrus::map<std::pair<int, float>, int>;
+template class citrus::index<double, int *>;
+template class citrus::keyed_lanes<bool, char>;
 static citrus_handle kept = CITRUS_CLOSED_HANDLE;
 bool is_kept();
 bool is_kept() {
@@ -55,7 +58,18 @@ bool is_kept() {
 }
 END
 printf '#include <citrus.h>\nvoid forget(citrus_handle *mine);\nvoid forget(citrus_handle *mine) { citrus_insert(mine, 5, 50); }\n' >"$room/forgotten.c"
-printf '#include <citrus_map.hpp>\n' >"$room/old.cpp"
+printf '#include <citrus_index.hpp>\n#include <citrus_map.hpp>\n' >"$room/old.cpp"
+# What can't be a key, and the sentence that says so.
+no_keys=(
+    'citrus::index<std::pair<uint64_t, bool>> kept(1, 1); // a key has 64 bits at most'
+    'citrus::map<std::tuple<int, int, char>, int> kept(1, 1); // a key has 64 bits at most'
+    'citrus::keyed_handle<std::array<short, 5>> kept; // a key has 64 bits at most'
+    "citrus::index<std::string> kept(1, 1); // a key's type has citrus::key_traits"
+    "citrus::map<const char *, int> kept(1, 1); // a key's type has citrus::key_traits"
+    "citrus::map<std::pair<int, std::string>, int> kept(1, 1); // a key's type has citrus::key_traits"
+    'citrus::index<int, std::string> kept(1, 1); // a value can be copied as bytes'
+    'citrus::index<int, std::array<int, 3>> kept(1, 1); // a value can be copied as bytes'
+)
 
 told() {
     if [ "$1" = 0 ]; then
@@ -95,6 +109,17 @@ old_language_is_told() {
     ! "$1" -std=c++14 -fsyntax-only "-I$include" "$room/old.cpp" 2>"$room/told" && [ "$(grep -c 'error:' "$room/told")" = 1 ] && grep -q 'C++17' "$room/told"
 }
 
+# What can't be a key isn't compiled, and the one error says why.
+no_key_is_refused() {
+    local line
+    for line in "${no_keys[@]}"; do
+        printf '#include <citrus_index.hpp>\n#include <citrus_map.hpp>\n#include <string>\nvoid keep();\nvoid keep() { %s }\n' "${line% // *}" >"$room/no_key.cpp"
+        echo "$line" >"$room/told"
+        ! "$1" -std=c++17 -fsyntax-only "-I$include" "$room/no_key.cpp" 2>>"$room/told" && [ "$(grep -c 'error:' "$room/told")" = 1 ] &&
+            grep 'error:' "$room/told" | grep -qF "${line#* // }" || return
+    done
+}
+
 pair() {
     hash "$1" "$2" 2>/dev/null || { echo "left out: $1 and $2" && return; }
     in_all_forms "$1" 'c99 c11 c17 c2x' alone.c
@@ -104,6 +129,8 @@ pair() {
     told $? "$1 and $2 tell of a status that isn't looked at"
     old_language_is_told "$2"
     told $? "$2 has one error in C++14"
+    no_key_is_refused "$2"
+    told $? "$2 takes no key that doesn't fit, and says why"
 }
 
 pair gcc g++

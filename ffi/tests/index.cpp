@@ -5,7 +5,7 @@
 #include <string>
 #include <thread>
 
-static bool has_no_handle(citrus::index &index) {
+static bool has_no_handle(citrus::index<> &index) {
     try {
         index.get(1);
     } catch (const citrus::error &told) {
@@ -67,12 +67,12 @@ static void handles_run_out_and_come_back(uint32_t waiter) {
 }
 
 static void a_thread_is_lent_its_handle_again() {
-    citrus::index index(100, 4), others[20] = {{10, 1}, {10, 1}, {10, 1}, {10, 1}, {10, 1}, {10, 1}, {10, 1}, {10, 1}, {10, 1}, {10, 1},
+    citrus::index<> index(100, 4), others[20] = {{10, 1}, {10, 1}, {10, 1}, {10, 1}, {10, 1}, {10, 1}, {10, 1}, {10, 1}, {10, 1}, {10, 1},
                                                {10, 1}, {10, 1}, {10, 1}, {10, 1}, {10, 1}, {10, 1}, {10, 1}, {10, 1}, {10, 1}, {10, 1}};
     const auto mine = [&] { return &*index.lend(); };
     const citrus::handle *const here = mine();
     WANT(mine() == here, true);
-    for (citrus::index &other : others) WANT(other.insert(1, 10), true);
+    for (citrus::index<> &other : others) WANT(other.insert(1, 10), true);
     WANT(mine() == here, true);
     const auto kept = index.lend();
     const citrus::handle *const there = mine();
@@ -84,9 +84,9 @@ static void a_thread_is_lent_its_handle_again() {
 static void threads_and_indexes_come_and_go(uint32_t waiter) {
     enum { ROUNDS = 30, THREADS = 6, INDEXES = 20, KEYS = 100 };
     for (uint64_t round = 0; round < ROUNDS; round++) {
-        std::vector<std::unique_ptr<citrus::index>> all;
+        std::vector<std::unique_ptr<citrus::index<>>> all;
         std::vector<std::thread> threads;
-        for (int i = 0; i < INDEXES; i++) all.push_back(std::make_unique<citrus::index>(THREADS * KEYS, THREADS, static_cast<citrus::waiter>(waiter)));
+        for (int i = 0; i < INDEXES; i++) all.push_back(std::make_unique<citrus::index<>>(THREADS * KEYS, THREADS, static_cast<citrus::waiter>(waiter)));
         for (uint64_t number = 0; number < THREADS; number++)
             threads.emplace_back([&all, number] {
                 for (uint64_t key = 0; key < KEYS; key++)

@@ -1,6 +1,6 @@
 /* Readers that stay, in an index whose handles may keep back many slots of removed pairs: removes go on beside a reader until their handle keeps
  * back all that it may, and are BUSY then; so are inserts that need turns. What is kept outlives a close, takes no room from the pairs that always
- * fit, and goes back once the reader has left, also where its handle waits behind each remove. */
+ * fit, and goes back once the reader has left, or is used again, also where its handle waits behind each remove. */
 #include "stays.h"
 
 /* The reader's key is the least, so it lies between no key that goes and the next one. Where waits go by classes of 64 keys, the keys of its
@@ -41,6 +41,28 @@ static void removes_go_on_beside_a_reader_that_stays(uint32_t waiter) {
     leave(&scene);
     put_and_take_out(&scene.mine, 2 * KEEP);
     WANT(numbers_of(&scene.mine).kept < KEEP, 1);
+    end_scene(&scene);
+}
+
+enum { WAITS_FOR = 32, USED_AGAIN = 500 };
+
+/* Nobody reads. Once a handle keeps back so many that it waits for them, each insert uses one of these again, and asks for no free one. */
+static void inserts_use_again_what_their_handle_keeps(uint32_t waiter) {
+    struct scene scene;
+    uint64_t old = UNTOUCHED;
+    open_scene(&scene, HELD, 10, 2, waiter, KEEP);
+    put_and_take_out(&scene.mine, WAITS_FOR);
+    const citrus_numbers before = numbers_of(&scene.mine);
+    WANT(before.kept, WAITS_FOR);
+    for (uint64_t i = 0; i < USED_AGAIN && !wrong_here; i++) {
+        const uint64_t key = 1 + i % FEW_KEYS;
+        WANT(citrus_insert(&scene.mine, key, i), CITRUS_DONE);
+        WANT(numbers_of(&scene.mine).kept, WAITS_FOR - 1);
+        WANT(citrus_remove(&scene.mine, key, &old), CITRUS_DONE);
+        WANT(old, i);
+        WANT(numbers_of(&scene.mine).kept, WAITS_FOR);
+        WANT(numbers_of(&scene.mine).free, before.free);
+    }
     end_scene(&scene);
 }
 
@@ -440,6 +462,7 @@ static void each_handle_may_keep_back_as_many(uint32_t waiter) {
 
 static const struct waiter_case cases[] = {
     {"removes go on beside a reader that stays", removes_go_on_beside_a_reader_that_stays},
+    {"inserts use again what their handle keeps", inserts_use_again_what_their_handle_keeps},
     {"so do those of several threads", so_do_those_of_several_threads},
     {"so do removes of nodes with two children", so_do_removes_of_nodes_with_two_children},
     {"a handle that keeps all that it may takes no pair out", a_handle_that_keeps_all_that_it_may_takes_no_pair_out},

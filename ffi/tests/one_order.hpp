@@ -62,9 +62,9 @@ static inline void told_of_compare(Call &call, citrus::compared told, uint64_t f
 enum KeyCall : uint64_t { GET, HOLD, INSERT, REPLACE, UPSERT, COMPARE, REMOVE, KEY_CALLS };
 
 // Makes a call of this kind. What a hold tells is judged as what a get tells: its reply is known before the section is left.
-static inline Call call_of(citrus::handle &index, uint64_t which, uint64_t key, uint64_t value) {
+template <class Index> Call call_of(Index &index, uint64_t which, uint64_t key, uint64_t value) {
     Call call{};
-    citrus::section held;
+    decltype(index.hold(key)) held;
     uint64_t found = which == COMPARE ? index.get(key).value_or(value) : value;
     call.key = key;
     call.value = value;
@@ -110,7 +110,7 @@ static inline Call call_of(citrus::handle &index, uint64_t which, uint64_t key, 
 }
 
 // Turns nodes on the way to the key, in four attempts at most. That no slot is free is no fault.
-static inline void tidy(citrus::handle &index, uint64_t key) {
+template <class Index> void tidy(Index &index, uint64_t key) {
     try {
         index.tidy(key, key, 4);
     } catch (const citrus::error &refusal) {

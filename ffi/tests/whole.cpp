@@ -1,5 +1,6 @@
 // Four threads on an index of 2, 3, 4 or 6 keys, and one order of all their calls that explains each reply: of lists, firsts and lasts too,
-// which tell of several keys at once. Usage: whole [ROUNDS [SEED [WAITER [KEYS]]]]. It ends with the first case that fails.
+// which tell of several keys at once. Usage: whole [ROUNDS [SEED [WAITER [KEYS]]]]. It ends with the first case that fails. With FLOATING_KEYS
+// keys are floating numbers, the infinities and what is no number among them.
 //
 // Before a round one thread puts all keys in, in an order that is drawn: so the tree has one shape or another. In the round each thread makes
 // calls that are drawn, and behind it a list tells what there is when nobody calls. So each round has an order for itself. Most keys stay in
@@ -10,6 +11,15 @@
 #include <cstdlib>
 #include <string>
 #include <thread>
+
+#ifdef FLOATING_KEYS
+#include "numbered.hpp"
+#define KIND_OF_KEYS " floating"
+using Index = numbered<float>;
+#else
+#define KIND_OF_KEYS ""
+using Index = citrus::handle;
+#endif
 
 enum { THREADS = 4, MOST_KEYS = 6, CALLS = 30, MOST_TOLD = 3 };
 
@@ -42,7 +52,7 @@ struct WholeCall : Call {
 };
 
 // A list with room for so many pairs. Where there are more it tells nothing of those from the next key on.
-static void list(citrus::handle &index, WholeCall &look, size_t room) {
+static void list(Index &index, WholeCall &look, size_t room) {
     const citrus::page found = index.list(look.low, look.high, room);
     uint64_t least = look.low;
     for (const citrus_pair &pair : found) {
@@ -55,7 +65,7 @@ static void list(citrus::handle &index, WholeCall &look, size_t room) {
 }
 
 // A first tells nothing of the keys above the one that it found.
-static void find_first(citrus::handle &index, WholeCall &look) {
+static void find_first(Index &index, WholeCall &look) {
     const std::optional<citrus_pair> found = index.first(look.low);
     if (!found) return;
     look.take(*found, look.low);
@@ -63,7 +73,7 @@ static void find_first(citrus::handle &index, WholeCall &look) {
 }
 
 // Nor does a last of those below.
-static void find_last(citrus::handle &index, WholeCall &look) {
+static void find_last(Index &index, WholeCall &look) {
     const std::optional<citrus_pair> found = index.last(look.low, look.high);
     if (!found) return;
     look.take(*found, look.low);
@@ -72,7 +82,7 @@ static void find_last(citrus::handle &index, WholeCall &look) {
 
 enum Look { LIST, SHORT_LIST, FIRST, LAST, LOOKS };
 
-static WholeCall look_at(citrus::handle &index, uint64_t which, uint64_t low, uint64_t high) {
+static WholeCall look_at(Index &index, uint64_t which, uint64_t low, uint64_t high) {
     WholeCall look{};
     look.is_look = true;
     look.low = low;
@@ -108,7 +118,7 @@ static constexpr uint64_t which_of_key[] = {GET,    GET,    GET,     GET,    GET
                                             INSERT, INSERT, REPLACE, UPSERT, UPSERT, COMPARE, REMOVE, REMOVE, REMOVE};
 
 // One look comes to some four calls of one key. One of 50 of these is followed by turns on the way to its key.
-static WholeCall drawn_call(citrus::handle &index, uint64_t &state, uint64_t keys, uint64_t staying, uint64_t value) {
+static WholeCall drawn_call(Index &index, uint64_t &state, uint64_t keys, uint64_t staying, uint64_t value) {
     uint64_t which = drawn(state) % (std::size(which_of_key) + LOOKS);
     const uint64_t key = drawn(state) % keys, other = drawn(state) % keys;
     if (which >= std::size(which_of_key)) {
@@ -146,7 +156,7 @@ struct Plan {
 };
 
 // Makes the index that a round begins with, and looks at it.
-static WholeCall set_up(Trial &trial, citrus::handle &index, const Plan &plan, uint64_t &value) {
+static WholeCall set_up(Trial &trial, Index &index, const Plan &plan, uint64_t &value) {
     Pairs begin;
     for (const uint64_t key : plan.order) index.remove(key);
     for (const uint64_t key : plan.order) {
@@ -157,7 +167,7 @@ static WholeCall set_up(Trial &trial, citrus::handle &index, const Plan &plan, u
     return look_at(index, LIST, 0, trial.keys - 1);
 }
 
-static void work(Trial &trial, citrus::handle &index, uint32_t number) {
+static void work(Trial &trial, Index &index, uint32_t number) {
     std::vector<WholeCall> &calls = trial.calls[number];
     uint64_t state = 88172645463325252u + 1000003 * trial.seed + 7919 * number, value = number;
     calls.reserve(trial.rounds * (CALLS + 2));
@@ -211,15 +221,15 @@ static void run_on(uint32_t waiter, uint64_t keys, uint64_t rounds, uint64_t see
     Trial trial(keys, rounds, seed);
     {
         // One pair more than there are keys: so no call finds the index full.
-        citrus::handle first(keys + 1, THREADS + 1, citrus::waiter{waiter});
-        std::vector<citrus::handle> handles;
+        Index first(keys + 1, THREADS + 1, citrus::waiter{waiter});
+        std::vector<Index> handles;
         std::vector<std::thread> threads;
         for (int i = 0; i < THREADS; i++) handles.push_back(first.share());
         for (uint32_t i = 0; i < THREADS; i++) threads.emplace_back([&, i] { work(trial, handles[i], i); });
         for (std::thread &thread : threads) thread.join();
     }
     const std::string calls = std::to_string(rounds * (THREADS * CALLS + 2));
-    const std::string of = std::to_string(keys) + " keys, " + waiter_names[waiter] + ", " + calls + " calls";
+    const std::string of = std::to_string(keys) + KIND_OF_KEYS " keys, " + waiter_names[waiter] + ", " + calls + " calls";
     WANT(judge(trial), 0);
     end_case("one order of all calls explains each reply, lists, firsts and lasts too", of.c_str());
 }

@@ -30,7 +30,7 @@ use Rattle.tree_points.proofs.Locks.{advanced_on, advanced_same, slot_in_hand}
 use Rattle.citrus_tree.specs.Deletes.{BeginsByLookup, Comes, StandsAt}
 use Rattle.citrus_tree.proofs.Leavings.{MayHaveBegun, begins_later, begins_looked, first_later, first_stays, none_begun, none_on, none_yet, answered_on, goes_looked, was_answered, KeepsView}
 use Rattle.citrus_tree.specs.declared.insert.Reached.{Reached}
-use Rattle.citrus_tree.specs.Going.{Goes, MayBegin, Searched, Since, Unwaited, Waited, leaf_stage, AreTries, HasBegunNone, IsOfTry, KeepsWait, NeededRoom, waits_in, Links, MakesRoom, Reused, filled_stage, linked_stage, old_stage}
+use Rattle.citrus_tree.specs.Going.{Goes, MayBegin, Searched, Since, Unwaited, Waited, leaf_stage, AreTries, HasBegunNone, IsOfTry, KeepsWait, NeededRoom, waits_in, Links, MakesRoom, Reused, TakesSlot, filled_stage, linked_stage, old_stage}
 use Rattle.citrus_tree.specs.Hops.{Records}
 use Rattle.citrus_tree.specs.Lookups.{Looked}
 use Rattle.citrus_tree.specs.Replies.{GaveWay, IsFullNow, Puts}
@@ -138,28 +138,38 @@ module _ {k : Shape} {kept key value : ℕ} {v : View} (a : IsAt k (Put key valu
 abbrev section_of : View → ℕ → List Mark
 section_of w key = Entered w.allowance.place w.counts.sections key ∷ (LeftMark w.allowance.place w.counts.sections ∷ [])
 
+-- where nothing was retired, and no slot more is, nothing is
+nothing_more : (rs more : List Retired) → rs ≡ [] → length more ≤ length rs → more ≡ []
+nothing_more rs [] none fewer = refl
+nothing_more rs (r ∷ more) none fewer = absurd (let long = ap length none in omega (arith, fewer, long))
+
 -- What was left so far goes on.
 module _ {k : Shape} {v w : View} {key : ℕ} {marks : List Mark} (s : Since k v key marks w) where
-  since_goes : {x : View} (more : List Mark) → Goes w x more → AllByRecursion (IsOfTry v.allowance.place key) more → waits_in more ≡ 0
+  since_more : {x : View} (more : List Mark) → HasAdvanced w x more → length x.hands.retired ≤ length w.hands.retired → x.wait ≡ w.wait
+      → x.counts.waits ≡ w.counts.waits → AllByRecursion (IsOfTry v.allowance.place key) more → waits_in more ≡ 0
       → Since k v key (marks ++ more) x
-  since_goes {x} more g each none = record {
-    advanced = advanced_on s.advanced g.advanced;
+  since_more {x} more advanced fewer wait waits each none = record {
+    advanced = advanced_on s.advanced advanced;
     each = all_append (IsOfTry v.allowance.place key) marks more s.each each;
     waits = ⊎_elim
         (λ (u : Unwaited v w marks). inl (record {
           none = (let both = waits_in-append marks more in let first = u.none in omega arith);
-          retired = g.retired ∙ u.retired;
-          wait = g.wait ∙ u.wait;
-          waits = g.waits ∙ u.waits;
+          fewer = (let first = u.fewer in omega (arith, first, fewer));
+          wait = wait ∙ u.wait;
+          waits = waits ∙ u.waits;
         }))
         (λ (t : Waited k v w marks). inr (record {
           one = (let both = waits_in-append marks more in let first = t.one in omega arith);
-          none = g.retired ∙ t.none;
-          needed = needed_on t.needed g.advanced.begins;
-          wait = first_stays t.wait g.advanced.begins g.wait;
+          none = nothing_more w.hands.retired x.hands.retired t.none fewer;
+          needed = needed_on t.needed advanced.begins;
+          wait = first_stays t.wait advanced.begins wait;
         }))
         s.waits;
   }
+
+  since_goes : {x : View} (more : List Mark) → Goes w x more → AllByRecursion (IsOfTry v.allowance.place key) more → waits_in more ≡ 0
+      → Since k v key (marks ++ more) x
+  since_goes {x} more g each none = since_more more g.advanced (let same = ap length g.retired in omega (arith, same)) g.wait g.waits each none
 
   pub since_stays : {x : View} → Goes w x [] → Since k v key marks x
   since_stays {x} g = subst (λ ms. Since k v key ms x) (append-nil marks) (since_goes [] g tt refl)
@@ -177,12 +187,11 @@ module _ {k : Shape} {v w : View} {key : ℕ} {marks : List Mark} (s : Since k v
               one = (let both = waits_in-append marks more in let first = u.none in omega arith);
               none = r.none;
               needed = record {
-                retired = subst (λ (rs : List Retired). 1 ≤ length rs) u.retired r.needed.retired;
+                retired = (let fewer = u.fewer in let some = r.needed.retired in omega (arith, fewer, some));
                 until = r.needed.until;
                 since = prefix_trans v.seen w.seen r.needed.until s.advanced.begins r.needed.since;
                 made = r.needed.made;
-                fills = subst (λ (rs : List Retired). k.slots
-                    ≤ finite.len (map_of (updates_of r.needed.until)) + length rs + (k.room + 4) * (k.places - 1)) u.retired r.needed.fills;
+                fills = (let fewer = u.fewer in let fills = r.needed.fills in omega (arith, fewer, fills));
               };
               wait = first_later (none_begun s.advanced u.waits u.wait) r.wait;
             }))
@@ -192,7 +201,7 @@ module _ {k : Shape} {v w : View} {key : ℕ} {marks : List Mark} (s : Since k v
 
   pub since_room : {x : View} → MakesRoom k w x → (more : List Mark) × Since k v key (marks ++ more) x
   since_room {x} room = ⊎_elim
-      (λ (g : Goes w x []). ([], since_goes [] g tt refl))
+      (λ (t : TakesSlot w x). ([], since_more [] t.advanced t.fewer t.wait t.waits tt refl))
       (λ (r : Reused k w x). (
         Began w.allowance.place w.counts.waits 0 18446744073709551615 ∷ (Ended w.allowance.place w.counts.waits ∷ []),
         since_reused r,
@@ -231,7 +240,7 @@ module _ {k : Shape} {v w : View} {key : ℕ} {marks : List Mark} (s : Since k v
 -- the marks of room that was made, none of which is a section's
 room_leaves : {k : Shape} {v w : View} → MakesRoom k v w → (more : List Mark) × HasAdvanced v w more × ((p s : ℕ) → entered_for p s more ≡ 0)
 room_leaves {k} {v} {w} room = ⊎_elim
-    (λ (g : Goes v w []). ([], g.advanced, λ p s. refl))
+    (λ (t : TakesSlot v w). ([], t.advanced, λ p s. refl))
     (λ (r : Reused k v w). (
       Began v.allowance.place v.counts.waits 0 18446744073709551615 ∷ (Ended v.allowance.place v.counts.waits ∷ []),
       r.advanced,
@@ -253,7 +262,7 @@ module _ {k : Shape} {key value : ℕ} {v : View} where
   pub begins : IsQuiet v → key < 2 ^ 64 → Trying k key value v v
   begins quiet fits = record {
     marks = [];
-    since = record { advanced = advanced_same; each = tt; waits = inl (record { none = refl; retired = refl; wait = refl; waits = refl }) };
+    since = record { advanced = advanced_same; each = tt; waits = inl (record { none = refl; fewer = omega arith; wait = refl; waits = refl }) };
     first = inl refl;
     ready = λ kept few. record {
       outside = quiet.section;

@@ -19,7 +19,7 @@ use Rattle.seat_table.specs.Sections.{Makes, HasStepped}
 use Rattle.core_state.specs.declared.view.HeldLock.{HeldLock}
 use Rattle.tree_points.specs.Points.{HasAdvanced, HasLocks, IsAt, KeepsAllowance}
 use Rattle.tree_points.proofs.Locks.{allowed, locks_from, further_by, advanced_none, advanced_on, advanced_stays, advanced_same, stays, further, no_further, allowed_on}
-use Rattle.citrus_tree.specs.Going.{Goes, LosesFront, Opened, Closed, KeepsSlots, retired_marks, HasBegunFirst, HasBegunNone, KeepsWait, MakesRoom, Reused, KeepsSeat, GivesNoneBack, RetiresBehind}
+use Rattle.citrus_tree.specs.Going.{Goes, LosesFront, Opened, Closed, KeepsSlots, retired_marks, HasBegunFirst, HasBegunNone, KeepsWait, MakesRoom, Reused, TakesSlot, KeepsSeat, KeepsSeatBy, KeepsSlotsBy, GivesNoneBack, RetiresBehind}
 use Rattle.citrus_tree.specs.Lookups.{Looked, IsSearching}
 use Rattle.citrus_tree.specs.Replies.{WasAnswered}
 use Rattle.prcu_model.specs.declared.operation.Op.{Op}
@@ -34,6 +34,7 @@ use Rattle.seat_table.specs.Seats.{SeatAt, AreListed, IsQuietSeat}
 use Rattle.seat_table.specs.Waits.{HasWaited}
 use Rattle.node_slots.specs.Reclaiming.{HasReclaimed}
 use Rattle.citrus_tree.specs.Deletes.{HasSearched, KeepsRest, BeginsByLookup}
+use Rattle.citrus_tree.specs.declared.insert.Reuse.{Reuse}
 use Rattle.core_state.specs.declared.view.Waiting.{Waiting}
 use Rattle.seat_table.proofs.SeveralSteps.{seen_more, enters_steps, makes_steps, prefix_steps, told_steps}
 use Rattle.node_slots.proofs.Takes.{each_begins}
@@ -461,7 +462,8 @@ pub record KeepsView (n : ℕ) (v w : View) : Type 0 where
   pub tickets : v.allowance.tickets ≤ w.allowance.tickets + n
   pub allowance : KeepsAllowance v w
 
-pub keeps_seat : {n : ℕ} {s t : SeatAt} → KeepsView n s.view t.view → AreListed t → KeepsSlots s t → KeepsSeat n s t
+pub keeps_seat : {n : ℕ} {chosen : Reuse} {s t : SeatAt} → KeepsView n s.view t.view → AreListed t → KeepsSlotsBy chosen s t
+    → KeepsSeatBy n chosen s t
 keeps_seat view listed slots = record {
   quiet = record { view = view.quiet; listed = listed };
   wait = view.wait;
@@ -600,4 +602,4 @@ links_steps {k} {v} {w} {s} {b} {n} l =
 
 pub room_steps : {k : Shape} {v w : View} → MakesRoom k v w → length v.trail.steps ≤ length w.trail.steps
 room_steps {k} {v} {w} room =
-    ⊎_elim (λ (x : Goes v w []). prefix_steps v w x.advanced.steps) (λ (x : Reused k v w). prefix_steps v w x.advanced.steps) room
+    ⊎_elim (λ (x : TakesSlot v w). prefix_steps v w x.advanced.steps) (λ (x : Reused k v w). prefix_steps v w x.advanced.steps) room

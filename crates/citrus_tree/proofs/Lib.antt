@@ -8,3 +8,4 @@ pub mod DeleteUpdates
 pub mod DeleteMoves
 pub mod DeleteTries
 pub mod Clients
+pub mod Reusing

@@ -33,7 +33,7 @@ use Rattle.node_slots.specs.Taking.{HasTaken, FoundNone, TriesInVain, exchange}
 use Rattle.node_slots.specs.Reclaiming.{HasReclaimed}
 use Rattle.node_slots.proofs.Returns.{listed_length, some_there}
 use Rattle.node_slots.proofs.Points.{back_ends, back_advanced, back_retired, gives_all, none_begins, none_advanced, none_is_full, none_retired_now, reclaim_advanced, reclaim_retired, taken_advanced, taken_retired}
-use Rattle.citrus_tree.specs.Going.{Goes, LosesFront, leaf_stage, NeededRoom, MakesRoom, Reused, old_stage, Opened, Closed, Links, held_stage}
+use Rattle.citrus_tree.specs.Going.{Goes, LosesFront, leaf_stage, NeededRoom, MakesRoom, Reused, TakesSlot, old_stage, Opened, Closed, Links, held_stage}
 use Rattle.citrus_tree.specs.Replies.{IsFullNow}
 use Rattle.citrus_tree.proofs.Leavings.{first_later, first_stays, none_begun, reclaimed_first, goes_stays, goes_on, goes_lock, goes_load, goes_unlock, goes_opened, goes_closed, goes_lost, locks_lost}
 use Rattle.std.proofs.lemmas.Bool.{cases_eq}
@@ -127,6 +127,20 @@ gives_up_at {k} {op} {kept} slot {v} {w} is back a =
     let h = some_there v.hands.hand slot is in
     back_ends (back h.0 h.1) (subst (λ hand. IsAt k op kept (old_stage hand) v) h.1 a)
 
+-- What leaves the retired slots alone takes none of them.
+pub takes_none : {v w : View} → Goes v w [] → TakesSlot v w
+takes_none goes = record {
+  advanced = goes.advanced;
+  fewer = let same = ap length goes.retired in omega (arith, same);
+  wait = goes.wait;
+  waits = goes.waits;
+}
+
+-- A lock was given up: the same slot is in hand.
+pub hand_unlocked : {k : Shape} {v w : View} {n s : ℕ} (leaf : ℕ) → Told k v (acts.Unlock s) n w → IsSlotOf (Some leaf) v.hands.hand
+    → IsSlotOf (Some leaf) w.hands.hand
+hand_unlocked leaf t is = subst (IsSlotOf (Some leaf)) (sym (ap (λ (z : View). z.hands.hand) t.goes)) is
+
 -- A slot was taken, or none was free.
 pub goes_taken : {slot generation : ℕ} {v w : View} → HasTaken v slot generation w → IsPrefix v.trail.steps w.trail.steps → Goes v w []
 goes_taken taken steps = record {
@@ -194,7 +208,12 @@ needed_on {k} {v} {w} {x} n more = record {
 
 pub room_goes : {k : Shape} {v w x : View} → MakesRoom k v w → Goes w x [] → MakesRoom k v x
 room_goes {k} {v} {w} {x} room goes = ⊎_elim
-    (λ (g : Goes v w []). inl (goes_stays g goes))
+    (λ (t : TakesSlot v w). inl (record {
+      advanced = advanced_stays t.advanced goes.advanced;
+      fewer = let fewer = t.fewer in let same = ap length goes.retired in omega (arith, fewer, same);
+      wait = goes.wait ∙ t.wait;
+      waits = goes.waits ∙ t.waits;
+    }))
     (λ (r : Reused k v w). inr (record {
       advanced = advanced_stays r.advanced goes.advanced;
       needed = needed_on r.needed goes.advanced.begins;

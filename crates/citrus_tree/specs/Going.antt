@@ -1,5 +1,5 @@
 -- What calls leave, whole and part by part.
-use Rattle.std.specs.Prelude.{◌≡◌, ◌⊎◌, ℕ, ◌+◌, ◌-◌, ◌*◌, ◌≤◌, Bool, List, [], ◌∷◌, ◌++◌, length, map, Some, None, ◌≢◌, false, Option, true}
+use Rattle.std.specs.Prelude.{◌≡◌, ◌⊎◌, ℕ, ◌+◌, ◌-◌, ◌*◌, ◌≤◌, ◌==◌, if◌then◌else◌, Bool, List, [], ◌∷◌, ◌++◌, length, map, Some, None, ◌≢◌, false, Option, true}
 use Rattle.std.specs.List.{AllByRecursion}
 use mathlib.Core.List.{IsPrefix}
 use Rattle.prcu_marks.specs.declared.mark.Mark.{Mark}
@@ -11,7 +11,7 @@ use Rattle.core_state.specs.declared.shape.Shape.{Shape}
 use Rattle.core_state.specs.declared.view.Retired.{Retired}
 use Rattle.core_state.specs.declared.view.View.{View}
 use Rattle.core_state.specs.declared.view.Waiting.{Waiting}
-use Rattle.seat_table.specs.Seats.{SeatAt, IsQuietSeat}
+use Rattle.seat_table.specs.Seats.{SeatAt, IsQuietSeat, unlisted}
 use Rattle.seat_table.specs.Sections.{HasBegun}
 use Rattle.prcu_marks.specs.declared.mark.Side.{Side}
 use Rattle.prcu_model.specs.declared.operation.Op.{Op}
@@ -24,7 +24,9 @@ use Rattle.core_points.specs.declared.stage.Stage.{Stage}
 use Rattle.core_points.specs.declared.stage.Aim.TheVariants.{Leaf}
 use Rattle.seat_table.specs.Gains.{IsSlot}
 use Rattle.tree_points.specs.Points.{IsAt, HasAdvanced, KeepsAllowance}
+use Rattle.node_slots.specs.Reclaiming.{IsReady}
 use Rattle.citrus_tree.specs.declared.insert.Reached.{Reached}
+use Rattle.citrus_tree.specs.declared.insert.Reuse.{Reuse}
 use Rattle.citrus_tree.specs.declared.replace.Holder.{Holder}
 use Rattle.citrus_tree.specs.declared.replace.Replaced.{Replaced}
 use Rattle.citrus_tree.specs.Hops.{Records}
@@ -33,6 +35,7 @@ use Rattle.std.specs.FinMap as finite
 use Rattle.core_points.specs.declared.stage.Stage.TheVariants as at
 use Rattle.core_points.specs.declared.stage.Last.TheVariants as last
 use Rattle.core_points.specs.declared.stage.Update.TheVariants as update
+use Rattle.citrus_tree.specs.declared.insert.Reuse.TheVariants as reuse
 
 -- What a call leaves of marks, and what it leaves alone.
 -- Source: docs/TREE_CALLS.md, "The calls".
@@ -115,14 +118,36 @@ pub record KeepsSlots (s t : SeatAt) : Type 0 where
   pub wait : t.view.counts.waits ≡ s.view.counts.waits → t.view.wait ≡ s.view.wait
   pub slots : t.view.counts.waits ≡ s.view.counts.waits → GivesNoneBack s t
 
+-- the marks of retired slots but for those of this slot
+abbrev pub without_mark : ℕ → List (ℕ × ℕ × Bool) → List (ℕ × ℕ × Bool)
+without_mark slot [] = []
+without_mark slot (r ∷ rs) = if r.0 == slot then without_mark slot rs else r ∷ without_mark slot rs
+
+-- No wait was begun, and this retired slot was used again: it is retired and listed no more. All others stay so, in their order.
+pub record UsesSlot (slot : ℕ) (s t : SeatAt) : Type 0 where
+  pub waits : t.view.counts.waits ≡ s.view.counts.waits
+  pub wait : t.view.wait ≡ s.view.wait
+  pub retired : retired_marks t.view ≡ without_mark slot (retired_marks s.view)
+  pub listed : t.listed ≡ unlisted slot s.listed
+
+-- A put that may use a retired slot again used none, and kept them as any call does; or it used just this one.
+abbrev pub KeepsSlotsBy : Reuse → SeatAt → SeatAt → Type 0
+KeepsSlotsBy reuse.Free s t = KeepsSlots s t
+KeepsSlotsBy (reuse.Retired slot) s t = KeepsSlots s t ⊎ UsesSlot slot s t
+
 -- What a call leaves of all that isn't its answer: the seat is quiet again. No gate was turned of a wait that was begun before, and what was
--- retired and listed stays, as long as no wait is begun. At most so many tickets were used, and nothing else of the allowance.
-pub record KeepsSeat (n : ℕ) (s t : SeatAt) : Type 0 where
+-- retired and listed stays, as long as no wait is begun, but for a slot that it may use again. At most so many tickets were used, and nothing
+-- else of the allowance.
+pub record KeepsSeatBy (n : ℕ) (chosen : Reuse) (s t : SeatAt) : Type 0 where
   pub quiet : IsQuietSeat t
   pub wait : KeepsWait s.view t.view
-  pub slots : KeepsSlots s t
+  pub slots : KeepsSlotsBy chosen s t
   pub tickets : s.view.allowance.tickets ≤ t.view.allowance.tickets + n
   pub allowance : KeepsAllowance s.view t.view
+
+-- The same of a call that uses no retired slot again.
+abbrev pub KeepsSeat : ℕ → SeatAt → SeatAt → Type 0
+KeepsSeat n s t = KeepsSeatBy n reuse.Free s t
 
 -- What the parts of the calls leave.
 -- Source: docs/TREE_CALLS.md, "The calls".
@@ -189,11 +214,11 @@ abbrev pub Sought : Shape → View → ℕ → Option Holder → View → Type 0
 Sought k v key None w = Looked v key None w
 Sought k v key (Some holder) w = FoundHolder k v key holder w
 
--- So far in a call for the key these marks were left. No wait was begun, and the retired slots are the same; or one was, which was needed,
--- and nothing is retired now.
+-- So far in a call for the key these marks were left. No wait was begun, and no slot more is retired; or one was, which was needed, and
+-- nothing is retired now.
 pub record Unwaited (v w : View) (marks : List Mark) : Type 0 where
   pub none : waits_in marks ≡ 0
-  pub retired : w.hands.retired ≡ v.hands.retired
+  pub fewer : length w.hands.retired ≤ length v.hands.retired
   pub wait : w.wait ≡ v.wait
   pub waits : w.counts.waits ≡ v.counts.waits
 
@@ -263,9 +288,40 @@ pub record Reused (k : Shape) (v w : View) : Type 0 where
   pub none : w.hands.retired ≡ []
   pub wait : HasBegunFirst v w
 
--- No wait was begun, and the retired slots are the same; or they were given back.
+-- No mark was left and no wait was begun. No slot more is retired, and one less where it was used again.
+pub record TakesSlot (v w : View) : Type 0 where
+  pub advanced : HasAdvanced v w []
+  pub fewer : length w.hands.retired ≤ length v.hands.retired
+  pub wait : w.wait ≡ v.wait
+  pub waits : w.counts.waits ≡ v.counts.waits
+
+-- No wait was begun; or one was, and the retired slots were given back.
 abbrev pub MakesRoom : Shape → View → View → Type 0
-MakesRoom k v w = Goes v w [] ⊎ Reused k v w
+MakesRoom k v w = TakesSlot v w ⊎ Reused k v w
+
+-- A put may be told to take its slot so: a retired one was waited for.
+abbrev pub MayUse : Reuse → View → Type 0
+MayUse reuse.Free v = Unit {0}
+MayUse (reuse.Retired slot) v = IsReady v slot
+
+-- the retired slot that is used again: none without a spare
+abbrev pub used_slot : Reuse → Option Held → Option ℕ
+used_slot (reuse.Retired slot) (Some spare) = Some slot
+used_slot _ spare = None
+
+-- what was left of the retired slots where this one was used again, or none
+abbrev pub UsesOrKeeps : Option ℕ → SeatAt → SeatAt → Type 0
+UsesOrKeeps (Some slot) s t = UsesSlot slot s t
+UsesOrKeeps None s t = KeepsSlots s t
+
+-- a slot was taken as a put was told, where the place had this spare, or none
+abbrev pub TakesBy : Reuse → Option Held → SeatAt → SeatAt → Type 0
+TakesBy chosen spare s t = UsesOrKeeps (used_slot chosen spare) s t
+
+-- the same, unless one was in hand already
+abbrev pub LeafBy : Option Held → Reuse → SeatAt → SeatAt → Type 0
+LeafBy (Some held) chosen s t = t ≡ s
+LeafBy None chosen s t = TakesBy chosen s.view.hands.spare s t
 
 -- The pair was added by the update of this number, the last of the history so far.
 abbrev pub Links : View → ℕ → ℕ → ℕ → View → Type 0

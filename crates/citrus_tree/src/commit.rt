@@ -1,5 +1,5 @@
 //! The front, made odd for one store.
-ghost use Rattle.std.specs.Prelude.{◌≡◌, ℕ, ◌+◌, ◌/◌, ◌%◌, ◌<◌, ◌≤◌, true, false, Some, None, IfOk, IfErr};
+ghost use Rattle.std.specs.Prelude.{◌≡◌, ℕ, ◌+◌, ◌/◌, ◌%◌, ◌≤◌, true, Some, None, IfOk, IfErr};
 ghost use Rattle.prcu_marks.specs.Marks.{most_front};
 ghost use Rattle.core_points.specs.declared.stage.Stage.TheVariants as at;
 ghost use Rattle.core_points.specs.declared.stage.Update.{Update};
@@ -12,15 +12,8 @@ ghost use Rattle.citrus_tree.specs.declared.commit.WhenCrowded.TheVariants.{Give
 ghost use Rattle.citrus_tree.specs.Going.{LosesFront, Opened, Closed};
 
 use core_state::linking;
-use patience::Patience;
+use patience::{LostExchanges, Patience};
 use seat_table::{CitrusTable, Seat, WaitPart, steps};
-
-/// How many exchanges are made at most without a pause.
-const AT_ONCE: u64 = 8;
-
-/// How many exchanges a caller makes that could give way, before it does. An update has the front for two stores: so many lost exchanges
-/// tell that its thread was put aside, or that threads crowd here. Before that to wait costs less than another lock and another search.
-const BEFORE_GIVING_WAY: u64 = 64;
 
 // The number itself, or the next one, whichever is even.
 fn even_from(number: u64) -> u64
@@ -33,35 +26,13 @@ fn even_from(number: u64) -> u64
     }
 }
 
-// Whether to pause after the exchange of this round, which found another number than it expected.
-fn pauses_after(round: u64, found: u64) -> bool
-    ensures linking { found % 2 ≡ 1 → result ≡ true }
-    ensures at_once { round % 8 ≡ 7 → result ≡ true }
-{
-    // Where nobody has the front it tries again at once: beside a caller that never rests the number found is old after a pause.
-    linking(found) || round % AT_ONCE == AT_ONCE - 1
-}
-
-/// What a caller does when many of its exchanges are lost.
+/// What a caller does where others have the front, or are faster.
 #[derive(Clone, Copy)]
 pub(crate) enum WhenCrowded {
     /// It tries until it has the front.
     Wait,
-    /// It tries for a while. From then on it answers busy where its patience would rather be called again.
+    /// It answers busy where its patience would rather be called again.
     GiveWay,
-}
-
-impl WhenCrowded {
-    // Whether to try on after the exchange of this round, however long that takes.
-    fn waits_after(self, round: u64) -> bool
-        ensures early { round < 64 → result ≡ true }
-        ensures gives_way { result ≡ false → self ≡ GiveWay }
-    {
-        match self {
-            WhenCrowded::Wait => true,
-            WhenCrowded::GiveWay => round < BEFORE_GIVING_WAY,
-        }
-    }
 }
 
 /// Makes the front odd, and answers the even number that it was. It waits while another caller's update is being stored. So does a delete:
@@ -90,7 +61,7 @@ pub(crate) fn open_commit<P: Patience, W: WaitPart>(
     }
 }
 
-/// The same for a caller that says what it does when many exchanges are lost. To give way is for one that has changed nothing yet, and can
+/// The same for a caller that says what it does where exchanges are lost. To give way is for one that has changed nothing yet, and can
 /// give its lock back. Where that is answered busy nothing changed but what is known of the front.
 // A call would hand its answer through memory.
 #[inline(always)]
@@ -113,19 +84,24 @@ pub(crate) fn open_commit_so<P: Patience, W: WaitPart>(
     ensures busy { IfOk result (λ answer. IfErr answer (λ _. LosesFront seat.old.view seat.new.view)) }
     ensures tired { IfErr result (λ _. HasMade (P.least patience.now) seat.new.view) }
 {
-    let mut pauses = patience.pauses();
+    let mut pauses = patience.front_pauses();
+    let mut lost = LostExchanges::none();
     let mut expected = even_from(seat.front_seen());
     for round in 0..u64::MAX {
         let found = steps::open_commit(table, seat, expected);
         if found == expected {
+            patience.won(&mut pauses);
             return Ok(Ok(found));
         }
         expected = even_from(found);
-        if pauses_after(round, found) {
-            if when_crowded.waits_after(round) {
-                patience.pause(&mut pauses)?;
-            } else if let Err(busy) = patience.rest(&mut pauses) {
-                return Ok(Err(busy));
+        if lost.pauses_after(linking(found)) {
+            match when_crowded {
+                WhenCrowded::Wait => patience.pause(&mut pauses)?,
+                WhenCrowded::GiveWay => {
+                    if let Err(busy) = patience.rest(&mut pauses) {
+                        return Ok(Err(busy));
+                    }
+                }
             }
         }
     }

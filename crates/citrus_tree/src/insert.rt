@@ -6,7 +6,8 @@
 //! - `steadfast.rt` for callers that never give up, and `patient.rt` for all: which call an operation asks for;
 //! - this one: a search, a slot, a lock and a link, and all over again where another caller was first;
 //! - `descent.rt`: the section and the way down; `search.rt`: what is recorded of the empty side, and the section's end;
-//! - `taking.rt` and `slots.rt` of `node_slots`: a free slot, or a slot put back; `reclaiming.rt`: the retired ones, given back;
+//! - `taking.rt` and `slots.rt` of `node_slots`: a free slot, or a slot put back; `reusing.rt`: a retired one, used again; `reclaiming.rt`: the
+//!   retired ones, given back;
 //! - `lives.rt`: a life compared under the lock; `commit.rt`: the front, odd for the link's store alone; `answer.rt`: the reply;
 //! - `steps.rt` and `steps/waiters.rt` of `seat_table`, the latter called by `waiters`: each atomic step, made in `access.rt`.
 ghost use Rattle.std.specs.Prelude.{◌≡◌, ℕ, ◌*◌, ◌≤◌, true, false, ◌∷◌, [], Some, None, IfOk, IfErr};
@@ -14,12 +15,13 @@ ghost use Rattle.core_points.specs.declared.stage.Aim.TheVariants.{Leaf};
 ghost use Rattle.core_points.specs.declared.stage.Spot.{Spot};
 ghost use Rattle.core_points.specs.declared.stage.Stage.TheVariants as at;
 ghost use Rattle.prcu_model.specs.declared.operation.Op.TheVariants.{Put};
+ghost use Rattle.prcu_model.specs.declared.operation.Reply.TheVariants.{New};
 ghost use Rattle.seat_table.specs.Gains.{IsInformed};
 ghost use Rattle.seat_table.specs.Sections.{HasMade, HasStepped};
 ghost use Rattle.seat_table.specs.Seats.{AreListed, IsQuietSeat, IsSlotOf, shape_of};
 ghost use Rattle.tree_points.specs.Points.{HasLocks, IsAt};
 ghost use Rattle.citrus_tree.specs.Deletes.{StandsAt, Comes, BeginsByLookup};
-ghost use Rattle.citrus_tree.specs.Going.{Goes, Searched, leaf_stage, KeepsSlots, old_stage, taken_stage, filled_stage, held_stage, linked_stage, MakesRoom, Links, KeepsSeat};
+ghost use Rattle.citrus_tree.specs.Going.{Goes, Searched, leaf_stage, KeepsSlots, old_stage, taken_stage, filled_stage, held_stage, linked_stage, MakesRoom, Links, KeepsSeat, KeepsSeatBy, LeafBy, MayUse, TakesBy, used_slot};
 ghost use Rattle.citrus_tree.specs.Replies.{GaveWay, IsFullNow, Puts};
 
 use crate::answer::{Called, answered};
@@ -40,6 +42,15 @@ use seat_table::{CitrusTable, Part, Seat, WaitPart, steps};
 pub(crate) struct Reached {
     spot: Spot,
     depth: u64,
+}
+
+/// Which slot a put takes for its pair.
+#[derive(Clone, Copy)]
+pub enum Reuse {
+    /// A free one.
+    Free,
+    /// This retired one of its place, which was waited for; or a free one, where the place has no spare.
+    Retired { slot: u32 },
 }
 
 /// Adds the pair, where the key is absent: `New` with the update's position. `Old` where the key is present, as at `get`, and `Full`
@@ -68,6 +79,37 @@ pub fn put<P: Patience, W: WaitPart, G: Gate>(
     ensures informed { IfOk result (λ answer. IfOk answer (λ _. IsInformed seat.new.view)) }
     ensures tired { IfErr result (λ _. HasMade (P.least patience.now) seat.new.view) }
 {
+    put_reusing(patience, table, seat, gate, key, value, Reuse::Free)
+}
+
+/// Adds the pair as `put` does, and takes the slot for it that it is told. Where the place has a spare the retired one is used again: then no
+/// free slot is sought, the free count isn't asked, and where the answer is `New` that slot is the pair's. Where the key is there, or others are
+/// in its way, the slot goes back like any other that isn't needed, or stays retired.
+pub fn put_reusing<P: Patience, W: WaitPart, G: Gate>(
+    patience: &P,
+    table: &CitrusTable<W>,
+    seat: &mut Seat<W>,
+    gate: &G,
+    key: u64,
+    value: u64,
+    reuse: Reuse,
+) -> Result<Result<Called, P::Busy>, P::Tired>
+    requires table { seat.old.table ≡ table.now }
+    requires quiet { IsQuietSeat seat.old }
+    requires tickets { 4 ≤ seat.old.view.allowance.tickets }
+    requires ready { MayUse reuse seat.old.view }
+    ensures table { seat.new.table ≡ seat.old.table }
+    ensures puts { IfOk result (λ answer. IfOk answer
+        (λ called. Puts (shape_of W.WAY table.now) seat.old.view key value called.told seat.new.view)) }
+    ensures busy { IfOk result (λ answer. IfErr answer
+        (λ _. GaveWay (shape_of W.WAY table.now) seat.old.view (Put key value) seat.new.view)) }
+    ensures begins { IfOk result (λ _. BeginsByLookup seat.old.view key seat.new.view) }
+    ensures keeps { IfOk result (λ _. KeepsSeatBy 4 reuse seat.old seat.new) }
+    ensures uses { IfOk result (λ answer. IfOk answer
+        (λ called. called.told.reply ≡ New → TakesBy reuse seat.old.view.hands.spare seat.old seat.new)) }
+    ensures informed { IfOk result (λ answer. IfOk answer (λ _. IsInformed seat.new.view)) }
+    ensures tired { IfErr result (λ _. HasMade (P.least patience.now) seat.new.view) }
+{
     // Without end, for all that a thread lives to see; the longer others are in the way, the longer the pauses.
     let mut pauses = patience.pauses();
     for round in 0..u64::MAX {
@@ -78,7 +120,7 @@ pub fn put<P: Patience, W: WaitPart, G: Gate>(
                 depth: 0,
             }));
         };
-        let Some(leaf) = leaf_in_hand(patience, table, seat, spot.slot, key, value)? else {
+        let Some(leaf) = leaf_in_hand(patience, table, seat, spot.slot, key, value, reuse)? else {
             return Ok(Ok(Called {
                 told: answered(gate, seat, Reply::Full, 0),
                 depth: 0,
@@ -153,8 +195,8 @@ fn give_up_leaf<W: WaitPart>(table: &CitrusTable<W>, seat: &mut Seat<W>)
     put_back(table, seat);
 }
 
-// The slot in hand, filled with the pair. It is filled once, after it was taken, near the slot at which it will hang where one there is
-// free. There is none where no slot is free, and no retired one to give back.
+// The slot in hand, filled with the pair. It is filled once, after it was taken. There is none where no slot is free, and no retired one to
+// give back.
 fn leaf_in_hand<P: Patience, W: WaitPart>(
     patience: &P,
     table: &CitrusTable<W>,
@@ -162,16 +204,18 @@ fn leaf_in_hand<P: Patience, W: WaitPart>(
     near: u32,
     key: u64,
     value: u64,
+    reuse: Reuse,
 ) -> Result<Option<u32>, P::Tired>
     requires table { seat.old.table ≡ table.now }
     requires listed { AreListed seat.old }
+    requires ready { seat.old.view.hands.hand ≡ None → MayUse reuse seat.old.view }
     requires at { (kept : ℕ) × (spot : Spot) × IsAt (shape_of W.WAY table.now) (Put key value) kept
         (leaf_stage seat.old.view.hands.hand spot) seat.old.view }
     ensures table { seat.new.table ≡ seat.old.table }
     ensures listed { IfOk result (λ _. AreListed seat.new) }
     ensures slot { IfOk result (λ answer. (slot : ℕ) → answer ≡ Some slot → IsSlotOf (Some slot) seat.new.view.hands.hand) }
     ensures room { IfOk result (λ _. MakesRoom (shape_of W.WAY table.now) seat.old.view seat.new.view) }
-    ensures slots { IfOk result (λ _. KeepsSlots seat.old seat.new) }
+    ensures slots { IfOk result (λ _. LeafBy seat.old.view.hands.hand reuse seat.old seat.new) }
     ensures full { IfOk result (λ answer. answer ≡ None → IsFullNow (shape_of W.WAY table.now) seat.new.view) }
     ensures at { IfOk result (λ answer. (kept : ℕ) (spot : Spot)
         → IsAt (shape_of W.WAY table.now) (Put key value) kept (leaf_stage seat.old.view.hands.hand spot) seat.old.view
@@ -182,8 +226,7 @@ fn leaf_in_hand<P: Patience, W: WaitPart>(
     if let Some(slot) = seat.in_hand() {
         return Ok(Some(slot));
     }
-    seat.note_near(table, near);
-    let Some(slot) = take_slot(patience, table, seat)? else {
+    let Some(slot) = take_slot(patience, table, seat, near, reuse)? else {
         return Ok(None);
     };
     fill_leaf(table, seat, slot, key, value);
@@ -213,8 +256,50 @@ fn fill_leaf<W: WaitPart>(
     steps::fill(table, seat, slot, Part::Link { side: Side::Right }, 0);
 }
 
-// A slot, for which the retired ones are given back where none is free.
+// The retired slot that is to be used again, where there is one; else a free one, near that at which it will hang where one there is free.
 fn take_slot<P: Patience, W: WaitPart>(
+    patience: &P,
+    table: &CitrusTable<W>,
+    seat: &mut Seat<W>,
+    near: u32,
+    reuse: Reuse,
+) -> Result<Option<u32>, P::Tired>
+    requires table { seat.old.table ≡ table.now }
+    requires listed { AreListed seat.old }
+    requires ready { MayUse reuse seat.old.view }
+    requires at { (spot : Spot) × (expected : ℕ) × StandsAt (shape_of W.WAY table.now) (at.Reserve (Leaf spot) expected) seat.old.view }
+    ensures table { seat.new.table ≡ seat.old.table }
+    ensures listed { IfOk result (λ _. AreListed seat.new) }
+    ensures slot { IfOk result (λ answer. (slot : ℕ) → answer ≡ Some slot → IsSlotOf (Some slot) seat.new.view.hands.hand) }
+    ensures room { IfOk result (λ _. MakesRoom (shape_of W.WAY table.now) seat.old.view seat.new.view) }
+    ensures slots { IfOk result (λ _. TakesBy reuse seat.old.view.hands.spare seat.old seat.new) }
+    ensures full { IfOk result (λ answer. answer ≡ None → IsFullNow (shape_of W.WAY table.now) seat.new.view) }
+    ensures at { IfOk result (λ answer. (spot : Spot) (expected : ℕ)
+        → Comes (shape_of W.WAY table.now) (at.Reserve (Leaf spot) expected) seat.old.view (taken_stage answer spot) seat.new.view) }
+    ensures informed { IfOk result (λ _. IsInformed seat.new.view) }
+    ensures tired { IfErr result (λ _. HasMade (P.least patience.now) seat.new.view) }
+{
+    if let Some(slot) = slot_to_use(seat, reuse) {
+        node_slots::reuse(table, seat, slot);
+        return Ok(Some(slot));
+    }
+    seat.note_near(table, near);
+    take_free(patience, table, seat)
+}
+
+// The retired slot that is to be used again. Without a spare it is none: the next of the retired ones is to become that.
+fn slot_to_use<W: WaitPart>(seat: &Seat<W>, reuse: Reuse) -> Option<u32>
+    ensures { result ≡ used_slot reuse seat.now.view.hands.spare }
+{
+    let Reuse::Retired { slot } = reuse else {
+        return None;
+    };
+    seat.spare()?;
+    Some(slot)
+}
+
+// A free slot, for which the retired ones are given back where none is free.
+fn take_free<P: Patience, W: WaitPart>(
     patience: &P,
     table: &CitrusTable<W>,
     seat: &mut Seat<W>,
@@ -262,6 +347,7 @@ fn link_leaf<P: Patience, W: WaitPart>(
     requires at { (kept : ℕ) × IsAt (shape_of W.WAY table.now) (Put key value) kept (at.LeafLock spot) seat.old.view }
     ensures seat { (seat.new.table ≡ seat.old.table) × (seat.new.listed ≡ seat.old.listed) }
     ensures again { IfOk result (λ answer. IfOk answer (λ linked. linked ≡ None → Goes seat.old.view seat.new.view [])) }
+    ensures still { IfOk result (λ answer. IfOk answer (λ linked. linked ≡ None → IsSlotOf (Some leaf) seat.new.view.hands.hand)) }
     ensures linked { IfOk result (λ answer. IfOk answer (λ linked. (kept number : ℕ)
         → IsAt (shape_of W.WAY table.now) (Put key value) kept (at.LeafLock spot) seat.old.view → linked ≡ Some number
         → Links seat.old.view key value number seat.new.view)) }

@@ -22,6 +22,7 @@ pub use core_points::stage::Spot;
 pub use delete::Removed;
 pub use descent::{Descent, Links, Step, descend, load_links, look_on};
 pub use holding::{hold, release};
+pub use insert::Reuse;
 pub use lookup::get;
 pub use search::{End, Hop, Search};
 pub use steadfast::{call, compare, del, put, remove, set};

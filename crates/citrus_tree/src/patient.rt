@@ -12,7 +12,7 @@ ghost use Rattle.citrus_tree.specs.Going.{KeepsSeat};
 use crate::answer::Called;
 pub use crate::comparing::compare;
 pub use crate::delete::{Removed, del, remove, remove_by_bypass};
-pub use crate::insert::put;
+pub use crate::insert::{put, put_reusing};
 use crate::lookup::get;
 pub use crate::replace::set;
 use patience::Patience;

@@ -328,10 +328,13 @@ look_stamp = record {
   met = λ v t. may_end v (Stamp 0) refl (t 0);
 }
 
--- what is done at one stretch: a section is entered; fields are loaded in it, as a search goes; a free slot is taken; it is filled;
+-- what is done at one stretch: a section is entered, with the clock that is found, or before any wait; fields are loaded in it, as a search goes; a free slot is taken; it is filled;
 -- slots are locked, their fields are loaded, the tag of a side that was emptied is raised, and slots are unlocked
+abbrev pub enter_at : ℕ → ℕ → List Step
+enter_at clock key = read_clock ∷ announce key ∷ enter key clock ∷ []
+
 abbrev pub enter_for : ℕ → List Step
-enter_for key = read_clock ∷ announce key ∷ enter key 0 ∷ []
+enter_for = enter_at 0
 
 abbrev pub search_by : List (ℕ × Part) → List Step
 search_by [] = []

@@ -7,8 +7,8 @@ use Rattle.core_state.specs.declared.act.Part.TheVariants.{Key, Value, Life, Lin
 use Rattle.core_state.specs.Invariant.{first_view}
 use Rattle.core_state.specs.Memory.{place_room, idle, class_room, classes, row_room}
 use Rattle.core_examples.proofs.Tests.{State, many, words_with, reached, AllAsked, over, ◌⟫◌, all_spots}
-use Rattle.core_examples.proofs.Acts.{small, Step, Run, run, end_of, enter_for, search_by, leave, take_slot, fill, lock, look_at, look_front, list_root, list_part, open_commit, close_commit, give_front_back, unlock, own_life, lock_all, look, begin, look_key, raise_emptied, unlock_all, look_stamp, reserve, seize}
-use Rattle.core_examples.proofs.Stretches.{link_leaf, replace, Node, mark_both, mark_old, link_copy, bypass, mark_few, unlink_right, unlink_left, mark_recorded, rotate, keep, raise_hand, free_hand, count_free, load_retired, raise_to_spare, raise_retired, free_retired}
+use Rattle.core_examples.proofs.Acts.{small, Step, Run, run, end_of, enter_at, enter_for, search_by, leave, take_slot, fill, lock, look_at, look_front, list_root, list_part, open_commit, close_commit, give_front_back, unlock, own_life, lock_all, look, begin, look_key, raise_emptied, unlock_all, look_stamp, reserve, seize}
+use Rattle.core_examples.proofs.Stretches.{link_leaf, replace, Node, mark_both, mark_old, link_copy, bypass, mark_few, unlink_right, unlink_left, mark_recorded, rotate, keep, raise_hand, free_hand, count_free, load_retired, raise_to_spare, raise_to_hand, raise_retired, free_retired}
 use Rattle.core_state.specs.Links.{Rotation}
 use Rattle.std.proofs.lemmas.Bool.{leb-true, ltb-true}
 use Rattle.prcu_marks.specs.Marks.{greatest_key}
@@ -40,8 +40,8 @@ fresh = record {
   marks = [];
 }
 
--- A pair that is put: the way on which its key is sought, the slot and the side where it is missed, its leaf, the free count that is
--- found, and the front.
+-- A pair that is put: the way on which its key is sought, the slot and the side where it is missed, its leaf, the steps by which that
+-- comes into the hand, and the front.
 pub record Pair : Type 0 where
   pub key : ℕ
   pub value : ℕ
@@ -49,22 +49,35 @@ pub record Pair : Type 0 where
   pub parent : ℕ
   pub side : Side
   pub leaf : ℕ
-  pub free : ℕ
+  pub taking : List Step
   pub front : ℕ
 
-abbrev pub put : Pair → List Step
-put p =
-    enter_for p.key
+-- It is put after so many waits.
+abbrev pub put_after : ℕ → Pair → List Step
+put_after waits p =
+    enter_at waits p.key
     ++ (search_by p.way
     ++ (search_by ((p.parent, Link p.side) ∷ (p.parent, Tag p.side) ∷ (p.parent, Life) ∷ [])
-    ++ (leave ∷ take_slot p.free p.leaf
+    ++ (leave ∷ p.taking
     ++ (fill p.leaf p.key p.value 0 0
     ++ (lock p.parent ∷ look_at ((p.parent, Life) ∷ (p.parent, Link p.side) ∷ (p.parent, Tag p.side) ∷ [])
     ++ (open_commit p.front ∷ link_leaf p.parent p.side p.leaf p.key p.value ∷ close_commit (p.front + 2) ∷ unlock p.parent ∷ []))))))
 
+abbrev pub put : Pair → List Step
+put = put_after 0
+
 -- 50 is put below the root
 abbrev pub put_fifty : Run fresh
-put_fifty = run (put (record { key = 50; value = 5; way = []; parent = 0; side = Right; leaf = 2; free = 5; front = 0 })) refl
+put_fifty = run (put (record {
+  key = 50;
+  value = 5;
+  way = [];
+  parent = 0;
+  side = Right;
+  leaf = 2;
+  taking = take_slot 5 2;
+  front = 0;
+})) refl
 
 -- 20 is put left of it
 abbrev pub put_twenty : Run (end_of put_fifty)
@@ -75,7 +88,7 @@ put_twenty = run (put (record {
   parent = 2;
   side = Left;
   leaf = 3;
-  free = 4;
+  taking = take_slot 4 3;
   front = 2;
 })) refl
 
@@ -88,7 +101,7 @@ put_seventy = run (put (record {
   parent = 2;
   side = Right;
   leaf = 4;
-  free = 3;
+  taking = take_slot 3 4;
   front = 4;
 })) refl
 
@@ -102,7 +115,7 @@ put_sixty =
       parent = 4;
       side = Left;
       leaf = 5;
-      free = 2;
+      taking = take_slot 2 5;
       front = 6;
     })) refl
 
@@ -279,6 +292,24 @@ reclaim =
 -- the freed slot is taken again, and given back
 abbrev pub take_again : Run (end_of reclaim)
 take_again = run (take_slot 2 5 ++ (raise_hand 5 4 ∷ free_hand 5 ∷ count_free ∷ [])) refl
+
+-- or, after that wait, the slot of the old 60 comes into the hand, and 80 is put there right of 70
+abbrev pub reuse : Run (end_of delete_fifty_by_sixty)
+reuse =
+    run
+    (begin 0 greatest_key ∷ look_stamp
+    ∷ load_retired 2 ∷ raise_to_spare 2 2
+    ∷ put_after 2 (record {
+      key = 80;
+      value = 8;
+      way = (0, Link Right) ∷ (1, Key) ∷ (1, Link Right) ∷ (4, Key) ∷ [];
+      parent = 4;
+      side = Right;
+      leaf = 5;
+      taking = load_retired 5 ∷ raise_to_hand 5 2 ∷ [];
+      front = 10;
+    }))
+    refl
 
 -- without that wait, a slot that is taken becomes the spare
 abbrev pub take_spare : Run (end_of delete_fifty_by_sixty)

@@ -8,7 +8,7 @@ use Rattle.core_state.specs.declared.view.View.{View}
 use Rattle.core_state.specs.Views.{known_in, known_under, lock_of, is_emptied}
 use Rattle.core_state.specs.Links.{HasCommit, NeedsMark, IsNodeOfDelete, IsOldOfMove, IsRecordedNode, NeedsUnlinkOld, IsRetiredAt, NeedsRaiseRetired, IsKnownAs, Rotation, IsEndOf}
 use Rattle.core_examples.proofs.Tests.{hand_now, lock_now, moving_now, reading_now, all_of, passed, is_some, some_is, is_empty, is_number, number_is, false_is, not_same, first_in, is_missed, missed_is, generation_of, is_recorded, recorded_is, is_found, found_is, few_tests, few_children, both_tests, both_children, marked_tests, marked_node, oldest_retired, none_is, some_not_none}
-use Rattle.core_state.specs.declared.act.Act.TheVariants.{LinkLeaf, Bypass, Mark, LinkCopy, UnlinkLeft, UnlinkRight, ReplaceValue, KeepAsSpare, LoadRetiredLife, RaiseInHand, RaiseToSpare, RaiseRetired, FreeInHand, FreeRetired, CountFree, Rotate}
+use Rattle.core_state.specs.declared.act.Act.TheVariants.{LinkLeaf, Bypass, Mark, LinkCopy, UnlinkLeft, UnlinkRight, ReplaceValue, KeepAsSpare, LoadRetiredLife, RaiseInHand, RaiseToSpare, RaiseToHand, RaiseRetired, FreeInHand, FreeRetired, CountFree, Rotate}
 use Rattle.core_state.specs.Acts.{commit_of, spare_of}
 use Rattle.core_examples.proofs.Acts.{Step, small}
 use Rattle.core_state.specs.declared.view.Known.{Known}
@@ -381,6 +381,29 @@ raise_to_spare slot number = record {
   act = RaiseToSpare slot number;
   tests = λ v. all_of (raise_tests v slot number) ∷ not (is_some v.hands.spare) ∷ [];
   met = λ v t. (0, oldest_retired v, may_raise v slot number (t 0), none_is v.hands.spare (t 1));
+}
+
+abbrev pub raise_to_hand : ℕ → ℕ → Step
+raise_to_hand slot number = record {
+  act = RaiseToHand slot number;
+  tests = λ v.
+      all_of (raise_tests v slot number) ∷
+      is_some v.hands.spare ∷
+      not (is_some v.hands.hand) ∷
+      not v.hands.reserved ∷
+      nat_le 1 v.allowance.tickets ∷
+      [];
+  met = λ v t. (
+    0,
+    oldest_retired v,
+    record {
+      raises = may_raise v slot number (t 0);
+      spare = some_not_none v.hands.spare (t 1);
+      empty = none_is v.hands.hand (t 2);
+      unreserved = false_is v.hands.reserved (t 3);
+      ticket = leb-true 1 v.allowance.tickets (t 4);
+    },
+  );
 }
 
 abbrev pub raise_retired : ℕ → ℕ → Step

@@ -1,6 +1,6 @@
--- A step on a retired slot that was waited for: its life is raised, and it becomes the spare, or stays retired. With it the laws of K11,
--- K12 and K15.
-use Rattle.std.proofs.Common.{◌≡◌, ◌≢◌, ℕ, ◌+◌, ◌/◌, ◌<◌, ◌≤◌, ◌⊎◌, ◌==◌, true, List, [], ◌∷◌, ◌++◌, length, set, Option, Some, None, refl, sym, ap, subst, ◌∙◌, ⊎_elim, inr, arith, Bool, false, cond, inl}
+-- A step on a retired slot that was waited for: its life is raised, and it becomes the spare, comes into the hand, or stays retired. With it
+-- the laws of K11, K12 and K15.
+use Rattle.std.proofs.Common.{◌≡◌, ◌≢◌, ℕ, ◌+◌, ◌-◌, ◌/◌, ◌<◌, ◌≤◌, ◌⊎◌, ◌==◌, true, List, [], ◌∷◌, ◌++◌, length, set, Option, Some, None, refl, sym, ap, subst, ◌∙◌, ⊎_elim, inr, arith, Bool, false, cond, inl}
 use Rattle.std.proofs.lemmas.Bool.{cases_eq, eqb-true}
 use Rattle.prcu_marks.specs.declared.mark.Mark.{Mark}
 use Rattle.core_state.specs.declared.words.Field.TheVariants.{State, Life}
@@ -9,20 +9,20 @@ use Rattle.core_state.specs.declared.view.Retired.{Retired}
 use Rattle.core_state.specs.declared.view.View.{View}
 use Rattle.list_laws.specs.Counts.{times, IsIn, Each}
 use Rattle.core_state.specs.Memory.{flag, IsEven, IsOdd, Memory, stored, slot_count}
-use Rattle.core_state.specs.Views.{IsOwnField, HasLock, held_list, retired_of, joined_retired, spares_of, slots_of, unraised_among, Works}
+use Rattle.core_state.specs.Views.{IsOwnField, HasLock, held_list, retired_of, joined_retired, spares_of, slots_of, unraised_hand, unraised_among, Works}
 use Rattle.core_state.specs.Invariant.{HoldsNow}
 use Rattle.core_frames.specs.Laws.{IsKept, KeepsPast}
 use Rattle.core_frames.proofs.WholeFrames.{no_mark, Stepper, StepKeeps, only_loaded}
 use Rattle.core_frames.proofs.Views.{stored_here, sum_one_more, in_one, not_one}
 use Rattle.core_laws.proofs.Stores.{StoresIn, stores_in}
 use Rattle.core_frames.proofs.PlaceFrames.{counts_by, generations_in}
-use Rattle.core_laws.proofs.ChartStays.{SameOutside, same_but, outer_same, outer_marked, OuterParts, grace_same}
+use Rattle.core_laws.proofs.ChartStays.{SameOutside, outer_same, outer_marked, OuterParts, grace_same}
 use Rattle.core_laws.proofs.OffStep.{OffStep, no_marks, same_lock, SameElse, no_others, off_law, retired_away, held_away, even_away, copy_away, used_marks, grace_used, used_back, hand_away}
 use Rattle.core_frames.proofs.Roles.{slots_count, held_there, own_off, own_once, spare_among, spares_count, own_below, retired_own, waited_unmet, retired_count, slots_in, without_in, raise, without_none, change_in, in_change, without_else, one_in, unraised_append, change_slots, change_length, without_length, change_unraised, in_without, without_unraised}
 use Rattle.prcu_marks.specs.Marks.{gone_at, last_unlinked, greatest_key}
-use Rattle.core_state.specs.Parts.{IsHeldKnown, IsRetired, HasFewSlots, IsUnraised, GraceParts, IsClear}
+use Rattle.core_state.specs.Parts.{IsHandKnown, IsHeldKnown, IsRetired, HasFewSlots, IsUnraised, IsUnraisedOf, GraceParts, IsClear}
 use Rattle.core_laws.proofs.LockSteps.{known_more}
-use Rattle.core_state.specs.Links.{without_retired, change_retired, new_spare, NeedsRaiseRetired, after_raise_to_spare, after_raise_retired, IsInHand, IsSpare, IsContent, seized, NeedsSeize, NeedsRaiseInHand, after_fill, after_raise_in_hand, NeedsFill, NeedsFreeInHand, NeedsFreeRetired, after_seize, after_free_in_hand, after_free_retired}
+use Rattle.core_state.specs.Links.{without_retired, change_retired, renewed, NeedsRaiseRetired, NeedsRaiseToHand, after_raise_to_spare, after_raise_to_hand, after_raise_retired, IsInHand, IsSpare, IsContent, seized, NeedsSeize, NeedsRaiseInHand, after_fill, after_raise_in_hand, NeedsFill, NeedsFreeInHand, NeedsFreeRetired, after_seize, after_free_in_hand, after_free_retired}
 use Rattle.prcu_marks.proofs.Marks.{last_gone}
 use Rattle.list_laws.proofs.Lists.{in_first, times_in, in_second, in_append}
 use Rattle.prcu_marks.specs.declared.mark.Mark.TheVariants.{Given, Freed}
@@ -45,9 +45,13 @@ pub record RaiseStep : Type 0 where
   pub number : ℕ
   pub needs : NeedsRaiseRetired who.v at r r.slot number
 
--- the view with another spare, other retired slots, and what it has seen
-abbrev view_with : View → Option Held → List Retired → List Mark → View
-view_with v spare retired seen = record v { hands = record v.hands { spare = spare; retired = retired }; seen = seen }
+-- the view with other tickets, another slot in hand, another spare, other retired slots, and what it has seen
+abbrev view_with : View → ℕ → Option Held → Option Held → List Retired → List Mark → View
+view_with v tickets hand spare retired seen = record v {
+  allowance = record v.allowance { tickets = tickets };
+  hands = record v.hands { hand = hand; spare = spare; retired = retired };
+  seen = seen;
+}
 
 module _ (z : RaiseStep) where
   open z use {who.{k, m, vs, h, id, v, inv, there, works}, number, r.{slot as s}}
@@ -119,21 +123,33 @@ module _ (z : RaiseStep) where
     content = λ t field gone o c. (life_or_tag_stores m s (Life s) number refl tt).content t field c;
   }
 
-  -- What the step makes of the view's spare and retired slots, and the marks afterwards.
+  -- What the step makes of the view's tickets and slots, and the marks afterwards.
   record Raised : Type 0 where
+    pub tickets : ℕ
+    pub hand : Option Held
     pub spare : Option Held
     pub retired : List Retired
     pub seen : List Mark
     pub hs : List Mark
     pub marks : SameElse z.r.slot z.who.h hs
-    pub unraised : (t : ℕ) → t ≢ z.r.slot → IsUnraised z.who.v t → IsUnraised (view_with z.who.v spare retired seen) t
+    pub unraised : (t : ℕ) → t ≢ z.r.slot → IsUnraised z.who.v t → IsUnraisedOf retired t
 
   module _ (c : Raised) where
     abbrev w : View
-    w = view_with z.who.v c.spare c.retired c.seen
+    w = view_with z.who.v c.tickets c.hand c.spare c.retired c.seen
 
     same_outside : SameOutside v w
-    same_outside = same_but v v.locks w.hands c.seen
+    same_outside = record {
+      places = record { place = refl; places = refl; joined = refl; met = refl };
+      section = refl;
+      enter = refl;
+      records = refl;
+      moving = refl;
+      commit = refl;
+      wait = refl;
+      sections = refl;
+      waits = refl;
+    }
 
     abbrev step : OffStep
     step = record {
@@ -163,12 +179,15 @@ module _ (z : RaiseStep) where
     record RaisedSlots : Type 0 where
       pub same : (t : ℕ) → times t (slots_of w) ≡ times t (slots_of v)
       pub few : HasFewSlots k.room w
+      pub hand : (held : Held) → c.hand ≡ Some held → IsHandKnown m' held
       pub spare : (held : Held) → c.spare ≡ Some held → IsHeldKnown m' held
       pub spares : (t : ℕ) → t ≢ s → 1 ≤ times t (spares_of w) → 1 ≤ times t (spares_of v)
       pub retired : Each c.retired (IsRetired m' c.hs)
       pub kept : (t p : ℕ) (y : Retired) → gone_at t c.hs ≡ Some p → IsIn v.hands.retired y → y.slot ≡ t
           → (x : Retired) × IsIn c.retired x × (x.slot ≡ t)
-      pub fewer : unraised_among v.hands.retired ≡ unraised_among c.retired + 1
+      pub paid : c.tickets ≤ v.allowance.tickets
+      pub fewer : unraised_hand c.hand + unraised_among c.retired + c.tickets + 1
+          ≤ unraised_hand v.hands.hand + unraised_among v.hands.retired + v.allowance.tickets
 
     raised_law : RaisedSlots → OuterParts k m' (set vs id w) c.hs → GraceParts (set vs id w) c.hs → HoldsNow k m' (set vs id w) c.hs
     raised_law d outer grace = off_law step (record {
@@ -178,8 +197,7 @@ module _ (z : RaiseStep) where
       even = λ _. even_now;
       few = d.few;
       hands = record {
-        hand = λ held q. hand_away step held (λ e. (let b = one_role.not_held in let x = held_there v.hands.hand held q in
-            let y = ap (λ o. times o (held_list v.hands.hand)) e in omega arith)) ((inv.slots.hands id v there).hand held q);
+        hand = d.hand;
         spare = d.spare;
         copy = λ move q. copy_away step id v there move q;
         spares = λ t has. ⊎_elim (λ (e : t ≡ s). subst (λ x. IsEven (m' (Life x))) (sym e) even_now)
@@ -200,10 +218,10 @@ module _ (z : RaiseStep) where
           (in_append v.hands.retired (joined_retired v.allowance.joined) y.retired y.has);
     }) outer (counts_by k.tickets m m' n inv.chart inv.chart vs id v w h c.hs there (record {
       free = refl;
-      clock = (let a = ap length c.marks.updates in omega arith);
+      clock = (let a = ap length c.marks.updates in let b = d.paid in omega arith);
       generations = (let a = lives_more in let b = d.fewer in let x = unraised_append c.retired (joined_retired v.allowance.joined) in
           let y = unraised_append v.hands.retired (joined_retired v.allowance.joined) in omega arith);
-      tags = omega arith;
+      tags = (let b = d.paid in omega arith);
       turns = omega arith;
       pairs = (let a = ap (λ us. finite.len (map_of us)) c.marks.updates in omega arith);
       olds = refl;
@@ -216,83 +234,152 @@ module _ (z : RaiseStep) where
             → flag (m' (State t) == 0) + times t (slots_of w) ≡ flag (m (State t) == 0) + times t (slots_of v)
         same_role t e = omega arith
 
-  abbrev to_spare : Raised
-  to_spare = record {
-    spare = Some (new_spare z.r.slot z.number);
+    -- the slot in hand and the spare stay known where they are the same
+    hand_stays : (held : Held) → v.hands.hand ≡ Some held → IsHandKnown m' held
+    hand_stays held q = hand_away step held (λ e. (let b = one_role.not_held in let x = held_there v.hands.hand held q in
+        let y = ap (λ o. times o (held_list v.hands.hand)) e in omega arith)) ((inv.slots.hands id v there).hand held q)
+
+    spare_stays : (held : Held) → v.hands.spare ≡ Some held → IsHeldKnown m' held
+    spare_stays held q = held_away step held
+        (λ e. (let b = one_role.not_spare in let c = spare_among v held q in let d = ap (λ x. times x (spares_of v)) e in omega arith))
+        ((inv.slots.hands id v there).spare held q)
+
+  -- The slot is given anew: it is none of the retired ones any more, and its life is known.
+
+  abbrev left_retired : List Retired
+  left_retired = without_retired z.r.slot z.who.v.hands.retired
+
+  abbrev held : Held
+  held = renewed z.r.slot z.number
+
+  held_known : IsHeldKnown m' held
+  held_known field f known = ⊎_elim
+      (λ (t : (Life s ≡ field) × (number ≡ f)). (
+        subst (IsOwnField s) t.0 refl,
+        subst (λ y. m' y ≡ f) t.0 (stored_here m (Life s) number ∙ t.1),
+      ))
+      (λ (t : None ≡ Some f). absurd (cc)) (known_more [] (Life s) field number f true known)
+
+  still_unraised : (t : ℕ) → t ≢ s → IsUnraised v t → IsUnraisedOf left_retired t
+  still_unraised t ne i = record {
+    retired = i.retired;
+    has = without_in s v.hands.retired i.retired i.has (λ e. ne (sym i.slot ∙ e));
+    slot = i.slot;
+    unraised = i.unraised;
+  }
+
+  -- so many slots fewer have a generation that isn't raised
+  one_fewer : unraised_among v.hands.retired ≡ unraised_among left_retired + 1
+  one_fewer = without_unraised s v.hands.retired z.r mine refl z.needs.unraised (let a = one_role.retired in omega arith)
+
+  clear : (a : ℕ) → last_unlinked s h ≡ Some a → IsClear vs a 0 greatest_key
+  clear a last =
+      let q : Some z.r.unlinked ≡ Some a = sym (last_gone s h z.r.unlinked is.unlinked) ∙ last in
+      let same : z.r.unlinked ≡ a = cc in
+      subst (λ x. IsClear vs x 0 greatest_key) same ((inv.grace.retired id v there mine.0 z.r mine.1).clear z.needs.waited)
+
+  abbrev given_as : ℕ → Option Held → Option Held → Raised
+  given_as tickets hand spare = record {
+    tickets = tickets;
+    hand = hand;
+    spare = spare;
     retired = without_retired z.r.slot z.who.v.hands.retired;
     seen = z.who.h ++ Given z.r.slot ∷ [];
     hs = z.who.h ++ Given z.r.slot ∷ [];
     marks = used_marks true z.r.slot z.who.h;
-    unraised = λ t ne i. record {
-      retired = i.retired;
-      has = without_in s v.hands.retired i.retired i.has (λ e. ne (sym i.slot ∙ e));
-      slot = i.slot;
-      unraised = i.unraised;
-    };
+    unraised = still_unraised;
   }
 
-  -- the slot becomes the spare: the mark says that it is given
+  module _ (tickets : ℕ) (hand spare : Option Held) where
+    -- what is left to say of it: the slot is in hand or the spare, and who is without a spare has a slot that becomes it
+    record GivenSlots : Type 0 where
+      pub same : (t : ℕ) → times t (held_list hand) + times t (held_list spare)
+          ≡ times t (held_list v.hands.hand) + times t (held_list v.hands.spare) + times t (s ∷ [])
+      pub one : v.hands.reserved ≡ true → hand ≡ None
+      pub has_spare : spare ≢ None
+      pub hand_known : (x : Held) → hand ≡ Some x → IsHandKnown m' x
+      pub spare_known : (x : Held) → spare ≡ Some x → IsHeldKnown m' x
+      pub spares : (t : ℕ) → t ≢ s → times t (held_list spare) ≡ times t (held_list v.hands.spare)
+      pub paid : tickets ≤ v.allowance.tickets
+      pub fewer : unraised_hand hand + tickets ≤ unraised_hand v.hands.hand + v.allowance.tickets
+
+    -- the mark says that it is given
+    given_law : GivenSlots → let to = given_as tickets hand spare in IsKept k m h m' (set vs id (w to)) (h ++ Given s ∷ [])
+    given_law d = let to = given_as tickets hand spare in record {
+      invariant = raised_law to (record {
+        same = λ t.
+            (let a = slots_count (w to) t in
+            let b = slots_count v t in
+            let c = retired_count (w to) t in
+            let f = retired_count v t in
+            let i = spares_count (w to) t in
+            let j = spares_count v t in
+            let one = d.same t in
+            ⊎_elim
+            (λ (e : t ≡ s).
+            (let x = in_one t s e in
+            let y = ap (λ o. times o (slots_in left_retired)) e ∙ without_none s v.hands.retired in
+            let o = ap (λ x. times x (slots_in v.hands.retired)) e ∙ one_role.retired in
+            omega arith))
+            (λ ne. (let x = not_one t s ne in let y = without_else s t ne v.hands.retired in omega arith))
+            (cases_eq t s));
+        few = (let i = inv.slots.few id v there in let l = without_length s v.hands.retired in let a = i.few in
+            record {
+              one = d.one;
+              few = omega arith;
+              room = λ move q. (let b = i.room move q in omega arith);
+              joined = i.joined;
+              next_spare = λ _ none. absurd (d.has_spare none);
+            });
+        hand = d.hand_known;
+        spare = d.spare_known;
+        spares = λ t ne has. (let a = spares_count (w to) t in let b = spares_count v t in let x = d.spares t ne in omega arith);
+        retired = λ j y e. (let x = in_without s v.hands.retired y (j, e) in
+            let all = in_first v.hands.retired (joined_retired v.allowance.joined) y x.0 in
+            retired_away (step to) y x.1 (inv.slots.retired id v there all.0 y all.1));
+        kept = λ t p y gone has at. (y, without_in s v.hands.retired y has (λ e. (used_back true s h t p gone).0 (sym at ∙ e)), at);
+        paid = d.paid;
+        fewer = (let a = one_fewer in let b = d.fewer in omega arith);
+      }) (outer_marked k m m' vs h id v (w to) inv there works stores.beside (same_outside to) (Given s) tt tt refl)
+          (grace_used k m vs h id v (w to) inv there (same_outside to)
+          (λ y has. (y, (in_without s v.hands.retired y has).0, refl, refl)) true s clear);
+      past = raised_past;
+    }
+
+  -- the slot becomes the spare
   pub becomes_spare : v.hands.spare ≡ None → IsKept k m h m' (set vs id (after_raise_to_spare v s number h)) (h ++ Given s ∷ [])
-  becomes_spare lacks = record {
-    invariant = raised_law to_spare (record {
-      same = same_slots_of;
-      few = (let i = inv.slots.few id v there in let l = without_length s v.hands.retired in let a = i.few in
-          record {
-            one = i.one;
-            few = omega arith;
-            room = λ move q. (let b = i.room move q in omega arith);
-            joined = i.joined;
-            next_spare = λ _ none. absurd (let q : Some held ≡ None = none in cc);
-          });
-      spare = λ x e. subst (IsHeldKnown m') (let q : held ≡ x = cc in q) (λ field f known. ⊎_elim
-          (λ (t : (Life s ≡ field) × (number ≡ f)). (
-            subst (IsOwnField s) t.0 refl,
-            subst (λ y. m' y ≡ f) t.0 (stored_here m (Life s) number ∙ t.1),
-          ))
-          (λ (t : None ≡ Some f). absurd (cc)) (known_more [] (Life s) field number f true known));
-      spares = λ t ne has. (let a = spares_count (after_raise_to_spare v s number h) t in let b = spares_count v t in
-          let x = not_one t s ne in omega arith);
-      retired = λ j y e. (let x = in_without s v.hands.retired y (j, e) in
-          let all = in_first v.hands.retired (joined_retired v.allowance.joined) y x.0 in
-          retired_away (step to_spare) y x.1 (inv.slots.retired id v there all.0 y all.1));
-      kept = λ t p y gone has at. (y, without_in s v.hands.retired y has (λ e. (used_back true s h t p gone).0 (sym at ∙ e)), at);
-      fewer = without_unraised s v.hands.retired z.r mine refl z.needs.unraised (let a = one_role.retired in omega arith);
-    }) (outer_marked k m m' vs h id v (w to_spare) inv there works stores.beside (same_outside to_spare) (Given s) tt tt refl)
-        (grace_used k m vs h id v (w to_spare) inv there (same_outside to_spare)
-        (λ y has. (y, (in_without s v.hands.retired y has).0, refl, refl)) true s clear);
-    past = raised_past;
-  }
-    where
-      held : Held
-      held = new_spare s number
+  becomes_spare lacks = given_law v.allowance.tickets v.hands.hand (Some held) (record {
+    same = λ t. (let none : times t (held_list v.hands.spare) ≡ 0 = ap (λ o. times t (held_list o)) lacks in omega arith);
+    one = (inv.slots.few id v there).one;
+    has_spare = λ none. (let q : Some held ≡ None = none in cc);
+    hand_known = hand_stays (given_as v.allowance.tickets v.hands.hand (Some held));
+    spare_known = λ x e. subst (IsHeldKnown m') (let q : held ≡ x = cc in q) held_known;
+    spares = λ t ne. (let none : times t (held_list v.hands.spare) ≡ 0 = ap (λ o. times t (held_list o)) lacks in
+        let x = not_one t s ne in omega arith);
+    paid = omega arith;
+    fewer = omega arith;
+  })
 
-      same_slots_of : (t : ℕ) → times t (slots_of (after_raise_to_spare v s number h)) ≡ times t (slots_of v)
-      same_slots_of t =
-          let to = after_raise_to_spare v s number h in
-          let a = slots_count to t in
-          let b = slots_count v t in
-          let c = retired_count to t in
-          let d = retired_count v t in
-          let f = spares_count to t in
-          let q = spares_count v t in
-          let none : times t (held_list v.hands.spare) ≡ 0 = ap (λ o. times t (held_list o)) lacks in
-          ⊎_elim
-          (λ (e : t ≡ s).
-          (let x = in_one t s e in
-          let y = ap (λ o. times o (slots_in (without_retired s v.hands.retired))) e ∙ without_none s v.hands.retired in
-          let o = ap (λ x. times x (slots_in v.hands.retired)) e ∙ one_role.retired in
-          omega arith))
-          (λ ne. (let x = not_one t s ne in let y = without_else s t ne v.hands.retired in omega arith))
-          (cases_eq t s)
-
-      clear : (a : ℕ) → last_unlinked s h ≡ Some a → IsClear vs a 0 greatest_key
-      clear a last =
-          let q : Some z.r.unlinked ≡ Some a = sym (last_gone s h z.r.unlinked is.unlinked) ∙ last in
-          let same : z.r.unlinked ≡ a = cc in
-          subst (λ x. IsClear vs x 0 greatest_key) same ((inv.grace.retired id v there mine.0 z.r mine.1).clear z.needs.waited)
+  -- the slot comes into the hand
+  pub comes_to_hand : NeedsRaiseToHand v z.at z.r s number → IsKept k m h m' (set vs id (after_raise_to_hand v s number h)) (h ++ Given s ∷ [])
+  comes_to_hand needs =
+      let empty = needs.empty in
+      given_law (v.allowance.tickets - 1) (Some held) v.hands.spare (record {
+        same = λ t. (let none : times t (held_list v.hands.hand) ≡ 0 = ap (λ o. times t (held_list o)) empty in omega arith);
+        one = λ reserved. (let q : true ≡ false = sym reserved ∙ needs.unreserved in absurd (cc));
+        has_spare = needs.spare;
+        hand_known = λ x e. subst (IsHandKnown m') (let q : held ≡ x = cc in q)
+            (record { known = held_known; even = (let a = here in let o = odd in omega arith) });
+        spare_known = spare_stays (given_as (v.allowance.tickets - 1) (Some held) v.hands.spare);
+        spares = λ t ne. refl;
+        paid = omega arith;
+        fewer = (let none : unraised_hand v.hands.hand ≡ 0 = ap unraised_hand empty in let ticket = needs.ticket in omega arith);
+      })
 
   abbrev to_raised : Raised
   to_raised = record {
+    tickets = z.who.v.allowance.tickets;
+    hand = z.who.v.hands.hand;
     spare = z.who.v.hands.spare;
     retired = change_retired z.r.slot raise z.who.v.hands.retired;
     seen = z.who.v.seen;
@@ -319,13 +406,14 @@ module _ (z : RaiseStep) where
             joined = i.joined;
             next_spare = λ _ none. absurd (some_spare none);
           });
-      spare = λ held q. held_away (step to_raised) held
-          (λ e. (let b = one_role.not_spare in let c = spare_among v held q in let d = ap (λ x. times x (spares_of v)) e in omega arith))
-          ((inv.slots.hands id v there).spare held q);
+      hand = hand_stays to_raised;
+      spare = spare_stays to_raised;
       spares = λ t ne has. has;
       retired = changed_is;
       kept = λ t p y gone has at. (let c = change_in s v.hands.retired y has in (c.0, c.1, c.2 ∙ at));
-      fewer = change_unraised s v.hands.retired z.r mine refl z.needs.unraised (let a = one_role.retired in omega arith);
+      paid = omega arith;
+      fewer = (let a = change_unraised s v.hands.retired z.r mine refl z.needs.unraised (let a = one_role.retired in omega arith) in
+          omega arith);
     }) (outer_same k m m' vs h id v (w to_raised) inv there works stores.beside (same_outside to_raised) refl)
         (grace_same k m vs h id v (w to_raised) inv there (same_outside to_raised)
         (λ y has. (let x = in_change s v.hands.retired y has in let q = was_same x.0 y x.2 in (x.0, x.1, q.0, q.1))));
@@ -406,6 +494,13 @@ module _ (z : Stepper) where
       subst (λ x. NeedsRaiseRetired v at r x number
       → StepKeeps z (Life x) number (after_raise_to_spare v x number h) (Given x ∷ [])) needs.retired.1
       (λ same. becomes_spare (raising at r number same) lacks) needs
+
+  pub keeps_raise_to_hand : (at : ℕ) (r : Retired) (slot number : ℕ) → NeedsRaiseToHand v at r slot number
+      → StepKeeps z (Life slot) number (after_raise_to_hand v slot number h) (Given slot ∷ [])
+  keeps_raise_to_hand at r slot number needs =
+      subst (λ x. NeedsRaiseToHand v at r x number
+      → StepKeeps z (Life x) number (after_raise_to_hand v x number h) (Given x ∷ [])) needs.raises.retired.1
+      (λ same. comes_to_hand (raising at r number same.raises) same) needs
 
   pub keeps_raise_retired : (at : ℕ) (r : Retired) (slot number : ℕ) → NeedsRaiseRetired v at r slot number
       → v.hands.spare ≢ None → StepKeeps z (Life slot) number (after_raise_retired v slot) []

@@ -11,7 +11,7 @@ use Rattle.core_state.specs.declared.words.Field.TheVariants.{Life, Key, Value, 
 use Rattle.core_state.specs.declared.view.HeldLock.{HeldLock}
 use Rattle.core_state.specs.declared.view.Known.{Known}
 use Rattle.core_state.specs.declared.view.View.{View}
-use Rattle.core_state.specs.Views.{lock_of, HasLock, note_option, noting, is_emptied}
+use Rattle.core_state.specs.Views.{known_in, lock_of, HasLock, note_option, noting, is_emptied}
 use Rattle.core_state.specs.Links.{IsContent, after_leaf_link, raise_held, after_raise_in_hand}
 use Rattle.core_state.specs.Steps.{new_lock}
 use Rattle.core_points.specs.declared.stage.Spot.{Spot}
@@ -53,7 +53,7 @@ module _ (k : Shape) (h : List Mark) (o : Own) (v : View) (n : ℕ) where
   needs_field spot i f =
       let p = f.point in
       let root : or_root o.hand ≡ p.slot = ap or_root p.taken in (
-        leaf_held p.slot o.hand_life (key_now o) (value_in o.op) i,
+        leaf_held p.before p.slot (key_now o) (value_in o.op) i,
         record { holder = inl (p.in_hand, sym root); content = is_content i p.small (or_root o.hand) },
       )
     where
@@ -69,40 +69,46 @@ module _ (k : Shape) (h : List Mark) (o : Own) (v : View) (n : ℕ) where
       let p = f.point in
       subst (λ x. Fits (after o n (at.LeafField spot i)) (after o n (at.LeafField spot i)).stage
       (noting v x (content x i) (contents (key_now o) (value_in o.op) 0 0 i) true)) (sym (ap or_root p.taken))
-      (filled i p.small p.slot p.taken p.in_hand)
+      (filled i p.small p.slot p.taken p.life_is p.in_hand)
     where
+      before : List Known
+      before = (f.point).before
+
       put_hand : (s : ℕ) (i j : ℕ) (field : Field) (number : ℕ)
-          → v.hands.hand ≡ Some (leaf_held s o.hand_life (key_now o) (value_in o.op) i)
-          → (leaf_held s o.hand_life (key_now o) (value_in o.op) j).known ≡ stored_at field number
-          ∷ (leaf_held s o.hand_life (key_now o) (value_in o.op) i).known
-          → note_option s (stored_at field number) v.hands.hand ≡ Some (leaf_held s o.hand_life (key_now o) (value_in o.op) j)
+          → v.hands.hand ≡ Some (leaf_held before s (key_now o) (value_in o.op) i)
+          → (leaf_held before s (key_now o) (value_in o.op) j).known ≡ stored_at field number
+          ∷ (leaf_held before s (key_now o) (value_in o.op) i).known
+          → note_option s (stored_at field number) v.hands.hand ≡ Some (leaf_held before s (key_now o) (value_in o.op) j)
       put_hand s i j field number e same = ap (note_option s (stored_at field number)) e
-          ∙ ap Some (held_here s (stored_at field number) (leaf_held s o.hand_life (key_now o) (value_in o.op) i) refl)
+          ∙ ap Some (held_here s (stored_at field number) (leaf_held before s (key_now o) (value_in o.op) i) refl)
           ∙ ap (λ (ks : List Known). Some (record { slot = s; known = ks; raised = false })) (sym same)
 
-      more : (s i j : ℕ) (field : Field) (number : ℕ) → j ≤ 3 → o.hand ≡ Some s
-          → v.hands.hand ≡ Some (leaf_held s o.hand_life (key_now o) (value_in o.op) i)
-          → (leaf_held s o.hand_life (key_now o) (value_in o.op) j).known ≡ stored_at field number
-          ∷ (leaf_held s o.hand_life (key_now o) (value_in o.op) i).known
+      more : (s i j : ℕ) (field : Field) (number : ℕ) → j ≤ 3 → o.hand ≡ Some s → known_in before (Life s) ≡ Some o.hand_life
+          → v.hands.hand ≡ Some (leaf_held before s (key_now o) (value_in o.op) i)
+          → (leaf_held before s (key_now o) (value_in o.op) j).known ≡ stored_at field number
+          ∷ (leaf_held before s (key_now o) (value_in o.op) i).known
           → Fits (go o (at.LeafField spot j)) (at.LeafField spot j) (noting v s field number true)
-      more s i j field number le is e same = fits (owns_noted o v s field number true f.owns) (f.unraised refl) f.tickets (record {
+      more s i j field number le is life e same = fits (owns_noted o v s field number true f.owns) (f.unraised refl) f.tickets (record {
         outside = (f.point).outside;
         bare = bare_noted v s field number true [] [] None false (f.point).bare refl;
         slot = s;
         taken = is;
+        before = before;
+        life_is = life;
         in_hand = put_hand s i j field number e same;
         has_spot = (f.point).has_spot;
         puts = (f.point).puts;
         small = le;
       })
 
-      filled : (i : ℕ) → i ≤ 3 → (s : ℕ) → o.hand ≡ Some s → v.hands.hand ≡ Some (leaf_held s o.hand_life (key_now o) (value_in o.op) i)
+      filled : (i : ℕ) → i ≤ 3 → (s : ℕ) → o.hand ≡ Some s → known_in before (Life s) ≡ Some o.hand_life
+          → v.hands.hand ≡ Some (leaf_held before s (key_now o) (value_in o.op) i)
           → let st : Stage = cond (i == 3) (at.LeafLock spot) (at.LeafField spot (i + 1)) in
           Fits (go o st) st (noting v s (content s i) (contents (key_now o) (value_in o.op) 0 0 i) true)
-      filled zero le s is e = more s 0 1 (Key s) (key_now o) (omega arith) is e refl
-      filled (suc zero) le s is e = more s 1 2 (Value s) (value_in o.op) (omega arith) is e refl
-      filled (suc (suc zero)) le s is e = more s 2 3 (Link s Left) 0 (omega arith) is e refl
-      filled (suc (suc (suc zero))) le s is e =
+      filled zero le s is life e = more s 0 1 (Key s) (key_now o) (omega arith) is life e refl
+      filled (suc zero) le s is life e = more s 1 2 (Value s) (value_in o.op) (omega arith) is life e refl
+      filled (suc (suc zero)) le s is life e = more s 2 3 (Link s Left) 0 (omega arith) is life e refl
+      filled (suc (suc (suc zero))) le s is life e =
           fits (owns_noted o v s (Link s Right) 0 true f.owns) (f.unraised refl)
           (subst (λ x. owed_op o.op x o.retired + 4 * length o.rest + o.kept ≤ v.allowance.tickets) (sym is)
           (one_owed o.op (f.point).puts s f.tickets)) (record {
@@ -111,9 +117,9 @@ module _ (k : Shape) (h : List Mark) (o : Own) (v : View) (n : ℕ) where
             bare = bare_noted v s (Link s Right) 0 true [] [] None false (f.point).bare refl;
             hand = subst (λ x. HandFits x o.hand_life (key_now o) (value_in o.op) (note_option s (stored_at (Link s Right) 0) v.hands.hand))
                 (sym is) (
-                  leaf_held s o.hand_life (key_now o) (value_in o.op) 4,
+                  leaf_held before s (key_now o) (value_in o.op) 4,
                   put_hand s 3 4 (Link s Right) 0 e refl,
-                  leaf_is s o.hand_life (key_now o) (value_in o.op),
+                  leaf_is before s o.hand_life (key_now o) (value_in o.op) life,
                 );
             has_spot = (f.point).has_spot;
             puts = (f.point).puts;
@@ -125,7 +131,7 @@ module _ (k : Shape) (h : List Mark) (o : Own) (v : View) (n : ℕ) where
           one_owed (Get key) e s le = cc
           one_owed (Del key) e s le = cc
           one_owed (Set key value) e s le = cc
-      filled (suc (suc (suc (suc m)))) le s is e = absurd (lt_three m le)
+      filled (suc (suc (suc (suc m)))) le s is life e = absurd (lt_three m le)
 
   -- the lock
   pub needs_lock : (spot : Spot) → IsGiven k o v n (at.LeafLock spot)

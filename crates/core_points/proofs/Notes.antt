@@ -5,7 +5,7 @@ use mathlib.Core.Logic.{dite}
 use native.Mathlib.Decide.{ℕ_discrete, dec_le}
 use Rattle.prcu_marks.specs.declared.mark.Side.TheVariants.{Left, Right}
 use Rattle.core_state.specs.declared.words.Field.{Field}
-use Rattle.core_state.specs.declared.words.Field.TheVariants.{State, Life, Key, Value, Link}
+use Rattle.core_state.specs.declared.words.Field.TheVariants.{Life, Key, Value, Link}
 use Rattle.core_state.specs.declared.view.Held.{Held}
 use Rattle.core_state.specs.declared.view.HeldLock.{HeldLock}
 use Rattle.core_state.specs.declared.view.Known.{Known}
@@ -308,16 +308,17 @@ hand_noted (Some t) life key value v s field n told (held, e, leaf) =
     ))
 
 -- the four fields of a leaf, once stored
-pub leaf_is : (s life key value : ℕ) → IsLeaf (leaf_held s life key value 4) s life key value
-leaf_is s life key value = record {
+pub leaf_is : (before : List Known) (s life key value : ℕ) → known_in before (Life s) ≡ Some life
+    → IsLeaf (leaf_held before s key value 4) s life key value
+leaf_is before s life key value known = record {
   slot_is = refl;
   unraised = refl;
-  life_is = known_here (stored_at (State s) 1 ∷ []) (Life s) life false;
-  key_is = known_here (read_at (Life s) life ∷ (stored_at (State s) 1 ∷ [])) (Key s) key true;
-  value_is = known_here (stored_at (Key s) key ∷ (read_at (Life s) life ∷ (stored_at (State s) 1 ∷ []))) (Value s) value true;
-  left_is = known_still (leaf_held s life key value 3).known (Link s Right) (Link s Left) 0 0 true (λ e. refl)
-      (known_here (leaf_held s life key value 2).known (Link s Left) 0 true);
-  right_is = known_here (leaf_held s life key value 3).known (Link s Right) 0 true;
+  life_is = known;
+  key_is = known_here before (Key s) key true;
+  value_is = known_here (stored_at (Key s) key ∷ before) (Value s) value true;
+  left_is = known_still (leaf_held before s key value 3).known (Link s Right) (Link s Left) 0 0 true (λ e. refl)
+      (known_here (leaf_held before s key value 2).known (Link s Left) 0 true);
+  right_is = known_here (leaf_held before s key value 3).known (Link s Right) 0 true;
 }
 
 -- a point where no retired slot is raised: what the caller owns, its tickets, and what is known there

@@ -496,6 +496,8 @@ module _ (k : Shape) (h : List Mark) (o : Own) (v : View) (n : ℕ) where
     bare = bare_noted v s (Life s) n false [] [] None false p.bare refl;
     slot = s;
     taken = p.taken;
+    before = read_at (Life s) n ∷ (seized s).known;
+    life_is = known_here (seized s).known (Life s) n false;
     in_hand = ap (note_option s (read_at (Life s) n)) p.in_hand ∙ ap Some (held_here s (read_at (Life s) n) (seized s) refl);
     has_spot = (p.takes).0;
     puts = (p.takes).1;

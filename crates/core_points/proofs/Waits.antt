@@ -30,7 +30,7 @@ use Rattle.core_points.specs.Laws.{SpareComes, TellsAlone, IsAlone, TellsMove}
 use Rattle.core_points.proofs.Notes.{fits, positive, owns_retired, owns_noted, bare_noted, owns_spared}
 use Rattle.core_state.specs.declared.view.Held.{Held}
 use Rattle.core_state.specs.Views.{lock_of, note_option, noting}
-use Rattle.core_state.specs.Links.{change_retired, new_spare, without_retired, NeedsRaiseRetired, after_retired_life, after_raise_to_spare}
+use Rattle.core_state.specs.Links.{change_retired, renewed, without_retired, NeedsRaiseRetired, after_retired_life, after_raise_to_spare}
 use lib.ListN.{get_elem?}
 use Rattle.core_state.specs.Acts.{said}
 use Rattle.core_state.specs.declared.act.Act.TheVariants.{RaiseRetired, RaiseToSpare}
@@ -438,8 +438,8 @@ module _ (k : Shape) (h : List Mark) (o : Own) (v : View) (n : ℕ) where
           ∙ without_first slot r q.rest (sym is) (subst (λ s. IsAlone s q.rest) (sym is) (alone r q.rest q.are)) in
           giving_fits (record o { spare = Some slot; retired = but_first o.retired }) aim (after_raise_to_spare v slot number h)
           (λ none. cc)
-          (owns_retired (record o { spare = Some slot }) (record v { hands = record v.hands { spare = Some (new_spare slot number) } })
-          (owns_spared o v f.owns (Some slot) (Some (new_spare slot number)) refl) _ _
+          (owns_retired (record o { spare = Some slot }) (record v { hands = record v.hands { spare = Some (renewed slot number) } })
+          (owns_spared o v f.owns (Some slot) (Some (renewed slot number)) refl) _ _
           (ap (map (λ (r : Retired). r.slot)) left ∙ sym (ap but_first e)))
           (f.point).0 (f.point).1 f.tickets
           (subst (λ xs. Each xs (λ (r : Retired). r.raised ≡ false)) (sym left)

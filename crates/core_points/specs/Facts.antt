@@ -6,7 +6,7 @@ use Rattle.prcu_marks.specs.declared.mark.Side.TheVariants.{Left, Right}
 use Rattle.prcu_model.specs.declared.operation.Op.{Op}
 use Rattle.prcu_model.specs.declared.operation.Op.TheVariants.{Put, Del, Set}
 use Rattle.core_state.specs.declared.words.Field.{Field}
-use Rattle.core_state.specs.declared.words.Field.TheVariants.{Stamp, State, Life, Key, Value, Link, Tag}
+use Rattle.core_state.specs.declared.words.Field.TheVariants.{Stamp, Life, Key, Value, Link, Tag}
 use Rattle.core_state.specs.declared.view.Held.{Held}
 use Rattle.core_state.specs.declared.view.HeldLock.{HeldLock}
 use Rattle.core_state.specs.declared.view.Known.{Known}
@@ -55,21 +55,17 @@ read_at field n = record { field = field; number = n; stored = false }
 abbrev pub stored_at : Field → ℕ → Known
 stored_at field n = record { field = field; number = n; stored = true }
 
--- the slot in hand, whose life was loaded, after so many of the four fields of a leaf were stored
-abbrev pub taken_known : ℕ → ℕ → List Known
-taken_known s life = read_at (Life s) life ∷ (stored_at (State s) 1 ∷ [])
+-- the slot in hand, of which this was known before, after so many of the four fields of a leaf were stored
+abbrev pub leaf_known : List Known → ℕ → ℕ → ℕ → ℕ → List Known
+leaf_known before s key value i =
+    if i == 0 then before
+    else if i == 1 then stored_at (Key s) key ∷ before
+    else if i == 2 then stored_at (Value s) value ∷ (stored_at (Key s) key ∷ before)
+    else if i == 3 then stored_at (Link s Left) 0 ∷ (stored_at (Value s) value ∷ (stored_at (Key s) key ∷ before))
+    else stored_at (Link s Right) 0 ∷ (stored_at (Link s Left) 0 ∷ (stored_at (Value s) value ∷ (stored_at (Key s) key ∷ before)))
 
-abbrev pub leaf_known : ℕ → ℕ → ℕ → ℕ → ℕ → List Known
-leaf_known s life key value i =
-    if i == 0 then taken_known s life
-    else if i == 1 then stored_at (Key s) key ∷ taken_known s life
-    else if i == 2 then stored_at (Value s) value ∷ (stored_at (Key s) key ∷ taken_known s life)
-    else if i == 3 then stored_at (Link s Left) 0 ∷ (stored_at (Value s) value ∷ (stored_at (Key s) key ∷ taken_known s life))
-    else stored_at (Link s Right) 0 ∷ (stored_at (Link s Left) 0
-    ∷ (stored_at (Value s) value ∷ (stored_at (Key s) key ∷ taken_known s life)))
-
-abbrev pub leaf_held : ℕ → ℕ → ℕ → ℕ → ℕ → Held
-leaf_held s life key value i = record { slot = s; known = leaf_known s life key value i; raised = false }
+abbrev pub leaf_held : List Known → ℕ → ℕ → ℕ → ℕ → Held
+leaf_held before s key value i = record { slot = s; known = leaf_known before s key value i; raised = false }
 
 -- a slot in hand that has a leaf's fields, whose life was loaded, and that wasn't raised
 pub record IsLeaf (held : Held) (s life key value : ℕ) : Type 0 where
@@ -249,13 +245,15 @@ pub record Aging (o : Own) (v : View) (aim : Aim) (s : ℕ) : Type 0 where
   pub taken : o.hand ≡ Some s
   pub takes : TakesFor o v aim
 
--- the slot in hand has so many of a leaf's fields
+-- the slot in hand, whose life was loaded or stored before, has so many of a leaf's fields
 pub record Filling (o : Own) (v : View) (spot : Spot) (i : ℕ) : Type 0 where
   pub outside : v.section ≡ None
   pub bare : Bare v [] None false
   pub slot : ℕ
   pub taken : o.hand ≡ Some slot
-  pub in_hand : v.hands.hand ≡ Some (leaf_held slot o.hand_life (key_now o) (value_in o.op) i)
+  pub before : List Known
+  pub life_is : known_in before (Life slot) ≡ Some o.hand_life
+  pub in_hand : v.hands.hand ≡ Some (leaf_held before slot (key_now o) (value_in o.op) i)
   pub has_spot : HasSpot (table_of o) v.records (key_now o) spot
   pub puts : is_put o.op ≡ true
   pub small : i ≤ 3

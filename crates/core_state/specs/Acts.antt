@@ -22,13 +22,13 @@ use Rattle.core_state.specs.declared.view.View.{View}
 use Rattle.core_state.specs.declared.view.Waiting.{Waiting}
 use Rattle.core_state.specs.Memory.{slot_count, idle, apart, is_field, lock_base, state_base, waiter_base, word_of, word_count}
 use Rattle.core_state.specs.Steps.{stepped, unknown_slot, after_clock_load, NeedsAnnounce, after_announce, fresh_reading, entering, NeedsEnterByStamp, NeedsLeaveByStamp, NeedsGateLoad, after_gate_load, NeedsEnterByCount, after_enter_by_count, NeedsLeaveByCount, NeedsEnterByRow, NeedsLeaveByRow, leaving, NeedsBegin, after_begin, NeedsGateTurn, after_gate_turn, IsSpot, spot_seen, after_look, look_marks, NeedsLock, after_lock, NeedsUnlock, after_unlock, NeedsLockedLoad, after_locked_load, NeedsOpenCommit, after_open_commit, NeedsRaiseTag, after_raise_tag, NeedsCloseCommit, after_close_commit, NeedsGiveFrontBack, new_listing, NeedsSearchLoad, after_search_load, NeedsFrontLook, after_front_look, NeedsListLoad, after_list_load, done_by}
-use Rattle.core_state.specs.Links.{IsRetiredAt, after_retired_life, NeedsRaiseRetired, after_raise_to_spare, after_raise_retired, NeedsFreeRetired, after_free_retired, NeedsOwnLife, after_own_life, NeedsKeptAsSpare, after_kept_as_spare, NeedsReserve, after_reserve, NeedsSeize, after_seize, NeedsFill, after_fill, NeedsRaiseInHand, after_raise_in_hand, NeedsFreeInHand, after_free_in_hand, NeedsCountFree, after_count_free, NeedsLeafLink, after_leaf_link, NeedsBypass, after_bypass, NeedsMark, after_mark, NeedsReplace, after_replace, NeedsCopyLink, after_copy_link, NeedsUnlinkOld, after_unlink_old, NeedsRotate, after_rotate, rotate_marks}
+use Rattle.core_state.specs.Links.{IsRetiredAt, after_retired_life, NeedsRaiseRetired, after_raise_to_spare, NeedsRaiseToHand, after_raise_to_hand, after_raise_retired, NeedsFreeRetired, after_free_retired, NeedsOwnLife, after_own_life, NeedsKeptAsSpare, after_kept_as_spare, NeedsReserve, after_reserve, NeedsSeize, after_seize, NeedsFill, after_fill, NeedsRaiseInHand, after_raise_in_hand, NeedsFreeInHand, after_free_in_hand, NeedsCountFree, after_count_free, NeedsLeafLink, after_leaf_link, NeedsBypass, after_bypass, NeedsMark, after_mark, NeedsReplace, after_replace, NeedsCopyLink, after_copy_link, NeedsUnlinkOld, after_unlink_old, NeedsRotate, after_rotate, rotate_marks}
 use Rattle.prcu_marks.specs.declared.access.Access.{Access}
 use Rattle.prcu_marks.specs.Marks.{left_by, said_by}
 use Rattle.prcu_marks.specs.declared.access.Access.TheVariants.{Load, Store, Exchange, Add, Subtract, Flip}
 use Rattle.core_state.specs.declared.act.Part.{Part}
 use Rattle.core_state.specs.declared.act.Act.{Act}
-use Rattle.core_state.specs.declared.act.Act.TheVariants.{LoadClock, AnnounceKey, EnterByStamp, LeaveByStamp, BeginWait, LookKey, LookStamp, LoadOwnLife, KeepAsSpare, LoadRetiredLife, Reserve, Seize, Fill, RaiseInHand, RaiseToSpare, RaiseRetired, Lock, Unlock, FreeInHand, FreeRetired, CountFree, SearchLoad, ListLoad, LockedLoad, OpenCommit, LinkLeaf, Bypass, Mark as MarkNode, RaiseTag, CloseCommit, LinkCopy, UnlinkLeft, UnlinkRight, LoadGate, EnterByCount, LeaveByCount, LookCount, TurnGate, EnterByRow, LeaveByRow, LookRow, ReplaceValue, LookAtFront, Rotate, GiveFrontBack}
+use Rattle.core_state.specs.declared.act.Act.TheVariants.{LoadClock, AnnounceKey, EnterByStamp, LeaveByStamp, BeginWait, LookKey, LookStamp, LoadOwnLife, KeepAsSpare, LoadRetiredLife, Reserve, Seize, Fill, RaiseInHand, RaiseToSpare, RaiseToHand, RaiseRetired, Lock, Unlock, FreeInHand, FreeRetired, CountFree, SearchLoad, ListLoad, LockedLoad, OpenCommit, LinkLeaf, Bypass, Mark as MarkNode, RaiseTag, CloseCommit, LinkCopy, UnlinkLeft, UnlinkRight, LoadGate, EnterByCount, LeaveByCount, LookCount, TurnGate, EnterByRow, LeaveByRow, LookRow, ReplaceValue, LookAtFront, Rotate, GiveFrontBack}
 use Rattle.core_state.specs.declared.words.Field.TheVariants.{Clock, Front, Free, Announced, Stamp, Gate, Count, Row}
 use Rattle.core_state.specs.declared.layout.Rows.{Rows}
 use Rattle.core_state.specs.declared.words.Field.TheVariants as word
@@ -59,6 +59,7 @@ kind_of (Seize slot) = K11
 kind_of (Fill slot p number) = K12
 kind_of (RaiseInHand slot number) = K12
 kind_of (RaiseToSpare slot number) = K12
+kind_of (RaiseToHand slot number) = K12
 kind_of (RaiseRetired slot number) = K12
 kind_of (Lock slot) = K13
 kind_of (Unlock slot) = K14
@@ -107,6 +108,7 @@ field_of place (Seize slot) = word.State slot
 field_of place (Fill slot p number) = in_slot slot p
 field_of place (RaiseInHand slot number) = word.Life slot
 field_of place (RaiseToSpare slot number) = word.Life slot
+field_of place (RaiseToHand slot number) = word.Life slot
 field_of place (RaiseRetired slot number) = word.Life slot
 field_of place (Lock slot) = word.Lock slot
 field_of place (Unlock slot) = word.Lock slot
@@ -149,6 +151,7 @@ access_of place (Seize slot) = Exchange 0 1
 access_of place (Fill slot p number) = Store number
 access_of place (RaiseInHand slot number) = Store number
 access_of place (RaiseToSpare slot number) = Store number
+access_of place (RaiseToHand slot number) = Store number
 access_of place (RaiseRetired slot number) = Store number
 access_of place (Lock slot) = Exchange 0 (place + 1)
 access_of place (Unlock slot) = Store 0
@@ -248,6 +251,7 @@ Needs k v (Seize slot) = NeedsSeize v slot
 Needs k v (Fill slot p number) = (held : Held) × NeedsFill v held slot (in_slot slot p)
 Needs k v (RaiseInHand slot number) = (held : Held) × NeedsRaiseInHand v held slot number
 Needs k v (RaiseToSpare slot number) = (i : ℕ) × (r : Retired) × NeedsRaiseRetired v i r slot number × (v.hands.spare ≡ None)
+Needs k v (RaiseToHand slot number) = (i : ℕ) × (r : Retired) × NeedsRaiseToHand v i r slot number
 Needs k v (RaiseRetired slot number) = (i : ℕ) × (r : Retired) × NeedsRaiseRetired v i r slot number × (v.hands.spare ≢ None)
 Needs k v (Lock slot) = NeedsLock v
 Needs k v (Unlock slot) = NeedsUnlock v slot
@@ -301,6 +305,7 @@ after v (Seize slot) h n = after_seize v slot n h
 after v (Fill slot p number) h n = after_fill v slot (in_slot slot p) number
 after v (RaiseInHand slot number) h n = after_raise_in_hand v slot number
 after v (RaiseToSpare slot number) h n = after_raise_to_spare v slot number h
+after v (RaiseToHand slot number) h n = after_raise_to_hand v slot number h
 after v (RaiseRetired slot number) h n = after_raise_retired v slot
 after v (Lock slot) h n = after_lock v slot n
 after v (Unlock slot) h n = after_unlock v slot
@@ -342,6 +347,7 @@ marks_of v (LookKey p last) n = look_marks v (wait_of v) (word.Announced p) last
 marks_of v (LookStamp p last) n = look_marks v (wait_of v) (word.Stamp p) last n
 marks_of v (Seize slot) n = if n == 0 then Given slot ∷ [] else []
 marks_of v (RaiseToSpare slot number) n = Given slot ∷ []
+marks_of v (RaiseToHand slot number) n = Given slot ∷ []
 marks_of v (FreeInHand slot) n = Freed slot ∷ []
 marks_of v (FreeRetired slot) n = Freed slot ∷ []
 marks_of v (LinkLeaf slot b leaf key value) n = done_by v (Put key value) ∷ []

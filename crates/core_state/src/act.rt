@@ -83,6 +83,11 @@ pub enum Act {
         slot: u32,
         number: u64,
     },
+    /// K12. The life of a retired slot is raised, which comes into the hand.
+    RaiseToHand {
+        slot: u32,
+        number: u64,
+    },
     /// K12. The life of a retired slot is raised, where the place has a spare.
     RaiseRetired {
         slot: u32,

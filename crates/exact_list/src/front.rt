@@ -5,15 +5,8 @@ ghost use Rattle.seat_table.specs.Sections.{HasMade};
 ghost use Rattle.exact_list.specs.Tries.{LosesFront, TakesFront};
 
 use core_state::linking;
-use patience::Patience;
+use patience::{LostExchanges, Patience};
 use seat_table::{CitrusTable, Seat, WaitWords, steps};
-
-/// How many exchanges it makes at most without a pause.
-const AT_ONCE: u64 = 8;
-
-/// How many exchanges it makes at most before it gives way, where it could. Who is called again tries without the front first, and each of
-/// these tries walks the whole range: as long as no thread that has the front was put aside, a few more exchanges cost less.
-const BEFORE_GIVING_WAY: u64 = 64;
 
 // The number itself, or the next one, whichever is even.
 fn even_from(number: u64) -> u64
@@ -44,19 +37,18 @@ pub(crate) fn take_front<P: Patience, W: WaitWords>(
     ensures lost { IfErr result (λ _. LosesFront seat.old.view seat.new.view) }
     ensures tired { IfErr result (λ _. HasMade (P.least patience.now) seat.new.view) }
 {
-    let mut pauses = patience.pauses();
+    let mut pauses = patience.front_pauses();
+    let mut lost = LostExchanges::none();
     let mut expected = even_from(seat.front_seen());
     for round in 0..u64::MAX {
         let found = steps::open_commit(table, seat, expected);
         if found == expected {
+            patience.won(&mut pauses);
             return Ok(Ok(found));
         }
         expected = even_from(found);
-        // Where nobody has the front it tries again at once: beside a seat that never rests the number found is old after a pause.
-        if linking(found) || round % AT_ONCE == AT_ONCE - 1 {
-            if round < BEFORE_GIVING_WAY {
-                patience.pause(&mut pauses)?;
-            } else if let Err(busy) = patience.rest(&mut pauses) {
+        if lost.pauses_after(linking(found)) {
+            if let Err(busy) = patience.rest(&mut pauses) {
                 return Ok(Err(busy));
             }
         }

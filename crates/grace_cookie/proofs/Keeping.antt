@@ -484,10 +484,10 @@ waits_on k s t low high waited =
 -- the same, where it retires slots and lists them: what is told of each retired slot is its number, where it was unlinked, and whether it
 -- was
 -- waited for
-abbrev mark_of : Retired → ℕ × ℕ × Bool
+abbrev pub mark_of : Retired → ℕ × ℕ × Bool
 mark_of r = (r.slot, r.unlinked, r.waited)
 
-marked_at : (rs : List Retired) (i : ℕ) (x : ℕ × ℕ × Bool) → get_elem? (map mark_of rs) i ≡ some x
+pub marked_at : (rs : List Retired) (i : ℕ) (x : ℕ × ℕ × Bool) → get_elem? (map mark_of rs) i ≡ some x
     → (r : Retired) × (get_elem? rs i ≡ some r) × (mark_of r ≡ x)
 marked_at [] i x e = absurd (some-ne-none x (sym e))
 marked_at (r ∷ rs) zero x e = (r, refl, some-injective (mark_of r) x e)

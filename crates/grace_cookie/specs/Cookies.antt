@@ -1,7 +1,7 @@
 -- Cookies, what asking about them answers and leaves, and what any other call has to leave.
 -- Cookies: waits that were begun, and are asked about later.
 -- Source: docs/TREE_CALLS.md, "Cookies".
-use Rattle.std.specs.Prelude.{◌≡◌, ◌≢◌, ℕ, ◌+◌, ◌<◌, ◌≤◌, Bool, true, false, List, [], ◌∷◌, ◌++◌, length, Some, ◌⊎◌, take}
+use Rattle.std.specs.Prelude.{◌≡◌, ◌≢◌, ℕ, ◌+◌, ◌-◌, ◌<◌, ◌≤◌, Bool, true, false, List, [], ◌∷◌, ◌++◌, length, Some, ◌⊎◌, take}
 use Rattle.std.specs.List.{AllByRecursion}
 use mathlib.Core.List.{IsPrefix}
 use Rattle.prcu_marks.specs.declared.mark.Mark.{Mark}
@@ -13,12 +13,12 @@ use Rattle.core_state.specs.declared.view.View.{View}
 use Rattle.core_state.specs.declared.view.Waiting.{Waiting}
 use Rattle.core_state.specs.Links.{IsRetiredAt}
 use Rattle.list_laws.specs.Counts.{times, IsIn}
-use Rattle.seat_table.specs.Seats.{SeatAt}
+use Rattle.seat_table.specs.Seats.{SeatAt, unlisted}
 use Rattle.seat_table.specs.Waits.{Reached, HasReached, HaveLeft, HasLooked, Shows, StopsAt, IsOver}
 use Rattle.core_state.specs.declared.view.StepMade.{StepMade}
 use Rattle.prcu_marks.specs.declared.mark.Why.{Why}
 use Rattle.seat_table.specs.Looks.{FindsNone, FindsOnce}
-use Rattle.node_slots.specs.Reclaiming.{GivesBack, without_slots}
+use Rattle.node_slots.specs.Reclaiming.{GivesBack, first_of, without_slots}
 use Rattle.grace_cookie.specs.declared.answers.Ask.{Ask}
 use Rattle.grace_cookie.specs.declared.answers.Ask.TheVariants.{Over, NotYet, GivenUp}
 use mathlib.Core.Option.{some}
@@ -204,3 +204,20 @@ CookiesStay = (k : Shape) (c : CookieAt) (s t : SeatAt) → KeepsCookies s t →
 abbrev pub OthersStay : Type 0
 OthersStay = (k : Shape) (c : CookieAt) (s : SeatAt) (answer : Ask) (now : CookieAt) (t : SeatAt) (other : CookieAt) → Asked k c s.view answer now t.view
     → t.listed ≡ s.listed → other.count ≢ c.count → IsOf k other s.view → IsOf k other t.view × (HasKept other s → HasKept other t)
+
+-- This retired slot was used again: it is listed no more, and each other slot is retired and listed as it was, in its order. The latest wait
+-- is kept.
+pub record UsesListed (slot : ℕ) (s t : SeatAt) : Type 0 where
+  pub latest : KeepsLatest s.view t.view
+  pub others : (r : Retired) → IsIn s.view.hands.retired r → r.slot ≢ slot
+      → (now : Retired) × IsIn t.view.hands.retired now × StaysRetired r now
+  pub listed : t.listed ≡ unlisted slot s.listed
+
+-- the cookie with one slot less
+abbrev pub less_one : CookieAt → CookieAt
+less_one c = record c { slots = c.slots - 1 }
+
+-- After a call that used the first listed slot again a cookie that is over is good for the others of its slots.
+abbrev pub UsedStay : Type 0
+UsedStay = (k : Shape) (c : CookieAt) (slot : ℕ) (s t : SeatAt) → c.over ≡ true → 1 ≤ c.slots → first_of s.listed ≡ Some slot
+    → UsesListed slot s t → IsOf k c s.view → HasKept c s → IsOf k (less_one c) t.view × HasKept (less_one c) t

@@ -51,6 +51,21 @@ impl<W> Cookie<W> {
     {
         self.slots
     }
+
+    /// Whether its wait is over, as the last question about it found.
+    pub fn is_over(&self) -> bool
+        ensures { result ≡ self.now.over }
+    {
+        self.over
+    }
+
+    /// Counts one of its slots as used: a call has taken the first listed one again otherwise, and it won't go back by this cookie.
+    pub fn count_used(&mut self)
+        requires { 1 ≤ self.old.slots }
+        ensures { self.new ≡ record self.old { slots = self.old.slots - 1 } }
+    {
+        self.slots -= 1;
+    }
 }
 
 // How many slots are retired.

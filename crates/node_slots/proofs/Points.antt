@@ -14,6 +14,9 @@ use Rattle.core_state.specs.declared.view.Retired.{Retired}
 use Rattle.core_state.specs.declared.view.View.{View}
 use Rattle.core_state.specs.Steps.{spare_slot}
 use Rattle.core_state.specs.Views.{noting, held_list}
+use Rattle.core_state.specs.Links.{seized, renewed, without_retired}
+use Rattle.core_frames.proofs.Roles.{in_without}
+use Rattle.core_laws.proofs.LockSteps.{known_here}
 use Rattle.list_laws.specs.Counts.{times, Each}
 use Rattle.list_laws.proofs.Lists.{times_here}
 use Rattle.core_points.specs.declared.stage.Spot.{Spot}
@@ -34,7 +37,7 @@ use Rattle.tree_points.proofs.Passing.{moves_on}
 use Rattle.tree_points.proofs.Locks.{allowed, further_by, advanced_with, advanced_all}
 use Rattle.node_slots.specs.Slots.{aged, next_life, renewing, PutsBack}
 use Rattle.node_slots.specs.Taking.{HasTaken, FoundNone, TriesBy}
-use Rattle.node_slots.specs.Reclaiming.{first_spare, HasReclaimed}
+use Rattle.node_slots.specs.Reclaiming.{first_spare, HasReclaimed, Reuses}
 
 least_two : (aim : Aim) (retired : List ℕ) → 2 ≤ owed_reserve aim retired
 least_two (Leaf spot) [] = omega arith
@@ -102,6 +105,8 @@ module _ {slot generation : ℕ} {v w : View} (taken : HasTaken v slot generatio
         bare = bare_noted v slot (Life slot) life false [] [] None false i.bare refl;
         slot = slot;
         taken = refl;
+        before = (aged slot life).known;
+        life_is = known_here (seized slot).known (Life slot) life false;
         in_hand = refl;
         has_spot = (p.takes).0;
         puts = (p.takes).1;
@@ -121,6 +126,78 @@ module _ {slot generation : ℕ} {v w : View} (taken : HasTaken v slot generatio
         in_hand = refl;
         slot_is = refl;
         lacks = (f.point).takes;
+      })
+
+-- What reuse asks beside a slot that is ready.
+pub record MayReuse (v : View) : Type 0 where
+  pub unlocked : v.locks ≡ []
+  pub settled : v.moving ≡ None
+  pub empty : v.hands.hand ≡ None
+  pub unreserved : v.hands.reserved ≡ false
+  pub ticket : 1 ≤ v.allowance.tickets
+
+pub may_reuse : {k : Shape} {op : Op} {kept e : ℕ} {aim : Aim} {v : View} → IsAt k op kept (at.Reserve aim e) v → MayReuse v
+may_reuse a =
+    let take = may_take a in
+    let bare = a.fits.point.idle.bare in record {
+      unlocked = bare.locks_are;
+      settled = bare.settled;
+      empty = take.empty;
+      unreserved = take.unreserved;
+      ticket = take.ticket;
+    }
+
+-- A retired slot was used again, for a leaf.
+module _ {slot : ℕ} {v w : View} (reused : Reuses v slot w) where
+  pub reused_slot : IsSlotOf (Some slot) w.hands.hand
+  reused_slot = subst (IsSlotOf (Some slot)) (sym (ap (λ (z : View). z.hands.hand) reused.rest)) refl
+
+  pub reused_advanced : HasAdvanced v w []
+  reused_advanced =
+      advanced_with reused.given.before (Given slot ∷ []) steps reused.given.seen (allowed reused.rest refl) reused.given.marked
+    where
+      steps : IsPrefix v.trail.steps w.trail.steps
+      steps = subst (λ (z : View). IsPrefix v.trail.steps z.trail.steps) (sym reused.rest)
+          (prefix_trans v.trail.steps (v.trail.steps ++ _) ((v.trail.steps ++ _) ++ _) (_, refl) (_, refl))
+
+  pub reused_retired : w.hands.retired ≡ without_retired slot v.hands.retired
+  reused_retired = ap (λ (z : View). z.hands.retired) reused.rest
+
+  pub reuses_leaf : {k : Shape} {op : Op} {kept e : ℕ} {spot : Spot} → IsAt k op kept (at.Reserve (Leaf spot) e) v
+      → IsAt k op kept (at.LeafField spot 0) w
+  reuses_leaf {spot = spot} a =
+      let o : Own = a.own in
+      let f = a.fits in
+      let p = f.point in
+      let own = f.owns in
+      let life : ℕ = next_life reused.life in
+      let left : List Retired = without_retired slot v.hands.retired in
+      comes_to a
+      (go (record o { hand = Some slot; hand_life = life; retired = map (λ (r : Retired). r.slot) left }) (at.LeafField spot 0)) refl
+      reused.rest
+      (record {
+        same = own.same;
+        works = own.works;
+        spare_is = own.spare_is;
+        retired_are = refl;
+        locks_are = own.locks_are;
+        key_fits = own.key_fits;
+        keys_fit = own.keys_fit;
+        scans = own.scans;
+        scans_table = own.scans_table;
+      })
+      (λ j r at. (let has = (in_without slot v.hands.retired r (j, at)).0 in f.unraised refl has.0 r has.1))
+      (let t = f.tickets in let two = least_two (Leaf spot) o.retired in omega arith) (record {
+        outside = (p.idle).outside;
+        bare = (p.idle).bare;
+        slot = slot;
+        taken = refl;
+        before = (renewed slot life).known;
+        life_is = known_here [] (Life slot) life true;
+        in_hand = refl;
+        has_spot = (p.takes).0;
+        puts = (p.takes).1;
+        small = omega arith;
       })
 
 -- No slot was free.

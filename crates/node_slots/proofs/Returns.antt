@@ -12,11 +12,11 @@ use Rattle.prcu_model.proofs.ListFacts.{prefix_trans}
 use Rattle.core_frames.proofs.Roles.{without_in}
 use Rattle.core_state.specs.declared.view.Held.{Held}
 use Rattle.core_state.specs.declared.view.View.{View}
-use Rattle.core_state.specs.Links.{without_retired, IsRetiredAt, change_retired, NeedsRaiseRetired, NeedsFreeRetired, after_raise_to_spare, after_raise_retired, after_free_retired, after_count_free}
+use Rattle.core_state.specs.Links.{without_retired, IsRetiredAt, change_retired, NeedsRaiseRetired, NeedsRaiseToHand, NeedsFreeRetired, after_raise_to_spare, after_raise_to_hand, after_raise_retired, after_free_retired, after_count_free}
 use Rattle.core_state.specs.Views.{held_list, lock_of, HasLock, note_lock, note_option, note_moving, change_lock}
 use Rattle.prcu_marks.specs.declared.mark.Mark.TheVariants.{Given, Freed}
 use Rattle.seat_table.proofs.Seats.{unlisted_here, unlisted_other, unlisted_none, unlisted_else}
-use Rattle.node_slots.specs.Reclaiming.{IsReady, AreReady, first_of, first_slots, without_slots, without_all, Returns, LeavesEach, return_marks, first_spare, GivesBack, BecomesSpare, BecomesFree}
+use Rattle.node_slots.specs.Reclaiming.{IsReady, AreReady, first_of, first_slots, without_slots, without_all, Returns, LeavesEach, return_marks, first_spare, GivesBack, BecomesSpare, BecomesFree, Reuses}
 use Rattle.node_slots.proofs.Takes.{leaves_more, first_goes, other_goes}
 use mathlib.Core.Option.{some}
 use lib.ListN.{get_elem?}
@@ -27,7 +27,7 @@ use Rattle.core_state.specs.declared.words.Field.TheVariants.{Life}
 use Rattle.core_state.specs.declared.view.HeldLock.{HeldLock}
 use Rattle.core_state.specs.declared.view.Known.{Known}
 use Rattle.core_state.specs.Memory.{slot_count}
-use Rattle.core_state.specs.declared.act.Act.TheVariants.{LoadRetiredLife, RaiseToSpare, RaiseRetired, FreeRetired, CountFree}
+use Rattle.core_state.specs.declared.act.Act.TheVariants.{LoadRetiredLife, RaiseToSpare, RaiseToHand, RaiseRetired, FreeRetired, CountFree}
 use Rattle.core_state.specs.Acts.{noted}
 use Rattle.seat_table.specs.Gains.{Sees, TellsNow, IsAsked, Told, IsInformed}
 use Rattle.seat_table.proofs.SeveralSteps.{goes_from, without_changed}
@@ -401,6 +401,41 @@ module _ (k : Shape) (v : View) (slot : ℕ) (ready : IsReady v slot) (unlocked 
         given = record { before = h; seen = record { works = sees.works; begins = sees.begins; own = sees.own }; marked = refl };
         rest = λ i. record v {
           hands = record v.hands { spare = last.hands.spare; retired = gone i };
+          trail = last.trail;
+          seen = last.seen;
+        };
+      })
+
+  pub needs_hand : (spare : Held) → v.hands.spare ≡ Some spare → v.hands.hand ≡ None → v.hands.reserved ≡ false → 1 ≤ v.allowance.tickets
+      → IsAsked k v1 (RaiseToHand slot number)
+  needs_hand spare has empty unreserved ticket = subst (λ z. IsAsked k z (RaiseToHand slot number)) (sym loaded_is)
+      (λ told. (
+        retired_inside k loaded ready.i slot (to ready.r) raises.retired told,
+        (ready.i, to ready.r, to_hand),
+      ))
+    where
+      to_hand : NeedsRaiseToHand loaded ready.i (to ready.r) slot number
+      to_hand = record {
+        raises = raises;
+        spare = λ none. (let e : Some spare ≡ None = sym has ∙ none in cc);
+        empty = empty;
+        unreserved = unreserved;
+        ticket = ticket;
+      }
+
+  pub reuses : (w : View) → Told k v1 (RaiseToHand slot number) number w → Reuses v slot w
+  reuses w second =
+      let h : List Mark = second.marks in
+      let last : View = after_raise_to_hand (noted loaded (RaiseToHand slot number) number) slot number h in
+      let is : w ≡ last = goes_from loaded_is second in
+      let sees : Sees loaded h = subst (λ z. Sees z h) loaded_is second.sees in
+      let gone = without_changed slot to (λ r. refl) v.hands.retired in
+      subst (Reuses v slot) (sym is) (record {
+        life = life;
+        given = record { before = h; seen = record { works = sees.works; begins = sees.begins; own = sees.own }; marked = refl };
+        rest = λ i. record v {
+          allowance = record v.allowance { tickets = v.allowance.tickets - 1 };
+          hands = record v.hands { hand = last.hands.hand; retired = gone i };
           trail = last.trail;
           seen = last.seen;
         };

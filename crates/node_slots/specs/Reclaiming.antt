@@ -1,4 +1,4 @@
--- What giving retired slots back leaves.
+-- What it leaves to give retired slots back, or to use one again.
 -- Source: docs/TREE_CALLS.md, "The tree's slots and locks".
 use Rattle.std.specs.Prelude.{◌≡◌, ℕ, zero, suc, ◌+◌, ◌-◌, ◌⊎◌, true, false, List, [], ◌∷◌, ◌++◌, length, map, Option, Some, None}
 use Rattle.std.specs.List.{AllByRecursion}
@@ -7,11 +7,14 @@ use Rattle.prcu_marks.specs.declared.mark.Mark.{Mark}
 use Rattle.prcu_marks.specs.declared.mark.Mark.TheVariants.{Given, Freed, Began, Ended}
 use Rattle.prcu_marks.specs.Marks.{own_of}
 use Rattle.core_state.specs.declared.shape.Shape.{Shape}
+use Rattle.core_state.specs.declared.words.Field.TheVariants.{Life}
+use Rattle.core_state.specs.declared.words.Kind.TheVariants.{K9, K12}
 use Rattle.core_state.specs.declared.view.Held.{Held}
 use Rattle.core_state.specs.declared.view.Retired.{Retired}
 use Rattle.core_state.specs.declared.view.View.{View}
 use Rattle.core_state.specs.Views.{held_list}
-use Rattle.core_state.specs.Links.{IsRetiredAt, without_retired, new_spare}
+use Rattle.core_state.specs.Steps.{stepped}
+use Rattle.core_state.specs.Links.{IsRetiredAt, without_retired, renewed}
 use Rattle.seat_table.specs.Seats.{unlisted}
 use Rattle.seat_table.specs.Sections.{Leaves}
 use Rattle.seat_table.specs.Waits.{HasWaited}
@@ -55,7 +58,7 @@ pub record BecomesSpare (v : View) (slot : ℕ) (w : View) : Type 0 where
   pub given : Leaves v (Given slot) w
   pub rest : w ≡ record v {
     hands = record v.hands
-        { spare = Some (new_spare slot (next_life life)); retired = without_retired slot v.hands.retired };
+        { spare = Some (renewed slot (next_life life)); retired = without_retired slot v.hands.retired };
     trail = w.trail;
     seen = w.seen;
   }
@@ -75,6 +78,18 @@ pub record BecomesFree (v : View) (slot : ℕ) (w : View) : Type 0 where
 
 abbrev pub Returns : View → ℕ → View → Type 0
 Returns v slot w = BecomesSpare v slot w ⊎ BecomesFree v slot w
+
+-- The slot is in hand, given anew with the next generation, for one of the seat's tickets: its life was loaded, and then raised. The free
+-- count was left alone.
+pub record Reuses (v : View) (slot : ℕ) (w : View) : Type 0 where
+  pub life : ℕ
+  pub given : Leaves v (Given slot) w
+  pub rest : w ≡ record v {
+    allowance = record v.allowance { tickets = v.allowance.tickets - 1 };
+    hands = record v.hands { hand = Some (renewed slot (next_life life)); retired = without_retired slot v.hands.retired };
+    trail = (stepped (stepped v K9 (Life slot) life) K12 (Life slot) (next_life life)).trail;
+    seen = w.seen;
+  }
 
 -- Marks were left one after another, each after all marks that there were then.
 abbrev pub LeavesEach : View → List Mark → View → Type 0

@@ -8,8 +8,7 @@ ghost use Rattle.node_slots.specs.Taking.{HasReserved, FoundNone, HasScanned, Ha
 
 use crate::answers::{Reserve, Seize, Taken};
 use crate::slots::{reserve, seize};
-use crossbeam_utils::Backoff;
-use patience::Patience;
+use patience::{LostExchanges, Patience};
 use seat_table::{CitrusTable, MOST_NOTED, Seat, WaitWords, next_slot};
 
 /// A slot that was seized.
@@ -39,7 +38,8 @@ fn reserve_some<P: Patience, W: WaitWords>(
     ensures stays { IfOk result (λ _. StaysIn (shape_of W.WAY table.now) seat.new.view) }
     ensures tired { IfErr result (λ _. HasMade (P.least patience.now) seat.new.view) }
 {
-    let backoff = Backoff::new();
+    let mut pauses = patience.crowd_pauses();
+    let mut lost = LostExchanges::none();
     let mut expected = seat.free_seen().max(1);
     for round in 0..u64::MAX {
         match reserve(table, seat, expected) {
@@ -47,7 +47,10 @@ fn reserve_some<P: Patience, W: WaitWords>(
             Reserve::Empty => return Ok(false),
             Reserve::Lost { found } => expected = found,
         }
-        backoff.spin();
+        // Nobody holds the count.
+        if lost.pauses_after(false) {
+            patience.pause(&mut pauses)?;
+        }
     }
     Err(patience.tired())
 }

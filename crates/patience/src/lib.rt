@@ -5,7 +5,10 @@
 
 ghost use Rattle.std.specs.Prelude.{ℕ, ◌≤◌, IfErr};
 
+mod lost_exchanges;
+
 use crossbeam_utils::Backoff;
+pub use lost_exchanges::LostExchanges;
 use std::convert::Infallible;
 use std::sync::Wait;
 
@@ -25,6 +28,16 @@ pub trait Patience {
 
     /// Before the first round.
     fn pauses(&self) -> Self::Pauses;
+
+    /// Before the first round of a loop at a word that all callers exchange. There longer pauses help: the fewer try at a time, the sooner one
+    /// of them has it.
+    fn crowd_pauses(&self) -> Self::Pauses;
+
+    /// The same at the word that a call holds for some steps once it has it. There callers may let each other try in turn.
+    fn front_pauses(&self) -> Self::Pauses;
+
+    /// After the loop's exchange there was made: lets the next caller try whose turn it is.
+    fn won(&self, pauses: &mut Self::Pauses);
 
     /// After a round that came to nothing: lets others go on, or gives up.
     fn pause(&self, pauses: &mut Self::Pauses) -> Result<(), Self::Tired>
@@ -64,6 +77,16 @@ impl<'a, R: Wait> Patience for Steadfast<'a, R> {
     fn pauses(&self) -> Backoff {
         Backoff::new()
     }
+
+    fn crowd_pauses(&self) -> Backoff {
+        Backoff::new()
+    }
+
+    fn front_pauses(&self) -> Backoff {
+        Backoff::new()
+    }
+
+    fn won(&self, pauses: &mut Backoff) {}
 
     fn pause(&self, pauses: &mut Backoff) -> Result<(), Infallible> {
         pauses.snooze();

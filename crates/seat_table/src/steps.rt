@@ -163,6 +163,28 @@ pub fn raise_to_spare<W: WaitWords>(
     touch(table, &mut seat.seat, act, word, Access::Store { number });
 }
 
+/// Raises the life of a retired slot, which comes into the hand for a ticket and is taken off the list, where the place has a spare (K12).
+pub fn raise_to_hand<W: WaitWords>(
+    table: &CitrusTable<W>,
+    seat: &mut Seat<W>,
+    slot: u32,
+    number: u64,
+)
+    requires table { seat.old.table ≡ table.now }
+    requires asks { IsAsked (shape_of W.WAY table.now) seat.old.view (acts.RaiseToHand slot number) }
+    ensures table { seat.new.table ≡ seat.old.table }
+    ensures looked { seat.new.looked ≡ seat.old.looked }
+    ensures listed { seat.new.listed ≡ unlisted slot seat.old.listed }
+    ensures told { Told (shape_of W.WAY table.now) seat.old.view (acts.RaiseToHand slot number) number seat.new.view }
+{
+    let word = Field::Life { slot };
+    seat.listed.take_off(slot);
+    seat.hand = Some(slot);
+    seat.tickets -= 1;
+    let act = Act::RaiseToHand { slot, number };
+    touch(table, &mut seat.seat, act, word, Access::Store { number });
+}
+
 /// Raises the life of a retired slot, where the place has a spare (K12).
 pub fn raise_retired<W: WaitWords>(
     table: &CitrusTable<W>,

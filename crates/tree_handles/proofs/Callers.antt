@@ -3,8 +3,8 @@
 use Rattle.std.proofs.Common.{◌≤◌, refl, inl, ◌≡◌, ℕ, ◌+◌, ◌-◌, ◌*◌, inr, arith, subst, sym, ◌∙◌, true, false, List, [], Option, Some, None, ap, ⊎_elim, append-nil, zero, suc, is_some, length, ◌∷◌, ◌++◌, ◌≢◌}
 use Rattle.prcu_model.specs.declared.operation.Op.{Op}
 use Rattle.prcu_model.specs.declared.operation.Told.{Told}
-use Rattle.tree_handles.specs.Callers.{CallerAt, IsSameCaller, KeepsCookie, KeepsKeeper, IsInside, MayGoOn, pairs_that_fit, slots_for, IsFilled, AreOfOneIndex}
-use Rattle.tree_handles.specs.Calls.{CausedReady, GetsReady, HasTurnedDown, LacksRoom, MayTurnDown, MeetsLastingReader, TurnsDown, WasTurnedDown, TreeTells, IsCalled, ComesBehind, IsCalledAndKept, CallsMeetFronts, StaysInside, IsLost, WereBusy, CausedBy, IsHinderedBy, Inserts, MissesOnceMore, Upserts, IsBusy, IsBusyTended, IsCalledTended, IsAnsweredTended, CausedTended}
+use Rattle.tree_handles.specs.Callers.{CallerAt, IsSameCaller, KeepsCookie, IsInside, MayGoOn, pairs_that_fit, slots_for, IsFilled, AreOfOneIndex}
+use Rattle.tree_handles.specs.Calls.{KeepsKeeperBy, CausedReady, GetsReady, HasTurnedDown, LacksRoom, MayTurnDown, MeetsLastingReader, TurnsDown, WasTurnedDown, TreeTells, IsCalled, ComesBehind, IsCalledAndKept, CallsMeetFronts, StaysInside, IsLost, WereBusy, CausedBy, IsHinderedBy, Inserts, MissesOnceMore, Upserts, IsBusy, IsBusyTended, IsCalledTended, IsAnsweredTended, CausedTended}
 use Rattle.prcu_marks.specs.Marks.{updates_of, own_of}
 use Rattle.prcu_model.specs.Dictionary.{key_of, map_of, Explains}
 use Rattle.prcu_model.specs.declared.operation.Op.TheVariants.{Put, Del}
@@ -64,7 +64,7 @@ pairs_fit_in t pairs handles keep slots places room one =
     let numbers : pairs_that_fit t ≡ slots_for pairs handles keep - (keep + 4) * (handles - 1) =
     λ i. slots i - (room i + 4) * (places i - 1) in numbers ∙ pairs_fit pairs handles keep one
 
-pub nothing_behind : {c d : CallerAt} {op : Op} {told : Told} → KeepsCookie c d → KeepsKeeper c d → MayGoOn c → 4 ≤ c.seat.view.allowance.tickets
+pub nothing_behind : {c d : CallerAt} {op : Op} {told : Told} → KeepsCookie c d → KeepsKeeperBy op c d → MayGoOn c → 4 ≤ c.seat.view.allowance.tickets
     → TreeTells c op told d.seat → MayGoOn d → IsCalled c op told d
 nothing_behind {d = d} index keeper before enough tells may = record {
   index = index;

@@ -35,11 +35,11 @@ seen_first : {v w : View} → HasBegunFirst v w → IsPrefix v.seen w.seen
 seen_first {v} {w} first = prefix_trans v.seen (first.before).seen w.seen (first.none).seen
     (prefix_trans (first.before).seen (first.after).seen w.seen (seen_more first.before first.after _ (first.begun).leaves) first.seen)
 
-seen_on : {v w : View} → KeepsWait v w → IsPrefix v.seen w.seen
+pub seen_on : {v w : View} → KeepsWait v w → IsPrefix v.seen w.seen
 seen_on {v} {w} wait = ⊎_elim (λ (none : HasBegunNone v w). none.seen) (λ (first : HasBegunFirst v w). seen_first first) wait
 
 -- a call of the tree keeps the latest wait, and where it gives none back the listed slots
-called_latest : {n : ℕ} {s t : SeatAt} → KeepsSeat n s t → KeepsLatest s.view t.view
+pub called_latest : {n : ℕ} {s t : SeatAt} → KeepsSeat n s t → KeepsLatest s.view t.view
 called_latest keeps = record {
   place = ap (λ a. a.place) keeps.allowance.rest;
   seen = seen_on keeps.wait;
@@ -47,11 +47,11 @@ called_latest keeps = record {
   wait = keeps.slots.wait;
 }
 
-none_listed : (s t : SeatAt) → GivesNoneBack s t → KeepsListed s t
+pub none_listed : (s t : SeatAt) → GivesNoneBack s t → KeepsListed s t
 none_listed s t none = record { retired = stay_retired s.view t.view none.retired.0 none.retired.1; listed = none.listed }
 
 module _ {k : Shape} {cookie : Option CookieAt} where
-  stays_good : {keeper : Option CookieAt} {s t : SeatAt} → KeepsLatest s.view t.view → KeepsListed s t → HasCookies k cookie keeper s
+  pub stays_good : {keeper : Option CookieAt} {s t : SeatAt} → KeepsLatest s.view t.view → KeepsListed s t → HasCookies k cookie keeper s
       → HasCookies k cookie keeper t
   stays_good {keeper} {s} {t} latest listed has = record {
     of_user = record { each = λ c e. (let was = has.of_user.each c e in (was.0, waits_stay k c s.view t.view latest was.1)) };
@@ -63,7 +63,7 @@ module _ {k : Shape} {cookie : Option CookieAt} where
   }
 
   -- the keeper is forgotten
-  forgotten : {keeper : Option CookieAt} {s t : SeatAt} → KeepsLatest s.view t.view → HasCookies k cookie keeper s → HasCookies k cookie None t
+  pub forgotten : {keeper : Option CookieAt} {s t : SeatAt} → KeepsLatest s.view t.view → HasCookies k cookie keeper s → HasCookies k cookie None t
   forgotten {keeper} {s} {t} latest has = record {
     of_user = record { each = λ c e. (let was = has.of_user.each c e in (was.0, waits_stay k c s.view t.view latest was.1)) };
     of_caller = record { each = λ c e. absurd (cc) };
@@ -245,14 +245,16 @@ pub keeps_keeper : {b c d : CallerAt} → b ≡ c → (d.lost ≡ false → Stay
 keeps_keeper {d = d} is stays = record { kept = λ kept. subst (λ (z : CallerAt). StaysUnlessGone z.keeper z.seat d.keeper d.seat) is (stays kept) }
 
 -- what a caller compares tells that the place has begun a wait
+pub later_by : (s t : SeatAt) {before now : ℕ} → s.view.counts.waits ≤ t.view.counts.waits → before ≡ s.view.counts.waits
+    → now ≡ t.view.counts.waits → not (nat_eq now before) ≡ true → s.view.counts.waits < t.view.counts.waits
+later_by s t {before} {now} least was now_is more =
+    let apart = eqb-false now before (not_true (nat_eq now before) more) in omega (arith, least, was, now_is, apart)
+
 begun_since : {T E : Type 0} {r : Result T E} {x : T} (s t : SeatAt) {before now : ℕ} (n : ℕ) → r ≡ Ok x → IfOk r (λ _. KeepsSeat n s t)
     → before ≡ s.view.counts.waits → now ≡ t.view.counts.waits → not (nat_eq now before) ≡ true
     → s.view.counts.waits < t.view.counts.waits
 begun_since s t {before} {now} n is told was now_is more =
-    let keeps = IfOk-at_ok (λ _. KeepsSeat n s t) is told in
-    let least = keeps.slots.waits in
-    let apart = eqb-false now before (not_true (nat_eq now before) more) in
-    omega (arith, least, was, now_is, apart)
+    let keeps = IfOk-at_ok (λ _. KeepsSeat n s t) is told in later_by s t keeps.slots.waits was now_is more
 
 stays_by : {keeper left : Option CookieAt} (s t : SeatAt) (gone : Bool) → (gone ≡ true → left ≡ None) → (gone ≡ false → left ≡ keeper)
     → (gone ≡ true → s.view.counts.waits < t.view.counts.waits) → StaysUnlessGone keeper s left t
@@ -283,13 +285,13 @@ module _ (op : Op) (told : Told) (keeper : Option CookieAt) (s : SeatAt) (mid d 
   abbrev IsGone : Type 0
   IsGone = (d.keeper ≡ None) × (mid.seat.view.counts.waits < d.seat.view.counts.waits)
 
-  stayed_first : mid.keeper ≡ keeper → StaysUnlessGone keeper s d.keeper d.seat
+  pub stayed_first : mid.keeper ≡ keeper → StaysUnlessGone keeper s d.keeper d.seat
   stayed_first same = ⊎_elim
       (λ (still : d.keeper ≡ mid.keeper). inl (still ∙ same))
       (λ (gone : IsGone). inr (gone.0, let more = gone.1 in omega (arith, least, more)))
       (second.kept kept)
 
-  gone_first : mid.keeper ≡ None → s.view.counts.waits < mid.seat.view.counts.waits → StaysUnlessGone keeper s d.keeper d.seat
+  pub gone_first : mid.keeper ≡ None → s.view.counts.waits < mid.seat.view.counts.waits → StaysUnlessGone keeper s d.keeper d.seat
   gone_first none more =
       let later = behind_waits op told mid.seat d kept behind in inr (
         ⊎_elim
@@ -298,16 +300,3 @@ module _ (op : Op) (told : Told) (keeper : Option CookieAt) (s : SeatAt) (mid d 
             (second.kept kept),
         omega (arith, more, later),
       )
-
--- so the keeper is there still over both, or slots may have gone back
-pub keeper_behind : {op : Op} {told : Told} {keeper : Option CookieAt} {mid d : CallerAt} {T E : Type 0} {r : Result T E} {x : T} (s : SeatAt)
-    {before now : ℕ} (n : ℕ) → r ≡ Ok x → IfOk r (λ _. KeepsSeat n s mid.seat) → (not (nat_eq now before) ≡ true → mid.keeper ≡ None)
-    → (not (nat_eq now before) ≡ false → mid.keeper ≡ keeper) → before ≡ s.view.counts.waits → now ≡ mid.seat.view.counts.waits
-    → KeepsKeeper mid d → ComesBehind op told mid.seat d → d.lost ≡ false → StaysUnlessGone keeper s d.keeper d.seat
-keeper_behind {op} {told} {keeper} {mid} {d} s n is told_keeps gone same was now_is second behind kept =
-    let keeps = IfOk-at_ok (λ _. KeepsSeat n s mid.seat) is told_keeps in
-    let least = keeps.slots.waits in ⊎_elim
-    (λ (still : mid.keeper ≡ keeper). stayed_first op told keeper s mid d least second behind kept still)
-    (λ (none : (mid.keeper ≡ None) × (s.view.counts.waits < mid.seat.view.counts.waits)).
-    gone_first op told keeper s mid d least second behind kept none.0 none.1)
-    (keeper_after s mid.seat n is told_keeps gone same was now_is)

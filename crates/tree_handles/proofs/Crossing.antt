@@ -27,19 +27,31 @@ use Rattle.seat_table.proofs.seat.Seat.TheSendSync as seat
 use Rattle.seat_table.proofs.table.CitrusTable.TheSendSync as table
 use Rattle.grace_cookie.proofs.cookies.Cookie.TheSendSync as cookie
 use Rattle.tree_handles.specs.Ownership.{owns}
+use Rattle.tree_handles.specs.contracts.front_queue.FrontQueue as Queue
+use Rattle.tree_handles.specs.contracts.spinning.Spinning as Spins
 use Rattle.tree_handles.specs.contracts.shared.Left as Left
 use Rattle.tree_handles.specs.contracts.shared.Shared as Shared
+use Rattle.tree_handles.specs.contracts.shared.Shared.TheInside as SharedInside
 use Rattle.tree_handles.specs.contracts.caller.Caller as Caller
 use Rattle.tree_handles.specs.contracts.caller.Caller.TheInside as CallerInside
 use Rattle.tree_handles.specs.contracts.any_caller.AnyCaller as AnyCaller
 use Rattle.tree_handles.specs.contracts.lane_seats.LaneSeats as LaneSeats
 use Rattle.tree_handles.specs.contracts.lane_room.LaneRoom as LaneRoom
+use Rattle.crossbeam_utils.proofs.cache_padded.CachePadded.TheSendSync as padded
+use Rattle.tree_handles.proofs.front_queue.FrontQueue.TheSendSync as queue
+use Rattle.tree_handles.proofs.spinning.Spinning.TheSendSync as spinning
 use Rattle.tree_handles.proofs.shared.Left.TheSendSync as left
 use Rattle.tree_handles.proofs.shared.Shared.TheSendSync as shared
 
 -- of a seat of the kit a `&` shows nothing
 raw_sync : (S V : RattleType) → IsSend S → IsSync (raw.the_row S V)
 raw_sync S V s = record { shared = λ d b o κ q. part_keyless (raw.the_row S V) (raw_crosses.the_send S V s) q d b o }
+
+spinning_send : IsSend (Spins.the_field).row
+spinning_send = search (sendable, spinning.the_send, heap.crosses) depth 30
+
+queue_sync : IsSync (Queue.the_field).row
+queue_sync = search (sendable, queue.the_sync, padded.the_sync, heap.Vec-sync, atomic.the_sync) depth 20
 
 module _ (W : RattleType) (p : Part.Ghosts W.Denot) (w : Words.Ghosts W.Denot) where
   inside_sync : IsSync (Inside.the_row W w)
@@ -51,24 +63,27 @@ module _ (W : RattleType) (p : Part.Ghosts W.Denot) (w : Words.Ghosts W.Denot) w
   left_sync : IsSync (Left.the_row W w)
   left_sync = let i = inside_sync in search sendable depth 20
 
+  shared_inside_sync : IsSync (SharedInside.the_row W p w)
+  shared_inside_sync =
+      let y = left_sync in
+      let T = SharedInside.the_type W p w in
+      let all : AllSync (fields T) = (
+        search (sendable, table.the_sync) depth 30,
+        (
+          search (sendable, counted.the_sync, left.the_send, heap.Vec-sync, option.the_sync, option.the_send) depth 30,
+          (queue_sync, (search (sendable, atomic.the_sync) depth 30, tt)),
+        ),
+      ) in
+      recorded_sync (Struct (shape T)) T.D T.to T.to_one (struct_sync (shape T) all)
+
   shared_sync : IsSync (Shared.the_row W p w)
-  shared_sync = let y = left_sync in
-      search (
-        sendable,
-        left.the_send,
-        table.the_sync,
-        counted.the_sync,
-        heap.Vec-sync,
-        option.the_sync,
-        option.the_send,
-        atomic.the_sync,
-      ) depth 20
+  shared_sync = let i = shared_inside_sync in search sendable depth 20
 
   inside_send : IsSend (CallerInside.the_row W p w)
   inside_send =
       let y = shared_sync in
       let T = CallerInside.the_type W p w in
-      let all : AllSend (fields T) = search (sendable, heap.Arc-send, shared.the_send, seat.the_send, cookie.the_send) depth 60 in
+      let all : AllSend (fields T) = search (sendable, heap.Arc-send, shared.the_send, seat.the_send, cookie.the_send, spinning_send) depth 60 in
       recorded_send (Struct (shape T)) T.D T.to T.to_one (struct_send (shape T) all)
 
   caller_send : IsSend (Caller.the_row W p w)

@@ -20,8 +20,7 @@ use Rattle.grace_cookie.specs.declared.answers.Ask.TheVariants.{Over, NotYet, Gi
 use Rattle.grace_cookie.specs.Cookies.{CookieAt, everybody, IsLatest, IsOf, HasKept, IsSameCookie, Asked, GivesFirst}
 use Rattle.grace_cookie.proofs.Giving.{gives_latest, others_stay}
 use Rattle.grace_cookie.proofs.Keeping.{waits_stay, same_keys}
-use Rattle.tree_handles.specs.Callers.{CallerAt, MayGoOn}
-use Rattle.tree_handles.specs.Keepers.{HasCookie, HasCookies, HasKeeper, HasLatest, GivesBy, LeavesEnd, StaysFor, Tends, TendsTo}
+use Rattle.tree_handles.specs.Keepers.{HasCookie, HasCookies, HasKeeper, HasLatest, GivesBy, LeavesEnd, StaysFor}
 
 -- nothing was left of marks
 nothing_left : (keeper : Option CookieAt) (v w : View) → IsPrefix v.trail.steps w.trail.steps → w.allowance ≡ v.allowance
@@ -35,7 +34,7 @@ nothing_left keeper v w steps allowance waits seen = record {
   waits = waits;
 }
 
-same_left : (keeper : Option CookieAt) (v w : View) → w ≡ v → LeavesEnd keeper v w
+pub same_left : (keeper : Option CookieAt) (v w : View) → w ≡ v → LeavesEnd keeper v w
 same_left keeper v w e = nothing_left keeper v w (no_further v w (ap (λ (z : View). z.trail.steps) e)) (ap (λ (z : View). z.allowance) e)
     (ap (λ (z : View). z.counts.waits) e) (ap (λ (z : View). z.seen) e)
 
@@ -89,7 +88,7 @@ asked_left k c v (GivenUp latest) now w of asked = same_left (Some c) v w asked.
 
 given_left : (c : CookieAt) (v : View) (answer : Ask) (now : CookieAt) (s : SeatAt) (left : Option CookieAt) (t : SeatAt)
     → GivesBy answer now s left t → LeavesEnd (Some c) v s.view → LeavesEnd (Some c) v t.view
-given_left c v Over now s left t (n, is, gave, stays) before = first_left (Some c) v n s t gave before
+given_left c v Over now s left t (most, n, many, is, gave, stays) before = first_left (Some c) v n s t gave before
 given_left c v (NotYet why) now s left t gives before = subst (λ (z : SeatAt). LeavesEnd (Some c) v z.view) (sym gives.1) before
 given_left c v (GivenUp latest) now s left t gives before = subst (λ (z : SeatAt). LeavesEnd (Some c) v z.view) (sym gives.1) before
 
@@ -100,15 +99,6 @@ pub answered_left : (k : Shape) (keeper : Option CookieAt) (c : CookieAt) (s : S
 answered_left k keeper c s answer now between left t was of asked gives =
     subst (λ (o : Option CookieAt). LeavesEnd o s.view t.view) (sym was)
     (given_left c s.view answer now between left t gives (asked_left k c s.view answer now between.view of asked))
-
--- where there is no keeper nothing is asked
-pub tends_none : (c : CallerAt) → MayGoOn c → c.keeper ≡ None → Tends c c
-tends_none c may none = record {
-  index = record { way = refl; table = refl; salt = refl; cookie = refl };
-  tends = subst (λ (o : Option CookieAt). TendsTo (shape_of c.way c.table) o c.seat o c.seat) (sym none) (refl, refl);
-  leaves = same_left c.keeper c.seat.view c.seat.view refl;
-  may = may;
-}
 
 -- What becomes of both cookies.
 

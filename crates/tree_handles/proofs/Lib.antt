@@ -6,3 +6,4 @@ pub mod Callers
 pub mod Keeps
 pub mod Keepers
 pub mod Cookies
+pub mod Serving

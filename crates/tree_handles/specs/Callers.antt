@@ -1,7 +1,7 @@
 -- What a handle leads to, calls through it, and the numbers of their statuses.
 -- What a handle leads to.
 -- Source: docs/TREE_CALLS.md, "The tree's table".
-use Rattle.std.specs.Prelude.{◌≡◌, ℕ, ◌+◌, ◌-◌, ◌*◌, ◌<◌, ◌≤◌, Bool, false, Option, Some, None, ◌⊎◌, ℤ, pos, negsuc}
+use Rattle.std.specs.Prelude.{◌≡◌, ℕ, ◌+◌, ◌-◌, ◌*◌, ◌<◌, ◌≤◌, Bool, false, if◌then◌else◌, Option, Some, None, ◌⊎◌, ℤ, pos, negsuc}
 use Rattle.prcu_marks.specs.Marks.{most_tickets, updates_of}
 use Rattle.prcu_model.specs.Dictionary.{map_of}
 use Rattle.core_state.specs.declared.view.Section.{Section}
@@ -44,6 +44,11 @@ pub record IsSameCaller (c d : CallerAt) : Type 0 where
   pub salt : d.salt ≡ c.salt
   pub cookie : d.cookie ≡ c.cookie
   pub keeper : d.keeper ≡ c.keeper
+
+-- the keeper that stays beside a wait of the user: one that is over; a later wait gives up any other
+abbrev pub if_over : Option CookieAt → Option CookieAt
+if_over None = None
+if_over (Some c) = if c.over then Some c else None
 
 -- The keeper is there still; or there is none any more, since the place has begun a wait: a later one gives it up, and its slots may have gone
 -- back by one.

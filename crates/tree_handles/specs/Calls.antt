@@ -13,12 +13,13 @@ use Rattle.citrus_tree.specs.declared.comparing.Compared.{Compared}
 use Rattle.citrus_tree.specs.Deletes.{Begins, BeginsByLookup, FoundTwoChildren, WaitsOnceAtMost}
 use Rattle.citrus_tree.specs.Hops.{EndsWithin}
 use Rattle.citrus_tree.specs.Replies.{GaveWay, IsTold, Compares, TellsValue, room_of}
-use Rattle.citrus_tree.specs.Going.{KeepsSeat}
+use Rattle.citrus_tree.specs.declared.insert.Reuse.{Reuse}
+use Rattle.citrus_tree.specs.Going.{KeepsSeat, KeepsSeatBy, TakesBy}
 use Rattle.tree_lift.specs.declared.lifting.Aim.{Aim}
 use Rattle.tree_lift.specs.declared.lifting.Lifted.{Lifted}
 use Rattle.tree_lift.specs.Lifts.{LeavesNoUpdate, HasLifted as TriesTurns}
-use Rattle.tree_handles.specs.Callers.{CallerAt, AreOfOneIndex, IsSameCaller, KeepsCookie, KeepsKeeper, IsFilled, IsInside, MayGoOn}
-use Rattle.tree_handles.specs.Keepers.{SeesToKeeper}
+use Rattle.tree_handles.specs.Callers.{CallerAt, AreOfOneIndex, IsSameCaller, KeepsCookie, KeepsKeeper, StaysUnlessGone, IsFilled, IsInside, MayGoOn}
+use Rattle.tree_handles.specs.Keepers.{IsUnderWay, SeesToKeeper, ServesInsert, slot_for}
 use Rattle.tree_handles.specs.declared.status.Status.{Status}
 use Rattle.tree_handles.specs.declared.status.Status.TheVariants.{Done, Unchanged, Full, Moved, New, Different, Busy, Spent, Lost, Holds}
 use Rattle.prcu_marks.specs.Callers.{MeetsFronts, IsChain}
@@ -27,10 +28,22 @@ use Rattle.prcu_model.specs.Fronts.{told_lines, own_updates}
 use Rattle.prcu_model.specs.Dictionary.{Explains}
 use Rattle.prcu_model.specs.declared.operation.Reply.TheVariants as reply
 use Rattle.citrus_tree.specs.declared.comparing.Compared.TheVariants as compared
+use Rattle.citrus_tree.specs.declared.insert.Reuse.TheVariants as reuse
 
 -- how many steps a seat has made at least with which a call gives up
 abbrev pub patient_steps : ℕ
 patient_steps = 18446744073709551615
+
+-- what the tree's call is to take for a pair: an insert uses a slot of its keeper again, where that is over
+abbrev pub reuse_for : Op → CallerAt → Reuse
+reuse_for (Put key value) c = slot_for c.keeper c.seat.listed
+reuse_for _ c = reuse.Free
+
+-- So it took it, where the pair was added.
+abbrev pub UsesFor : Op → CallerAt → Told → SeatAt → Type 0
+UsesFor (Put key value) c told s =
+    told.reply ≡ reply.New → TakesBy (slot_for c.keeper c.seat.listed) c.seat.view.hands.spare c.seat s
+UsesFor _ c told s = Unit {0}
 
 -- The tree's call told this of the operation, and left this seat, with at most four tickets less. It began by a lookup of the key; a remove
 -- by that once its place had room for what it takes out. To `IsTold`, what the answer says, it adds what the call leaves.
@@ -38,7 +51,8 @@ pub record TreeTells (c : CallerAt) (op : Op) (told : Told) (s : SeatAt) : Type 
   pub table : s.table ≡ c.table
   pub answer : IsTold (shape_of c.way c.table) c.seat.view op told s.view
   pub begins : Begins (shape_of c.way c.table) c.seat.view op s.view
-  pub keeps : KeepsSeat 4 c.seat s
+  pub keeps : KeepsSeatBy 4 (reuse_for op c) c.seat s
+  pub uses : UsesFor op c told s
   pub informed : IsInformed s.view
 
 -- The caller has the seat as it was left, and may go on.
@@ -79,11 +93,20 @@ pub record IsLostBehind (d : CallerAt) : Type 0 where
 abbrev pub ComesBehind : Op → Told → SeatAt → CallerAt → Type 0
 ComesBehind op told s d = GoesOn s d ⊎ ((key : ℕ) × HasAdded key op told × (HasLifted key s d ⊎ IsLostBehind d))
 
+-- The keeper is there still, or gone, as over any call; or the insert used a slot of it.
+pub record MayServe (c d : CallerAt) : Type 0 where
+  pub kept : d.lost ≡ false → StaysUnlessGone c.keeper c.seat d.keeper d.seat ⊎ ServesInsert c.keeper d.keeper
+
+-- what becomes of the keeper over the operation
+abbrev pub KeepsKeeperBy : Op → CallerAt → CallerAt → Type 0
+KeepsKeeperBy (Put key value) c d = MayServe c d
+KeepsKeeperBy _ c d = KeepsKeeper c d
+
 -- The caller, which had four tickets or more, made the operation, and was told this by the tree's call. To `TreeTells`, which is of a seat, it
 -- adds the caller, and what comes behind the answer: a lift.
 pub record IsCalled (c : CallerAt) (op : Op) (told : Told) (d : CallerAt) : Type 0 where
   pub index : KeepsCookie c d
-  pub keeper : KeepsKeeper c d
+  pub keeper : KeepsKeeperBy op c d
   pub before : MayGoOn c
   pub enough : 4 ≤ c.seat.view.allowance.tickets
   pub answered : SeatAt
@@ -94,17 +117,17 @@ pub record IsCalled (c : CallerAt) (op : Op) (told : Told) (d : CallerAt) : Type
 -- tickets less.
 pub record IsBusy (op : Op) (c d : CallerAt) : Type 0 where
   pub index : KeepsCookie c d
-  pub keeper : KeepsKeeper c d
+  pub keeper : KeepsKeeperBy op c d
   pub before : MayGoOn c
   pub enough : 4 ≤ c.seat.view.allowance.tickets
   pub gave : GaveWay (shape_of c.way c.table) c.seat.view op d.seat.view
   pub begins : Begins (shape_of c.way c.table) c.seat.view op d.seat.view
-  pub keeps : KeepsSeat 4 c.seat d.seat
+  pub keeps : KeepsSeatBy 4 (reuse_for op c) c.seat d.seat
   pub may : MayGoOn d
 
 -- A reader is known to stay: the keeper isn't over, though the place keeps this many slots back.
 pub record MeetsLastingReader (c : CallerAt) : Type 0 where
-  pub going : c.keeper ≢ None
+  pub going : IsUnderWay c.keeper
   pub many : 48 ≤ length c.seat.listed
 
 -- A remove found two children at the key's node, and made no update. Then the node was turned down, or that was given up: no update was made
@@ -188,7 +211,7 @@ IsHinderedBy needed status c d = IsStoppedBy status c d
 pub record LacksRoom (c d : CallerAt) : Type 0 where
   pub same : d ≡ c
   pub may : MayGoOn c
-  pub going : c.keeper ≢ None
+  pub going : IsUnderWay c.keeper
   pub full : c.table.room ≤ length c.seat.listed + 1
 
 -- Why the update of a caller that is ready for it wasn't made.

@@ -7,7 +7,7 @@ use Rattle.seat_table.specs.Sections.{HasEntered, EntersBy, HasLeft, HasBegun}
 use Rattle.seat_table.specs.Seats.{SeatAt, shape_of, way_of}
 use Rattle.seat_table.specs.Waits.{HasWaited}
 use Rattle.citrus_tree.specs.Lookups.{HoldsOrNot, Releases}
-use Rattle.tree_handles.specs.Callers.{CallerAt, IsSameCaller, IsInside, MayGoOn, AreOfOneIndex, KeepsCookie}
+use Rattle.tree_handles.specs.Callers.{if_over, CallerAt, IsSameCaller, IsInside, MayGoOn, AreOfOneIndex, KeepsCookie}
 use Rattle.tree_handles.specs.Calls.{IsSpent, IsStoppedBy, IsWaitFree}
 use Rattle.tree_handles.specs.Lists.{IsLeft}
 use Rattle.tree_handles.specs.declared.status.Status.{Status}
@@ -72,7 +72,7 @@ EndsOutside s t = HasLeft s.view t.view ⊎ ((s.view.section ≡ None) × (t ≡
 -- The caller waited for the sections with these keys, by one ticket.
 pub record HasOutwaited (c : CallerAt) (keys : Interval) (d : CallerAt) : Type 0 where
   pub index : KeepsCookie c d
-  pub keeper : d.keeper ≡ None
+  pub keeper : d.keeper ≡ if_over c.keeper
   pub before : MayGoOn c
   pub some : keys.low ≤ keys.high
   pub waited : HasWaited (shape_of c.way c.table) c.seat.view keys.low keys.high d.seat.view
@@ -100,7 +100,7 @@ pub record HasCookieOf (keys : Interval) (number : ℕ) (d : CallerAt) : Type 0 
 -- and that of no earlier wait.
 pub record HasStarted (c : CallerAt) (keys : Interval) (number : ℕ) (d : CallerAt) : Type 0 where
   pub index : AreOfOneIndex c d
-  pub keeper : d.keeper ≡ None
+  pub keeper : d.keeper ≡ if_over c.keeper
   pub before : MayGoOn c
   pub some : keys.low ≤ keys.high
   pub enough : 1 ≤ c.seat.view.allowance.tickets

@@ -1,19 +1,22 @@
 -- The cookies of a caller: the one that its user may ask about, and its keeper, by which it gives retired slots back without waiting.
 -- What is done about the keeper before an update.
 -- Source: docs/TREE_CALLS.md, "Cookies".
-use Rattle.std.specs.Prelude.{◌≡◌, ◌≢◌, ◌⊎◌, ℕ, ◌+◌, ◌-◌, ◌*◌, ◌/◌, ◌≤◌, false, min, List, [], ◌∷◌, length, Option, Some, None}
+use Rattle.std.specs.Prelude.{◌≡◌, ◌≢◌, ◌⊎◌, ℕ, ◌+◌, ◌-◌, ◌*◌, ◌/◌, ◌<◌, ◌≤◌, ◌==◌, if◌then◌else◌, true, false, min, List, [], ◌∷◌, length, Option, Some, None}
 use Rattle.prcu_marks.specs.declared.mark.Mark.{Mark}
 use Rattle.prcu_marks.specs.declared.mark.Mark.TheVariants.{Ended}
 use Rattle.prcu_marks.specs.Marks.{greatest_key}
 use Rattle.core_state.specs.declared.shape.Shape.{Shape}
+use Rattle.core_state.specs.declared.view.Held.{Held}
 use Rattle.core_state.specs.declared.view.View.{View}
 use Rattle.seat_table.specs.Sections.{HasBegun}
-use Rattle.seat_table.specs.Seats.{SeatAt, shape_of}
+use Rattle.seat_table.specs.Seats.{IsLastFound, SeatAt, shape_of}
 use Rattle.tree_points.specs.Points.{HasAdvanced}
 use Rattle.grace_cookie.specs.declared.answers.Ask.{Ask}
 use Rattle.grace_cookie.specs.declared.answers.Ask.TheVariants.{Over, NotYet, GivenUp}
-use Rattle.grace_cookie.specs.Cookies.{CookieAt, everybody, IsOf, HasKept, IsSameCookie, Asked, GivesFirst}
+use Rattle.citrus_tree.specs.declared.insert.Reuse.{Reuse}
+use Rattle.grace_cookie.specs.Cookies.{CookieAt, everybody, IsOf, HasKept, IsSameCookie, Asked, GivesFirst, less_one}
 use Rattle.tree_handles.specs.Callers.{CallerAt, KeepsCookie, MayGoOn}
+use Rattle.citrus_tree.specs.declared.insert.Reuse.TheVariants as reuse
 
 -- The cookie of a caller, if it has one, wasn't found over, and is of the seat that knows this.
 pub record HasCookie (k : Shape) (cookie : Option CookieAt) (v : View) : Type 0 where
@@ -29,18 +32,40 @@ pub record HasCookies (k : Shape) (cookie keeper : Option CookieAt) (s : SeatAt)
   pub of_caller : HasKeeper k keeper s
   pub apart : (c other : CookieAt) → keeper ≡ Some c → cookie ≡ Some other → other.count ≢ c.count
 
+-- The keeper is under way: its wait isn't over.
+abbrev pub IsUnderWay : Option CookieAt → Type 0
+IsUnderWay keeper = (c : CookieAt) × (keeper ≡ Some c) × (c.over ≡ false)
+
 -- so many slots go back at a time, at most
 abbrev pub most_given : ℕ
 most_given = 256
+
+-- with so many slots kept back none stays for inserts: with three quarters of the room, where that is less than 48
+abbrev pub many_to_stay : ℕ → ℕ
+many_to_stay room = min 48 (room - room / 4)
+
+-- The slots of a keeper that is over may stay for inserts of its handle: few are kept back, and the handle last found 48 free or more.
+pub record MayStay (s : SeatAt) : Type 0 where
+  pub few : length s.listed < many_to_stay s.table.room
+  pub free : (seen : ℕ) → IsLastFound s.table.slots seen s.view.latest.free → 48 ≤ seen
+
+-- But for one, which becomes the spare where the place has none.
+abbrev pub one_as_spare : Option Held → ℕ
+one_as_spare None = 1
+one_as_spare (Some held) = 0
+
+-- so many slots of a keeper that is over go back now, at most
+abbrev pub GoBackNow : SeatAt → ℕ → Type 0
+GoBackNow s most = (MayStay s × (most ≡ one_as_spare s.view.hands.spare)) ⊎ ((MayStay s → ⊥) × (most ≡ most_given))
 
 -- The keeper stays as long as slots of it are left.
 abbrev pub StaysFor : CookieAt → Option CookieAt → Type 0
 StaysFor c left = ((c.slots ≡ 0) × (left ≡ None)) ⊎ ((1 ≤ c.slots) × (left ≡ Some c))
 
--- By the answer about the keeper. Where it is over the first of its slots went back, and it is kept for the others. Where it isn't, it is kept
--- as it is. Where it was given up there is none any more.
+-- By the answer about the keeper. Where it is over the first of its slots went back, unless they may stay, and it is kept for the others.
+-- Where it isn't, it is kept as it is. Where it was given up there is none any more.
 abbrev pub GivesBy : Ask → CookieAt → SeatAt → Option CookieAt → SeatAt → Type 0
-GivesBy Over keeper s left t = (n : ℕ) × (n ≡ min keeper.slots most_given) × GivesFirst n s t
+GivesBy Over keeper s left t = (most n : ℕ) × GoBackNow s most × (n ≡ min keeper.slots most) × GivesFirst n s t
     × StaysFor (record keeper { slots = keeper.slots - n }) left
 GivesBy (NotYet why) keeper s left t = (left ≡ Some keeper) × (t ≡ s)
 GivesBy (GivenUp latest) keeper s left t = (left ≡ None) × (t ≡ s)
@@ -126,3 +151,26 @@ pub record SeesToKeeper (c d : CallerAt) : Type 0 where
   pub begun : CallerAt
   pub starts : StartsKeeper c begun
   pub tends : Tends begun d
+
+-- The slots of a keeper that serve inserts.
+-- Source: docs/TREE_CALLS.md, "Cookies".
+
+-- what an insert is to take: the first slot of a keeper that is over, else a free one
+abbrev pub slot_for : Option CookieAt → List ℕ → Reuse
+slot_for None listed = reuse.Free
+slot_for (Some c) [] = reuse.Free
+slot_for (Some c) (slot ∷ rest) = if c.over then (if c.slots == 0 then reuse.Free else reuse.Retired slot) else reuse.Free
+
+-- An insert used a slot of the keeper again, which is over. It stays as long as others of its slots are left.
+pub record ServesInsert (keeper left : Option CookieAt) : Type 0 where
+  pub c : CookieAt
+  pub keeper_is : keeper ≡ Some c
+  pub over : c.over ≡ true
+  pub some : 1 ≤ c.slots
+  pub stays : StaysFor (less_one c) left
+
+-- What becomes of the keeper behind a remove, before which the place had begun so many waits. It stays where it has begun none since; and where
+-- more slots are listed than a remove leaves that gave all back it may stay, since none went back.
+abbrev pub StaysBehind : ℕ → Option CookieAt → SeatAt → Option CookieAt → Type 0
+StaysBehind waits keeper t left = ((left ≡ keeper) × ((t.view.counts.waits ≡ waits) ⊎ (3 ≤ length t.listed)))
+    ⊎ ((left ≡ None) × (t.view.counts.waits ≢ waits))

@@ -1,39 +1,39 @@
 //! What a handle leads to, by its waiter: a seat, and what it shares with the other callers of the index.
 ghost use Rattle.std.specs.Prelude.{◌≡◌, ◌≤◌, ◌<◌, ◌+◌, false, true, MatchBool, IfOk, IfErr, IfNone, IfSome};
 ghost use Rattle.prcu_model.specs.declared.operation.Op.TheVariants.{Get, Put, Set};
-ghost use Rattle.seat_table.specs.Seats.{IsEmptyFor, IsQuietSeat};
+ghost use Rattle.seat_table.specs.Seats.{IsQuietSeat};
 ghost use Rattle.seat_table.specs.Sections.{IsQuietButSection};
-ghost use Rattle.core_state.specs.Steps.{first_of, second_of};
 ghost use Rattle.seat_table.specs.Gains.{IsInformed};
 ghost use Rattle.core_state.specs.Memory.{most_places, most_slots};
 ghost use Rattle.tree_handles.specs.Holds.{HasStarted, Polls, EndsOutside, HasHeld, HasOutwaited, IsEntered, LeavesSection};
-ghost use Rattle.tree_handles.specs.Callers.{IsSameCaller, KeepsCookie, KeepsKeeper, MayGoOn, IsFresh, IsShared, IsReopened, slots_for};
-ghost use Rattle.tree_handles.specs.Opening.{FailsToReopen, HasStats};
+ghost use Rattle.tree_handles.specs.Callers.{KeepsCookie, KeepsKeeper, MayGoOn, IsFresh, slots_for};
+ghost use Rattle.tree_handles.specs.Opening.{HasStats};
 ghost use Rattle.tree_handles.specs.Calls.{ComesBehind, IsCalled, IsCalledTended, IsCompared, IsLost, IsWaitFree, CausedBy, CausedTended, IsHinderedBy, IsStoppedBy, LacksRoom};
 ghost use Rattle.tree_handles.specs.Keepers.{SeesToKeeper, StartsKeeper, Tends};
-ghost use Rattle.tree_handles.specs.Lanes.{HasLanes, AreEmptyFor};
 ghost use Rattle.tree_handles.specs.Lists.{IsPreventedBy, Lists, Seeks};
 ghost use Rattle.tree_handles.specs.Tidying.{GivesBack, HasNoneBack, LiftsWay};
 
+mod dividing;
 mod removing;
 
-use crate::keeper::{begin_if_many, forget_if, tend};
-use crate::lane_seats::LaneSeats;
+use crate::keeper::{
+    begin_if_many, count_reused, forget_if, give_up_unless_over, is_at_rest, is_under_way,
+    slot_for_insert, tend,
+};
 use crate::shared::Shared;
 use crate::spinning::{GaveUp, InTheWay, Spinning};
 use crate::stats::Stats;
 use crate::status::Status;
 use crate::tidying::attempts_for;
-use citrus_tree::patient::{compare, put, set};
+use citrus_tree::patient::{compare, put_reusing, set};
 use citrus_tree::{Called, Compared, get, hold, release};
-use core::mem::replace_with;
 use exact_list::patient::{list_always, nearest_always};
 use exact_list::{Exact, Nearest, Page};
 use grace_cookie::{Ask, Cookie, ask, start};
 use key_interval::Keys;
 use prcu_marks::{OpenGate, Side};
 use prcu_model::{NoMemory, Op, Reply, Told};
-use seat_table::{CitrusTable, Listed, Seat, WaitPart, wait_in_grace};
+use seat_table::{CitrusTable, Seat, WaitPart, wait_in_grace};
 use std::alloc::Global;
 use std::marker::Model;
 use std::sync::Arc;
@@ -45,10 +45,8 @@ pub(crate) const TICKETS: u64 = 4;
 /// How many tickets a wait uses.
 const WAIT_TICKETS: u64 = 1;
 
-/// What a lane gets of the handles and tickets of its caller.
-const ONE_HANDLE: u32 = 1;
-
-const NO_TICKET: u64 = 0;
+/// The place of the first caller of an index.
+const FIRST_PLACE: u32 = 0;
 
 /// How many tickets the lift behind an insert may use: three for each of 24 attempts.
 const LIFT_TICKETS: u64 = 72;
@@ -75,6 +73,8 @@ pub(crate) struct Caller<W: WaitPart> {
     keeper: Option<Cookie<W>>,
     // Whether the way of the last pair that it added was far too deep.
     too_deep: bool,
+    // How it waits for others.
+    spinning: Spinning,
 }
 
 impl<W: WaitPart> Model for Caller<W> {
@@ -113,6 +113,7 @@ impl<W: WaitPart> Drop for Caller<W> {
             cookie: _,
             keeper: _,
             too_deep: _,
+            spinning: _,
         } = self;
         if lost {
             return;
@@ -135,30 +136,6 @@ fn outside<W: WaitPart>(table: &CitrusTable<W>, mut seat: Seat<W>) -> Seat<W>
     }
     release(table, &mut seat);
     seat
-}
-
-/// What a seat gives away, and the table that it is of.
-#[derive(Drop)]
-struct Gift<'a, W: WaitPart> {
-    table: &'a CitrusTable<W>,
-    handles: u32,
-    tickets: u64,
-    list: Listed,
-}
-
-fn divide<W: WaitPart>(seat: Seat<W>, gift: Gift<W>) -> (Seat<W>, Seat<W>)
-    requires table { seat.table ≡ gift.table.now }
-    requires list { IsEmptyFor seat.table gift.list }
-    requires quiet { IsQuietSeat seat }
-    requires handles { (1 ≤ gift.handles) × (gift.handles < seat.view.allowance.places) }
-    requires tickets { gift.tickets ≤ seat.view.allowance.tickets }
-    ensures tables { (result.0.table ≡ seat.table) × (result.1.table ≡ seat.table) }
-    ensures listed { result.0.listed ≡ seat.listed }
-    ensures first { result.0.view ≡ first_of gift.entry.handles gift.entry.tickets seat.view }
-    ensures second { result.1.view ≡ second_of gift.entry.handles gift.entry.tickets seat.view }
-    ensures quiet { IsQuietSeat result.0 × IsQuietSeat result.1 }
-{
-    seat.split(gift.table, gift.handles, gift.tickets, gift.list)
 }
 
 impl<W: WaitPart> Caller<W> {
@@ -185,6 +162,7 @@ impl<W: WaitPart> Caller<W> {
         let (table, seat) = CitrusTable::<W>::with_room(alloc, slots, handles, keep, ALL_TICKETS)?;
         match Arc::new(alloc, Shared::new(alloc, table, handles)?) {
             Ok(shared) => Ok(Caller {
+                spinning: Spinning::new(FIRST_PLACE, handles),
                 shared,
                 seat,
                 lost: false,
@@ -272,13 +250,13 @@ impl<W: WaitPart> Caller<W> {
         Ok(get(self.shared.table(), &mut self.seat, &OpenGate, key))
     }
 
-    // Asks about the keeper once, and gives slots back by it.
+    // Asks about the keeper once, and gives slots back by it that don't stay for inserts.
     #[inline(always)]
     fn tend(&mut self)
         requires may { MayGoOn self.old }
         ensures { Tends self.old self.new }
     {
-        if self.keeper.is_none() {
+        if is_at_rest(&self.seat, &self.keeper) {
             return;
         }
         let keeper = self.keeper.take();
@@ -345,12 +323,25 @@ impl<W: WaitPart> Caller<W> {
         ensures cause { IfErr result (λ status. CausedBy (Put key value) status self.old self.new) }
     {
         let table = self.shared.table();
+        let reuse = slot_for_insert(&self.seat, &self.keeper);
         let waits = self.seat.waits();
-        let answer = put(&Spinning, table, &mut self.seat, &OpenGate, key, value);
+        let kept = self.seat.retired().len();
+        let patience = self.spinning.for_call(self.shared.queue());
+        let answer = put_reusing(
+            &patience,
+            table,
+            &mut self.seat,
+            &OpenGate,
+            key,
+            value,
+            reuse,
+        );
         forget_if(self.seat.waits() != waits, &mut self.keeper);
+        let reused = self.seat.retired().len() < kept;
+        count_reused(reused, &mut self.keeper);
         match answer {
             Ok(Ok(called)) => {
-                self.lift_behind(Op::Put { key, value }, called);
+                self.lift_behind(Op::Put { key, value }, called, reused);
                 Ok(called.told)
             }
             Ok(Err(InTheWay)) => Err(Status::Busy),
@@ -372,7 +363,8 @@ impl<W: WaitPart> Caller<W> {
         }
         let table = self.shared.table();
         let waits = self.seat.waits();
-        let answer = set(&Spinning, table, &mut self.seat, &OpenGate, key, value);
+        let patience = self.spinning.for_call(self.shared.queue());
+        let answer = set(&patience, table, &mut self.seat, &OpenGate, key, value);
         forget_if(self.seat.waits() != waits, &mut self.keeper);
         match answer {
             Ok(Ok(told)) => Ok(told),
@@ -390,13 +382,23 @@ impl<W: WaitPart> Caller<W> {
         ensures holds { result ≡ true → LacksRoom self.now self.now }
         ensures fails { result ≡ false → LacksRoom self.now self.now → ⊥ }
     {
-        self.keeper.is_some() && self.seat.retired().len() + 1 >= self.seat.room()
+        is_under_way(&self.keeper) && self.seat.retired().len() + 1 >= self.seat.room()
     }
 
-    // Lifts nodes on the way to a key that was added, where the way was deep and there are tickets for it. What bounds the pairs is known
-    // without a step: the slots that weren't free when the seat reserved the key's. Where the lift gives up the caller is lost from now on.
+    // How many pairs there are at most, by what is known without a step: the slots that weren't free when the seat reserved one for its pair; or
+    // all, where it used a slot again, since what it last found free may be long ago.
+    fn most_now(&self, reused: bool) -> u64 {
+        let slots = u64::from(self.shared.table().slots());
+        if reused {
+            return slots;
+        }
+        most_keys(slots, self.seat.free_seen())
+    }
+
+    // Lifts nodes on the way to a key that was added, where the way was deep and there are tickets for it. Where the lift gives up the caller is
+    // lost from now on.
     #[inline(always)]
-    fn lift_behind(&mut self, op: Op, called: Called)
+    fn lift_behind(&mut self, op: Op, called: Called, reused: bool)
         requires may { MayGoOn self.old }
         requires informed { IsInformed self.old.seat.view }
         ensures index { KeepsCookie self.old self.new }
@@ -409,10 +411,7 @@ impl<W: WaitPart> Caller<W> {
         let Reply::New = called.told.reply else {
             return;
         };
-        let most = most_keys(
-            u64::from(self.shared.table().slots()),
-            self.seat.free_seen(),
-        );
+        let most = self.most_now(reused);
         self.too_deep = is_far_too_deep(called.depth, most);
         let attempts = attempts_behind(called.depth, most);
         if attempts == 0 || self.seat.tickets() < LIFT_TICKETS {
@@ -422,10 +421,11 @@ impl<W: WaitPart> Caller<W> {
             key,
             salt: self.salt,
             attempts,
-            hard: self.too_deep && self.keeper.is_none(),
+            hard: self.too_deep && !is_under_way(&self.keeper),
         };
         let waits = self.seat.waits();
-        let lifted = lift(&Spinning, self.shared.table(), &mut self.seat, aim);
+        let patience = self.spinning.for_call(self.shared.queue());
+        let lifted = lift(&patience, self.shared.table(), &mut self.seat, aim);
         forget_if(self.seat.waits() != waits, &mut self.keeper);
         match lifted {
             Ok(_) => (),
@@ -448,8 +448,9 @@ impl<W: WaitPart> Caller<W> {
         }
         let table = self.shared.table();
         let waits = self.seat.waits();
+        let patience = self.spinning.for_call(self.shared.queue());
         let answer = compare(
-            &Spinning,
+            &patience,
             table,
             &mut self.seat,
             &OpenGate,
@@ -479,7 +480,8 @@ impl<W: WaitPart> Caller<W> {
             return Err(status);
         }
         let table = self.shared.table();
-        match list_always(&Spinning, table, &mut self.seat, keys, page, TRIES) {
+        let patience = self.spinning.for_call(self.shared.queue());
+        match list_always(&patience, table, &mut self.seat, keys, page, TRIES) {
             Ok(Ok(exact)) => Ok(exact),
             Ok(Err(InTheWay)) => Err(Status::Busy),
             Err(GaveUp) => {
@@ -499,7 +501,8 @@ impl<W: WaitPart> Caller<W> {
             return Err(status);
         }
         let table = self.shared.table();
-        match nearest_always(&Spinning, table, &mut self.seat, side, from, TRIES) {
+        let patience = self.spinning.for_call(self.shared.queue());
+        match nearest_always(&patience, table, &mut self.seat, side, from, TRIES) {
             Ok(Ok(nearest)) => Ok(nearest),
             Ok(Err(InTheWay)) => Err(Status::Busy),
             Err(GaveUp) => {
@@ -555,10 +558,10 @@ impl<W: WaitPart> Caller<W> {
         if let Some(status) = self.hindrance(WAIT_TICKETS) {
             return Err(status);
         }
-        // A later wait gives the keeper up.
-        self.keeper = None;
+        give_up_unless_over(&mut self.keeper);
         let table = self.shared.table();
-        match wait_in_grace(&Spinning, table, &mut self.seat, &OpenGate, keys) {
+        let patience = self.spinning.for_call(self.shared.queue());
+        match wait_in_grace(&patience, table, &mut self.seat, &OpenGate, keys) {
             Ok(()) => Ok(()),
             Err(GaveUp) => {
                 self.lost = true;
@@ -575,8 +578,7 @@ impl<W: WaitPart> Caller<W> {
         if let Some(status) = self.hindrance(WAIT_TICKETS) {
             return Err(status);
         }
-        // A later wait gives the keeper up.
-        self.keeper = None;
+        give_up_unless_over(&mut self.keeper);
         let cookie = start(self.shared.table(), &mut self.seat, keys);
         let number = cookie.number();
         self.cookie = Some(cookie);
@@ -625,7 +627,8 @@ impl<W: WaitPart> Caller<W> {
             hard: true,
         };
         let waits = self.seat.waits();
-        let answer = lift(&Spinning, table, &mut self.seat, aim);
+        let patience = self.spinning.for_call(self.shared.queue());
+        let answer = lift(&patience, table, &mut self.seat, aim);
         forget_if(self.seat.waits() != waits, &mut self.keeper);
         match answer {
             Ok(lifted) => Ok(lifted),
@@ -645,7 +648,8 @@ impl<W: WaitPart> Caller<W> {
         ensures lost { IfErr result (λ _. IsLost self.old self.new) }
     {
         let table = self.shared.table();
-        match give_all_back(&Spinning, table, &mut self.seat) {
+        let patience = self.spinning.for_call(self.shared.queue());
+        match give_all_back(&patience, table, &mut self.seat) {
             Ok(true) => {
                 self.keeper = None;
                 Ok(true)
@@ -655,120 +659,6 @@ impl<W: WaitPart> Caller<W> {
                 self.lost = true;
                 Err(GaveUp)
             }
-        }
-    }
-
-    /// A second caller on the same table, which gets so many of the unused handles and tickets; or none, where memory is short, or the table
-    /// has as many owners as can be counted, and then nothing has changed.
-    pub(crate) fn share(&mut self, alloc: Global, handles: u32, tickets: u64) -> Option<Caller<W>>
-        requires may { MayGoOn self.old }
-        requires handles { (1 ≤ handles) × (handles < self.old.seat.view.allowance.places) }
-        requires tickets { tickets ≤ self.old.seat.view.allowance.tickets }
-        ensures none { IfNone result (self.new ≡ self.old) }
-        ensures shared { IfSome result (λ other. IsShared self.old handles tickets self.new other) }
-    {
-        let Ok(list) = self.seat.empty_list(alloc) else {
-            return None;
-        };
-        let Ok(shared) = Arc::try_clone(&self.shared) else {
-            return None;
-        };
-        let seat = self.split_off(handles, tickets, list);
-        Some(Caller {
-            shared,
-            seat,
-            lost: false,
-            salt: self.salt,
-            cookie: None,
-            keeper: None,
-            too_deep: false,
-        })
-    }
-
-    // Splits off a seat, which gets so many of the unused handles and tickets, and this list.
-    fn split_off(&mut self, handles: u32, tickets: u64, list: Listed) -> Seat<W>
-        requires may { MayGoOn self.old }
-        requires list { IsEmptyFor self.old.table list }
-        requires handles { (1 ≤ handles) × (handles < self.old.seat.view.allowance.places) }
-        requires tickets { tickets ≤ self.old.seat.view.allowance.tickets }
-        ensures index { IsSameCaller self.old self.new }
-        ensures first { self.new.seat.view ≡ first_of handles tickets self.old.seat.view }
-        ensures first_may { MayGoOn self.new }
-        ensures second { result.view ≡ second_of handles tickets self.old.seat.view }
-        ensures table { result.table ≡ self.old.table }
-        ensures quiet { IsQuietSeat result }
-    {
-        let gift = Gift {
-            table: self.shared.table(),
-            handles,
-            tickets,
-            list,
-        };
-        replace_with(&mut self.seat, gift, divide)
-    }
-
-    // So many lists for seats that are to be split off, or none where memory is short.
-    fn empty_lists(&self, alloc: Global, count: u32) -> Option<Vec<Listed>>
-        ensures { IfSome result (λ lists. AreEmptyFor self.now.table count lists.items) }
-    {
-        let Ok(mut lists) = Vec::with_capacity(alloc, count as usize) else {
-            return None;
-        };
-        for made in 0..count {
-            let Ok(list) = self.seat.empty_list(alloc) else {
-                return None;
-            };
-            lists.push_reserved(list);
-        }
-        Some(lists)
-    }
-
-    /// So many lanes, each with one of the unused handles and no ticket; or none, where memory is short, or the table has as many owners as can
-    /// be counted, and then nothing has changed.
-    pub(crate) fn lanes(&mut self, alloc: Global, count: u32) -> Option<LaneSeats<W>>
-        requires may { MayGoOn self.old }
-        requires count { (1 ≤ count) × (count ≤ 8) }
-        requires handles { count < self.old.seat.view.allowance.places }
-        ensures none { IfNone result (self.new ≡ self.old) }
-        ensures opened { IfSome result (λ lanes. HasLanes self.old count self.new lanes) }
-    {
-        let Some(mut lists) = self.empty_lists(alloc, count) else {
-            return None;
-        };
-        let Ok(shared) = Arc::try_clone(&self.shared) else {
-            return None;
-        };
-        let Ok(mut seats) = Vec::with_capacity(alloc, count as usize) else {
-            return None;
-        };
-        for given in 0..count {
-            let Some(list) = lists.pop() else {
-                unreachable!();
-            };
-            seats.push_reserved(self.split_off(ONE_HANDLE, NO_TICKET, list));
-        }
-        Some(LaneSeats::new(shared, seats))
-    }
-
-    /// Another caller on the same table, with a seat that a caller left.
-    pub(crate) fn reopen(&self) -> Result<Caller<W>, Status>
-        ensures reopened { IfOk result (λ other. IsReopened self.now other) }
-        ensures cause { IfErr result FailsToReopen }
-    {
-        let Ok(shared) = Arc::try_clone(&self.shared) else {
-            return Err(Status::NoMemory);
-        };
-        match shared.take() {
-            Some(seat) => Ok(Caller {
-                shared,
-                seat,
-                lost: false,
-                salt: self.salt,
-                cookie: None,
-                keeper: None,
-                too_deep: false,
-            }),
-            None => Err(Status::Unchanged),
         }
     }
 }

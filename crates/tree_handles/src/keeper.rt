@@ -1,10 +1,13 @@
 //! The keeper: the cookie by which a caller gives its retired slots back, and never stands still for readers meanwhile.
-ghost use Rattle.std.specs.Prelude.{◌≡◌, ◌<◌, true, false, Option, Some, None};
-ghost use Rattle.grace_cookie.specs.Cookies.{CookieAt};
+ghost use Rattle.std.specs.Prelude.{◌≡◌, ◌<◌, ◌≤◌, true, false, Option, Some, None};
+ghost use Rattle.core_state.specs.declared.shape.Shape.{Shape};
+ghost use Rattle.grace_cookie.specs.Cookies.{CookieAt, less_one};
 ghost use Rattle.seat_table.specs.Seats.{IsQuietSeat, shape_of};
 ghost use Rattle.grace_cookie.specs.declared.answers.Ask.TheVariants.{Over};
-ghost use Rattle.tree_handles.specs.Keepers.{BeginsKeeper, CanBegin, GivesBy, HasCookies, HasKeeper, HasLatest, LeavesEnd, MakesWay, TendsTo};
+ghost use Rattle.tree_handles.specs.Callers.{if_over};
+ghost use Rattle.tree_handles.specs.Keepers.{BeginsKeeper, CanBegin, GivesBy, GoBackNow, HasCookies, HasKeeper, HasLatest, IsUnderWay, LeavesEnd, MakesWay, MayStay, StaysBehind, StaysFor, TendsTo, slot_for};
 
+use citrus_tree::Reuse;
 use grace_cookie::{Ask, Cookie, ask, give_some, start};
 use key_interval::Keys;
 use seat_table::{CitrusTable, Seat, WaitPart};
@@ -12,13 +15,24 @@ use seat_table::{CitrusTable, Seat, WaitPart};
 /// How many slots go back at a time, at most. So an update stays short, and gives back more than it retires.
 const MOST_GIVEN: u32 = 256;
 
+/// With so many slots kept back, or three quarters of the room where that is less, none stays for inserts: a remove is to find room, and a later
+/// keeper to begin.
+const MANY_TO_STAY: usize = 48;
+
+/// The slots of a keeper stay for inserts only where so many were free when its handle last asked: else others may need them.
+const FEW_FREE: u64 = 48;
+
 /// How many slots are kept before a keeper is begun, or half of the room where that is less. With fewer each keeper would be worth little.
 const MANY_KEPT: usize = 32;
+
+/// A remove that gave all retired slots back has retired so many at most since.
+const MOST_BEHIND_ALL: usize = 2;
 
 /// The tickets of a wait, and of the update behind it.
 const PAID: u64 = 5;
 
-/// Asks about the keeper once, where there is one. When it is over the first of its slots go back, and it is kept for the others.
+/// Asks about the keeper once, where there is one. When it is over its slots stay for inserts, or the first of them go back, and it is kept for
+/// the others.
 // Most updates have no keeper: they shouldn't save registers for one.
 #[inline(never)]
 pub(crate) fn tend<W: WaitPart>(
@@ -44,7 +58,44 @@ pub(crate) fn tend<W: WaitPart>(
     }
 }
 
-// Gives the first slots of a keeper back that is over. It is kept as long as there are others.
+/// Whether there is nothing to be done about the keeper before an update: there is none, or it is over, and its slots stay for inserts.
+#[inline(always)]
+pub(crate) fn is_at_rest<W: WaitPart>(seat: &Seat<W>, keeper: &Option<Cookie<W>>) -> bool
+    ensures { (k : Shape) → HasKeeper k keeper.now seat.now → result ≡ true → TendsTo k keeper.now seat.now keeper.now seat.now }
+{
+    let Some(keeper) = keeper else {
+        return true;
+    };
+    keeper.is_over() && keeper.slots() > 0 && most_to_give(seat) == 0
+}
+
+// Whether the slots of a keeper that is over may stay for inserts. A remove that finds no room would stand still, or be busy, and a place with many
+// slots is to begin a keeper for the later ones.
+#[inline(always)]
+fn may_stay<W: WaitPart>(seat: &Seat<W>) -> bool
+    ensures holds { result ≡ true → MayStay seat.now }
+    ensures fails { result ≡ false → MayStay seat.now → ⊥ }
+{
+    let room = seat.room();
+    seat.retired().len() < MANY_TO_STAY.min(room - room / 4) && seat.free_seen() >= FEW_FREE
+}
+
+// How many slots of a keeper that is over go back now, at most. Those that stay serve inserts without the free count, a word that all updates
+// exchange.
+#[inline(always)]
+fn most_to_give<W: WaitPart>(seat: &Seat<W>) -> u32
+    ensures { GoBackNow seat.now result }
+{
+    if !may_stay(seat) {
+        return MOST_GIVEN;
+    }
+    match seat.spare() {
+        Some(_spare) => 0,
+        None => 1,
+    }
+}
+
+// Gives the first slots of a keeper back that is over, as many as are to go back now. It is kept as long as there are others.
 fn give<W: WaitPart>(
     table: &CitrusTable<W>,
     seat: &mut Seat<W>,
@@ -60,8 +111,9 @@ fn give<W: WaitPart>(
     ensures cookies { (cookie : Option CookieAt) → HasCookies (shape_of W.WAY table.now) cookie (Some keeper) seat.old
         → HasCookies (shape_of W.WAY table.now) cookie result seat.new }
 {
+    let most = most_to_give(seat);
     let mut left = keeper;
-    give_some(table, seat, &mut left, MOST_GIVEN);
+    give_some(table, seat, &mut left, most);
     if left.slots() == 0 {
         return None;
     }
@@ -137,6 +189,82 @@ pub(crate) fn begin_if_many<W: WaitPart>(
     if can_begin(seat, keeper, cookie) {
         *keeper = Some(start(table, seat, Keys::all()));
     }
+}
+
+/// Whether the keeper is under way: its wait isn't over.
+pub(crate) fn is_under_way<W: WaitPart>(keeper: &Option<Cookie<W>>) -> bool
+    ensures holds { result ≡ true → IsUnderWay keeper.now }
+    ensures fails { result ≡ false → IsUnderWay keeper.now → ⊥ }
+{
+    let Some(keeper) = keeper else {
+        return false;
+    };
+    !keeper.is_over()
+}
+
+/// What stays of the keeper beside a wait of the user: one that is over. A later wait gives up any other.
+#[inline(always)]
+pub(crate) fn give_up_unless_over<W: WaitPart>(keeper: &mut Option<Cookie<W>>)
+    ensures { keeper.new ≡ if_over keeper.old }
+{
+    if is_under_way(keeper) {
+        *keeper = None;
+    }
+}
+
+/// What an insert is to take for its pair: the first slot of a keeper that is over.
+#[inline(always)]
+pub(crate) fn slot_for_insert<W: WaitPart>(seat: &Seat<W>, keeper: &Option<Cookie<W>>) -> Reuse
+    ensures { result ≡ slot_for keeper.now seat.now.listed }
+{
+    let Some(keeper) = keeper else {
+        return Reuse::Free;
+    };
+    let Some(slot) = seat.retired().first() else {
+        return Reuse::Free;
+    };
+    if !keeper.is_over() || keeper.slots() == 0 {
+        return Reuse::Free;
+    }
+    Reuse::Retired { slot: *slot }
+}
+
+/// Counts the slot of the keeper that an insert used again, where there is a keeper: with its last slot it is forgotten.
+#[inline(always)]
+pub(crate) fn count_reused<W: WaitPart>(used: bool, keeper: &mut Option<Cookie<W>>)
+    ensures used { (c : CookieAt) → keeper.old ≡ Some c → used ≡ true → 1 ≤ c.slots → StaysFor (less_one c) keeper.new }
+    ensures none { keeper.old ≡ None → keeper.new ≡ None }
+    ensures kept { used ≡ false → keeper.new ≡ keeper.old }
+{
+    if !used {
+        return;
+    }
+    let Some(mut held) = keeper.take() else {
+        return;
+    };
+    if held.slots() > 1 {
+        held.count_used();
+        *keeper = Some(held);
+    }
+}
+
+/// The keeper is forgotten where the place has begun a wait, and its slots may have gone back by it. One that is over stays where more slots are
+/// listed than a remove leaves that gave all back.
+#[inline(always)]
+pub(crate) fn forget_unless_kept<W: WaitPart>(
+    seat: &Seat<W>,
+    waits: u64,
+    keeper: &mut Option<Cookie<W>>,
+)
+    ensures { StaysBehind waits keeper.old seat.now keeper.new }
+{
+    if seat.waits() == waits {
+        return;
+    }
+    if !is_under_way(keeper) && seat.retired().len() > MOST_BEHIND_ALL {
+        return;
+    }
+    *keeper = None;
 }
 
 /// The keeper is forgotten where its slots may have gone back otherwise.

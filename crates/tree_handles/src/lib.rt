@@ -10,6 +10,7 @@ mod any_lanes;
 mod begun;
 mod caller;
 mod calls;
+mod front_queue;
 mod handle;
 mod holds;
 mod keeper;

@@ -2,6 +2,7 @@
 ghost use Rattle.std.specs.Prelude.{◌≡◌, IfOk, IfSome};
 ghost use Rattle.seat_table.specs.Seats.{IsQuietSeat};
 
+use crate::front_queue::FrontQueue;
 use counted_slot::{Counted, FREE, Fits, PRESENT, TAKEN};
 use prcu_model::NoMemory;
 use seat_table::{CitrusTable, Seat, WaitPart};
@@ -27,6 +28,8 @@ impl<W: WaitPart> Fits for Left<W> {
 pub(crate) struct Shared<W: WaitPart> {
     table: CitrusTable<W>,
     cells: Vec<Counted<Option<Left<W>>>, Global>,
+    // In which callers wait for the front.
+    queue: FrontQueue,
     // How many seats lie in the cells, less those that a call is about to take.
     count: AtomicU64,
 }
@@ -62,6 +65,7 @@ impl<W: WaitPart> Shared<W> {
         Ok(Shared {
             table,
             cells,
+            queue: FrontQueue::new(alloc, places)?,
             count: AtomicU64::new(0),
         })
     }
@@ -71,6 +75,12 @@ impl<W: WaitPart> Shared<W> {
         ensures { result.now ≡ self.now }
     {
         &self.table
+    }
+
+    /// The queue of those who wait for the front.
+    #[inline(always)]
+    pub(crate) fn queue(&self) -> &FrontQueue {
+        &self.queue
     }
 
     /// Leaves the seat for another caller. Its cell is free, since whoever took a seat out freed its cell first.

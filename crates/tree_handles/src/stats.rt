@@ -17,7 +17,7 @@ pub struct Stats {
     pub size: usize,
     /// How many slots can be free: as many as are free while the index is empty and no handle keeps one back.
     pub slots: u64,
-    /// How many slots were free when this handle last took one or gave one back; `slots` where it did neither yet.
+    /// How many slots were free when this handle last took a free one or gave one back; `slots` where it did neither yet.
     pub free: u64,
     /// How many waits for readers this handle and those that were joined to it began.
     pub waits: u64,

@@ -1,10 +1,10 @@
-use crate::handle::Handle;
+use crate::handle::KeyedHandle;
 use crate::library::*;
-use crate::Error;
+use crate::{Error, Key};
 use std::fmt;
 use std::marker::PhantomData;
 
-/// A read section: a [`wait`](Handle::wait) for its key that begins from here on, or a [`begin`](Handle::begin), isn't over before this guard
+/// A read section: a [`wait`](KeyedHandle::wait) for its key that begins from here on, or a [`begin`](KeyedHandle::begin), isn't over before this guard
 /// is dropped. So it is for a moment, as the guard of a lock.
 ///
 /// A guard that is forgotten, as by [`std::mem::forget`], leaves its section open until the next call of its handle, or until that is dropped.
@@ -18,26 +18,26 @@ use std::marker::PhantomData;
 /// sent(handle.enter(5).unwrap());
 /// ```
 #[must_use = "the section is left where it is dropped"]
-pub struct Section<'h> {
-    handle: &'h mut Handle,
-    key: u64,
+pub struct Section<'h, K = u64> {
+    handle: &'h mut KeyedHandle<K>,
+    key: K,
     stays_on_its_thread: PhantomData<*const ()>,
 }
 
-impl Section<'_> {
+impl<K: Key> Section<'_, K> {
     /// The key with which it was entered.
-    pub fn key(&self) -> u64 {
+    pub fn key(&self) -> K {
         self.key
     }
 }
 
-impl Drop for Section<'_> {
+impl<K> Drop for Section<'_, K> {
     fn drop(&mut self) {
         self.handle.leave();
     }
 }
 
-impl fmt::Debug for Section<'_> {
+impl<K: fmt::Debug> fmt::Debug for Section<'_, K> {
     fn fmt(&self, text: &mut fmt::Formatter<'_>) -> fmt::Result {
         text.debug_struct("Section").field("key", &self.key).finish_non_exhaustive()
     }
@@ -46,29 +46,29 @@ impl fmt::Debug for Section<'_> {
 /// A [`Section`] with the value that its key had when it was looked up in it.
 #[derive(Debug)]
 #[must_use = "the section is left where it is dropped"]
-pub struct Held<'h> {
-    section: Section<'h>,
+pub struct Held<'h, K = u64> {
+    section: Section<'h, K>,
     value: u64,
 }
 
-impl Held<'_> {
+impl<K: Key> Held<'_, K> {
     /// The key.
-    pub fn key(&self) -> u64 {
+    pub fn key(&self) -> K {
         self.section.key
     }
 
-    /// The key's value at a moment of the [`hold`](Handle::hold). Others may have replaced it or taken it out since.
+    /// The key's value at a moment of the [`hold`](KeyedHandle::hold). Others may have replaced it or taken it out since.
     pub fn value(&self) -> u64 {
         self.value
     }
 }
 
 /// Sections.
-impl Handle {
+impl<K: Key> KeyedHandle<K> {
     /// Looks the key up, and stays in a section of the key where it is present, until the guard is dropped. It takes no lock and waits for
     /// nobody.
     ///
-    /// So a value may stand for something of the caller's that is given up by who takes the pair out, after a [`wait`](Handle::wait) for the
+    /// So a value may stand for something of the caller's that is given up by who takes the pair out, after a [`wait`](KeyedHandle::wait) for the
     /// key: each section that found this value is left by then. [`Map`](crate::Map) is made so.
     ///
     /// # Errors
@@ -94,10 +94,10 @@ impl Handle {
     /// handle.remove(5).unwrap();
     /// drop(held);
     /// ```
-    pub fn hold(&mut self, key: u64) -> Result<Option<Held<'_>>, Error> {
-        let mut value = 0;
+    pub fn hold(&mut self, key: K) -> Result<Option<Held<'_, K>>, Error> {
+        let (word, mut value) = (key.encode(), 0);
         // SAFETY: as in `get`.
-        match self.call(|raw| unsafe { citrus_hold(raw, key, &mut value) }) {
+        match self.call(|raw| unsafe { citrus_hold(raw, word, &mut value) }) {
             status::DONE => Ok(Some(Held { section: self.entered(key), value })),
             status::UNCHANGED => Ok(None),
             status => Err(self.error(status)),
@@ -119,16 +119,17 @@ impl Handle {
     /// assert_eq!(waiter.poll(cookie)?, citrus_map::GracePeriod::Over);
     /// # Ok::<(), citrus_map::Error>(())
     /// ```
-    pub fn enter(&mut self, key: u64) -> Result<Section<'_>, Error> {
+    pub fn enter(&mut self, key: K) -> Result<Section<'_, K>, Error> {
+        let word = key.encode();
         // SAFETY: as in `get`.
-        match self.call(|raw| unsafe { citrus_enter(raw, key) }) {
+        match self.call(|raw| unsafe { citrus_enter(raw, word) }) {
             status::DONE => Ok(self.entered(key)),
             status => Err(self.error(status)),
         }
     }
 
     /// The guard of the section that was just entered.
-    fn entered(&mut self, key: u64) -> Section<'_> {
+    fn entered(&mut self, key: K) -> Section<'_, K> {
         self.has_entered();
         Section { handle: self, key, stays_on_its_thread: PhantomData }
     }

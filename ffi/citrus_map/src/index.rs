@@ -1,13 +1,15 @@
-use crate::handle::Handle;
+use crate::handle::KeyedHandle;
+use crate::key::Words;
 use crate::lanes::{open_sets, Lanes, LANES};
 use crate::lent::Lent;
 use crate::library::{citrus_open_keeping, citrus_open_with, citrus_share, status, RawHandle, RawOptions};
 use crate::pool::Pool;
 use crate::turns::Turns;
-use crate::{Error, ALL_TICKETS, MAX_HANDLES, MAX_PAIRS};
+use crate::{Error, Key, ALL_TICKETS, MAX_HANDLES, MAX_PAIRS};
 use std::collections::hash_map::RandomState;
 use std::fmt;
 use std::hash::{BuildHasher, Hasher};
+use std::marker::PhantomData;
 use std::ptr;
 use std::sync::Arc;
 
@@ -114,11 +116,28 @@ impl Builder {
     /// # Errors
     /// [`Error::Pairs`], [`Error::Handles`] and [`Error::Keep`] where a number is out of range, [`Error::NoMemory`].
     pub fn build(self) -> Result<Index, Error> {
+        self.build_keyed()
+    }
+
+    /// The same with keys of another type.
+    ///
+    /// # Errors
+    /// As [`build`](Builder::build).
+    ///
+    /// ```
+    /// use citrus_map::{Index, Waiter};
+    ///
+    /// let index = Index::builder(1_000, 4).waiter(Waiter::Deer).build_keyed::<i64>()?;
+    /// assert_eq!(index.insert(-5, 50), Ok(true));
+    /// # Ok::<(), citrus_map::Error>(())
+    /// ```
+    pub fn build_keyed<K: Key>(self) -> Result<KeyedIndex<K>, Error> {
         self.build_with(ALL_TICKETS)
     }
 
     /// The same with so many tickets in all, which its handles share.
-    pub(crate) fn build_with(self, tickets: u64) -> Result<Index, Error> {
+    pub(crate) fn build_with<K: Key>(self, tickets: u64) -> Result<KeyedIndex<K>, Error> {
+        let _ = Words::<K>::GREATEST;
         let Builder { pairs, handles, waiter, in_turn, lane_sets, salt, keep } = self;
         if !(1..=MAX_PAIRS).contains(&pairs) {
             return Err(Error::Pairs);
@@ -140,7 +159,8 @@ impl Builder {
             all.push(other);
         }
         all.push(first);
-        Ok(Index { pairs, handles, pool: Arc::new(Pool::new(all, lanes, in_turn.then(Turns::default))) })
+        let pool = Arc::new(Pool::new(all, lanes, in_turn.then(Turns::default)));
+        Ok(KeyedIndex { pairs, handles, pool, keys: PhantomData })
     }
 }
 
@@ -178,16 +198,28 @@ fn done(status: i32) -> Result<(), Error> {
     }
 }
 
-/// A concurrent ordered map from `u64` to `u64`. Threads share it by `&` or in an [`Arc`], and each works with a [`Handle`] of its own.
+/// A concurrent ordered map from keys of a type to `u64`. Threads share it by `&` or in an [`Arc`], and each works with a [`KeyedHandle`] of its
+/// own.
 ///
 /// An index may be dropped before its handles. It is freed with the last of them.
-pub struct Index {
+pub struct KeyedIndex<K> {
     pairs: u32,
     handles: u32,
     pool: Arc<Pool>,
+    keys: PhantomData<fn(K) -> K>,
 }
 
+/// A [`KeyedIndex`] whose keys are a `u64` each.
+pub type Index = KeyedIndex<u64>;
+
 impl Index {
+    /// The same as [`new`](KeyedIndex::new), with more to say before the index is made: with keys of whatever type.
+    pub fn builder(pairs: u32, handles: u32) -> Builder {
+        Builder { pairs, handles, waiter: Waiter::default(), in_turn: false, lane_sets: 0, salt: None, keep: None }
+    }
+}
+
+impl<K: Key> KeyedIndex<K> {
     /// A new index for 1 to [`MAX_PAIRS`] pairs, and 1 to [`MAX_HANDLES`] handles that may be out at one time.
     ///
     /// So many pairs always fit: no insert finds the index full while it has fewer. More fit as long as the handles don't keep back all the slots
@@ -204,13 +236,8 @@ impl Index {
     /// assert!(matches!(Index::new(0, 4), Err(Error::Pairs)));
     /// # Ok::<(), Error>(())
     /// ```
-    pub fn new(pairs: u32, handles: u32) -> Result<Index, Error> {
-        Index::builder(pairs, handles).build()
-    }
-
-    /// The same as [`Index::new`], with more to say before the index is made.
-    pub fn builder(pairs: u32, handles: u32) -> Builder {
-        Builder { pairs, handles, waiter: Waiter::default(), in_turn: false, lane_sets: 0, salt: None, keep: None }
+    pub fn new(pairs: u32, handles: u32) -> Result<KeyedIndex<K>, Error> {
+        Index::builder(pairs, handles).build_keyed()
     }
 
     /// A handle for a thread. It goes back to the index when it is dropped.
@@ -230,25 +257,25 @@ impl Index {
     /// assert!(index.handle().is_ok());
     /// # Ok::<(), Error>(())
     /// ```
-    pub fn handle(&self) -> Result<Handle, Error> {
+    pub fn handle(&self) -> Result<KeyedHandle<K>, Error> {
         let placed = self.pool.take().ok_or(Error::NoHandle)?;
-        Ok(Handle::new(placed, Arc::clone(&self.pool)))
+        Ok(KeyedHandle::new(placed, Arc::clone(&self.pool)))
     }
 
     /// A handle for a call, if there is one that nobody has.
     #[inline]
-    pub(crate) fn taken_for_a_call(&self) -> Option<Lent<'_>> {
+    pub(crate) fn taken_for_a_call(&self) -> Option<Lent<'_, K>> {
         let placed = self.pool.take_for_a_call()?;
         // SAFETY: this second one of the index's reference is never dropped, since what is lent doesn't drop it; and the index, which has the
         // first one, is borrowed for as long.
-        Some(unsafe { Lent::new(Handle::new(placed, ptr::read(&self.pool))) })
+        Some(unsafe { Lent::new(KeyedHandle::new(placed, ptr::read(&self.pool))) })
     }
 
     /// Eight lanes, by which a thread looks up many keys at once. They go back to the index when they are dropped.
     ///
     /// # Errors
     /// [`Error::NoHandle`] where all lanes are out: the index has those that [`Builder::lanes`] said.
-    pub fn lanes(&self) -> Result<Lanes, Error> {
+    pub fn lanes(&self) -> Result<Lanes<K>, Error> {
         let raw = self.pool.take_lanes().ok_or(Error::NoHandle)?;
         Ok(Lanes::new(raw, Arc::clone(&self.pool)))
     }
@@ -264,7 +291,7 @@ impl Index {
     }
 }
 
-impl fmt::Debug for Index {
+impl<K> fmt::Debug for KeyedIndex<K> {
     fn fmt(&self, text: &mut fmt::Formatter<'_>) -> fmt::Result {
         text.debug_struct("Index").field("pairs", &self.pairs).field("handles", &self.handles).finish_non_exhaustive()
     }

@@ -1,14 +1,15 @@
 use crate::library::{citrus_get_many, citrus_open_lanes, status, RawAnswer, RawHandle, RawLanes};
 use crate::pool::Pool;
-use crate::Error;
+use crate::{Error, Key};
 use std::fmt;
+use std::marker::PhantomData;
 use std::mem::replace;
 use std::sync::Arc;
 
 /// So many lookups [`Lanes`] make beside each other, and so many handles' places they take.
 pub const LANES: u32 = 8;
 
-/// Eight places of an [`Index`](crate::Index) by which one thread looks up many keys at once: while one lookup waits for a word of a large
+/// Eight places of a [`KeyedIndex`](crate::KeyedIndex) by which one thread looks up many keys at once: while one lookup waits for a word of a large
 /// index, the words of the others come too. They go back to the index when they are dropped.
 ///
 /// ```
@@ -21,16 +22,17 @@ pub const LANES: u32 = 8;
 /// # Ok::<(), citrus_map::Error>(())
 /// ```
 #[repr(align(128))]
-pub struct Lanes {
+pub struct Lanes<K = u64> {
     raw: RawLanes,
     /// Whether they can do no more, so that they don't go back.
     used_up: bool,
     pool: Arc<Pool>,
+    keys: PhantomData<fn(K) -> K>,
 }
 
-impl Lanes {
-    pub(crate) fn new(raw: RawLanes, pool: Arc<Pool>) -> Lanes {
-        Lanes { raw, used_up: false, pool }
+impl<K: Key> Lanes<K> {
+    pub(crate) fn new(raw: RawLanes, pool: Arc<Pool>) -> Lanes<K> {
+        Lanes { raw, used_up: false, pool, keys: PhantomData }
     }
 
     /// The value of each key, at its index, where it is present. Each was so at a moment of the call, and no two need be of one moment. It
@@ -38,7 +40,8 @@ impl Lanes {
     ///
     /// # Errors
     /// [`Error::NoMemory`], and [`Error::Lost`], which takes more than a lifetime.
-    pub fn get_many(&mut self, keys: &[u64]) -> Result<Vec<Option<u64>>, Error> {
+    pub fn get_many(&mut self, keys: &[K]) -> Result<Vec<Option<u64>>, Error> {
+        let keys = K::encode_all(keys);
         let mut answers = vec![RawAnswer::default(); keys.len()];
         // SAFETY: the lanes are as the last call left them, and borrowed for this one alone. The keys and the answers are of their lengths.
         match unsafe { citrus_get_many(&mut self.raw, keys.as_ptr(), keys.len(), answers.as_mut_ptr(), answers.len()) } {
@@ -53,7 +56,7 @@ impl Lanes {
     }
 }
 
-impl Drop for Lanes {
+impl<K> Drop for Lanes<K> {
     fn drop(&mut self) {
         let raw = replace(&mut self.raw, RawLanes::CLOSED);
         if !self.used_up {
@@ -62,7 +65,7 @@ impl Drop for Lanes {
     }
 }
 
-impl fmt::Debug for Lanes {
+impl<K> fmt::Debug for Lanes<K> {
     fn fmt(&self, text: &mut fmt::Formatter<'_>) -> fmt::Result {
         text.debug_struct("Lanes").finish_non_exhaustive()
     }

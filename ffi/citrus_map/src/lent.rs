@@ -1,43 +1,43 @@
 //! Calls of an index without a handle in hand: each by a handle that is taken for it.
 
-use crate::{Error, Handle, Index};
+use crate::{Error, Key, KeyedHandle, KeyedIndex};
 use std::fmt;
 use std::marker::PhantomData;
 use std::mem::ManuallyDrop;
 use std::ops::Deref;
 
-/// A handle that an [`Index`] lends for a call or a few: see [`Index::lend`]. It goes back when this is dropped.
-pub struct Lent<'i> {
+/// A handle that a [`KeyedIndex`] lends for a call or a few: see [`KeyedIndex::lend`]. It goes back when this is dropped.
+pub struct Lent<'i, K = u64> {
     /// Its reference to the pool isn't counted, and so never dropped: the index has one for as long as it is borrowed here.
-    handle: ManuallyDrop<Handle>,
-    index: PhantomData<&'i Index>,
+    handle: ManuallyDrop<KeyedHandle<K>>,
+    index: PhantomData<&'i KeyedIndex<K>>,
 }
 
-impl Lent<'_> {
+impl<K> Lent<'_, K> {
     /// # Safety
     /// The handle's reference to the pool isn't counted, and there is another one as long as this.
-    pub(crate) unsafe fn new(handle: Handle) -> Self {
+    pub(crate) unsafe fn new(handle: KeyedHandle<K>) -> Self {
         Lent { handle: ManuallyDrop::new(handle), index: PhantomData }
     }
 }
 
-// There is no `&mut Handle`, which could be exchanged with one that goes elsewhere.
-impl Deref for Lent<'_> {
-    type Target = Handle;
+// There is no `&mut KeyedHandle`, which could be exchanged with one that goes elsewhere.
+impl<K> Deref for Lent<'_, K> {
+    type Target = KeyedHandle<K>;
 
-    fn deref(&self) -> &Handle {
+    fn deref(&self) -> &KeyedHandle<K> {
         &self.handle
     }
 }
 
-impl Drop for Lent<'_> {
+impl<K> Drop for Lent<'_, K> {
     fn drop(&mut self) {
         // SAFETY: this is the handle's end, which isn't dropped.
         unsafe { self.handle.give_back() };
     }
 }
 
-impl fmt::Debug for Lent<'_> {
+impl<K> fmt::Debug for Lent<'_, K> {
     fn fmt(&self, text: &mut fmt::Formatter<'_>) -> fmt::Result {
         text.debug_struct("Lent").finish_non_exhaustive()
     }
@@ -45,9 +45,9 @@ impl fmt::Debug for Lent<'_> {
 
 /// Calls without a handle in hand.
 ///
-/// Each takes a handle for the call by [`lend`](Index::lend), and answers as the call of [`Handle`] with its name, or [`Error::NoHandle`] as
-/// `lend` does.
-impl Index {
+/// Each takes a handle for the call by [`lend`](KeyedIndex::lend), and answers as the call of [`KeyedHandle`] with its name, or
+/// [`Error::NoHandle`] as `lend` does.
+impl<K: Key> KeyedIndex<K> {
     /// Lends a handle for a call or a few. A thread is lent the one that it had last, where nobody has it: so with as many handles as threads
     /// each comes to have its own, and a call costs little more than by a handle that is kept. No thread keeps anything: threads may come and
     /// go, and an index is freed when it is dropped, whoever called.
@@ -72,78 +72,78 @@ impl Index {
     /// lent.get(5).unwrap();
     /// ```
     ///
-    /// For a section take a handle by [`handle`](Index::handle):
+    /// For a section take a handle by [`handle`](KeyedIndex::handle):
     ///
     /// ```compile_fail,E0596
     /// let index = citrus_map::Index::new(100, 1).unwrap();
     /// index.lend().unwrap().hold(5).unwrap();
     /// ```
     #[inline]
-    pub fn lend(&self) -> Result<Lent<'_>, Error> {
+    pub fn lend(&self) -> Result<Lent<'_, K>, Error> {
         self.taken_for_a_call().ok_or(Error::NoHandle)
     }
 
-    /// As [`Handle::get`].
+    /// As [`KeyedHandle::get`].
     ///
     /// # Errors
     /// As that, and [`Error::NoHandle`].
-    pub fn get(&self, key: u64) -> Result<Option<u64>, Error> {
+    pub fn get(&self, key: K) -> Result<Option<u64>, Error> {
         self.lend()?.get(key)
     }
 
-    /// As [`Handle::contains_key`].
+    /// As [`KeyedHandle::contains_key`].
     ///
     /// # Errors
     /// As that, and [`Error::NoHandle`].
-    pub fn contains_key(&self, key: u64) -> Result<bool, Error> {
+    pub fn contains_key(&self, key: K) -> Result<bool, Error> {
         self.lend()?.contains_key(key)
     }
 
-    /// As [`Handle::insert`].
+    /// As [`KeyedHandle::insert`].
     ///
     /// # Errors
     /// As that, and [`Error::NoHandle`].
-    pub fn insert(&self, key: u64, value: u64) -> Result<bool, Error> {
+    pub fn insert(&self, key: K, value: u64) -> Result<bool, Error> {
         self.lend()?.insert(key, value)
     }
 
-    /// As [`Handle::replace`].
+    /// As [`KeyedHandle::replace`].
     ///
     /// # Errors
     /// As that, and [`Error::NoHandle`].
-    pub fn replace(&self, key: u64, value: u64) -> Result<Option<u64>, Error> {
+    pub fn replace(&self, key: K, value: u64) -> Result<Option<u64>, Error> {
         self.lend()?.replace(key, value)
     }
 
-    /// As [`Handle::upsert`].
+    /// As [`KeyedHandle::upsert`].
     ///
     /// # Errors
     /// As that, and [`Error::NoHandle`].
-    pub fn upsert(&self, key: u64, value: u64) -> Result<Option<u64>, Error> {
+    pub fn upsert(&self, key: K, value: u64) -> Result<Option<u64>, Error> {
         self.lend()?.upsert(key, value)
     }
 
-    /// As [`Handle::compare_exchange`].
+    /// As [`KeyedHandle::compare_exchange`].
     ///
     /// # Errors
     /// As that, and [`Error::NoHandle`].
-    pub fn compare_exchange(&self, key: u64, current: u64, new: u64) -> Result<Result<u64, Option<u64>>, Error> {
+    pub fn compare_exchange(&self, key: K, current: u64, new: u64) -> Result<Result<u64, Option<u64>>, Error> {
         self.lend()?.compare_exchange(key, current, new)
     }
 
-    /// As [`Handle::update`].
+    /// As [`KeyedHandle::update`].
     ///
     /// # Errors
     /// As that, and [`Error::NoHandle`].
-    pub fn update(&self, key: u64, change: impl FnMut(u64) -> u64) -> Result<Option<u64>, Error> {
+    pub fn update(&self, key: K, change: impl FnMut(u64) -> u64) -> Result<Option<u64>, Error> {
         self.lend()?.update(key, change)
     }
 
-    /// As [`Handle::remove`].
+    /// As [`KeyedHandle::remove`].
     ///
     /// # Errors
     /// As that, and [`Error::NoHandle`].
-    pub fn remove(&self, key: u64) -> Result<Option<u64>, Error> {
+    pub fn remove(&self, key: K) -> Result<Option<u64>, Error> {
         self.lend()?.remove(key)
     }
 }

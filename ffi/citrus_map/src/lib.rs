@@ -1,6 +1,6 @@
-//! Concurrent ordered maps from `u64` for programs that read far more often than they write. Lookups take no lock.
+//! Concurrent ordered maps for programs that read far more often than they write. Lookups take no lock.
 //!
-//! An [`Index`] has values that are a `u64` each:
+//! An [`Index`] has keys and values that are a `u64` each:
 //!
 //! ```
 //! use citrus_map::Index;
@@ -34,6 +34,18 @@
 //! handle.insert(7, vec![1, 2, 3])?;
 //! assert_eq!(handle.get(7)?.unwrap().len(), 3);
 //! assert_eq!(handle.remove(7)?, Some(vec![1, 2, 3]));
+//! # Ok::<(), citrus_map::Error>(())
+//! ```
+//!
+//! A [`KeyedIndex`] and a [`KeyedMap`] have keys of other types, in their order: whatever has the trait [`Key`], as integers, floating numbers,
+//! and tuples and arrays of them that have 64 bits together at most.
+//!
+//! ```
+//! use citrus_map::KeyedIndex;
+//!
+//! let index = KeyedIndex::<(i32, f32)>::new(10_000, 4)?;
+//! index.insert((-1, 2.5), 7)?;
+//! assert_eq!(index.lend()?.list((-1, 0.0)..(0, 0.0))?, [((-1, 2.5), 7)]);
 //! # Ok::<(), citrus_map::Error>(())
 //! ```
 //!
@@ -84,6 +96,7 @@ mod guards;
 mod handle;
 mod hazards;
 mod index;
+mod key;
 mod lanes;
 mod lent;
 mod library;
@@ -101,12 +114,13 @@ mod waits;
 
 pub use error::Error;
 pub use guards::{Held, Section};
-pub use handle::{Handle, Stats};
-pub use index::{Builder, Index, Waiter};
+pub use handle::{Handle, KeyedHandle, Stats};
+pub use index::{Builder, Index, KeyedIndex, Waiter};
+pub use key::Key;
 pub use lanes::{Lanes, LANES};
 pub use lent::Lent;
 pub use lists::{Page, Range};
-pub use map::{Guard, Map, MapHandle, Refused, MOST_RETIRED};
+pub use map::{Guard, KeyedMap, KeyedMapHandle, Map, MapHandle, Refused, MOST_RETIRED};
 pub use waits::{Cookie, GracePeriod, Tidied};
 
 /// The greatest number of pairs that an index can be made for.

@@ -1,6 +1,7 @@
-use crate::handle::{ends, Handle};
+use crate::handle::{ends, KeyedHandle};
 use crate::library::*;
-use crate::{Error, MAX_ROOM};
+use crate::{Error, Key, MAX_ROOM};
+use std::fmt;
 use std::iter::FusedIterator;
 use std::ops::RangeBounds;
 use std::vec::IntoIter;
@@ -10,34 +11,44 @@ pub(crate) const PAGE_ROOM: usize = 1_000;
 
 /// Pairs of a key range as they were at one moment, and where to go on.
 #[derive(Clone, Debug, PartialEq, Eq)]
-pub struct Page {
+pub struct Page<K = u64> {
     /// Key and value of each pair, keys ascending.
-    pub pairs: Vec<(u64, u64)>,
+    pub pairs: Vec<(K, u64)>,
     /// The key after them in the range at that moment, where there were more than fitted.
-    pub next: Option<u64>,
+    pub next: Option<K>,
 }
 
-/// The pairs of a key range, page by page: see [`Handle::range`].
-#[derive(Debug)]
+/// A page as the library tells it, by words.
+struct RawPage {
+    pairs: Vec<RawPair>,
+    next: Option<u64>,
+}
+
+/// A pair by its key.
+fn decoded<K: Key>(RawPair { key, value }: RawPair) -> (K, u64) {
+    (K::decode(key), value)
+}
+
+/// The pairs of a key range, page by page: see [`KeyedHandle::range`].
 #[must_use = "it lists nothing before it is asked for a pair"]
-pub struct Range<'h> {
-    handle: &'h Handle,
+pub struct Range<'h, K = u64> {
+    handle: &'h KeyedHandle<K>,
     /// The rest of the page.
-    pairs: IntoIter<(u64, u64)>,
+    pairs: IntoIter<RawPair>,
     /// The first key of the next page, where there is one.
     low: Option<u64>,
     high: u64,
 }
 
-impl Iterator for Range<'_> {
-    type Item = Result<(u64, u64), Error>;
+impl<K: Key> Iterator for Range<'_, K> {
+    type Item = Result<(K, u64), Error>;
 
     fn next(&mut self) -> Option<Self::Item> {
         loop {
             if let Some(pair) = self.pairs.next() {
-                return Some(Ok(pair));
+                return Some(Ok(decoded(pair)));
             }
-            match self.handle.list_from(self.low.take()?, self.high, PAGE_ROOM) {
+            match self.handle.list_words(self.low.take()?, self.high, PAGE_ROOM) {
                 Ok(page) => (self.pairs, self.low) = (page.pairs.into_iter(), page.next),
                 Err(error) => return Some(Err(error)),
             }
@@ -45,13 +56,19 @@ impl Iterator for Range<'_> {
     }
 }
 
-impl FusedIterator for Range<'_> {}
+impl<K> fmt::Debug for Range<'_, K> {
+    fn fmt(&self, text: &mut fmt::Formatter<'_>) -> fmt::Result {
+        text.debug_struct("Range").finish_non_exhaustive()
+    }
+}
 
-impl<'h> IntoIterator for &'h Handle {
-    type Item = Result<(u64, u64), Error>;
-    type IntoIter = Range<'h>;
+impl<K: Key> FusedIterator for Range<'_, K> {}
 
-    fn into_iter(self) -> Range<'h> {
+impl<'h, K: Key> IntoIterator for &'h KeyedHandle<K> {
+    type Item = Result<(K, u64), Error>;
+    type IntoIter = Range<'h, K>;
+
+    fn into_iter(self) -> Range<'h, K> {
         self.iter()
     }
 }
@@ -60,11 +77,11 @@ impl<'h> IntoIterator for &'h Handle {
 ///
 /// Each page, and each pair alone, is exact at one moment. Where an update came in each of four tries, updates are kept off for one walk
 /// more, some 30 ns a pair, and other threads' updates wait meanwhile: so where others mustn't wait long, ask for short pages.
-impl Handle {
+impl<K: Key> KeyedHandle<K> {
     /// All pairs with keys in the range as they were at one moment of the call, keys ascending. A range without keys, as `9..3`, has no
     /// pairs.
     ///
-    /// It goes over the range again where there are more pairs than it made room for. [`page`](Handle::page) doesn't, and so suits long
+    /// It goes over the range again where there are more pairs than it made room for. [`page`](KeyedHandle::page) doesn't, and so suits long
     /// ranges beside many updates.
     ///
     /// # Errors
@@ -80,7 +97,7 @@ impl Handle {
     /// assert_eq!(handle.list(..=1)?, [(1, 10)]);
     /// # Ok::<(), citrus_map::Error>(())
     /// ```
-    pub fn list(&self, keys: impl RangeBounds<u64>) -> Result<Vec<(u64, u64)>, Error> {
+    pub fn list(&self, keys: impl RangeBounds<K>) -> Result<Vec<(K, u64)>, Error> {
         let (low, high) = match ends(&keys) {
             Some(ends) => ends,
             None => return Ok(Vec::new()),
@@ -99,7 +116,7 @@ impl Handle {
     /// the key after them. Room for 0 pairs is taken as 1, and for more than [`MAX_ROOM`] as that. All of the room is asked of the system in
     /// advance, twice.
     ///
-    /// Page by page a range of any length can be read, as [`range`](Handle::range) does. Each page is exact at a moment of its own, later
+    /// Page by page a range of any length can be read, as [`range`](KeyedHandle::range) does. Each page is exact at a moment of its own, later
     /// than that of the page before.
     ///
     /// # Errors
@@ -121,7 +138,7 @@ impl Handle {
     /// assert_eq!(sum, 285);
     /// # Ok::<(), citrus_map::Error>(())
     /// ```
-    pub fn page(&self, keys: impl RangeBounds<u64>, room: usize) -> Result<Page, Error> {
+    pub fn page(&self, keys: impl RangeBounds<K>, room: usize) -> Result<Page<K>, Error> {
         match ends(&keys) {
             Some((low, high)) => self.list_from(low, high, room.clamp(1, MAX_ROOM)),
             None => Ok(Page { pairs: Vec::new(), next: None }),
@@ -141,11 +158,16 @@ impl Handle {
     /// assert_eq!(handle.first_from(6)?, None);
     /// # Ok::<(), citrus_map::Error>(())
     /// ```
-    pub fn first_from(&self, low: u64) -> Result<Option<(u64, u64)>, Error> {
+    pub fn first_from(&self, low: K) -> Result<Option<(K, u64)>, Error> {
+        Ok(self.first_at(low.encode())?.map(decoded))
+    }
+
+    /// The same by words.
+    fn first_at(&self, low: u64) -> Result<Option<RawPair>, Error> {
         let (mut key, mut value) = (0, 0);
         // SAFETY: as in `get`.
         match self.call_again(|raw| unsafe { citrus_first_once(raw, low, &mut key, &mut value) }) {
-            status::DONE => Ok(Some((key, value))),
+            status::DONE => Ok(Some(RawPair { key, value })),
             status::UNCHANGED => Ok(None),
             status => Err(self.error(status)),
         }
@@ -164,37 +186,42 @@ impl Handle {
     /// assert_eq!(handle.last_to(4)?, None);
     /// # Ok::<(), citrus_map::Error>(())
     /// ```
-    pub fn last_to(&self, high: u64) -> Result<Option<(u64, u64)>, Error> {
+    pub fn last_to(&self, high: K) -> Result<Option<(K, u64)>, Error> {
+        Ok(self.last_at(high.encode())?.map(decoded))
+    }
+
+    /// The same by words.
+    fn last_at(&self, high: u64) -> Result<Option<RawPair>, Error> {
         let (mut key, mut value) = (0, 0);
         // SAFETY: as in `get`.
         match self.call_again(|raw| unsafe { citrus_last_once(raw, 0, high, &mut key, &mut value) }) {
-            status::DONE => Ok(Some((key, value))),
+            status::DONE => Ok(Some(RawPair { key, value })),
             status::UNCHANGED => Ok(None),
             status => Err(self.error(status)),
         }
     }
 
-    /// The pair with the least key of all, as [`first_from`](Handle::first_from).
+    /// The pair with the least key of all, as [`first_from`](KeyedHandle::first_from).
     ///
     /// # Errors
     /// [`Error::Lost`] alone.
-    pub fn first(&self) -> Result<Option<(u64, u64)>, Error> {
-        self.first_from(0)
+    pub fn first(&self) -> Result<Option<(K, u64)>, Error> {
+        Ok(self.first_at(0)?.map(decoded))
     }
 
-    /// The pair with the greatest key of all, as [`last_to`](Handle::last_to).
+    /// The pair with the greatest key of all, as [`last_to`](KeyedHandle::last_to).
     ///
     /// # Errors
     /// [`Error::Lost`] alone.
-    pub fn last(&self) -> Result<Option<(u64, u64)>, Error> {
-        self.last_to(u64::MAX)
+    pub fn last(&self) -> Result<Option<(K, u64)>, Error> {
+        Ok(self.last_at(u64::MAX)?.map(decoded))
     }
 
     /// Takes out the pair with the least key, if there is one, with the value that it has by then. It was the least one at a moment of the
     /// call; another thread may have put in a lesser one before it was taken out.
     ///
     /// # Errors
-    /// As [`remove`](Handle::remove).
+    /// As [`remove`](KeyedHandle::remove).
     ///
     /// ```
     /// let index = citrus_map::Index::new(100, 1)?;
@@ -206,23 +233,23 @@ impl Handle {
     /// assert_eq!(handle.pop_last()?, Some((3, 30)));
     /// # Ok::<(), citrus_map::Error>(())
     /// ```
-    pub fn pop_first(&self) -> Result<Option<(u64, u64)>, Error> {
-        self.pop(Handle::first)
+    pub fn pop_first(&self) -> Result<Option<(K, u64)>, Error> {
+        self.pop(|| self.first_at(0))
     }
 
-    /// Takes out the pair with the greatest key, as [`pop_first`](Handle::pop_first) that with the least.
+    /// Takes out the pair with the greatest key, as [`pop_first`](KeyedHandle::pop_first) that with the least.
     ///
     /// # Errors
-    /// As [`remove`](Handle::remove).
-    pub fn pop_last(&self) -> Result<Option<(u64, u64)>, Error> {
-        self.pop(Handle::last)
+    /// As [`remove`](KeyedHandle::remove).
+    pub fn pop_last(&self) -> Result<Option<(K, u64)>, Error> {
+        self.pop(|| self.last_at(u64::MAX))
     }
 
     /// Another thread may take the pair that was found first.
-    fn pop(&self, find: impl Fn(&Handle) -> Result<Option<(u64, u64)>, Error>) -> Result<Option<(u64, u64)>, Error> {
-        while let Some((key, _)) = find(self)? {
-            if let Some(value) = self.remove(key)? {
-                return Ok(Some((key, value)));
+    fn pop(&self, find: impl Fn() -> Result<Option<RawPair>, Error>) -> Result<Option<(K, u64)>, Error> {
+        while let Some(RawPair { key, .. }) = find()? {
+            if let Some(value) = self.remove_word(key)? {
+                return Ok(Some(decoded(RawPair { key, value })));
             }
         }
         Ok(None)
@@ -236,7 +263,7 @@ impl Handle {
         Ok(self.first()?.is_none())
     }
 
-    /// How many pairs there are. They are counted page by page, as [`range`](Handle::range) goes: with at most 1,000 pairs it is their
+    /// How many pairs there are. They are counted page by page, as [`range`](KeyedHandle::range) goes: with at most 1,000 pairs it is their
     /// number at one moment, and with more beside updates the number may be that of no moment.
     ///
     /// # Errors
@@ -249,7 +276,7 @@ impl Handle {
     /// at the next key when they are through. So what other threads change behind the page isn't seen, and what they change before it is.
     /// The handle may make other calls meanwhile. An error is the last item.
     ///
-    /// [`list`](Handle::list) tells the pairs of one moment.
+    /// [`list`](KeyedHandle::list) tells the pairs of one moment.
     ///
     /// ```
     /// let index = citrus_map::Index::new(100, 1)?;
@@ -265,7 +292,7 @@ impl Handle {
     /// assert_eq!(sum, 280);
     /// # Ok::<(), citrus_map::Error>(())
     /// ```
-    pub fn range(&self, keys: impl RangeBounds<u64>) -> Range<'_> {
+    pub fn range(&self, keys: impl RangeBounds<K>) -> Range<'_, K> {
         let (low, high) = match ends(&keys) {
             Some((low, high)) => (Some(low), high),
             None => (None, 0),
@@ -273,17 +300,17 @@ impl Handle {
         Range { handle: self, pairs: Vec::new().into_iter(), low, high }
     }
 
-    /// All pairs, as [`range`](Handle::range).
-    pub fn iter(&self) -> Range<'_> {
+    /// All pairs, as [`range`](KeyedHandle::range).
+    pub fn iter(&self) -> Range<'_, K> {
         self.range(..)
     }
 
     /// Takes out each pair with a key in the range that `stays(key, value)` says no to, and tells how many. It goes page by page, as
-    /// [`range`](Handle::range), and each pair is taken out by an update of its own. The value is that of the page: where another thread
+    /// [`range`](KeyedHandle::range), and each pair is taken out by an update of its own. The value is that of the page: where another thread
     /// gives the key another one after that, the pair is taken out with it.
     ///
     /// # Errors
-    /// As [`remove`](Handle::remove), and [`Error::NoMemory`]. The pairs before stay out.
+    /// As [`remove`](KeyedHandle::remove), and [`Error::NoMemory`]. The pairs before stay out.
     ///
     /// ```
     /// let index = citrus_map::Index::new(100, 1)?;
@@ -295,26 +322,35 @@ impl Handle {
     /// assert_eq!(handle.list(4..)?, [(4, 16), (6, 36), (8, 64)]);
     /// # Ok::<(), citrus_map::Error>(())
     /// ```
-    pub fn retain(&self, keys: impl RangeBounds<u64>, mut stays: impl FnMut(u64, u64) -> bool) -> Result<usize, Error> {
-        let mut gone = 0;
-        for pair in self.range(keys) {
-            let (key, value) = pair?;
-            gone += usize::from(!stays(key, value) && self.remove(key)?.is_some());
+    pub fn retain(&self, keys: impl RangeBounds<K>, mut stays: impl FnMut(K, u64) -> bool) -> Result<usize, Error> {
+        let (mut gone, mut from) = (0, ends(&keys));
+        while let Some((low, high)) = from {
+            let page = self.list_words(low, high, PAGE_ROOM)?;
+            for RawPair { key, value } in page.pairs {
+                gone += usize::from(!stays(K::decode(key), value) && self.remove_word(key)?.is_some());
+            }
+            from = page.next.map(|next| (next, high));
         }
         Ok(gone)
     }
 
-    /// Takes out all pairs, and tells how many: page by page, as [`range`](Handle::range), each by an update of its own. What other threads
+    /// Takes out all pairs, and tells how many: page by page, as [`range`](KeyedHandle::range), each by an update of its own. What other threads
     /// put in behind the page stays.
     ///
     /// # Errors
-    /// As [`retain`](Handle::retain).
+    /// As [`retain`](KeyedHandle::retain).
     pub fn clear(&self) -> Result<usize, Error> {
         self.retain(.., |_, _| false)
     }
 
     /// The keys are from `low` to `high`, both among them, and `room` is from 1 to `MAX_ROOM`.
-    fn list_from(&self, low: u64, high: u64, room: usize) -> Result<Page, Error> {
+    fn list_from(&self, low: u64, high: u64, room: usize) -> Result<Page<K>, Error> {
+        let RawPage { pairs, next } = self.list_words(low, high, room)?;
+        Ok(Page { pairs: pairs.into_iter().map(decoded).collect(), next: next.map(K::decode) })
+    }
+
+    /// The same by words.
+    fn list_words(&self, low: u64, high: u64, room: usize) -> Result<RawPage, Error> {
         let mut pairs: Vec<RawPair> = Vec::new();
         pairs.try_reserve_exact(room).map_err(|_| Error::NoMemory)?;
         let (mut count, mut next) = (0, 0);
@@ -328,6 +364,6 @@ impl Handle {
         // SAFETY: the library has written the first `count` pairs, and there are no more of them than there is room for.
         unsafe { pairs.set_len(count) };
         pairs.shrink_to_fit();
-        Ok(Page { pairs: pairs.into_iter().map(|pair| (pair.key, pair.value)).collect(), next })
+        Ok(RawPage { pairs, next })
     }
 }

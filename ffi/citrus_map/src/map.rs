@@ -1,13 +1,15 @@
-//! A map whose values are of any type: each stands in a node of its own, whose address is the value that an index has for the key.
+//! A map whose values are of any type: each stands in a node of its own, whose address is the value that an index has for the key's word. A
+//! key is made a word once, at the face of a call: so nothing below rests on what a type's [`Key`] says.
 
 use crate::guards::Held;
-use crate::handle::Handle;
+use crate::handle::{ends, Handle};
 use crate::hazards::Hazards;
 use crate::index::Builder;
 use crate::node::{Found, NewNode, Retired, TakenOut};
 use crate::waits::{Cookie, GracePeriod, Tidied};
-use crate::{Error, Index};
+use crate::{Error, Index, Key};
 use std::fmt;
+use std::marker::PhantomData;
 use std::mem::take;
 use std::ops::{Deref, RangeBounds};
 use std::sync::{Arc, Mutex, MutexGuard, PoisonError};
@@ -21,7 +23,7 @@ const SOME_RETIRED: usize = 16;
 /// How many pairs are listed at a time where a map is dropped.
 const PAGE: usize = 256;
 
-/// A concurrent map from `u64` to values of any type that threads may share. Threads share it by `&` or in an [`Arc`], and each works with a
+/// A concurrent map from keys of a type to values of any type that threads may share. Threads share it by `&` or in an [`Arc`], and each works with a
 /// [`MapHandle`] of its own.
 ///
 /// ```
@@ -62,9 +64,13 @@ const PAGE: usize = 256;
 /// }
 /// let text: &'static str = *map.handle().unwrap().get(5).unwrap().unwrap();
 /// ```
-pub struct Map<V> {
+pub struct KeyedMap<K, V> {
     shared: Arc<Shared<V>>,
+    keys: PhantomData<fn(K) -> K>,
 }
+
+/// A [`KeyedMap`] whose keys are a `u64` each.
+pub type Map<V> = KeyedMap<u64, V>;
 
 /// What a map and its handles share. Its end is that of the last of them.
 struct Shared<V> {
@@ -128,14 +134,14 @@ impl<V> Drop for Shared<V> {
     }
 }
 
-impl<V: Send + Sync> Map<V> {
+impl<K: Key, V: Send + Sync> KeyedMap<K, V> {
     /// A new map for 1 to [`MAX_PAIRS`](crate::MAX_PAIRS) pairs, and 1 to [`MAX_HANDLES`](crate::MAX_HANDLES) handles that may be out at one
     /// time: as [`Index::new`].
     ///
     /// # Errors
     /// [`Error::Pairs`] and [`Error::Handles`] where a number is out of range, [`Error::NoMemory`].
-    pub fn new(pairs: u32, handles: u32) -> Result<Map<V>, Error> {
-        Map::build(Index::builder(pairs, handles))
+    pub fn new(pairs: u32, handles: u32) -> Result<KeyedMap<K, V>, Error> {
+        KeyedMap::build(Index::builder(pairs, handles))
     }
 
     /// The same, of what a builder says.
@@ -150,25 +156,25 @@ impl<V: Send + Sync> Map<V> {
     /// map.handle()?.insert(5, String::from("five"))?;
     /// # Ok::<(), citrus_map::Error>(())
     /// ```
-    pub fn build(builder: Builder) -> Result<Map<V>, Error> {
-        Ok(Map::over(builder.build()?))
+    pub fn build(builder: Builder) -> Result<KeyedMap<K, V>, Error> {
+        Ok(KeyedMap::over(builder.build()?))
     }
 
     /// A map over an empty index of which no handle is out.
-    pub(crate) fn over(index: Index) -> Map<V> {
+    pub(crate) fn over(index: Index) -> KeyedMap<K, V> {
         let kept = (0..index.handles()).map(|_| Mutex::default()).collect();
         let hazards = Hazards::new(index.handles());
-        Map { shared: Arc::new(Shared { index, kept, hazards }) }
+        KeyedMap { shared: Arc::new(Shared { index, kept, hazards }), keys: PhantomData }
     }
 
     /// A handle for a thread. It goes back to the map when it is dropped.
     ///
     /// # Errors
     /// [`Error::NoHandle`] where all are out.
-    pub fn handle(&self) -> Result<MapHandle<V>, Error> {
+    pub fn handle(&self) -> Result<KeyedMapHandle<K, V>, Error> {
         let handle = self.shared.index.handle()?;
         let kept = take(&mut *self.shared.kept(handle.place()));
-        Ok(MapHandle { kept, handle, shared: Arc::clone(&self.shared) })
+        Ok(KeyedMapHandle { kept, handle, shared: Arc::clone(&self.shared), keys: PhantomData })
     }
 
     /// How many handles could be taken at this moment.
@@ -177,7 +183,7 @@ impl<V: Send + Sync> Map<V> {
     }
 }
 
-impl<V> fmt::Debug for Map<V> {
+impl<K, V> fmt::Debug for KeyedMap<K, V> {
     fn fmt(&self, text: &mut fmt::Formatter<'_>) -> fmt::Result {
         text.debug_struct("Map").field("index", &self.shared.index).finish_non_exhaustive()
     }
@@ -247,11 +253,15 @@ impl<V> From<Refused<V>> for Error {
 ///
 /// What it [retired](MapHandle::retire) and hasn't dropped stays with the handle that goes back, until that is taken again or the map is
 /// dropped. [`flush`](MapHandle::flush) drops it before.
-pub struct MapHandle<V> {
+pub struct KeyedMapHandle<K, V> {
     kept: Kept<V>,
     pub(crate) handle: Handle,
     shared: Arc<Shared<V>>,
+    keys: PhantomData<fn(K) -> K>,
 }
+
+/// A [`KeyedMapHandle`] whose keys are a `u64` each.
+pub type MapHandle<V> = KeyedMapHandle<u64, V>;
 
 /// A value that is read. It is there until the guard is dropped, also where its key is taken out meanwhile: who takes it out waits for this
 /// guard. So a guard is for a moment, as that of a lock, and what its thread waits for meanwhile mustn't update the map.
@@ -288,12 +298,13 @@ pub struct MapHandle<V> {
 /// ```
 // The node is no `&`: that would promise it to a function that the guard is moved into for as long as the function runs.
 #[must_use = "the value is given up where it is dropped"]
-pub struct Guard<'h, V> {
+pub struct Guard<'h, V, K = u64> {
     found: Found<V>,
     section: Held<'h>,
+    keys: PhantomData<fn() -> K>,
 }
 
-impl<V> Deref for Guard<'_, V> {
+impl<V, K> Deref for Guard<'_, V, K> {
     type Target = V;
 
     fn deref(&self) -> &V {
@@ -301,38 +312,43 @@ impl<V> Deref for Guard<'_, V> {
     }
 }
 
-impl<V> Guard<'_, V> {
+impl<V, K: Key> Guard<'_, V, K> {
     /// The key.
-    pub fn key(guard: &Self) -> u64 {
-        guard.section.key()
+    pub fn key(guard: &Self) -> K {
+        K::decode(guard.section.key())
     }
 }
 
-impl<V: fmt::Debug> fmt::Debug for Guard<'_, V> {
+impl<V: fmt::Debug, K> fmt::Debug for Guard<'_, V, K> {
     fn fmt(&self, text: &mut fmt::Formatter<'_>) -> fmt::Result {
         (**self).fmt(text)
     }
 }
 
-impl<V: fmt::Display> fmt::Display for Guard<'_, V> {
+impl<V: fmt::Display, K> fmt::Display for Guard<'_, V, K> {
     fn fmt(&self, text: &mut fmt::Formatter<'_>) -> fmt::Result {
         (**self).fmt(text)
     }
 }
 
-impl<V: Send + Sync> MapHandle<V> {
+impl<K: Key, V: Send + Sync> KeyedMapHandle<K, V> {
     /// The value of the key, where it is present. It takes no lock and waits for nobody.
     ///
     /// # Errors
     /// [`Error::Lost`], as of each call.
-    pub fn get(&mut self, key: u64) -> Result<Option<Guard<'_, V>>, Error> {
+    pub fn get(&mut self, key: K) -> Result<Option<Guard<'_, V, K>>, Error> {
+        self.get_word(key.encode())
+    }
+
+    /// The same of a key by its word.
+    pub(crate) fn get_word(&mut self, key: u64) -> Result<Option<Guard<'_, V, K>>, Error> {
         let section = match self.handle.hold(key)? {
             Some(section) => section,
             None => return Ok(None),
         };
         // SAFETY: the guard has its section.
         let found = unsafe { Found::new(section.value()) };
-        Ok(Some(Guard { found, section }))
+        Ok(Some(Guard { found, section, keys: PhantomData }))
     }
 
     /// Adds the pair where the key is absent.
@@ -350,9 +366,10 @@ impl<V: Send + Sync> MapHandle<V> {
     /// assert_eq!((refused.cause, refused.value), (Error::Present, Some("cinq")));
     /// # Ok::<(), Error>(())
     /// ```
-    pub fn insert(&mut self, key: u64, value: V) -> Result<(), Refused<V>> {
-        let node = NewNode::new(key, value);
-        match self.handle.insert(key, node.word()) {
+    pub fn insert(&mut self, key: K, value: V) -> Result<(), Refused<V>> {
+        let word = key.encode();
+        let node = NewNode::new(word, value);
+        match self.handle.insert(word, node.word()) {
             Ok(true) => Ok(()),
             Ok(false) => Err(Refused::of(Error::Present, node)),
             Err(cause) => Err(Refused::of(cause, node)),
@@ -371,9 +388,10 @@ impl<V: Send + Sync> MapHandle<V> {
     /// assert_eq!(handle.replace(5, "cinq")?, "five");
     /// # Ok::<(), citrus_map::Error>(())
     /// ```
-    pub fn replace(&mut self, key: u64, value: V) -> Result<V, Refused<V>> {
-        let node = NewNode::new(key, value);
-        match self.handle.replace(key, node.word()) {
+    pub fn replace(&mut self, key: K, value: V) -> Result<V, Refused<V>> {
+        let word = key.encode();
+        let node = NewNode::new(word, value);
+        match self.handle.replace(word, node.word()) {
             // SAFETY: the update replaced this value of the key's, and the index has it no more (`replaced`).
             Ok(Some(word)) => self.outwait(unsafe { TakenOut::new(word) }).map_err(|cause| Refused { cause, value: None }),
             Ok(None) => Err(Refused::of(Error::Absent, node)),
@@ -399,25 +417,26 @@ impl<V: Send + Sync> MapHandle<V> {
     /// assert_eq!(handle.remove(5)?, Some(vec!["five", "cinq"]));
     /// # Ok::<(), citrus_map::Error>(())
     /// ```
-    pub fn update(&mut self, key: u64, mut change: impl FnMut(&V) -> V) -> Result<Option<V>, Error> {
+    pub fn update(&mut self, key: K, mut change: impl FnMut(&V) -> V) -> Result<Option<V>, Error> {
+        let word = key.encode();
         // Where it will be refused, `change` isn't called.
         self.handle.may_wait()?;
         let place = self.handle.place();
         loop {
-            let held = match self.handle.hold(key)? {
+            let held = match self.handle.hold(word)? {
                 Some(held) => held,
                 None => return Ok(None),
             };
             let expected = held.value();
             // SAFETY: `held` is its section, and is left behind this.
-            let node = NewNode::new(key, change(&unsafe { Found::new(expected) }.node().value));
+            let node = NewNode::new(word, change(&unsafe { Found::new(expected) }.node().value));
             let named = self.shared.hazards.name(place, expected);
             drop(held);
-            let told = self.handle.compare_exchange(key, expected, node.word());
+            let told = self.handle.compare_exchange(word, expected, node.word());
             drop(named);
             match told {
                 // SAFETY: the update replaced this value of the key's, and the index has it no more (`compared`).
-                Ok(Ok(word)) => return self.outwait(unsafe { TakenOut::new(word) }).map(Some),
+                Ok(Ok(old)) => return self.outwait(unsafe { TakenOut::new(old) }).map(Some),
                 Ok(Err(Some(_))) => drop(Refused::of(Error::Present, node)),
                 Ok(Err(None)) => {
                     drop(Refused::of(Error::Absent, node));
@@ -440,9 +459,10 @@ impl<V: Send + Sync> MapHandle<V> {
     /// assert_eq!(handle.upsert(5, "cinq")?, Some("five"));
     /// # Ok::<(), citrus_map::Error>(())
     /// ```
-    pub fn upsert(&mut self, key: u64, value: V) -> Result<Option<V>, Refused<V>> {
-        let node = NewNode::new(key, value);
-        match self.handle.upsert(key, node.word()) {
+    pub fn upsert(&mut self, key: K, value: V) -> Result<Option<V>, Refused<V>> {
+        let word = key.encode();
+        let node = NewNode::new(word, value);
+        match self.handle.upsert(word, node.word()) {
             // SAFETY: as in `replace` (`upserted`).
             Ok(Some(word)) => match self.outwait(unsafe { TakenOut::new(word) }) {
                 Ok(value) => Ok(Some(value)),
@@ -467,7 +487,12 @@ impl<V: Send + Sync> MapHandle<V> {
     /// assert_eq!(handle.remove(5)?, None);
     /// # Ok::<(), citrus_map::Error>(())
     /// ```
-    pub fn remove(&mut self, key: u64) -> Result<Option<V>, Error> {
+    pub fn remove(&mut self, key: K) -> Result<Option<V>, Error> {
+        self.remove_word(key.encode())
+    }
+
+    /// The same of a key by its word.
+    pub(crate) fn remove_word(&mut self, key: u64) -> Result<Option<V>, Error> {
         match self.take_out(key)? {
             Some(node) => Ok(Some(self.outwait(node)?)),
             None => Ok(None),
@@ -495,7 +520,12 @@ impl<V: Send + Sync> MapHandle<V> {
     /// writer.flush()?;
     /// # Ok::<(), citrus_map::Error>(())
     /// ```
-    pub fn retire(&mut self, key: u64) -> Result<bool, Error> {
+    pub fn retire(&mut self, key: K) -> Result<bool, Error> {
+        self.retire_word(key.encode())
+    }
+
+    /// The same of a key by its word.
+    pub(crate) fn retire_word(&mut self, key: u64) -> Result<bool, Error> {
         // What is asked for may have to outlast a hazard.
         self.handle.may_wait()?;
         // The removal's own wait may take the place of the one that was begun: ask for that before.
@@ -528,8 +558,12 @@ impl<V: Send + Sync> MapHandle<V> {
     ///
     /// # Errors
     /// As [`Handle::tidy`].
-    pub fn tidy(&self, keys: impl RangeBounds<u64>, turns: u32) -> Result<Tidied, Error> {
-        self.handle.tidy(keys, turns)
+    pub fn tidy(&self, keys: impl RangeBounds<K>, turns: u32) -> Result<Tidied<K>, Error> {
+        let Tidied { made, next } = match ends(&keys) {
+            Some((low, high)) => self.handle.tidy(low..=high, turns)?,
+            None => Tidied { made: 0, next: None },
+        };
+        Ok(Tidied { made, next: next.map(K::decode) })
     }
 
     fn take_out(&mut self, key: u64) -> Result<Option<TakenOut<V>>, Error> {
@@ -587,14 +621,14 @@ impl<V: Send + Sync> MapHandle<V> {
     }
 }
 
-impl<V> Drop for MapHandle<V> {
+impl<K, V> Drop for KeyedMapHandle<K, V> {
     fn drop(&mut self) {
         // The handle goes back after this.
         *self.shared.kept(self.handle.place()) = take(&mut self.kept);
     }
 }
 
-impl<V> fmt::Debug for MapHandle<V> {
+impl<K, V> fmt::Debug for KeyedMapHandle<K, V> {
     fn fmt(&self, text: &mut fmt::Formatter<'_>) -> fmt::Result {
         text.debug_struct("MapHandle").finish_non_exhaustive()
     }

@@ -1,49 +1,52 @@
-//! Calls of a [`MapHandle`] for ranges of keys, and for the first and the last one.
+//! Calls of a [`KeyedMapHandle`] for ranges of keys, and for the first and the last one.
 
-use crate::handle::ends;
+use crate::handle::{ends, Handle};
 use crate::lists::PAGE_ROOM;
-use crate::{Error, MapHandle};
+use crate::{Error, Key, KeyedMapHandle};
 use std::ops::RangeBounds;
 
 /// Keys in order. Lists and single keys are told as those of a [`Handle`](crate::Handle), and cost others the same.
-impl<V: Send + Sync> MapHandle<V> {
+impl<K: Key, V: Send + Sync> KeyedMapHandle<K, V> {
     /// Whether the key is present.
     ///
     /// # Errors
-    /// As [`get`](MapHandle::get).
-    pub fn contains_key(&self, key: u64) -> Result<bool, Error> {
-        self.handle.contains_key(key)
+    /// As [`get`](KeyedMapHandle::get).
+    pub fn contains_key(&self, key: K) -> Result<bool, Error> {
+        self.handle.contains_key(key.encode())
     }
 
     /// All keys in the range as they were at one moment of the call, ascending: as [`Handle::list`](crate::Handle::list).
     ///
     /// # Errors
     /// [`Error::TooLong`], [`Error::NoMemory`].
-    pub fn keys(&self, keys: impl RangeBounds<u64>) -> Result<Vec<u64>, Error> {
-        Ok(self.handle.list(keys)?.into_iter().map(|(key, _)| key).collect())
+    pub fn keys(&self, keys: impl RangeBounds<K>) -> Result<Vec<K>, Error> {
+        match ends(&keys) {
+            Some((low, high)) => Ok(self.handle.list(low..=high)?.into_iter().map(|(word, _)| K::decode(word)).collect()),
+            None => Ok(Vec::new()),
+        }
     }
 
     /// The least key at or above this one.
     ///
     /// # Errors
     /// [`Error::Lost`] alone.
-    pub fn first_key_from(&self, low: u64) -> Result<Option<u64>, Error> {
-        Ok(self.handle.first_from(low)?.map(|(key, _)| key))
+    pub fn first_key_from(&self, low: K) -> Result<Option<K>, Error> {
+        Ok(self.handle.first_from(low.encode())?.map(|(word, _)| K::decode(word)))
     }
 
     /// The greatest key at or below this one.
     ///
     /// # Errors
     /// [`Error::Lost`] alone.
-    pub fn last_key_to(&self, high: u64) -> Result<Option<u64>, Error> {
-        Ok(self.handle.last_to(high)?.map(|(key, _)| key))
+    pub fn last_key_to(&self, high: K) -> Result<Option<K>, Error> {
+        Ok(self.handle.last_to(high.encode())?.map(|(word, _)| K::decode(word)))
     }
 
     /// Takes out the pair with the least key, if there is one, and gives its value once nobody reads it: the key was the least one at a
     /// moment of the call.
     ///
     /// # Errors
-    /// As [`remove`](MapHandle::remove).
+    /// As [`remove`](KeyedMapHandle::remove).
     ///
     /// ```
     /// let map = citrus_map::Map::new(100, 1)?;
@@ -55,23 +58,23 @@ impl<V: Send + Sync> MapHandle<V> {
     /// assert_eq!(handle.pop_last()?, Some((3, "3".to_string())));
     /// # Ok::<(), citrus_map::Error>(())
     /// ```
-    pub fn pop_first(&mut self) -> Result<Option<(u64, V)>, Error> {
-        self.pop(|handle| handle.first_key_from(0))
+    pub fn pop_first(&mut self) -> Result<Option<(K, V)>, Error> {
+        self.pop(Handle::first)
     }
 
-    /// Takes out the pair with the greatest key, as [`pop_first`](MapHandle::pop_first) that with the least.
+    /// Takes out the pair with the greatest key, as [`pop_first`](KeyedMapHandle::pop_first) that with the least.
     ///
     /// # Errors
-    /// As [`remove`](MapHandle::remove).
-    pub fn pop_last(&mut self) -> Result<Option<(u64, V)>, Error> {
-        self.pop(|handle| handle.last_key_to(u64::MAX))
+    /// As [`remove`](KeyedMapHandle::remove).
+    pub fn pop_last(&mut self) -> Result<Option<(K, V)>, Error> {
+        self.pop(Handle::last)
     }
 
     /// Another thread may take the pair that was found first.
-    fn pop(&mut self, find: impl Fn(&Self) -> Result<Option<u64>, Error>) -> Result<Option<(u64, V)>, Error> {
-        while let Some(key) = find(self)? {
-            if let Some(value) = self.remove(key)? {
-                return Ok(Some((key, value)));
+    fn pop(&mut self, find: impl Fn(&Handle) -> Result<Option<(u64, u64)>, Error>) -> Result<Option<(K, V)>, Error> {
+        while let Some((word, _)) = find(&self.handle)? {
+            if let Some(value) = self.remove_word(word)? {
+                return Ok(Some((K::decode(word), value)));
             }
         }
         Ok(None)
@@ -93,14 +96,14 @@ impl<V: Send + Sync> MapHandle<V> {
         self.handle.len()
     }
 
-    /// [Retires](MapHandle::retire) each pair with a key in the range that `stays(key, value)` says no to, and tells how many. It goes page
+    /// [Retires](KeyedMapHandle::retire) each pair with a key in the range that `stays(key, value)` says no to, and tells how many. It goes page
     /// by page, as [`Handle::range`](crate::Handle::range). Where another thread gives the key another value after that was asked, the pair
     /// goes with it.
     ///
     /// `stays` reads the value as a [`Guard`](crate::Guard) does, so it is to be short and makes no update of the map.
     ///
     /// # Errors
-    /// As [`remove`](MapHandle::remove), and [`Error::NoMemory`]. The pairs before stay out.
+    /// As [`remove`](KeyedMapHandle::remove), and [`Error::NoMemory`]. The pairs before stay out.
     ///
     /// ```
     /// let map = citrus_map::Map::new(100, 1)?;
@@ -112,15 +115,15 @@ impl<V: Send + Sync> MapHandle<V> {
     /// assert_eq!(handle.keys(..)?, [7, 8, 9]);
     /// # Ok::<(), citrus_map::Error>(())
     /// ```
-    pub fn retain(&mut self, keys: impl RangeBounds<u64>, mut stays: impl FnMut(u64, &V) -> bool) -> Result<usize, Error> {
-        self.retire_where(keys, |handle, key| Ok(handle.get(key)?.map_or(false, |value| !stays(key, &value))))
+    pub fn retain(&mut self, keys: impl RangeBounds<K>, mut stays: impl FnMut(K, &V) -> bool) -> Result<usize, Error> {
+        self.retire_where(keys, |handle, word| Ok(handle.get_word(word)?.map_or(false, |value| !stays(K::decode(word), &value))))
     }
 
-    /// Retires all pairs, page by page, and tells how many: as [`retain`](MapHandle::retain). What other threads put in behind the page
+    /// Retires all pairs, page by page, and tells how many: as [`retain`](KeyedMapHandle::retain). What other threads put in behind the page
     /// stays.
     ///
     /// # Errors
-    /// As [`retain`](MapHandle::retain).
+    /// As [`retain`](KeyedMapHandle::retain).
     pub fn clear(&mut self) -> Result<usize, Error> {
         self.retire_where(.., |_, _| Ok(true))
     }
@@ -128,14 +131,14 @@ impl<V: Send + Sync> MapHandle<V> {
     /// Retires the pairs of these keys that are to go, page by page.
     fn retire_where(
         &mut self,
-        keys: impl RangeBounds<u64>,
+        keys: impl RangeBounds<K>,
         mut goes: impl FnMut(&mut Self, u64) -> Result<bool, Error>,
     ) -> Result<usize, Error> {
         let (mut gone, mut from) = (0, ends(&keys));
         while let Some((low, high)) = from {
             let page = self.handle.page(low..=high, PAGE_ROOM)?;
             for (key, _) in page.pairs {
-                gone += usize::from(goes(self, key)? && self.retire(key)?);
+                gone += usize::from(goes(self, key)? && self.retire_word(key)?);
             }
             from = page.next.map(|next| (next, high));
         }

@@ -1,10 +1,10 @@
-use crate::handle::{ends, Handle};
+use crate::handle::{ends, KeyedHandle};
 use crate::library::*;
 use crate::rest::Rests;
-use crate::Error;
+use crate::{Error, Key};
 use std::ops::RangeBounds;
 
-/// A wait for readers that a handle began: see [`Handle::begin`].
+/// A wait for readers that a handle began: see [`KeyedHandle::begin`].
 #[derive(Clone, Copy, Debug, PartialEq, Eq, Hash)]
 pub struct Cookie {
     index: u64,
@@ -25,19 +25,19 @@ pub enum GracePeriod {
     Displaced,
 }
 
-/// What a [`tidy`](Handle::tidy) did.
+/// What a [`tidy`](KeyedHandle::tidy) did.
 #[derive(Clone, Copy, Debug, PartialEq, Eq, Hash)]
-pub struct Tidied {
+pub struct Tidied<K = u64> {
     /// So many turns were made.
     pub made: u32,
     /// The key to go on with, where the range isn't finished.
-    pub next: Option<u64>,
+    pub next: Option<K>,
 }
 
 /// Waits for readers.
-impl Handle {
+impl<K: Key> KeyedHandle<K> {
     /// Waits until each section with a key of the range that was entered before the call has been left: lookups, and those of
-    /// [`hold`](Handle::hold) and [`enter`](Handle::enter). While one is left it yields the processor, and after 200 times it sleeps for
+    /// [`hold`](KeyedHandle::hold) and [`enter`](KeyedHandle::enter). While one is left it yields the processor, and after 200 times it sleeps for
     /// moments. It takes the place of a wait that was begun before.
     ///
     /// # Errors
@@ -50,12 +50,13 @@ impl Handle {
     /// handle.wait(..)?;
     /// # Ok::<(), citrus_map::Error>(())
     /// ```
-    pub fn wait(&self, keys: impl RangeBounds<u64>) -> Result<(), Error> {
-        if ends(&keys).is_none() {
-            return Ok(());
-        }
+    pub fn wait(&self, keys: impl RangeBounds<K>) -> Result<(), Error> {
+        let (low, high) = match ends(&keys) {
+            Some(ends) => ends,
+            None => return Ok(()),
+        };
         self.may_wait()?;
-        let cookie = self.begin(keys)?;
+        let cookie = self.begin_for(low, high)?;
         let mut rests = Rests::default();
         loop {
             match self.poll(cookie)? {
@@ -66,7 +67,7 @@ impl Handle {
         }
     }
 
-    /// Begins such a wait and comes back at once; [`poll`](Handle::poll) tells when it is over. A handle has one wait under way: any other
+    /// Begins such a wait and comes back at once; [`poll`](KeyedHandle::poll) tells when it is over. A handle has one wait under way: any other
     /// takes its place, and so does a removal or an insertion that waits for readers. A wait that the handle would begin for the slots that it
     /// keeps back doesn't. So poll until the end is told: before that the handle gives no slots back without standing still.
     ///
@@ -83,16 +84,23 @@ impl Handle {
     /// assert_eq!(handle.poll(cookie)?, GracePeriod::Displaced);
     /// # Ok::<(), citrus_map::Error>(())
     /// ```
-    pub fn begin(&self, keys: impl RangeBounds<u64>) -> Result<Cookie, Error> {
-        let cookie = |number| Cookie { index: self.index_number(), place: self.place(), number };
-        let (low, high) = match ends(&keys) {
-            Some(ends) => ends,
-            None => return Ok(cookie(None)),
-        };
+    pub fn begin(&self, keys: impl RangeBounds<K>) -> Result<Cookie, Error> {
+        match ends(&keys) {
+            Some((low, high)) => self.begin_for(low, high),
+            None => Ok(self.cookie(None)),
+        }
+    }
+
+    fn cookie(&self, number: Option<u64>) -> Cookie {
+        Cookie { index: self.index_number(), place: self.place(), number }
+    }
+
+    /// Begins a wait for the keys from `low` to `high`, both among them.
+    fn begin_for(&self, low: u64, high: u64) -> Result<Cookie, Error> {
         let mut number = 0;
         // SAFETY: as in `get`.
         match self.call(|raw| unsafe { citrus_begin(raw, low, high, &mut number) }) {
-            status::DONE => Ok(cookie(Some(number))),
+            status::DONE => Ok(self.cookie(Some(number))),
             status => Err(self.error(status)),
         }
     }
@@ -141,7 +149,7 @@ impl Handle {
     /// assert_eq!(handle.len()?, 1_000);
     /// # Ok::<(), citrus_map::Error>(())
     /// ```
-    pub fn tidy(&self, keys: impl RangeBounds<u64>, turns: u32) -> Result<Tidied, Error> {
+    pub fn tidy(&self, keys: impl RangeBounds<K>, turns: u32) -> Result<Tidied<K>, Error> {
         let (low, high) = match ends(&keys) {
             Some(ends) => ends,
             None => return Ok(Tidied { made: 0, next: None }),
@@ -150,7 +158,7 @@ impl Handle {
         // SAFETY: as in `get`.
         match self.call_in_turn(|raw| unsafe { citrus_tidy_once(raw, low, high, turns.max(1), &mut made, &mut next) })? {
             status::DONE => Ok(Tidied { made, next: None }),
-            status::MORE => Ok(Tidied { made, next: Some(next) }),
+            status::MORE => Ok(Tidied { made, next: Some(K::decode(next)) }),
             status => Err(self.error(status)),
         }
     }

@@ -108,7 +108,8 @@ fn threads_and_indexes_come_and_go() {
                 });
             }
         });
-        assert!(all.iter().all(|index| index.lend().unwrap().len() == Ok(400) && index.free_handles() == 4));
+        assert!(all.iter().all(|index| index.lend().unwrap().len() == Ok(400)));
+        assert!(all.iter().all(|index| index.free_handles() == 4));
     }
 }
 

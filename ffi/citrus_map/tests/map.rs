@@ -2,10 +2,11 @@
 
 mod common;
 
-use citrus_map::{Builder, Error, Guard, Index, Map, MapHandle, Refused, Waiter, MOST_RETIRED};
+use citrus_map::{Builder, Error, Guard, Index, Key, KeyedMap, KeyedMapHandle, Map, Refused, Waiter, MOST_RETIRED};
 use common::draws_of;
+use std::cell::Cell;
 use std::panic::{catch_unwind, AssertUnwindSafe};
-use std::sync::atomic::{AtomicBool, AtomicUsize, Ordering::SeqCst};
+use std::sync::atomic::{AtomicBool, AtomicU64, AtomicUsize, Ordering::SeqCst};
 use std::sync::{mpsc, Arc};
 use std::thread;
 use std::time::Duration;
@@ -473,21 +474,33 @@ fn values_may_borrow() {
     assert_eq!(handle.get(1).unwrap().as_deref(), Some(&"words"));
 }
 
+/// The keys of a test in threads, by their numbers.
+#[derive(Clone, Copy)]
+struct Keys<K> {
+    of: fn(u64) -> K,
+    count: u64,
+    /// Whether a key has another word each time.
+    lie: bool,
+}
+
 /// A thread's calls on keys that all use. A value that is read is what was put in for its key, and is live for as long as it is read.
-fn work_on_shared_keys(handle: &mut MapHandle<Counted>, thread: u64, keys: u64, count: &Arc<AtomicUsize>) -> usize {
+fn work_on_shared_keys<K: Key>(handle: &mut KeyedMapHandle<K, Counted>, thread: u64, keys: Keys<K>, count: &Arc<AtomicUsize>) -> usize {
     let (mut draws, mut read) = (draws_of(thread), 0);
     for _ in 0..20_000 {
-        let key = draws.below(keys);
+        let number = draws.below(keys.count);
+        let key = (keys.of)(number);
+        let is_of = |value: &Counted| keys.lie || value.key == number;
+        let made = || Counted::new(number, count);
         match draws.below(11) {
-            0 | 1 => drop(handle.insert(key, Counted::new(key, count))),
-            2 => drop(handle.replace(key, Counted::new(key, count))),
-            3 => drop(handle.upsert(key, Counted::new(key, count)).unwrap()),
+            0 | 1 => drop(handle.insert(key, made())),
+            2 => drop(handle.replace(key, made())),
+            3 => drop(handle.upsert(key, made()).unwrap()),
             4 => drop(handle.remove(key).unwrap()),
             5 => drop(handle.retire(key).unwrap()),
             6 => {
                 let changed = |value: &Counted| {
-                    assert_eq!((value.live, value.key), (LIVE, key));
-                    Counted::new(key, count)
+                    assert!(value.live == LIVE && is_of(value));
+                    made()
                 };
                 drop(handle.update(key, changed).unwrap());
             }
@@ -497,7 +510,7 @@ fn work_on_shared_keys(handle: &mut MapHandle<Counted>, thread: u64, keys: u64, 
                         // SAFETY: a load of a value that is there; the compiler can't leave it out.
                         assert_eq!(unsafe { std::ptr::read_volatile(&value.live) }, LIVE);
                     }
-                    assert_eq!(value.key, key);
+                    assert!(is_of(&value));
                     read += 1;
                 }
             }
@@ -506,10 +519,10 @@ fn work_on_shared_keys(handle: &mut MapHandle<Counted>, thread: u64, keys: u64, 
     read
 }
 
-fn read_and_update(builder: Builder, keys: u64) {
+fn read_and_update<K: Key>(builder: Builder, keys: Keys<K>) {
     const THREADS: u64 = 4;
     let count = Arc::new(AtomicUsize::new(0));
-    let map = Map::build(builder).unwrap();
+    let map = KeyedMap::build(builder).unwrap();
     let read: usize = thread::scope(|scope| {
         let (map, count) = (&map, &count);
         let start = |thread| scope.spawn(move || work_on_shared_keys(&mut map.handle().unwrap(), thread, keys, count));
@@ -521,16 +534,135 @@ fn read_and_update(builder: Builder, keys: u64) {
     assert_eq!(count.load(SeqCst), 0);
 }
 
+/// Keys that are numbers: as many as this.
+fn numbers(count: u64) -> Keys<u64> {
+    Keys { of: |number| number, count, lie: false }
+}
+
 #[test]
 fn threads_read_what_is_there() {
     for (waiter, keys) in waiters().into_iter().flat_map(|waiter| [(waiter, 4), (waiter, 300)]) {
-        read_and_update(Index::builder(600, 4).waiter(waiter), keys);
+        read_and_update(Index::builder(600, 4).waiter(waiter), numbers(keys));
     }
 }
 
 #[test]
 fn threads_read_while_updates_take_turns() {
     for (waiter, keys) in waiters().into_iter().flat_map(|waiter| [(waiter, 4), (waiter, 300)]) {
-        read_and_update(Index::builder(600, 4).waiter(waiter).updates_in_turn(true), keys);
+        read_and_update(Index::builder(600, 4).waiter(waiter).updates_in_turn(true), numbers(keys));
     }
+}
+
+#[test]
+fn threads_read_by_keys_of_other_types() {
+    for waiter in waiters() {
+        let builder = Index::builder(600, 4).waiter(waiter);
+        read_and_update(builder, Keys { of: |number| number as i64 - 2, count: 4, lie: false });
+        read_and_update(builder, Keys { of: |number| (number as f32 - 2.5, number as u8), count: 300, lie: false });
+    }
+}
+
+/// A key that has another word each time, of more bits than it says.
+#[derive(Clone, Copy)]
+struct Liar;
+
+impl Key for Liar {
+    const BITS: u32 = 1;
+
+    fn encode(self) -> u64 {
+        static ASKED: AtomicU64 = AtomicU64::new(0);
+        ASKED.fetch_add(1, SeqCst).wrapping_mul(0x9e37_79b9_7f4a_7c15) >> 62
+    }
+
+    fn decode(_: u64) -> Liar {
+        Liar
+    }
+}
+
+/// A key that has the first word when it is asked for the first time, and else the other one.
+#[derive(Clone, Copy)]
+struct Fickle(u64, u64);
+
+thread_local!(static WAS_ASKED: Cell<bool> = Cell::new(false));
+
+impl Fickle {
+    /// A key that always has this word.
+    fn always(word: u64) -> Fickle {
+        Fickle(word, word)
+    }
+}
+
+impl Key for Fickle {
+    const BITS: u32 = u64::BITS;
+
+    fn encode(self) -> u64 {
+        if WAS_ASKED.with(|was_asked| was_asked.replace(true)) {
+            self.1
+        } else {
+            self.0
+        }
+    }
+
+    fn decode(word: u64) -> Fickle {
+        Fickle::always(word)
+    }
+}
+
+type FickleHandle = KeyedMapHandle<Fickle, &'static str>;
+
+/// Whoever takes out what the call put in waits for its reader: so it stands at the key that the wait is for.
+fn is_waited_for(waiter: Waiter, put: impl Fn(&mut FickleHandle, Fickle)) {
+    let map = KeyedMap::build(Index::builder(100, 2).waiter(waiter)).unwrap();
+    let (mut reader, mut writer) = (map.handle().unwrap(), map.handle().unwrap());
+    writer.insert(Fickle::always(5), "five").unwrap();
+    writer.insert(Fickle::always(6), "six").unwrap();
+    WAS_ASKED.with(|was_asked| was_asked.set(false));
+    put(&mut writer, Fickle(5, 6));
+    let words = [5, 6, 7, 8].map(Fickle::always);
+    let at = words.into_iter().find(|word| reader.get(*word).unwrap().map_or(false, |value| *value == "new")).unwrap();
+    let is_out = AtomicBool::new(false);
+    thread::scope(|scope| {
+        let value = reader.get(at).unwrap();
+        let writer = scope.spawn(|| {
+            assert_eq!(writer.remove(at).unwrap(), Some("new"));
+            is_out.store(true, SeqCst);
+        });
+        thread::sleep(Duration::from_millis(50));
+        assert!(!is_out.load(SeqCst), "it was taken out under a reader");
+        drop(value);
+        writer.join().unwrap();
+    });
+}
+
+#[test]
+fn what_a_key_that_lies_put_in_is_waited_for() {
+    for waiter in waiters() {
+        is_waited_for(waiter, |writer, Fickle(_, other)| writer.insert(Fickle(7, other + 2), "new").unwrap());
+        is_waited_for(waiter, |writer, key| assert_eq!(writer.replace(key, "new").unwrap(), "five"));
+        is_waited_for(waiter, |writer, key| assert_eq!(writer.upsert(key, "new").unwrap(), Some("five")));
+        is_waited_for(waiter, |writer, key| assert_eq!(writer.update(key, |_| "new").unwrap(), Some("five")));
+    }
+}
+
+#[test]
+fn a_key_that_lies_is_safe() {
+    for waiter in waiters() {
+        read_and_update(Index::builder(600, 4).waiter(waiter), Keys { of: |_| Liar, count: 1, lie: true });
+    }
+}
+
+#[test]
+fn what_a_key_that_lies_put_in_is_found_by_lists_and_dropped() {
+    let count = Arc::new(AtomicUsize::new(0));
+    let map = KeyedMap::build(Index::builder(100, 2)).unwrap();
+    let mut handle = map.handle().unwrap();
+    (0..100).for_each(|number| drop(handle.upsert(Liar, Counted::new(number, &count)).unwrap()));
+    assert_eq!((handle.len(), handle.keys(..).unwrap().len()), (Ok(4), 4));
+    assert_eq!(handle.retain(.., |Liar, value| value.key % 2 == 0).unwrap() + handle.len().unwrap(), 4);
+    drop(handle.pop_last().unwrap());
+    assert!(handle.clear().unwrap() <= 3);
+    assert_eq!(handle.is_empty(), Ok(true));
+    handle.upsert(Liar, Counted::new(0, &count)).unwrap();
+    drop((handle, map));
+    assert_eq!(count.load(SeqCst), 0);
 }

@@ -9,8 +9,8 @@ ghost use Rattle.tree_handles.specs.Calls.{CausedBy, CausedReady, CausedTended, 
 ghost use Rattle.tree_handles.specs.declared.status.Status.TheVariants.{Lost};
 
 use super::{Caller, TICKETS};
-use crate::keeper::forget_if;
-use crate::spinning::{GaveUp, InTheWay, Spinning};
+use crate::keeper::{forget_if, forget_unless_kept, is_under_way};
+use crate::spinning::{GaveUp, InTheWay};
 use crate::status::Status;
 use citrus_tree::patient::{remove, remove_by_bypass};
 use prcu_marks::OpenGate;
@@ -62,7 +62,7 @@ impl<W: WaitPart> Caller<W> {
         ensures holds { result ≡ true → MeetsLastingReader self.now }
         ensures fails { result ≡ false → MeetsLastingReader self.now → ⊥ }
     {
-        self.keeper.is_some() && self.seat.retired().len() >= MANY_BEHIND
+        is_under_way(&self.keeper) && self.seat.retired().len() >= MANY_BEHIND
     }
 
     // Removes the key's pair so that the readers of a move aren't waited for, unless so many turns come to nothing: while the key's node has two
@@ -101,7 +101,8 @@ impl<W: WaitPart> Caller<W> {
     {
         let table = self.shared.table();
         let waits = self.seat.waits();
-        let answer = remove_by_bypass(&Spinning, table, &mut self.seat, &OpenGate, key);
+        let patience = self.spinning.for_call(self.shared.queue());
+        let answer = remove_by_bypass(&patience, table, &mut self.seat, &OpenGate, key);
         forget_if(self.seat.waits() != waits, &mut self.keeper);
         match answer {
             Ok(Ok(Some(removed))) => Ok(Some(removed.value)),
@@ -125,7 +126,8 @@ impl<W: WaitPart> Caller<W> {
         ensures may { IfOk result (λ _. MayGoOn self.new) }
         ensures lost { IfErr result (λ status. (status ≡ Lost) × IsLost self.old self.new) }
     {
-        match turn_down(&Spinning, self.shared.table(), &mut self.seat, key) {
+        let patience = self.spinning.for_call(self.shared.queue());
+        match turn_down(&patience, self.shared.table(), &mut self.seat, key) {
             Ok(sunk) => Ok(sunk),
             Err(GaveUp) => {
                 self.lost = true;
@@ -143,8 +145,9 @@ impl<W: WaitPart> Caller<W> {
     {
         let table = self.shared.table();
         let waits = self.seat.waits();
-        let answer = remove(&Spinning, table, &mut self.seat, &OpenGate, key);
-        forget_if(self.seat.waits() != waits, &mut self.keeper);
+        let patience = self.spinning.for_call(self.shared.queue());
+        let answer = remove(&patience, table, &mut self.seat, &OpenGate, key);
+        forget_unless_kept(&self.seat, waits, &mut self.keeper);
         match answer {
             Ok(Ok(removed)) => Ok(removed.value),
             Ok(Err(InTheWay)) => Err(Status::Busy),

@@ -1,17 +1,17 @@
 use Rattle.prcu_model.specs.declared.operation.Op.TheVariants.{Put}
 use Rattle.tree_points.specs.Points.{IsAt}
-use Rattle.citrus_tree.specs.Going.{taken_stage, KeepsSlots, MakesRoom, leaf_stage}
-use Rattle.seat_table.specs.Seats.{shape_of, AreListed, IsSlotOf, SeatAt}
+use Rattle.citrus_tree.specs.Going.{taken_stage, leaf_stage}
+use Rattle.seat_table.specs.Seats.{shape_of, IsSlotOf}
 use Rattle.std.specs.declared.option.Option.{Option}
-use Rattle.citrus_tree.proofs.Linking.{leaf_taken, room_goes}
-use Rattle.std.proofs.Common.{◌≡◌, [], None, Some, inl, subst, sym, ℕ}
+use Rattle.citrus_tree.proofs.Linking.{leaf_taken, room_goes, takes_none}
+use Rattle.std.proofs.Common.{[], None, Some, inl, subst, ℕ}
 use Rattle.core_points.specs.declared.stage.Spot.{Spot}
 use Rattle.core_points.specs.declared.stage.Stage.TheVariants as at
 use Rattle.core_state.specs.declared.shape.Shape.{Shape}
 use Rattle.core_state.specs.declared.view.Held.{Held}
 use Rattle.core_state.specs.declared.view.View.{View}
-use Rattle.core_points.specs.declared.stage.Aim.TheVariants.{Leaf}
-use Rattle.citrus_tree.proofs.Leavings.{goes_slots, slots_self, goes_same}
+use Rattle.citrus_tree.proofs.Leavings.{goes_same}
+use Rattle.citrus_tree.proofs.Reusing.{hand_empty, leaf_new, leaf_there, takes_goes}
 use Rattle.citrus_tree.proofs.insert.leaf_in_hand.Goals as goal
 
 -- a filled slot is in hand
@@ -24,34 +24,22 @@ pub returns-in-Some-clause-slot : goal.returns-in-Some-clause-slot
 returns-in-Some-clause-slot g c slot e = subst (λ (o : Option ℕ). IsSlotOf o c.args.seat.now.view.hands.hand) e c.in-Some.ensures
 
 pub returns-in-Some-clause-room : goal.returns-in-Some-clause-room
-returns-in-Some-clause-room g c = inl (goes_same c.args.seat.now.view)
+returns-in-Some-clause-room g c = inl (takes_none (goes_same c.args.seat.now.view))
 
 pub returns-in-Some-clause-slots : goal.returns-in-Some-clause-slots
-returns-in-Some-clause-slots g c = slots_self c.args.seat.now
+returns-in-Some-clause-slots g c = leaf_there c.args.reuse _ c.args.seat.now c.args.seat.now.view.hands.hand c.in-Some.ensures
 
 pub returns-in-Some-clause-at : goal.returns-in-Some-clause-at
 returns-in-Some-clause-at g c kept spot a = has_leaf _ c.args.seat.now.view.hands.hand c.in-Some.ensures a
 
--- A note changes nothing that a clause speaks of.
-noted : (P : SeatAt → Type 0) {old new : SeatAt} → new ≡ old → P old → P new
-noted P same = subst P (sym same)
-
-before : (P : SeatAt → Type 0) {old new : SeatAt} → new ≡ old → P new → P old
-before P same = subst P same
-
-pub take_slot-requires-clause-listed : goal.take_slot-requires-clause-listed
-take_slot-requires-clause-listed g c = noted AreListed c.note_near.ensures c.requires.listed
+pub take_slot-requires-clause-ready : goal.take_slot-requires-clause-ready
+take_slot-requires-clause-ready g c = c.requires.ready (hand_empty c.args.seat.now.view.hands.hand c.in_default.ensures)
 
 pub take_slot-requires-clause-at : goal.take_slot-requires-clause-at
 take_slot-requires-clause-at g c = let a = c.requires.at in (
   a.1,
   1,
-  (
-    Put c.args.key c.args.value,
-    a.0,
-    noted (λ (z : SeatAt). IsAt (shape_of g.W.WaitWords.WAY c.args.table.now) (Put c.args.key c.args.value) a.0 (at.Reserve (Leaf a.1) 1) z.view)
-        c.note_near.ensures (leaf_taken c.args.seat.now.view.hands.hand c.in_default.ensures a.2),
-  ),
+  (Put c.args.key c.args.value, a.0, leaf_taken c.args.seat.now.view.hands.hand c.in_default.ensures a.2),
 )
 
 pub fill_leaf-requires-clause-slot : goal.fill_leaf-requires-clause-slot
@@ -64,24 +52,23 @@ fill_leaf-requires-clause-at g c = let a = c.requires.at in (
   subst (λ (r : Option ℕ). IsAt (shape_of g.W.WaitWords.WAY c.args.table.now) (Put c.args.key c.args.value) a.0
       (taken_stage r a.1) c.take_slot.new.seat.view) c.in-Some-2.is
       (c.in_ok-slot.ensures.at a.1 1 (Put c.args.key c.args.value) a.0
-      (noted (λ (z : SeatAt). IsAt (shape_of g.W.WaitWords.WAY c.args.table.now) (Put c.args.key c.args.value) a.0 (at.Reserve (Leaf a.1) 1) z.view)
-      c.note_near.ensures (leaf_taken c.args.seat.now.view.hands.hand c.in_default.ensures a.2))),
+      (leaf_taken c.args.seat.now.view.hands.hand c.in_default.ensures a.2)),
 )
 
+pub returns-in_default-2-clause-slots : goal.returns-in_default-2-clause-slots
+returns-in_default-2-clause-slots g c =
+    leaf_new c.args.reuse c.args.seat.now c.take_slot.new.seat c.args.seat.now.view.hands.hand c.in_default.ensures c.in_ok-slot.ensures.slots
+
 pub returns-clause-room : goal.returns-clause-room
-returns-clause-room g c =
-    before (λ (z : SeatAt). MakesRoom (shape_of g.W.WaitWords.WAY c.args.table.now) z.view c.fill_leaf.new.seat.view) c.note_near.ensures
-    (room_goes c.in_ok-slot.ensures.room c.fill_leaf.ensures.goes)
+returns-clause-room g c = room_goes c.in_ok-slot.ensures.room c.fill_leaf.ensures.goes
 
 pub returns-clause-slots : goal.returns-clause-slots
-returns-clause-slots g c = before (λ (z : SeatAt). KeepsSlots z c.fill_leaf.new.seat) c.note_near.ensures
-    (goes_slots c.note_near.new.self c.take_slot.new.seat c.fill_leaf.new.seat [] c.in_ok-slot.ensures.slots c.fill_leaf.ensures.goes
-    c.fill_leaf.ensures.seat.1)
+returns-clause-slots g c = leaf_new c.args.reuse c.args.seat.now c.fill_leaf.new.seat c.args.seat.now.view.hands.hand c.in_default.ensures
+    (takes_goes c.args.reuse c.args.seat.now.view.hands.spare c.args.seat.now c.take_slot.new.seat c.fill_leaf.new.seat [] c.in_ok-slot.ensures.slots c.fill_leaf.ensures.goes c.fill_leaf.ensures.seat.1)
 
 pub returns-clause-at : goal.returns-clause-at
 returns-clause-at g c kept spot a =
     c.fill_leaf.ensures.at kept spot (subst (λ (r : Option ℕ). IsAt (shape_of g.W.WaitWords.WAY c.args.table.now)
     (Put c.args.key c.args.value) kept (taken_stage r spot) c.take_slot.new.seat.view) c.in-Some-2.is
     (c.in_ok-slot.ensures.at spot 1 (Put c.args.key c.args.value) kept
-    (noted (λ (z : SeatAt). IsAt (shape_of g.W.WaitWords.WAY c.args.table.now) (Put c.args.key c.args.value) kept (at.Reserve (Leaf spot) 1) z.view)
-    c.note_near.ensures (leaf_taken c.args.seat.now.view.hands.hand c.in_default.ensures a))))
+    (leaf_taken c.args.seat.now.view.hands.hand c.in_default.ensures a)))

@@ -2,7 +2,7 @@ use Rattle.std.proofs.Common.{◌≡◌, ℕ, Some, sym, ◌∙◌}
 use Rattle.std.proofs.lemmas.Option.{none-some}
 use Rattle.std.proofs.lemmas.Result.{IfErr-at_err, IfOk-at_ok}
 use Rattle.prcu_model.specs.declared.operation.Op.TheVariants.{Put}
-use Rattle.citrus_tree.proofs.Linking.{busy_at, busy_goes, checking, fails_at, holds_at, settled_leaf, unpaid_leaf, hand_locked, gives_up_lock, again_at, again_goes, is_odd, locks, stores_leaf, evening, lets_go, done_at, links, gives_way_lock, gave_way_goes, gave_way_at}
+use Rattle.citrus_tree.proofs.Linking.{busy_at, busy_goes, checking, fails_at, holds_at, settled_leaf, unpaid_leaf, hand_locked, hand_unlocked, gives_up_lock, again_at, again_goes, is_odd, locks, stores_leaf, evening, lets_go, done_at, links, gives_way_lock, gave_way_goes, gave_way_at}
 use Rattle.citrus_tree.proofs.insert.link_leaf.Goals as goal
 
 one_number : (number known : ℕ) → Some known ≡ Some number → number ≡ known
@@ -137,3 +137,14 @@ returns-in-Err-clause-back g c kept a = gave_way_at a c.lock.ensures.told c.stil
     (IfErr-at_err _ c.in-Err.is c.in_ok-front.ensures.busy) c.still_holds.ensures.locked
     (holds_at c.args.spot c.still_holds.result c.if-not-still_holds.false
     (c.still_holds.ensures.at _ _ (checking a c.lock.ensures.told c.if-lock-ne0.false))) c.unlock-in-Err.ensures.told
+
+-- the leaf stays in hand
+pub returns-then-lock-ne0-clause-still : goal.returns-then-lock-ne0-clause-still
+returns-then-lock-ne0-clause-still g c _ = hand_locked c.args.leaf c.lock.ensures.told c.requires.slot
+
+pub returns-then-not-still_holds-clause-still : goal.returns-then-not-still_holds-clause-still
+returns-then-not-still_holds-clause-still g c _ = hand_unlocked c.args.leaf c.unlock.ensures.told
+    (c.still_holds.ensures.slot c.args.leaf (hand_locked c.args.leaf c.lock.ensures.told c.requires.slot))
+
+pub returns-clause-still : goal.returns-clause-still
+returns-clause-still g c e = absurd (none-some _ (sym e))

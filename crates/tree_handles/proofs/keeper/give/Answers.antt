@@ -22,7 +22,9 @@ give_some-requires-clause-unraised g c = quiet_unraised c.args.seat.now.view c.r
 pub returns-then-slots-eq0-clause-gives : goal.returns-then-slots-eq0-clause-gives
 returns-then-slots-eq0-clause-gives g c =
     let left = ap (λ (z : CookieAt). z.slots) c.give_some.ensures.cookie in (
+      c.most_to_give-most.result,
       c.give_some.result,
+      c.most_to_give-most.ensures,
       c.give_some.ensures.many,
       c.give_some.ensures.back,
       inl (sym left ∙ sym c.slots.ensures ∙ c.if-slots-eq0.true, refl),
@@ -42,7 +44,9 @@ returns-then-slots-eq0-clause-cookies g c = λ cookie has.
 pub returns-clause-gives : goal.returns-clause-gives
 returns-clause-gives g c =
     let left = ap (λ (z : CookieAt). z.slots) c.give_some.ensures.cookie in (
+      c.most_to_give-most.result,
       c.give_some.result,
+      c.most_to_give-most.ensures,
       c.give_some.ensures.many,
       c.give_some.ensures.back,
       inr (

@@ -1,4 +1,5 @@
-use Rattle.std.proofs.Common.{rules}
+use Rattle.std.proofs.Common.{rules, ap, sym, ◌∙◌}
+use Rattle.seat_table.specs.Seats.{fresh_seat}
 use Rattle.tree_handles.proofs.Callers.{pairs_fit_in}
 use Rattle.tree_handles.proofs.caller.Caller.new.Goals as goal
 
@@ -12,7 +13,7 @@ returns-in-Ok g c = record {
   handles_are = search rules;
   room_is = search rules;
   tickets_are = search rules;
-  seat_is = search rules;
+  seat_is = c.in_ok-table.ensures.seat.0 ∙ ap (fresh_seat g.W.WaitWords.WAY) (sym (c.in-Ok.ensures.ok ∙ c.in_ok-new.ensures));
   cookie_is = search rules;
   keeper_is = search rules;
   may = search rules;

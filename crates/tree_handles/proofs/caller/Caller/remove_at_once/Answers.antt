@@ -2,7 +2,8 @@ use Rattle.std.proofs.Common.{rules}
 use Rattle.seat_table.specs.Seats.{shape_of}
 use Rattle.citrus_tree.specs.Deletes.{DelGaveWay, DelTells}
 use Rattle.tree_handles.proofs.Callers.{nothing_behind}
-use Rattle.tree_handles.proofs.Cookies.{cookies_unless, keeper_told, keeps_keeper, same_waits}
+use Rattle.tree_handles.proofs.Cookies.{keeps_keeper}
+use Rattle.tree_handles.proofs.Serving.{cookies_removed, keeper_removed}
 use Rattle.tree_handles.proofs.caller.Caller.remove_at_once.Goals as goal
 
 pub returns-in-Ok-Ok-clause-taken : goal.returns-in-Ok-Ok-clause-taken
@@ -10,8 +11,8 @@ returns-in-Ok-Ok-clause-taken g c =
     let told : DelTells (shape_of g.W.WaitWords.WAY c.table-table.result.now) c.self.inside.seat c.args.key c.in-Ok-Ok.removed.told
     c.remove-answer.new.seat = search rules in (
       c.in-Ok-Ok.removed.told,
-      nothing_behind (search rules) (keeps_keeper c.self.view_is (λ _. keeper_told c.self.inside.seat c.remove-answer.new.seat 4 told.keeps c.forget_if.ensures.gone
-          (λ same. c.forget_if.ensures.kept same) c.waits-waits.ensures c.waits.ensures))
+      nothing_behind (search rules) (keeps_keeper c.self.view_is (λ _. keeper_removed _ c.self.inside.keeper c.self.inside.seat c.remove-answer.new.seat _ c.waits-waits.ensures
+          told.keeps c.forget_unless_kept.ensures))
           (search rules) (search rules) (search rules) (search rules),
       search rules,
     )
@@ -21,8 +22,8 @@ returns-in-Ok-Err-clause-cause g c =
     let left : DelGaveWay (shape_of g.W.WaitWords.WAY c.table-table.result.now) c.self.inside.seat c.args.key
     c.remove-answer.new.seat = search rules in record {
       index = search rules;
-      keeper = keeps_keeper c.self.view_is (λ _. keeper_told c.self.inside.seat c.remove-answer.new.seat 4 left.keeps c.forget_if.ensures.gone
-          (λ same. c.forget_if.ensures.kept same) c.waits-waits.ensures c.waits.ensures);
+      keeper = keeps_keeper c.self.view_is (λ _. keeper_removed _ c.self.inside.keeper c.self.inside.seat c.remove-answer.new.seat _ c.waits-waits.ensures
+          left.keeps c.forget_unless_kept.ensures);
       before = search rules;
       enough = search rules;
       gave = search rules;
@@ -38,8 +39,8 @@ invariant_of-self g c =
     c.remove-answer.new.seat = search rules in (
       search rules,
       search rules,
-      λ kept. cookies_unless told.keeps _ c.forget_if.ensures.gone (λ same. c.forget_if.ensures.kept same)
-          (λ same. told.keeps.slots.slots (same_waits same c.waits-waits.ensures c.waits.ensures)) (c.self.invariant.2 kept),
+      λ kept. cookies_removed _ c.self.inside.keeper c.self.inside.seat c.remove-answer.new.seat _ c.waits-waits.ensures told.keeps
+          told.slots c.forget_unless_kept.ensures (c.self.invariant.2 kept),
     )
 
 pub invariant_of-self-in-Ok-Err : goal.invariant_of-self-in-Ok-Err
@@ -48,6 +49,6 @@ invariant_of-self-in-Ok-Err g c =
     c.remove-answer.new.seat = search rules in (
       search rules,
       search rules,
-      λ kept. cookies_unless left.keeps _ c.forget_if.ensures.gone (λ same. c.forget_if.ensures.kept same)
-          (λ same. left.keeps.slots.slots (same_waits same c.waits-waits.ensures c.waits.ensures)) (c.self.invariant.2 kept),
+      λ kept. cookies_removed _ c.self.inside.keeper c.self.inside.seat c.remove-answer.new.seat _ c.waits-waits.ensures left.keeps
+          left.slots c.forget_unless_kept.ensures (c.self.invariant.2 kept),
     )

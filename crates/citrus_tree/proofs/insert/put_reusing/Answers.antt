@@ -1,16 +1,20 @@
-use Rattle.std.proofs.Common.{[], refl, ◌∙◌, arith}
-use Rattle.citrus_tree.proofs.Inserting.{begins, outside, unlocked, may_give_up, old_found, old_looked, old_puts, old_begins, may_take_leaf, spot_looked, full_puts, full_begins, may_link, may_rest, rests_begins, rests_keeps, rests_way, tries_again, new_goes, new_puts, new_begins, old_keeps, full_keeps, new_keeps}
-use Rattle.citrus_tree.proofs.Leavings.{goes_slots, slots_on, slots_self, room_steps, keeps_seat, listed_on}
+use Rattle.std.proofs.Common.{◌≡◌, [], refl, sym, ap, ◌∙◌, inr, arith}
+use Rattle.prcu_model.specs.declared.operation.Reply.TheVariants.{New, Old, Full}
+use Rattle.prcu_model.specs.declared.operation.Told.{Told}
+use Rattle.citrus_tree.specs.Going.{TakesBy}
+use Rattle.citrus_tree.proofs.Reusing.{leaf_took, may_use_still, none_so_far, so_far_ends, so_far_looked, takes_goes, takes_so}
+use Rattle.citrus_tree.proofs.Inserting.{begins, outside, unlocked, may_give_up, old_found, old_looked, old_puts, old_begins, may_take_leaf, spot_found, spot_looked, full_puts, full_begins, may_link, may_rest, rests_begins, rests_keeps, rests_way, tries_again, new_goes, new_puts, new_begins, old_keeps, full_keeps, new_keeps}
+use Rattle.citrus_tree.proofs.Leavings.{room_steps, keeps_seat, listed_on}
 use Rattle.seat_table.proofs.SeveralSteps.{prefix_steps}
 use Rattle.std.proofs.lemmas.Result.{IfErr-at_err, IfOk-at_ok}
-use Rattle.citrus_tree.proofs.insert.put.Goals as goal
+use Rattle.citrus_tree.proofs.insert.put_reusing.Goals as goal
 
 pub loop-round-init : goal.loop-round-init
 loop-round-init g c = record {
   table = refl;
   listed = c.requires.quiet.listed;
   tries = begins c.requires.quiet.view c.ranges.key.fits;
-  slots = slots_self c.args.seat.now;
+  slots = none_so_far c.args.reuse c.args.seat.now c.requires.quiet.view.hand;
   made = omega arith;
 }
 
@@ -65,20 +69,24 @@ returns-in_default-clause-keeps g c =
     let place = c.find_spot.ensures.place in
     let searched = c.find_spot.ensures.searched in
     let looked = old_looked tries c.requires.tickets place _ c.in_default.is searched in
-    let found = goes_slots c.args.seat.now c.loop-round.seat c.find_spot.new.seat _ c.loop-round.invariant.slots looked
+    let found = so_far_looked c.args.reuse c.args.seat.now c.loop-round.seat c.find_spot.new.seat c.loop-round.invariant.slots (old_found tries c.requires.tickets place _ c.in_default.is searched).1
     c.find_spot.ensures.seat.1 in
     keeps_seat
     (old_keeps tries c.requires.tickets place _ c.in_default.is searched c.give_up_leaf.ensures.goes c.give_up_leaf.ensures.at)
     (listed_on c.loop-round.seat c.give_up_leaf.new.seat (c.give_up_leaf.ensures.seat.1 ∙ c.find_spot.ensures.seat.1)
     (c.give_up_leaf.ensures.goes.retired ∙ looked.retired) c.loop-round.invariant.listed)
-    (goes_slots c.args.seat.now c.find_spot.new.seat c.give_up_leaf.new.seat [] found c.give_up_leaf.ensures.goes
-    c.give_up_leaf.ensures.seat.1)
+    (so_far_ends c.args.reuse c.args.seat.now c.find_spot.new.seat c.give_up_leaf.new.seat found c.give_up_leaf.ensures.goes c.give_up_leaf.ensures.seat.1)
 
 pub leaf_in_hand-requires-clause-listed : goal.leaf_in_hand-requires-clause-listed
 leaf_in_hand-requires-clause-listed g c = listed_on c.loop-round.seat c.find_spot.new.seat c.find_spot.ensures.seat.1
     (spot_looked c.loop-round.invariant.tries c.requires.tickets c.find_spot.ensures.place _ c.in-Some.is
     c.find_spot.ensures.searched).retired
     c.loop-round.invariant.listed
+
+pub leaf_in_hand-requires-clause-ready : goal.leaf_in_hand-requires-clause-ready
+leaf_in_hand-requires-clause-ready g c = may_use_still c.args.reuse c.args.seat.now c.find_spot.new.seat (so_far_looked c.args.reuse c.args.seat.now c.loop-round.seat c.find_spot.new.seat c.loop-round.invariant.slots
+    (spot_found c.loop-round.invariant.tries c.requires.tickets c.find_spot.ensures.place _ c.in-Some.is c.find_spot.ensures.searched).0
+    c.find_spot.ensures.seat.1) c.requires.ready
 
 pub leaf_in_hand-requires-clause-at : goal.leaf_in_hand-requires-clause-at
 leaf_in_hand-requires-clause-at g c =
@@ -97,9 +105,8 @@ returns-in_default-2-clause-keeps g c =
     keeps_seat
     (full_keeps tries c.requires.tickets place _ c.in-Some.is searched c.in_ok-leaf.ensures.room c.in_default-2.is c.in_ok-leaf.ensures.at)
     c.in_ok-leaf.ensures.listed
-    (slots_on c.args.seat.now c.find_spot.new.seat c.leaf_in_hand.new.seat
-    (goes_slots c.args.seat.now c.loop-round.seat c.find_spot.new.seat _ c.loop-round.invariant.slots
-    (spot_looked tries c.requires.tickets place _ c.in-Some.is searched) c.find_spot.ensures.seat.1) c.in_ok-leaf.ensures.slots)
+    (takes_so c.args.reuse c.args.seat.now.view.hands.spare c.args.seat.now c.leaf_in_hand.new.seat (leaf_took c.args.reuse c.args.seat.now c.find_spot.new.seat c.leaf_in_hand.new.seat (so_far_looked c.args.reuse c.args.seat.now c.loop-round.seat c.find_spot.new.seat c.loop-round.invariant.slots
+    (spot_found tries c.requires.tickets place _ c.in-Some.is searched).0 c.find_spot.ensures.seat.1) c.in_ok-leaf.ensures.slots))
 
 pub link_leaf-requires-clause-at : goal.link_leaf-requires-clause-at
 link_leaf-requires-clause-at g c = may_link c.loop-round.invariant.tries c.requires.tickets c.find_spot.ensures.place _ c.in-Some.is
@@ -125,11 +132,29 @@ returns-in-Some-linked-clause-keeps g c =
     (IfOk-at_ok _ c.in-Ok.is linked.linked)
     (IfOk-at_ok _ c.in-Ok.is linked.at))
     (listed_on c.leaf_in_hand.new.seat c.link_leaf.new.seat c.link_leaf.ensures.seat.1 goes.retired leaf.listed)
-    (goes_slots c.args.seat.now c.leaf_in_hand.new.seat c.link_leaf.new.seat _
-    (slots_on c.args.seat.now c.find_spot.new.seat c.leaf_in_hand.new.seat
-    (goes_slots c.args.seat.now c.loop-round.seat c.find_spot.new.seat _ c.loop-round.invariant.slots
-    (spot_looked tries c.requires.tickets place _ c.in-Some.is searched) c.find_spot.ensures.seat.1) leaf.slots) goes
+    (takes_so c.args.reuse c.args.seat.now.view.hands.spare c.args.seat.now c.link_leaf.new.seat (takes_goes c.args.reuse c.args.seat.now.view.hands.spare c.args.seat.now c.leaf_in_hand.new.seat c.link_leaf.new.seat _ (leaf_took c.args.reuse c.args.seat.now c.find_spot.new.seat c.leaf_in_hand.new.seat (so_far_looked c.args.reuse c.args.seat.now c.loop-round.seat c.find_spot.new.seat c.loop-round.invariant.slots
+    (spot_found tries c.requires.tickets place _ c.in-Some.is searched).0 c.find_spot.ensures.seat.1) leaf.slots) goes
+    c.link_leaf.ensures.seat.1))
+
+-- the slot that it was told is the pair's
+pub returns-in-Some-linked-clause-uses : goal.returns-in-Some-linked-clause-uses
+returns-in-Some-linked-clause-uses g c = λ _.
+    (let tries = c.loop-round.invariant.tries in
+    let place = c.find_spot.ensures.place in
+    let searched = c.find_spot.ensures.searched in
+    let leaf = c.in_ok-leaf.ensures in
+    let goes = new_goes tries c.requires.tickets place _ c.in-Some.is searched leaf.room c.in-Some-2.is leaf.at c.in-Some-linked.is
+    (IfOk-at_ok _ c.in-Ok.is c.in_ok-linked.ensures.linked) in
+    takes_goes c.args.reuse c.args.seat.now.view.hands.spare c.args.seat.now c.leaf_in_hand.new.seat c.link_leaf.new.seat _ (leaf_took c.args.reuse c.args.seat.now c.find_spot.new.seat c.leaf_in_hand.new.seat (so_far_looked c.args.reuse c.args.seat.now c.loop-round.seat c.find_spot.new.seat c.loop-round.invariant.slots
+    (spot_found tries c.requires.tickets place _ c.in-Some.is searched).0 c.find_spot.ensures.seat.1) leaf.slots) goes
     c.link_leaf.ensures.seat.1)
+
+pub returns-in_default-clause-uses : goal.returns-in_default-clause-uses
+returns-in_default-clause-uses g c = λ new. absurd (let e : Old ≡ New = sym (ap (λ (t : Told). t.reply) c.answered.ensures) ∙ new in cc)
+
+pub returns-in_default-2-clause-uses : goal.returns-in_default-2-clause-uses
+returns-in_default-2-clause-uses g c = λ new. absurd (let e : Full ≡ New = sym (ap (λ (t : Told). t.reply) c.answered-in_default-2.ensures) ∙ new in
+    cc)
 
 pub loop-round-preserved : goal.loop-round-preserved
 loop-round-preserved g c = record {
@@ -141,12 +166,14 @@ loop-round-preserved g c = record {
       c.in_ok-leaf.ensures.room c.in-Some-2.is c.in_ok-leaf.ensures.at
       ((IfOk-at_ok _ c.in-Ok.is c.in_ok-linked.ensures.again) c.in_default-linked.is)
       c.in_default-linked.is (IfOk-at_ok _ c.in-Ok.is c.in_ok-linked.ensures.at);
-  slots = goes_slots c.args.seat.now c.leaf_in_hand.new.seat c.link_leaf.new.seat []
-      (slots_on c.args.seat.now c.find_spot.new.seat c.leaf_in_hand.new.seat
-      (goes_slots c.args.seat.now c.loop-round.seat c.find_spot.new.seat _ c.loop-round.invariant.slots
-      (spot_looked c.loop-round.invariant.tries c.requires.tickets c.find_spot.ensures.place _ c.in-Some.is c.find_spot.ensures.searched)
-      c.find_spot.ensures.seat.1) c.in_ok-leaf.ensures.slots)
-      ((IfOk-at_ok _ c.in-Ok.is c.in_ok-linked.ensures.again) c.in_default-linked.is) c.link_leaf.ensures.seat.1;
+  slots = inr (record {
+    leaf = _;
+    in_hand = (IfOk-at_ok _ c.in-Ok.is c.in_ok-linked.ensures.still) c.in_default-linked.is;
+    took = takes_goes c.args.reuse c.args.seat.now.view.hands.spare c.args.seat.now c.leaf_in_hand.new.seat c.link_leaf.new.seat [] (leaf_took c.args.reuse c.args.seat.now c.find_spot.new.seat c.leaf_in_hand.new.seat (so_far_looked c.args.reuse c.args.seat.now c.loop-round.seat c.find_spot.new.seat c.loop-round.invariant.slots
+        (spot_found c.loop-round.invariant.tries c.requires.tickets c.find_spot.ensures.place _ c.in-Some.is c.find_spot.ensures.searched).0
+        c.find_spot.ensures.seat.1) c.in_ok-leaf.ensures.slots)
+        ((IfOk-at_ok _ c.in-Ok.is c.in_ok-linked.ensures.again) c.in_default-linked.is) c.link_leaf.ensures.seat.1;
+  });
   made =
       let made = c.loop-round.invariant.made in
       let found = c.find_spot.ensures.stepped in
@@ -206,12 +233,9 @@ returns-in-Err-rest-clause-keeps g c =
     back.goes back.at)
     (listed_on c.leaf_in_hand.new.seat c.give_up_leaf-in-Err-rest.new.seat (back.seat.1 ∙ c.link_leaf.ensures.seat.1)
     (back.goes.retired ∙ again.retired) leaf.listed)
-    (goes_slots c.args.seat.now c.link_leaf.new.seat c.give_up_leaf-in-Err-rest.new.seat []
-    (goes_slots c.args.seat.now c.leaf_in_hand.new.seat c.link_leaf.new.seat []
-    (slots_on c.args.seat.now c.find_spot.new.seat c.leaf_in_hand.new.seat
-    (goes_slots c.args.seat.now c.loop-round.seat c.find_spot.new.seat _ c.loop-round.invariant.slots
-    (spot_looked tries c.requires.tickets place _ c.in-Some.is searched) c.find_spot.ensures.seat.1) leaf.slots) again
-    c.link_leaf.ensures.seat.1) back.goes back.seat.1)
+    (takes_so c.args.reuse c.args.seat.now.view.hands.spare c.args.seat.now c.give_up_leaf-in-Err-rest.new.seat (takes_goes c.args.reuse c.args.seat.now.view.hands.spare c.args.seat.now c.link_leaf.new.seat c.give_up_leaf-in-Err-rest.new.seat [] (takes_goes c.args.reuse c.args.seat.now.view.hands.spare c.args.seat.now c.leaf_in_hand.new.seat c.link_leaf.new.seat [] (leaf_took c.args.reuse c.args.seat.now c.find_spot.new.seat c.leaf_in_hand.new.seat (so_far_looked c.args.reuse c.args.seat.now c.loop-round.seat c.find_spot.new.seat c.loop-round.invariant.slots
+    (spot_found tries c.requires.tickets place _ c.in-Some.is searched).0 c.find_spot.ensures.seat.1) leaf.slots) again
+    c.link_leaf.ensures.seat.1) back.goes back.seat.1))
 
 pub give_up_leaf-requires-in-Err-clause-at : goal.give_up_leaf-requires-in-Err-clause-at
 give_up_leaf-requires-in-Err-clause-at g c = may_rest c.loop-round.invariant.tries c.requires.tickets c.find_spot.ensures.place _
@@ -243,9 +267,6 @@ returns-in-Err-clause-keeps g c =
     (IfErr-at_err _ c.in-Err.is c.in_ok-linked.ensures.back) back.goes back.at)
     (listed_on c.leaf_in_hand.new.seat c.give_up_leaf-in-Err.new.seat (back.seat.1 ∙ c.link_leaf.ensures.seat.1)
     (back.goes.retired ∙ busy.retired) leaf.listed)
-    (goes_slots c.args.seat.now c.link_leaf.new.seat c.give_up_leaf-in-Err.new.seat []
-    (goes_slots c.args.seat.now c.leaf_in_hand.new.seat c.link_leaf.new.seat []
-    (slots_on c.args.seat.now c.find_spot.new.seat c.leaf_in_hand.new.seat
-    (goes_slots c.args.seat.now c.loop-round.seat c.find_spot.new.seat _ c.loop-round.invariant.slots
-    (spot_looked tries c.requires.tickets place _ c.in-Some.is searched) c.find_spot.ensures.seat.1) leaf.slots) busy
-    c.link_leaf.ensures.seat.1) back.goes back.seat.1)
+    (takes_so c.args.reuse c.args.seat.now.view.hands.spare c.args.seat.now c.give_up_leaf-in-Err.new.seat (takes_goes c.args.reuse c.args.seat.now.view.hands.spare c.args.seat.now c.link_leaf.new.seat c.give_up_leaf-in-Err.new.seat [] (takes_goes c.args.reuse c.args.seat.now.view.hands.spare c.args.seat.now c.leaf_in_hand.new.seat c.link_leaf.new.seat [] (leaf_took c.args.reuse c.args.seat.now c.find_spot.new.seat c.leaf_in_hand.new.seat (so_far_looked c.args.reuse c.args.seat.now c.loop-round.seat c.find_spot.new.seat c.loop-round.invariant.slots
+    (spot_found tries c.requires.tickets place _ c.in-Some.is searched).0 c.find_spot.ensures.seat.1) leaf.slots) busy
+    c.link_leaf.ensures.seat.1) back.goes back.seat.1))
