@@ -45,7 +45,7 @@ public:
 
     // The value before, where the key is present. It gets the other one where that is the expected one, if there is one.
     Found set(TreeSeat &seat, uint64_t key, uint64_t value, Found expected) {
-        seat.pauses.begin_call();
+        begin_call(seat);
         for (Backoff backoff;; backoff.snooze()) {
             const Descent end = descend(seat, key);
             const uint64_t generation = end.found ? at(end.slot, Life).load() / 2 : 0, before = end.found ? at(end.slot, Value).load() : 0;
@@ -67,7 +67,7 @@ public:
 
     // A slot that was taken out keeps its value as long as the place keeps it back.
     Found remove(TreeSeat &seat, uint64_t key) {
-        seat.pauses.begin_call();
+        begin_call(seat);
         this->make_room(seat);
         for (Backoff backoff;; backoff.snooze()) {
             const Descent end = descend(seat, key);
