@@ -31,7 +31,14 @@ struct FaultyEer : Eer<Spaced> {
 using Pairs = std::vector<citrus_pair>;
 using Found = std::optional<uint64_t>;
 
-class Twin : public SameTree<FaultyEer> {
+// It keeps no slots for what it puts next: it would wait for readers in a put to have some, which the library doesn't.
+class KeepsNone : public Spinning {
+public:
+    static constexpr bool keeps_slots = false;
+    using Spinning::Spinning;
+};
+
+class Twin : public SameTree<FaultyEer, KeepsNone> {
 public:
     using SameTree::SameTree;
 
