@@ -12,7 +12,7 @@ usage: install.sh PREFIX [ARCHIVE]
        install.sh --uninstall PREFIX
 
 Installs the C library below the folder PREFIX, which is made where it isn't there:
-  include/                  citrus.h, citrus.hpp, citrus_index.hpp, citrus_map.hpp, prcu.h, and what they include
+  include/                  citrus.h, citrus.hpp, citrus_index.hpp, citrus_map.hpp, citrus_string_map.hpp, prcu.h, and what they include
   lib/libcitrus.a           the archive, with all that it needs beside the C library
   lib/libcitrus.so.*        the same as a shared library
   lib/pkgconfig/            citrus.pc, and citrus-shared.pc for the shared library

@@ -61,11 +61,24 @@ link_objects() { g++ -pthread "${@:2}" -L"$prefix/lib" -lcitrus -o "$room/$1"; }
 
 compile_all() {
     compile_c answers && compile_c misuse && compile_c own_keys && compile_c moments && compile_c reopened && compile_c tidy && compile_c version && compile_c salts &&
-        compile_c backtraces && compile_cpp index && compile_cpp keyed && compile_c always && compile_c many_handles && compile_c counters && compile_c lanes &&
+        compile_c backtraces && compile_cpp index && compile_cpp keyed && compile_c always && compile_c many_handles && compile_c counters && compile_c expired && compile_c lanes &&
         compile_c busy && compile_c crowd &&
         compile_c memory -Wl,--wrap=malloc,--wrap=realloc,--wrap=free && compile_cpp answers && compile_cpp order && compile_cpp whole &&
         compile_c holds && compile_c begun && compile_c keeps && compile_c turns && compile_c objects && compile_c prcu && compile_cpp map &&
-        compile_floating && compile_debug
+        compile_cpp strings && compile_drawn "$prefix/include" "$room/strings_drawn" && compile_soon "$prefix/include" "$room/strings_soon" && compile_floating && compile_debug
+}
+
+# The map of strings by drawn schedules, with the headers of a folder: `compile_drawn FOLDER PROGRAM`. Behind these calls another fiber may go on.
+gone_over=(citrus_get citrus_insert_once citrus_compare_once citrus_remove_once citrus_take_once citrus_list_once citrus_first_once citrus_enter
+    citrus_release citrus_begin citrus_poll sched_yield select)
+compile_drawn() {
+    g++ -std=c++17 "-I$1" "${strict[@]}" "$here/tests/strings_drawn.cpp" "${gone_over[@]/#/-Wl,--wrap=}" -L"$prefix/lib" -lcitrus -o "$2"
+}
+
+# The same by which what is retired is dropped sooner, since rounds are short.
+compile_soon() {
+    local words='retired_together = 16' map=$room/soon/citrus_string_map.hpp
+    rm -rf "$room/soon" && cp -r "$1" "$room/soon" && grep -qF "$words" "$map" && sed -i "s/$words/retired_together = 1/" "$map" && compile_drawn "$room/soon" "$2"
 }
 
 # Keys are compiled in each language, by each compiler that is here.
@@ -178,12 +191,14 @@ threads_that_are_stopped() {
     stopped_cases_of "$room/own_keys" 2000
     stopped_cases_of "$room/moments" 2000
     stopped_cases_of "$room/counters" 2000
+    stopped_cases_of "$room/expired" 2000
     stopped_cases_of "$room/crowd" 200
     stopped_cases_of "$room/objects" 2000
     stopped_cases_of "$room/keeps"
     stopped_cases_of "$room/turns"
     stopped_cases_of "$room/map_cpp" threads
     stopped_cases_of "$room/keyed_cpp" threads
+    stopped_cases_of "$room/strings_cpp" threads
     for waiter in 0 1 2; do
         [ ! -x "$checker" ] || case_is "one order explains all replies, 4 threads that are stopped, waiter $waiter" \
             ordered_by stopped 100 "$room/order_cpp" $waiter 4 4000 3 4
@@ -191,7 +206,7 @@ threads_that_are_stopped() {
 }
 
 # Faults that are planted: in front of the library, for which planted.c has one for each of these calls, and in a twin of the library.
-wrapped=(get insert_once compare_once upsert_once remove_once list_once first_once last_once begin poll)
+wrapped=(get insert_once compare_once upsert_once remove_once take_once list_once first_once last_once begin poll)
 
 # A judge over the first: `compile_planted NAME OBJECT`; and over both.
 compile_planted() {
@@ -201,21 +216,22 @@ compile_judge() { compile_planted "$@" && g++ -pthread "$room/$2.o" "$room/twin.
 
 compile_judges() {
     local name
-    for name in planted own_keys moments counters objects crowd keeps turns; do
+    for name in planted own_keys moments counters expired objects crowd keeps turns; do
         gcc -std=gnu11 "${strict[@]}" -c "$here/tests/$name.c" -o "$room/$name.o" || return
     done
     g++ -std=c++17 "${strict[@]}" -c "$here/tests/twin.cpp" -o "$room/twin.o" || return
     for name in own_keys moments counters objects crowd; do compile_judge "$name" "$name" || return; done
-    for name in keeps turns; do compile_planted "$name" "$name" || return; done
+    for name in expired keeps turns; do compile_planted "$name" "$name" || return; done
     for name in whole order map; do compile_judge "$name" "${name}_cpp" || return; done
+    compile_planted strings strings_cpp
 }
 
 # The map without what keeps an object that is compared from being given up: then another one may come to stand at its address, and be taken for
 # it. AddressSanitizer doesn't let an address come back soon, so it wouldn't be seen there.
 compile_unkept() {
-    local line='while (one.object == object) std::this_thread::yield();'
+    local line='while (is_compared(object)) std::this_thread::yield();'
     cp -r "$prefix/include" "$room/unkept" && grep -qF "$line" "$room/unkept/citrus_map.hpp" &&
-        sed -i "s/$line/static_cast<void>(one);/" "$room/unkept/citrus_map.hpp" &&
+        sed -i "s/$line/static_cast<void>(object);/" "$room/unkept/citrus_map.hpp" &&
         g++ -std=c++17 "-I$room/unkept" "${strict[@]}" "$here/tests/map.cpp" -L"$prefix/lib" -lcitrus -o "$room/unkept_planted"
 }
 
@@ -224,6 +240,12 @@ fault_of_keys_is_seen() {
     rm -rf "$room/faulty" && cp -r "$prefix/include" "$room/faulty" && grep -qF "$2" "$room/faulty/$1" && sed -i "s/$2/$3/" "$room/faulty/$1" &&
         g++ -std=c++17 "-I$room/faulty" "${strict[@]}" "$here/tests/$4.cpp" -L"$prefix/lib" -lcitrus -o "$room/faulty_$4" &&
         ! timeout 100 "$room/faulty_$4" >"$room/report" && grep -q '^FAILED: ' "$room/report"
+}
+
+# Words of the map of strings are other ones in a copy, and a drawn schedule tells of it: `fault_of_strings_is_seen HEADER FROM TO`.
+fault_of_strings_is_seen() {
+    rm -rf "$room/faulty" && cp -r "$prefix/include" "$room/faulty" && grep -qF "$2" "$room/faulty/$1" && sed -i "s/$2/$3/" "$room/faulty/$1" &&
+        compile_soon "$room/faulty" "$room/faulty_drawn" && ! timeout 60 "$room/faulty_drawn" 4000 >"$room/report" 2>&1
 }
 
 # The fault is told of by one of 40 runs: `is_seen FAULT PROGRAM WORDS..`. A case fails, no order is found, or what was given up is read.
@@ -238,11 +260,24 @@ is_seen() {
     return 1
 }
 
+faults_of_strings() {
+    local map=citrus_string_map.hpp
+    case_is 'a fault of the C++ strings is told of: a take that does not compare' \
+        fault_of_strings_is_seen $map 'own_->index.take(on.at, word) != compared::done' '!own_->index.remove(on.at)'
+    case_is 'a fault of the C++ strings is told of: no wait for a value' fault_of_strings_is_seen $map 'own_->domain.wait(key, key);' ''
+    case_is 'a fault of the C++ strings is told of: no wait for visits' \
+        fault_of_strings_is_seen $map 'own_->domain.wait(of_strings::scans, of_strings::scans);' ''
+    case_is 'a fault of the C++ strings is told of: no look whether a layer is empty' fault_of_strings_is_seen $map 'next->key <= of_strings::high_key(its.number)) return' 'next->key < 1) return'
+    case_is 'a fault of the C++ strings is told of: a layer is left over' fault_of_strings_is_seen $map 'return its.above && --its.above->pairs <= 0;' 'return false;'
+    case_is 'a fault of the C++ strings is told of: a prefix is not compared' \
+        fault_of_strings_is_seen citrus_string_layers.hpp 'depth() - known) == 0;' 'depth() - known) < 1000;'
+}
+
 planted_faults() {
     local fault
     case_is 'tests compile with planted faults' compile_judges
     [ -x "$room/map_twin" ] || return
-    for fault in get insert compare upsert remove list first last; do
+    for fault in get insert compare upsert remove take list first last; do
         case_is "a fault in front of the library is told of by one order of all calls: $fault" is_seen $fault whole_planted 400 1 0
     done
     for fault in list first last; do case_is "a fault in front of the library is told of by moments: $fault" is_seen $fault moments_planted 5000; done
@@ -250,16 +285,19 @@ planted_faults() {
     case_is 'a fault in front of the library is told of by who owns keys: get' is_seen get own_keys_planted 3000
     case_is 'a fault in front of the library is told of by an order for each key: get' is_seen get order_planted 0 4 4000 3 1
     case_is 'a fault in front of the library is told of by counters: compare' is_seen compare counters_planted 2000
+    case_is 'a fault in front of the library is told of by entries that expire: take' is_seen take expired_planted 2000
     case_is 'a fault in front of the library is told of by a crowd: busy' is_seen busy crowd_planted 300
     for fault in poll early owing; do case_is "a fault in front of the library is told of by readers that stay: $fault" is_seen $fault keeps_planted; done
     for fault in poll keeper; do
         case_is "a fault in front of the library is told of by nodes with two children beside a reader: $fault" is_seen $fault turns_planted
     done
     case_is 'a fault in front of the library is told of by the C++ map: begin' is_seen begin map_planted 'threads read'
+    case_is 'a fault in front of the library is told of by the C++ strings: begin' is_seen begin strings_planted 'threads that share'
     case_is 'the C++ map compiles with a fault' compile_unkept
     case_is 'a fault of the C++ map is told of: an address that comes back' is_seen none unkept_planted 'threads update'
     case_is 'a fault of the C++ keys is told of: negative numbers' fault_of_keys_is_seen citrus_key.hpp 'its & sign ? ~its : its | sign' 'its | sign' keys
-    case_is 'a fault of the C++ handles by keys is told of: a page that ends' fault_of_keys_is_seen citrus_keyed.hpp 'words::key_of(found.next)' std::nullopt keyed
+    case_is 'a fault of the C++ handles by keys is told of: a page that ends' fault_of_keys_is_seen citrus_keyed.hpp 'key_of(found.next)' std::nullopt keyed
+    faults_of_strings
     for fault in remove replace list; do
         case_is "a fault in a twin of the library is told of by one order of all calls: $fault" is_seen $fault whole_twin 3000 1 0 6
     done
@@ -278,6 +316,9 @@ has_sanitizer() {
     printf 'int main(void) { return 0; }\n' | gcc "${sanitized[@]}" -o "$room/tried" -xc - 2>/dev/null && "$room/tried" 2>/dev/null
 }
 
+# With a sanitizer's marks g++ 12 takes an empty std::optional for one that is read.
+marked_cpp=(-Wno-maybe-uninitialized)
+
 # The cases of prcu.c wait in a section's thread for keys that it hasn't, which CITRUS_DEBUG refuses.
 compile_sanitized() {
     local name
@@ -285,7 +326,9 @@ compile_sanitized() {
         gcc -std=gnu11 "${strict[@]}" "${sanitized[@]}" -DCITRUS_DEBUG "$here/tests/$name.c" -L"$prefix/lib" -lcitrus -o "$room/${name}_sanitized" || return
     done
     gcc -std=gnu11 "${strict[@]}" "${sanitized[@]}" "$here/tests/prcu.c" -L"$prefix/lib" -lcitrus -o "$room/prcu_sanitized" || return
-    g++ -std=c++17 "${strict[@]}" "${sanitized[@]}" -DCITRUS_DEBUG "$here/tests/map.cpp" -L"$prefix/lib" -lcitrus -o "$room/map_sanitized"
+    for name in map strings; do
+        g++ -std=c++17 "${strict[@]}" "${marked_cpp[@]}" "${sanitized[@]}" -DCITRUS_DEBUG "$here/tests/$name.cpp" -L"$prefix/lib" -lcitrus -o "$room/${name}_sanitized" || return
+    done
 }
 
 under_a_sanitizer() { ASAN_OPTIONS=detect_leaks=0 timeout 100 "$room/$1_sanitized" "${@:2}"; }
@@ -295,7 +338,7 @@ is_told_of() { ! under_a_sanitizer "$@" >"$room/report" 2>&1 && grep -q heap-use
 
 values_under_a_sanitizer() {
     case_is 'the tests compile with AddressSanitizer' compile_sanitized
-    [ -x "$room/map_sanitized" ] || return
+    [ -x "$room/strings_sanitized" ] || return
     case_is 'a hold, and a wait before the free: nothing freed is read' under_a_sanitizer freed hold wait
     case_is 'AddressSanitizer tells of a free without a wait' is_told_of freed hold none
     case_is 'AddressSanitizer tells of a get in place of a hold' is_told_of freed get wait
@@ -306,10 +349,14 @@ values_under_a_sanitizer() {
     case_is 'nodes with two children beside a reader that stays under AddressSanitizer' under_a_sanitizer turns
     case_is 'predicate RCU alone under AddressSanitizer' under_a_sanitizer prcu
     case_is 'the C++ map under AddressSanitizer' under_a_sanitizer map
+    case_is 'the C++ strings under AddressSanitizer' under_a_sanitizer strings
 }
 
 # What a thread hands over by the index is in order for ThreadSanitizer, since the header says so; without those words it tells of a race.
 compile_for_races() { gcc -std=gnu11 -g "${strict[@]}" -fsanitize=thread "$here/tests/$1.c" "${@:3}" -L"$prefix/lib" -lcitrus -o "$room/$2"; }
+compile_strings_for_races() {
+    g++ -std=c++17 -g "${strict[@]}" "${marked_cpp[@]}" -fsanitize=thread -DCITRUS_DEBUG "$here/tests/strings.cpp" -L"$prefix/lib" -lcitrus -o "$room/strings_raced"
+}
 is_told_of_a_race() { ! timeout 100 "${laid_out[@]}" "$room/published_unsaid" >"$room/report" 2>&1 && grep -q 'data race' "$room/report"; }
 
 # It takes addresses that some kernels give to others, unless those are always the same.
@@ -329,6 +376,8 @@ hand_overs() {
     case_is 'readers that stay have no race for ThreadSanitizer' timeout 100 "${laid_out[@]}" "$room/keeps_raced"
     case_is 'nodes with two children beside a reader that stays compile with ThreadSanitizer' compile_for_races turns turns_raced -DCITRUS_DEBUG
     case_is 'nodes with two children beside a reader that stays have no race for ThreadSanitizer' timeout 100 "${laid_out[@]}" "$room/turns_raced"
+    case_is 'the C++ strings compile with ThreadSanitizer' compile_strings_for_races
+    case_is 'the C++ strings have no race for ThreadSanitizer' timeout 100 "${laid_out[@]}" "$room/strings_raced" threads
 }
 
 # The Rust crate's own tests, counted as cargo counts them. What compiles them has a time of its own.
@@ -420,14 +469,16 @@ cases_of "$here/tests/headers.sh" "$prefix/include"
 case_is "README's program in C" program_of README.md c/first.c '5 has 50' gcc -Wall -Wextra -Werror
 case_is "README's program in C++" program_of README.md cpp/first.cpp '5 has 50' g++ -std=c++17 -Wall -Wextra -Werror -pthread
 case_is "the page's map in C++" program_of docs/EMBEDDING.md cpp/names.cpp $'-5 is negative\nnegative is gone' g++ -std=c++17 -Wall -Wextra -Werror -pthread
+case_is "the page's map of strings in C++" program_of docs/EMBEDDING.md cpp/ages.cpp $'70\nuser:7 is 70\n70 is gone' g++ -std=c++17 -Wall -Wextra -Werror -pthread
 case_is 'the cache in C' example '5: five' gcc -Wall -Wextra -Werror "$here/c/cache.c"
 case_is 'the cache in C++' example '5: five' g++ -std=c++17 -Wall -Wextra -Werror -pthread "$here/cpp/cache.cpp"
 if hash pkg-config 2>/dev/null; then case_is "README's program by pkg-config" with_pkg_config; else echo 'left out: pkg-config'; fi
 case_is 'words of C++ keys in each language' keys_in_each_language
 case_is 'the tests compile' compile_all
 [ -x "$room/order_cpp" ] || end
-for program in answers misuse memory moments own_keys always many_handles counters busy crowd reopened lanes tidy salts version backtraces answers_cpp index_cpp; do cases_of "$room/$program"; done
-for program in holds begun keeps turns objects prcu debug map_cpp keyed_cpp whole_cpp whole_floating; do cases_of "$room/$program"; done
+for program in answers misuse memory moments own_keys always many_handles counters expired busy crowd reopened lanes tidy salts version backtraces answers_cpp index_cpp; do cases_of "$room/$program"; done
+for program in holds begun keeps turns objects prcu debug map_cpp keyed_cpp strings_cpp whole_cpp whole_floating; do cases_of "$room/$program"; done
+for program in strings_drawn strings_soon; do cases_of "$room/$program" 2000; done
 if has_debugger; then case_is 'gdb names the caller of a call that hangs' gdb_names_the_caller; else echo 'left out: gdb'; fi
 threads_that_are_stopped
 [ ! -x "$room/jitter.so" ] || planted_faults
@@ -435,6 +486,7 @@ if has_thread_sanitizer; then hand_overs; else echo 'left out: ThreadSanitizer';
 if has_sanitizer; then values_under_a_sanitizer; else echo 'left out: AddressSanitizer'; fi
 if [ -x "$checker" ]; then orders; else echo "left out: one order of all calls, since $checker isn't built"; fi
 for crate in citrus_map server; do [ ! -e "$here/$crate/Cargo.toml" ] || rust_tests "$crate"; done
+[ ! -x "$room/rust/debug/citrus_server" ] || cases_of "$here/server/clients.sh" "$room/rust/debug/citrus_server"
 if [ -e "$here/citrus_map/Cargo.toml" ]; then
     case_is "README's program in Rust" rust_program
     rust_maps

@@ -83,6 +83,7 @@ protected:
     // Before a delete: a spare slot for the copy, and room for what is retired.
     void make_room(TreeSeat &seat) {
         if (seat.retired.size() >= most_retired_) return reclaim(seat);
+        if (seat.spare == 0) keep_some(seat);
         if (seat.spare != 0) return;
         if (!take_kept(seat) && !take(seat)) return reclaim(seat);
         at(seat.hand, Life).load();
@@ -145,11 +146,15 @@ private:
         }
     }
 
+    // Waits for the retired slots, where none is kept and half of them may be. The first becomes the spare, where there is none.
+    void keep_some(TreeSeat &seat) {
+        if (Ways::keeps_slots && seat.kept.empty() && 2 * seat.retired.size() >= most_retired_) reclaim(seat);
+    }
+
     // Takes a slot into the hand that was waited for, where the place keeps some.
     bool take_kept(TreeSeat &seat) {
-        if (!Ways::keeps_slots) return false;
-        if (seat.kept.empty() && 2 * seat.retired.size() >= most_retired_) reclaim(seat);
-        if (seat.kept.empty()) return false;
+        keep_some(seat);
+        if (!Ways::keeps_slots || seat.kept.empty()) return false;
         seat.hand = seat.kept.back();
         seat.kept.pop_back();
         raise_life(seat.hand);

@@ -118,8 +118,8 @@ struct Queued {
     }
 };
 
-// For the front: in the queue behind two lost exchanges, and where the turn doesn't come in a while, as for the count: drawn pauses between
-// pairs of exchanges. Who may give way does so behind a long pause.
+// For the front: in the queue behind two lost exchanges, and where the turn doesn't come in a while, or there are few places, as for the
+// count: drawn pauses between pairs of exchanges. Who may give way does so behind a long pause.
 class Spinning {
 public:
     // Whether a place keeps slots that were waited for, for what it puts next.
@@ -128,9 +128,11 @@ public:
     // What all callers share.
     struct Shared {
         explicit Shared(uint32_t places)
-            : queue(places), most_in_line(std::clamp(turns_in_line_a_place * places, fewest_turns_in_line, most_turns_in_line)),
+            : queue(places), lines_up(places > few_places),
+              most_in_line(std::clamp(turns_in_line_a_place * places, fewest_turns_in_line, most_turns_in_line)),
               most_turns(CrowdPauses::most_for(places)) {}
         FrontQueue queue;
+        bool lines_up; // whether anybody stands there
         uint32_t most_in_line, most_turns;
     };
 
@@ -143,7 +145,7 @@ public:
     };
 
     Spinning(Shared &shared, Own &own, CommonWord word)
-        : shared_(shared), own_(own), state_(word == CommonWord::Front ? State::NotYet : State::Without) {
+        : shared_(shared), own_(own), state_(word == CommonWord::Front && shared.lines_up ? State::NotYet : State::Without) {
         if (state_ == State::NotYet && own_.queued.crowded) stand_in_line();
     }
 
@@ -163,6 +165,7 @@ public:
 
 private:
     enum class State { NotYet, Come, Without };
+    static constexpr uint32_t few_places = 4;
     static constexpr uint32_t turns_in_line_a_place = 96, fewest_turns_in_line = 256, most_turns_in_line = 8192, before_trying = 2;
 
     // Whether it was, or may have been, a long pause.

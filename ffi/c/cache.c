@@ -27,6 +27,12 @@ static void drop(citrus_handle *mine, uint64_t id) {
     if (citrus_remove(mine, id, &old) == CITRUS_DONE) free_old(mine, id, old);
 }
 
+/* Drops the entry that was seen there, and not one that was put since. Where that one has its address by now, it goes too. */
+static void expire(citrus_handle *mine, uint64_t id, uint64_t seen) {
+    uint64_t other = 0;
+    if (citrus_take(mine, id, seen, &other) == CITRUS_DONE) free_old(mine, id, seen);
+}
+
 /* Reads the text where it stands, and not after the release. */
 static void print(citrus_handle *mine, uint64_t id) {
     uint64_t value = 0;
@@ -35,7 +41,7 @@ static void print(citrus_handle *mine, uint64_t id) {
     const int is_over = entry->end <= time(NULL);
     if (!is_over) printf("%d: %s\n", (int)id, entry->text);
     citrus_release(mine);
-    if (is_over) drop(mine, id);
+    if (is_over) expire(mine, id, value);
 }
 
 int main(void) {

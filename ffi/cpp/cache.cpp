@@ -18,14 +18,16 @@ static void put(cache &mine, uint64_t id, std::string text, std::chrono::seconds
     mine.upsert(id, std::make_unique<entry>(entry{std::move(text), steady_clock::now() + time}));
 }
 
-// Reads the text where it stands. What is past its time is taken out, and dropped later.
+static bool is_over(const entry &its) { return its.end <= steady_clock::now(); }
+
+// Reads the text where it stands. What is past its time is taken out, and dropped later; what was put meanwhile stays.
 static void print(cache &mine, uint64_t id) {
     auto found = mine.get(id);
     if (!found) return;
-    const bool is_over = found->end <= steady_clock::now();
-    if (!is_over) std::cout << id << ": " << found->text << "\n";
+    const bool goes = is_over(*found);
+    if (!goes) std::cout << id << ": " << found->text << "\n";
     found.release();
-    if (is_over) mine.retire(id);
+    if (goes) mine.retire_if(id, is_over);
 }
 
 int main() {

@@ -42,7 +42,7 @@
  *   - an object that is freed twice, or changes while it is read: a get in place of a hold, a free without a wait, a wait for other keys;
  *   - calls that are as slow as a walk over all pairs: somebody chose keys by the salt of the index (citrus_options).
  *
- * What is written: *value, *old, *found, *key, *next and *cookie only where the status says so; *count of citrus_list and *made always. */
+ * What is written: *value, *old, *found, *key, *next and *cookie only where the status says so; *count of the lists and *made always. */
 #ifndef CITRUS_H
 #define CITRUS_H
 
@@ -111,16 +111,16 @@ enum { CITRUS_EER = 0, CITRUS_DOMAIN = 1, CITRUS_DEER = 2 };
  * before it was CITRUS_SPENT. If there are several causes, the first of these is told: CLOSED, LOST, HOLDS, BAD_ARGUMENT, SPENT, NO_MEMORY. */
 enum {
     CITRUS_DONE = 0,
-    CITRUS_UNCHANGED = 1,     /* insert: the key is there already; get, replace, compare, remove: it is absent; first, last: there is no such
+    CITRUS_UNCHANGED = 1,     /* insert: the key is there already; get, replace, compare, remove, take: it is absent; first, last: there is no such
                                  pair; reopen: no closed handle left a place; release: the handle is in no section; poll: a reader is left */
     CITRUS_FULL = 2,          /* the key is absent, and there is no free slot for it: as many pairs as were asked for are there, or more */
     CITRUS_MORE = 3,          /* list: there are more pairs than room; tidy: the range isn't done */
     CITRUS_MOVED = 4,         /* upsert: others put the key in and took it out in each of 1,000 rounds; nothing was changed. A later call may
                                  get through; poll: the wait is no longer the handle's latest, or its end was told */
     CITRUS_NEW = 5,           /* upsert: the pair was added */
-    CITRUS_DIFFERENT = 6,     /* compare: the key's value isn't the expected one */
+    CITRUS_DIFFERENT = 6,     /* compare, take: the key's value isn't the expected one */
     CITRUS_BUSY = 7,          /* citrus_insert_once and its like, of a list too: other threads were in the way, and nothing was changed or
-                                 listed; of an insert and a remove also: the handle has no room to keep slots back, until readers leave. Yield,
+                                 listed; of an insert, a remove and a take also: the handle has no room to keep slots back, until readers leave. Yield,
                                  and call again */
     CITRUS_CLOSED = -1,       /* the handle is closed, or the lanes are */
     CITRUS_BAD_ARGUMENT = -2, /* a number is out of its range; reopen: the other handle is open; open_lanes: the lanes are */
@@ -309,7 +309,9 @@ CITRUS_STATUS_MATTERS int32_t citrus_get(citrus_handle *handle, uint64_t key, ui
  *     CITRUS_BUSY. So is an insert, if the last pair that the handle added went deeper by a third or more than it should: then nodes are to be
  *     turned, for which there is no room. If it has no wait of its own, since its user's is the latest or tickets are short,
  *     such a remove waits for all readers inside the call, and so does such an insert before it turns nodes.
- *   - An insert that finds no free slot waits for all readers, if its handle keeps slots back.
+ *   - While no slot is free the handle's own wait begins with however few slots it keeps back, and an insert is CITRUS_BUSY until it is over. So is a
+ *     remove that has no slot in reserve for a copy, if the handle knew that none is free; else it finds that out, and waits for all readers inside
+ *     the call. So does an insert where the handle can't begin a wait of its own.
  *   - A remove of a node with two children puts the next pair in its place, and then waits, with up to five nodes locked, for the readers whose key is
  *     above its own and at most the next one; with CITRUS_DOMAIN and CITRUS_DEER also for those whose key has the class of one of these. But if
  *     the handle keeps back 48 slots, and its own wait is under way, a reader is known to stay: then turns bring the node down until it has one
@@ -317,7 +319,7 @@ CITRUS_STATUS_MATTERS int32_t citrus_get(citrus_handle *handle, uint64_t key, ui
  * Gets and lists are held up by no reader, replaces and compares only behind an update that waits with their node locked. Hold briefly all the
  * same, and take no more threads than processors. */
 
-/* Adds the pair, if the key is absent. If no slot is free it first waits for all readers, to give back slots of its own.
+/* Adds the pair, if the key is absent. If no slot is free, and its handle keeps some back, it is BUSY until they went back (see above).
  * If it went deep to add the pair, and has 72 tickets left, it then turns nodes on the way, in 24 attempts at most, so that the tree stays
  * shallow in whatever order keys come. A turn locks three nodes, and is given up if one of them is locked. Where the handle keeps back `keep` - 1
  * slots or more it makes no further turn, unless the way is deeper by a third or more than it should be, and no wait of the handle's own is under
@@ -383,6 +385,20 @@ CITRUS_STATUS_MATTERS static inline int32_t citrus_remove(citrus_handle *handle,
     return status;
 }
 
+/* Takes the pair out, if its value is `expected` at that moment: so a cache drops an entry only while it is the one that it saw. What is said of
+ * a remove's waits, of its slots and of BUSY goes for it too, also if the value is another one. If it first finds another value it locks nothing;
+ * the code is so, though no clause says it. For values that are pointers see below.
+ * DONE where one update took `expected` out; DIFFERENT where the key had the value *found, which isn't `expected`, at a moment of the call;
+ * UNCHANGED where the key is absent; CLOSED; HOLDS; SPENT; LOST. */
+CITRUS_STATUS_MATTERS int32_t citrus_take_once(citrus_handle *handle, uint64_t key, uint64_t expected, uint64_t *found);
+
+CITRUS_STATUS_MATTERS static inline int32_t citrus_take(citrus_handle *handle, uint64_t key, uint64_t expected, uint64_t *found) {
+    uint64_t times = 0;
+    int32_t status;
+    while ((status = citrus_take_once(handle, key, expected, found)) == CITRUS_BUSY) citrus_rest(times++);
+    return status;
+}
+
 /* Lists of a key range, and the pairs nearest to a key: each as it was at one moment of the call. Beside writers none fails. They need no
  * tickets and lock no node.
  *
@@ -402,6 +418,17 @@ CITRUS_STATUS_MATTERS static inline int32_t citrus_list(citrus_handle *handle, u
     uint64_t times = 0;
     int32_t status;
     while ((status = citrus_list_once(handle, low, high, pairs, room, count, next)) == CITRUS_BUSY) citrus_rest(times++);
+    return status;
+}
+
+/* Lists them with keys descending, from the greatest key at or below `high` down. It answers and costs as citrus_list does; at MORE the pairs
+ * are the last ones of the range, and the greatest key that isn't among them is in *next: the next call has it as its `high`. */
+CITRUS_STATUS_MATTERS int32_t citrus_list_down_once(citrus_handle *handle, uint64_t low, uint64_t high, citrus_pair *pairs, size_t room, size_t *count, uint64_t *next);
+
+CITRUS_STATUS_MATTERS static inline int32_t citrus_list_down(citrus_handle *handle, uint64_t low, uint64_t high, citrus_pair *pairs, size_t room, size_t *count, uint64_t *next) {
+    uint64_t times = 0;
+    int32_t status;
+    while ((status = citrus_list_down_once(handle, low, high, pairs, room, count, next)) == CITRUS_BUSY) citrus_rest(times++);
     return status;
 }
 
@@ -466,14 +493,14 @@ CITRUS_STATUS_MATTERS static inline int32_t citrus_tidy(citrus_handle *handle, u
  *     if (citrus_remove(&mine, key, &value) == CITRUS_DONE && citrus_wait(&mine, key, key) == CITRUS_DONE)
  *         free((struct object *)(uintptr_t)value);
  *
- * So it is with the old value of a replace or an upsert, and at a compare's DONE with `expected`. If you would rather not wait there, begin a
- * wait and ask later: citrus_begin, citrus_poll. What a caller owes for this, which nothing tests:
+ * So it is with the old value of a replace or an upsert, and at a compare's or a take's DONE with `expected`. If you would rather not wait there,
+ * begin a wait and ask later: citrus_begin, citrus_poll. What a caller owes for this, which nothing tests:
  *   - an object that was taken out is freed by whoever was told it, once, and not before a wait for its key is over that was begun after
  *     the call which told it. It isn't put in again;
  *   - an object stands under one key, or each of its keys is waited for;
  *   - what a hold told is followed up to the release alone, and what a get, a list, a first or a last told isn't followed at all. A
- *     compare compares addresses: an object that was freed since `expected` was told may have left its address to another, which is then
- *     replaced. */
+ *     compare and a take compare addresses: an object that was freed since `expected` was told may have left its address to another, which is
+ *     then replaced, or taken out. */
 
 /* Finds the key's value, and stays in a section with the key: each wait for the key waits for it. A handle is in one section at a time, so a
  * program that needs two values at once takes two handles. Hold a value as briefly as you would hold a lock: waits for the key wait for you,

@@ -7,7 +7,8 @@
 //     mine.insert(5, 50);
 //     std::optional<uint64_t> value = mine.get(5);
 //
-// Where values are objects of yours take citrus_map.hpp, or see `hold`. For many more threads that update than processors see citrus_turns.hpp.
+// Where values are objects of yours take citrus_map.hpp, or see `hold`; where keys are strings citrus_string_map.hpp. For many more threads that
+// update than processors see citrus_turns.hpp.
 #ifndef CITRUS_HPP
 #define CITRUS_HPP
 
@@ -78,7 +79,8 @@ struct page {
     bool empty() const noexcept { return pairs.empty(); }
 };
 
-// What a compare_exchange came to: the value was the expected one and was replaced, or it was another, or the key was absent.
+// What a compare_exchange or a take came to: the value was the expected one and was replaced or taken out, or it was another, or the key was
+// absent.
 enum class compared { done, different, absent };
 
 // What a tidy came to: the turns that it made, and the key to go on with where it isn't through.
@@ -251,10 +253,7 @@ public:
     // atomic, but that the key may be absent.
     compared compare_exchange(uint64_t key, uint64_t &expected, uint64_t desired) {
         uint64_t found = 0;
-        const int32_t status = citrus_compare(&at_, key, expected, desired, &found);
-        if (status != CITRUS_DIFFERENT) return is_done(status) ? compared::done : compared::absent;
-        expected = found;
-        return compared::different;
+        return told_of(citrus_compare(&at_, key, expected, desired, &found), expected, found);
     }
 
     // Gives the key what `change` makes of its value, where it is present; the value before. It is one update; where another thread updates
@@ -286,19 +285,26 @@ public:
         return told(citrus_remove(&at_, key, &old), old);
     }
 
+    // Takes the pair out, where its value is `expected`. Where it is another, that is in `expected` then.
+    compared take(uint64_t key, uint64_t &expected) {
+        uint64_t found = 0;
+        return told_of(citrus_take(&at_, key, expected, &found), expected, found);
+    }
+
+    // Takes the pair out, where the key is present and `goes(value)` says yes; its value. Where another thread gives the key another value
+    // between, `goes` is asked once more, with that.
+    template <class Goes> std::optional<uint64_t> remove_if(uint64_t key, Goes goes) {
+        const std::optional<uint64_t> found = get(key);
+        if (!found) return std::nullopt;
+        return take_while(key, *found, goes);
+    }
+
     // The pairs with keys from low to high as they were at one moment, keys ascending, as many as there is room for, and the key after them
     // where there are more. Throws bad_argument (low above high; no room, or more than CITRUS_MAX_ROOM).
-    page list(uint64_t low, uint64_t high, size_t room = page_room) {
-        if (room == 0 || room > CITRUS_MAX_ROOM) throw error(fault::bad_argument);
-        page found{std::vector<citrus_pair>(room), std::nullopt};
-        size_t count = 0;
-        uint64_t next = 0;
-        const int32_t status = citrus_list(&at_, low, high, found.pairs.data(), room, &count, &next);
-        found.pairs.resize(count);
-        if (status == CITRUS_MORE) found.next = next;
-        else refuse_unless_done(status);
-        return found;
-    }
+    page list(uint64_t low, uint64_t high, size_t room = page_room) { return listed(citrus_list, low, high, room); }
+
+    // The same from `high` down: keys descending, and the key after them is the greatest that isn't among them.
+    page list_down(uint64_t low, uint64_t high, size_t room = page_room) { return listed(citrus_list_down, low, high, room); }
 
     // The pair with the least key at or above `low`, if there is one.
     std::optional<citrus_pair> first(uint64_t low = 0) {
@@ -343,12 +349,12 @@ public:
     }
 
     // Takes out each pair of the range that `stays(key, value)` says no to, each by an update of its own; how many. It asks with the value
-    // that the page tells: where another thread gives the key another one after that, the pair is taken out with it.
+    // that the page tells: where another thread gives the key another one after that, once more with that one.
     template <class Stays> uint64_t retain(uint64_t low, uint64_t high, Stays stays) {
         uint64_t gone = 0;
         each_page(low, high, [&](const page &found) {
             for (const citrus_pair &pair : found)
-                if (!stays(pair.key, pair.value) && remove(pair.key)) gone++;
+                if (take_while(pair.key, pair.value, [&](uint64_t value) { return !stays(pair.key, value); })) gone++;
         });
         return gone;
     }
@@ -387,6 +393,15 @@ public:
         return {&at_, 0};
     }
 
+    // The same around updates of another index, which wait for no section of this one: CITRUS_DEBUG lets its thread make them.
+    [[nodiscard]] section enter_around(uint64_t key) {
+        section within = enter(key);
+#ifdef CITRUS_DEBUG
+        citrus_debug_goes_around(&at_);
+#endif
+        return within;
+    }
+
     // Waits for each section with a key from low to high that was entered before. Throws bad_argument where low is above high.
     void wait(uint64_t low, uint64_t high) { refuse_unless_done(citrus_wait(&at_, low, high)); }
 
@@ -420,6 +435,36 @@ private:
     static bool is_done(int32_t status) {
         if (status != CITRUS_UNCHANGED) refuse_unless_done(status);
         return status == CITRUS_DONE;
+    }
+
+    template <class List> page listed(List pairs_of, uint64_t low, uint64_t high, size_t room) {
+        if (room == 0 || room > CITRUS_MAX_ROOM) throw error(fault::bad_argument);
+        page found{std::vector<citrus_pair>(room), std::nullopt};
+        size_t count = 0;
+        uint64_t next = 0;
+        const int32_t status = pairs_of(&at_, low, high, found.pairs.data(), room, &count, &next);
+        found.pairs.resize(count);
+        if (status == CITRUS_MORE) found.next = next;
+        else refuse_unless_done(status);
+        return found;
+    }
+
+    // What a compare or a take came to. The value that it found, if it is another one, is written to `expected`; it is read after the call that
+    // wrote it, so it comes by reference.
+    static compared told_of(int32_t status, uint64_t &expected, const uint64_t &found) {
+        if (status != CITRUS_DIFFERENT) return is_done(status) ? compared::done : compared::absent;
+        expected = found;
+        return compared::different;
+    }
+
+    // Takes the pair out while `goes` says yes to its value; the value taken out.
+    template <class Goes> std::optional<uint64_t> take_while(uint64_t key, uint64_t value, Goes goes) {
+        while (goes(value)) {
+            const compared told = take(key, value);
+            if (told == compared::done) return value;
+            if (told == compared::absent) break;
+        }
+        return std::nullopt;
     }
 
     // Another thread may take the pair that was found first.

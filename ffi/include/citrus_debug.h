@@ -12,7 +12,8 @@
  * old number. It is seen but where very many handles are open. What is moved without a reset of the old one is no copy, if that isn't used.
  *
  * It knows the sections of a thread, and not of which index a handle is. So it aborts where the other handle is of another index too: that may
- * go well where a program orders its indexes as one orders locks, and such a program can't be tested so. A section is left in the thread that
+ * go well where a program orders its indexes as one orders locks, and such a program can't be tested so; citrus_string_map.hpp does, and says so by
+ * citrus_debug_goes_around. A section is left in the thread that
  * entered it, or it aborts as well. Each file of a program that calls the library is compiled so, or none: to the others a member with a number
  * leads nowhere, and the first call with it is a SIGSEGV. */
 #ifndef CITRUS_DEBUG_H
@@ -30,6 +31,9 @@ enum { CITRUS_DEBUG_SECTIONS = 64, CITRUS_DEBUG_CALLS = 1024, CITRUS_DEBUG_TRIES
 /* The sections that this thread is in, by the members of their handles. It is weak, so that all files of a program have one of it. */
 struct citrus_debug_sections { unsigned count; void *in[CITRUS_DEBUG_SECTIONS]; };
 __attribute__((weak)) __thread struct citrus_debug_sections citrus_debug_now;
+
+/* Those of them beside which it may make updates of other indexes, since these wait for no such section. */
+__attribute__((weak)) __thread struct citrus_debug_sections citrus_debug_around;
 
 static inline void citrus_debug_abort(const char *call, const char *why) {
     fprintf(stderr, "citrus: %s: %s\n", call, why);
@@ -124,24 +128,38 @@ static inline uint64_t citrus_debug_only_begins(struct citrus_debug_call mine) {
     return mine.number;
 }
 
+static inline void citrus_debug_comes_to(struct citrus_debug_sections *all, const char *call, void *at) {
+    if (all->count == CITRUS_DEBUG_SECTIONS) citrus_debug_abort(call, "this thread is in 64 sections");
+    all->in[all->count++] = at;
+}
+
 static inline void citrus_debug_enters(const char *call, const citrus_handle *handle) {
-    if (citrus_debug_now.count == CITRUS_DEBUG_SECTIONS) citrus_debug_abort(call, "this thread is in 64 sections");
-    citrus_debug_now.in[citrus_debug_now.count++] = citrus_debug_plain(handle->at);
+    citrus_debug_comes_to(&citrus_debug_now, call, citrus_debug_plain(handle->at));
 }
 
 /* Where it stands among them, or their count. */
-static inline unsigned citrus_debug_place(const void *at) {
+static inline unsigned citrus_debug_place_in(const struct citrus_debug_sections *all, const void *at) {
     unsigned i = 0;
-    while (i < citrus_debug_now.count && citrus_debug_now.in[i] != at) i++;
+    while (i < all->count && all->in[i] != at) i++;
     return i;
 }
+static inline unsigned citrus_debug_place(const void *at) { return citrus_debug_place_in(&citrus_debug_now, at); }
 
 /* Whether it was among them. */
-static inline int citrus_debug_leaves(const void *at) {
-    const unsigned place = citrus_debug_place(at);
-    if (place == citrus_debug_now.count) return 0;
-    citrus_debug_now.in[place] = citrus_debug_now.in[--citrus_debug_now.count];
+static inline int citrus_debug_goes_from(struct citrus_debug_sections *all, const void *at) {
+    const unsigned place = citrus_debug_place_in(all, at);
+    if (place == all->count) return 0;
+    all->in[place] = all->in[--all->count];
     return 1;
+}
+static inline int citrus_debug_leaves(const void *at) {
+    return citrus_debug_goes_from(&citrus_debug_now, at) || citrus_debug_goes_from(&citrus_debug_around, at);
+}
+
+/* Of a section that this thread has just entered. */
+static inline void citrus_debug_goes_around(const citrus_handle *handle) {
+    void *const at = citrus_debug_plain(handle->at);
+    if (citrus_debug_goes_from(&citrus_debug_now, at)) citrus_debug_comes_to(&citrus_debug_around, "citrus_enter", at);
 }
 
 /* A handle that is in a section itself is answered CITRUS_HOLDS, and a closed one CITRUS_CLOSED. */
@@ -241,6 +259,12 @@ static inline int32_t citrus_debug_remove(citrus_handle *handle, uint64_t key, u
     return citrus_debug_ended(mine, citrus_remove(handle, key, old));
 }
 
+static inline int32_t citrus_debug_take(citrus_handle *handle, uint64_t key, uint64_t expected, uint64_t *found) {
+    const struct citrus_debug_call mine = citrus_debug_begins("citrus_take", handle);
+    citrus_debug_may_wait("citrus_take", handle);
+    return citrus_debug_ended(mine, citrus_take(handle, key, expected, found));
+}
+
 /* One try of each of these updates. */
 static inline int32_t citrus_debug_insert_once(citrus_handle *handle, uint64_t key, uint64_t value) {
     const struct citrus_debug_call mine = citrus_debug_begins("citrus_insert_once", handle);
@@ -270,6 +294,12 @@ static inline int32_t citrus_debug_remove_once(citrus_handle *handle, uint64_t k
     const struct citrus_debug_call mine = citrus_debug_begins("citrus_remove_once", handle);
     citrus_debug_may_wait("citrus_remove_once", handle);
     return citrus_debug_ended(mine, citrus_remove_once(handle, key, old));
+}
+
+static inline int32_t citrus_debug_take_once(citrus_handle *handle, uint64_t key, uint64_t expected, uint64_t *found) {
+    const struct citrus_debug_call mine = citrus_debug_begins("citrus_take_once", handle);
+    citrus_debug_may_wait("citrus_take_once", handle);
+    return citrus_debug_ended(mine, citrus_take_once(handle, key, expected, found));
 }
 
 static inline int32_t citrus_debug_wait(citrus_handle *handle, uint64_t low, uint64_t high) {
@@ -319,6 +349,12 @@ static inline int32_t citrus_debug_list(citrus_handle *handle, uint64_t low, uin
                                         uint64_t *next) {
     const struct citrus_debug_call mine = citrus_debug_begins("citrus_list", handle);
     return citrus_debug_ended(mine, citrus_list(handle, low, high, pairs, room, count, next));
+}
+
+static inline int32_t citrus_debug_list_down(citrus_handle *handle, uint64_t low, uint64_t high, citrus_pair *pairs, size_t room, size_t *count,
+                                             uint64_t *next) {
+    const struct citrus_debug_call mine = citrus_debug_begins("citrus_list_down", handle);
+    return citrus_debug_ended(mine, citrus_list_down(handle, low, high, pairs, room, count, next));
 }
 
 static inline int32_t citrus_debug_first(citrus_handle *handle, uint64_t low, uint64_t *key, uint64_t *value) {
@@ -374,9 +410,12 @@ static inline void citrus_debug_close_lanes(citrus_lanes *lanes) {
 #undef citrus_upsert_once
 #undef citrus_remove
 #undef citrus_remove_once
+#undef citrus_take
+#undef citrus_take_once
 #undef citrus_wait
 #undef citrus_get
 #undef citrus_list
+#undef citrus_list_down
 #undef citrus_first
 #undef citrus_last
 #undef citrus_compare
@@ -403,6 +442,8 @@ static inline void citrus_debug_close_lanes(citrus_lanes *lanes) {
 #define citrus_upsert_once citrus_debug_upsert_once
 #define citrus_remove citrus_debug_remove
 #define citrus_remove_once citrus_debug_remove_once
+#define citrus_take citrus_debug_take
+#define citrus_take_once citrus_debug_take_once
 #define citrus_wait citrus_debug_wait
 #define citrus_tidy citrus_debug_tidy
 #define citrus_left citrus_debug_left
@@ -411,6 +452,7 @@ static inline void citrus_debug_close_lanes(citrus_lanes *lanes) {
 #define citrus_reopen citrus_debug_reopen
 #define citrus_get citrus_debug_get
 #define citrus_list citrus_debug_list
+#define citrus_list_down citrus_debug_list_down
 #define citrus_first citrus_debug_first
 #define citrus_last citrus_debug_last
 #define citrus_begin citrus_debug_begin

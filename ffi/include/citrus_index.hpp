@@ -132,7 +132,10 @@ public:
     template <class Change> std::optional<V> update(passed_key key, Change change) { return lend()->update(key, std::move(change)); }
     std::optional<V> upsert(passed_key key, V value) { return lend()->upsert(key, value); }
     std::optional<V> remove(passed_key key) { return lend()->remove(key); }
+    compared take(passed_key key, V &expected) { return lend()->take(key, expected); }
+    template <class Goes> std::optional<V> remove_if(passed_key key, Goes goes) { return lend()->remove_if(key, std::move(goes)); }
     auto list(passed_key low, passed_key high, size_t room = handle::page_room) { return lend()->list(low, high, room); }
+    auto list_down(passed_key low, passed_key high, size_t room = handle::page_room) { return lend()->list_down(low, high, room); }
     auto first() { return lend()->first(); }
     auto first(passed_key low) { return lend()->first(low); }
     auto last() { return lend()->last(); }

@@ -78,6 +78,13 @@ template <class K, class V> struct words {
 
     static keyed_pair<K, V> pair_of(const citrus_pair &pair) noexcept { return {key_of(pair.key), value_of(pair.value)}; }
 
+    static keyed_page<K, V> page_of(const page &found) {
+        keyed_page<K, V> told{{}, key_of(found.next)};
+        told.pairs.reserve(found.size());
+        for (const citrus_pair &one : found) told.pairs.push_back(pair_of(one));
+        return told;
+    }
+
     static std::optional<keyed_pair<K, V>> pair_of(const std::optional<citrus_pair> &pair) noexcept {
         if (!pair) return std::nullopt;
         return pair_of(*pair);
@@ -231,17 +238,29 @@ public:
         return told;
     }
 
+    compared take(passed_key key, V &expected) {
+        uint64_t word = words::of_value(expected);
+        const compared told = handle::take(words::of_key(key), word);
+        if (told == compared::different) expected = words::value_of(word);
+        return told;
+    }
+
+    template <class Goes> std::optional<V> remove_if(passed_key key, Goes goes) {
+        const auto goes_out = [&](uint64_t word) { return goes(words::value_of(word)); };
+        return words::value_of(handle::remove_if(words::of_key(key), goes_out));
+    }
+
     template <class Change> std::optional<V> update(passed_key key, Change change) {
         const auto changed = [&](uint64_t word) { return words::of_value(change(words::value_of(word))); };
         return words::value_of(handle::update(words::of_key(key), changed));
     }
 
     keyed_page<K, V> list(passed_key low, passed_key high, size_t room = page_room) {
-        const page found = handle::list(words::of_key(low), words::of_key(high), room);
-        keyed_page<K, V> told{{}, words::key_of(found.next)};
-        told.pairs.reserve(found.size());
-        for (const citrus_pair &one : found) told.pairs.push_back(words::pair_of(one));
-        return told;
+        return words::page_of(handle::list(words::of_key(low), words::of_key(high), room));
+    }
+
+    keyed_page<K, V> list_down(passed_key low, passed_key high, size_t room = page_room) {
+        return words::page_of(handle::list_down(words::of_key(low), words::of_key(high), room));
     }
 
     std::optional<pair> first() { return words::pair_of(handle::first()); }

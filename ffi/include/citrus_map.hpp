@@ -16,7 +16,8 @@
 //   - a map object outlives the held values that it gave, and what a held value leads to isn't used when that has ended;
 //   - while a thread has a held value of one map object it makes no update by another one of the same map. By the same one it can't: holds is
 //     thrown;
-//   - the destructor of an object makes no call of the map that has it, nor does what `update` and `retain` call.
+//   - the destructor of an object makes no call of the map that has it, nor does what `update`, `remove_if`, `retire_if` and
+//     `retain` call.
 #ifndef CITRUS_MAP_HPP
 #define CITRUS_MAP_HPP
 
@@ -181,16 +182,31 @@ public:
         return true;
     }
 
-    // Retires each pair with a key from low to high that `stays(key, value)` says no to, page by page as `handle::retain`; how many. Where
-    // another thread gives the key another value after that was asked, the pair goes with it.
+    // Takes the pair out, or retires it, where the key is present and `goes(value)` says yes: as `remove` and `retire`. Where another thread
+    // gives the key another value after that was asked, it is asked once more, with that one. It reads the value as a held one is read, so it is
+    // to be short. Where the tree has to wait for readers, whoever takes the same value out meanwhile and waits for its readers waits for this
+    // call too.
+    template <class Goes> std::unique_ptr<T> remove_if(uint64_t key, Goes goes) {
+        make_room();
+        const auto old = take_while(key, goes);
+        if (!old) return nullptr;
+        return outwait({key, *old});
+    }
+
+    template <class Goes> bool retire_if(uint64_t key, Goes goes) {
+        make_room();
+        const auto old = take_while(key, goes);
+        if (!old) return false;
+        own_->retired.push_back({key, *old});
+        settle();
+        return true;
+    }
+
+    // Retires each pair with a key from low to high that `stays(key, value)` says no to, page by page as `handle::retain`; how many.
     template <class Stays> uint64_t retain(uint64_t low, uint64_t high, Stays stays) {
         uint64_t gone = 0;
-        for (const citrus_pair &pair : own_->at.range(low, high)) {
-            held<T> found = get(pair.key);
-            const bool goes = found && !stays(pair.key, *found);
-            found.release();
-            gone += goes && retire(pair.key);
-        }
+        for (const citrus_pair &pair : own_->at.range(low, high))
+            gone += retire_if(pair.key, [&](const T &value) { return !stays(pair.key, value); });
         return gone;
     }
 
@@ -219,7 +235,7 @@ private:
         uint64_t key, object;
     };
 
-    // The object with which a map object compares in an update, or 0. Nobody drops it meanwhile: so at its address there is no other one,
+    // The object with which a map object compares in an update or a take, or 0. Nobody drops it meanwhile: so at its address there is no other one,
     // which would be taken for it (Michael, "Hazard pointers: safe memory reclamation for lock-free objects", 2004). In lines of its own.
     struct alignas(128) hazard {
         std::atomic<bool> is_taken{false};
@@ -321,6 +337,21 @@ private:
         return told;
     }
 
+    // Takes the pair out while `goes` says yes to its value; the object. It is the one that was asked about, which is kept as `compare` keeps it.
+    template <class Goes> std::optional<uint64_t> take_while(uint64_t key, Goes &goes) {
+        for (;;) {
+            held<T> found = get(key);
+            if (!found || !goes(*found)) return std::nullopt;
+            const uint64_t object = address_of(found.get());
+            const kept until_told(own_->compares, object);
+            found.release();
+            uint64_t other = object;
+            const compared told = in_turn([&] { return own_->at.take(key, other); });
+            if (told == compared::done) return object;
+            if (told == compared::absent) return std::nullopt;
+        }
+    }
+
     // Another map object may take the pair that was found first.
     template <class Find> std::optional<popped> pop(Find find) {
         while (const std::optional<uint64_t> key = find())
@@ -340,11 +371,16 @@ private:
         return give_up(gone.object);
     }
 
+    // Whether a map object compares with this object, which was taken out and has no readers. Where none does, none will.
+    bool is_compared(uint64_t object) const noexcept {
+        const auto &all = own_->all->hazards;
+        return std::any_of(all.begin(), all.end(), [object](const hazard &one) { return one.object == object; });
+    }
+
     // An object whose readers are gone, once nobody compares with it. Who does waits for no update of this map object, which has no lock
-    // here.
+    // here. But a take may have to wait for readers first.
     std::unique_ptr<T> give_up(uint64_t object) noexcept {
-        for (const hazard &one : own_->all->hazards)
-            while (one.object == object) std::this_thread::yield();
+        while (is_compared(object)) std::this_thread::yield();
         return std::unique_ptr<T>(reinterpret_cast<T *>(uintptr_t(object)));
     }
 
@@ -353,7 +389,7 @@ private:
         own &now = *own_;
         if (!now.leaving.empty()) {
             const progress told = now.at.poll(now.cookie);
-            if (told == progress::over) drop(now.leaving);
+            if (told == progress::over) drop_left(now.leaving);
             if (told == progress::displaced) begin(now.leaving);
         }
         if (now.leaving.empty() && !now.retired.empty()) {
@@ -375,6 +411,13 @@ private:
             low = std::min(low, one.key);
             high = std::max(high, one.key);
         }
+    }
+
+    // Drops what nobody compares with: a retire waits for nobody. What stays is asked about by a wait more.
+    void drop_left(std::vector<taken_out> &list) noexcept {
+        const auto gone = std::partition(list.begin(), list.end(), [this](const taken_out &one) { return is_compared(one.object); });
+        std::for_each(gone, list.end(), [this](const taken_out &one) { give_up(one.object); });
+        list.erase(gone, list.end());
     }
 
     void drop(std::vector<taken_out> &list) noexcept {
@@ -451,6 +494,9 @@ public:
     std::optional<popped> pop_last(passed_key high) { return popped_of(its_.pop_last(traits::encode(high))); }
 
     bool retire(passed_key key) { return its_.retire(traits::encode(key)); }
+
+    template <class Goes> std::unique_ptr<T> remove_if(passed_key key, Goes goes) { return its_.remove_if(traits::encode(key), std::move(goes)); }
+    template <class Goes> bool retire_if(passed_key key, Goes goes) { return its_.retire_if(traits::encode(key), std::move(goes)); }
 
     template <class Stays> uint64_t retain(passed_key low, passed_key high, Stays stays) {
         const auto stay = [&](uint64_t word, const T &value) { return stays(traits::decode(word), value); };

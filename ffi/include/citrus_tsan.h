@@ -50,7 +50,7 @@ static inline int32_t citrus_tsan_gave(int32_t status, uint64_t key, const uint6
     return status;
 }
 
-/* So has who replaced `expected`, or was told another value. */
+/* So has who replaced `expected` or took it out, or was told another value. */
 static inline int32_t citrus_tsan_compared(int32_t status, uint64_t key, uint64_t expected, const uint64_t *found) {
     if (status == CITRUS_DONE) citrus_tsan_is_told(key, expected);
     if (status == CITRUS_DIFFERENT) citrus_tsan_is_told(key, *found);
@@ -81,7 +81,15 @@ static inline int32_t citrus_tsan_remove(citrus_handle *handle, uint64_t key, ui
     return citrus_tsan_gave(citrus_remove(handle, key, old), key, old);
 }
 
+static inline int32_t citrus_tsan_take(citrus_handle *handle, uint64_t key, uint64_t expected, uint64_t *found) {
+    return citrus_tsan_compared(citrus_take(handle, key, expected, found), key, expected, found);
+}
+
 /* One try of each: of one that is CITRUS_BUSY this tells of a pair that nobody is told. */
+static inline int32_t citrus_tsan_take_once(citrus_handle *handle, uint64_t key, uint64_t expected, uint64_t *found) {
+    return citrus_tsan_compared(citrus_take_once(handle, key, expected, found), key, expected, found);
+}
+
 static inline int32_t citrus_tsan_insert_once(citrus_handle *handle, uint64_t key, uint64_t value) {
     citrus_tsan_puts(key, value);
     return citrus_insert_once(handle, key, value);
@@ -121,6 +129,14 @@ static inline int32_t citrus_tsan_last(citrus_handle *handle, uint64_t low, uint
 static inline int32_t citrus_tsan_list(citrus_handle *handle, uint64_t low, uint64_t high, citrus_pair *pairs, size_t room, size_t *count,
                                        uint64_t *next) {
     const int32_t status = citrus_list(handle, low, high, pairs, room, count, next);
+    size_t i;
+    for (i = 0; i < *count; i++) citrus_tsan_is_told(pairs[i].key, pairs[i].value);
+    return status;
+}
+
+static inline int32_t citrus_tsan_list_down(citrus_handle *handle, uint64_t low, uint64_t high, citrus_pair *pairs, size_t room, size_t *count,
+                                            uint64_t *next) {
+    const int32_t status = citrus_list_down(handle, low, high, pairs, room, count, next);
     size_t i;
     for (i = 0; i < *count; i++) citrus_tsan_is_told(pairs[i].key, pairs[i].value);
     return status;
@@ -184,11 +200,14 @@ static inline int32_t citrus_tsan_poll(citrus_handle *handle, uint64_t cookie) {
 #define citrus_upsert_once citrus_tsan_upsert_once
 #define citrus_remove citrus_tsan_remove
 #define citrus_remove_once citrus_tsan_remove_once
+#define citrus_take citrus_tsan_take
+#define citrus_take_once citrus_tsan_take_once
 #define citrus_first citrus_tsan_first
 #define citrus_last citrus_tsan_last
 #define citrus_compare citrus_tsan_compare
 #define citrus_compare_once citrus_tsan_compare_once
 #define citrus_list citrus_tsan_list
+#define citrus_list_down citrus_tsan_list_down
 #define citrus_get_many citrus_tsan_get_many
 #define citrus_close_lanes citrus_tsan_close_lanes
 #define citrus_release citrus_tsan_release

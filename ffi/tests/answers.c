@@ -16,6 +16,7 @@ static void an_absent_key(uint32_t waiter) {
     WANT(citrus_replace(&index, 1, 10, &told), CITRUS_UNCHANGED);
     WANT(citrus_compare(&index, 1, 0, 10, &told), CITRUS_UNCHANGED);
     WANT(citrus_remove(&index, 1, &told), CITRUS_UNCHANGED);
+    WANT(citrus_take(&index, 1, 0, &told), CITRUS_UNCHANGED);
     WANT(citrus_first(&index, 0, &key, &told), CITRUS_UNCHANGED);
     WANT(citrus_last(&index, 0, UINT64_MAX, &key, &told), CITRUS_UNCHANGED);
     WANT(citrus_get(&index, 1, &told), CITRUS_UNCHANGED);
@@ -65,6 +66,29 @@ static void a_value_is_compared(uint32_t waiter) {
     WANT(citrus_remove(&index, 1, &told), CITRUS_DONE);
     WANT(citrus_compare(&index, 1, UINT64_MAX, 5, &told), CITRUS_UNCHANGED);
     WANT(citrus_get(&index, 1, &told), CITRUS_UNCHANGED);
+    citrus_close(&index);
+}
+
+static void a_pair_is_taken(uint32_t waiter) {
+    citrus_handle index = open_index(10, 1, waiter);
+    uint64_t told = UNTOUCHED;
+    for (uint64_t key = 1; key <= 7; key++) WANT(citrus_insert(&index, key, 10 * key), CITRUS_DONE);
+    for (uint64_t key = 1; key <= 7; key++) {
+        WANT(citrus_take(&index, key, 10 * key + 1, &told), CITRUS_DIFFERENT);
+        WANT(told, 10 * key);
+        told = UNTOUCHED;
+        WANT(citrus_take(&index, key, 10 * key, &told), CITRUS_DONE);
+        WANT(told, UNTOUCHED);
+        WANT(citrus_take(&index, key, 10 * key, &told), CITRUS_UNCHANGED);
+        WANT(citrus_get(&index, key, &told), CITRUS_UNCHANGED);
+        WANT(told, UNTOUCHED);
+    }
+    WANT(citrus_insert(&index, 0, UINT64_MAX), CITRUS_DONE);
+    WANT(citrus_take(&index, 0, 0, &told), CITRUS_DIFFERENT);
+    WANT(told, UINT64_MAX);
+    WANT(citrus_take(&index, 0, UINT64_MAX, &told), CITRUS_DONE);
+    WANT(citrus_insert(&index, UINT64_MAX, 0), CITRUS_DONE);
+    WANT(citrus_take(&index, UINT64_MAX, 0, &told), CITRUS_DONE);
     citrus_close(&index);
 }
 
@@ -276,6 +300,36 @@ static void lists(uint32_t waiter) {
     citrus_close(&index);
 }
 
+static void lists_go_down(uint32_t waiter) {
+    citrus_handle index = open_index(10, 1, waiter);
+    citrus_pair pairs[4] = {{UNTOUCHED, UNTOUCHED}, {UNTOUCHED, UNTOUCHED}, {UNTOUCHED, UNTOUCHED}, {UNTOUCHED, UNTOUCHED}};
+    size_t count = 9;
+    uint64_t next = UNTOUCHED;
+    WANT(citrus_list_down(&index, 0, UINT64_MAX, pairs, 4, &count, &next), CITRUS_DONE);
+    WANT(count, 0);
+    WANT(citrus_insert(&index, 0, 5), CITRUS_DONE);
+    for (uint64_t key = 4; key >= 2; key--) WANT(citrus_insert(&index, key, 10 * key), CITRUS_DONE);
+    WANT(citrus_insert(&index, UINT64_MAX, 7), CITRUS_DONE);
+    WANT(citrus_list_down(&index, 2, UINT64_MAX - 1, pairs, 4, &count, &next), CITRUS_DONE);
+    WANT(count, 3);
+    for (uint64_t i = 0; i < 3; i++) {
+        WANT(pairs[i].key, 4 - i);
+        WANT(pairs[i].value, 40 - 10 * i);
+    }
+    WANT(next, UNTOUCHED);
+    WANT(citrus_list_down(&index, 0, UINT64_MAX, pairs, 3, &count, &next), CITRUS_MORE);
+    WANT(count, 3);
+    WANT(pairs[0].key, UINT64_MAX);
+    WANT(pairs[2].key, 3);
+    WANT(next, 2);
+    WANT(citrus_list_down(&index, 0, next, pairs, 3, &count, &next), CITRUS_DONE);
+    WANT(count, 2);
+    WANT(pairs[1].key, 0);
+    WANT(citrus_list_down(&index, 1, 1, pairs, 4, &count, &next), CITRUS_DONE);
+    WANT(count, 0);
+    citrus_close(&index);
+}
+
 static void handles_and_tickets_are_shared(uint32_t waiter) {
     citrus_handle first = open_index(10, 4, waiter), second = CITRUS_CLOSED_HANDLE, third = CITRUS_CLOSED_HANDLE;
     uint32_t handles = 0;
@@ -480,7 +534,7 @@ enum { MODEL_KEYS = 300 };
 
 /* What a list, and a first, of this handle must tell, by the model: 0 where the key is absent, else its value. */
 static void look_at_lists(citrus_handle *index, const uint64_t *model) {
-    static citrus_pair pairs[MODEL_KEYS];
+    static citrus_pair pairs[MODEL_KEYS], down[MODEL_KEYS];
     size_t count = 0, at = 0;
     uint64_t next = 0, key = 0, value = 0;
     WANT(citrus_list(index, 0, UINT64_MAX, pairs, MODEL_KEYS, &count, &next), CITRUS_DONE);
@@ -490,6 +544,9 @@ static void look_at_lists(citrus_handle *index, const uint64_t *model) {
             at++;
         }
     WANT(count, at);
+    WANT(citrus_list_down(index, 0, UINT64_MAX, down, MODEL_KEYS, &count, &next), CITRUS_DONE);
+    WANT(count, at);
+    for (size_t i = 0; i < at; i++) WANT(down[i].key == pairs[at - 1 - i].key && down[i].value == pairs[at - 1 - i].value, 1);
     WANT(citrus_first(index, 0, &key, &value), at ? CITRUS_DONE : CITRUS_UNCHANGED);
     if (at) WANT(key == pairs[0].key && value == pairs[0].value, 1);
     WANT(citrus_last(index, 0, UINT64_MAX, &key, &value), at ? CITRUS_DONE : CITRUS_UNCHANGED);
@@ -511,7 +568,7 @@ static void drawn_calls_as_a_model_has_them(uint32_t waiter) {
     for (uint64_t i = 1; i <= 100000 && !wrong_here; i++) {
         const uint64_t key = draw(&state) % MODEL_KEYS, was = model[key];
         uint64_t told = was;
-        switch (draw(&state) % 8) {
+        switch (draw(&state) % 10) {
         case 0: WANT(citrus_get(&index, key, &told), was ? CITRUS_DONE : CITRUS_UNCHANGED); break;
         case 1:
             WANT(citrus_insert(&index, key, i), was ? CITRUS_UNCHANGED : CITRUS_DONE);
@@ -531,6 +588,11 @@ static void drawn_calls_as_a_model_has_them(uint32_t waiter) {
             break;
         case 5: WANT(citrus_compare(&index, key, i, i, &told), was ? CITRUS_DIFFERENT : CITRUS_UNCHANGED); break;
         case 6: look_for_last(&index, model, key); break;
+        case 7:
+            WANT(citrus_take(&index, key, was, &told), was ? CITRUS_DONE : CITRUS_UNCHANGED);
+            model[key] = 0;
+            break;
+        case 8: WANT(citrus_take(&index, key, i, &told), was ? CITRUS_DIFFERENT : CITRUS_UNCHANGED); break;
         default:
             WANT(citrus_remove(&index, key, &told), was ? CITRUS_DONE : CITRUS_UNCHANGED);
             model[key] = 0;
@@ -545,6 +607,7 @@ static const struct waiter_case cases[] = {
     {"an absent key", an_absent_key},
     {"a pair comes and goes", a_pair_comes_and_goes},
     {"a value is compared", a_value_is_compared},
+    {"a pair is taken", a_pair_is_taken},
     {"an upsert adds and then replaces", an_upsert_adds_and_then_replaces},
     {"numbers at their ends", numbers_at_their_ends},
     {"firsts and lasts", firsts_and_lasts},
@@ -555,6 +618,7 @@ static const struct waiter_case cases[] = {
     {"what a handle knows", what_a_handle_knows},
     {"a remove at each node", a_remove_at_each_node},
     {"lists", lists},
+    {"lists go down", lists_go_down},
     {"handles and tickets are shared", handles_and_tickets_are_shared},
     {"tickets are shared fairly", tickets_are_shared_fairly},
     {"a closed handle is opened again", a_closed_handle_is_opened_again},

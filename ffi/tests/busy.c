@@ -129,6 +129,7 @@ static void each_is_told(citrus_handle *mine, int32_t status) {
     WANT(citrus_upsert_once(mine, HELD, 1, &old), status);
     WANT(citrus_upsert_once(mine, TAKEN, 1, &old), status);
     WANT(citrus_remove_once(mine, HELD, &old), status);
+    WANT(citrus_take_once(mine, HELD, value_of(HELD), &old), status);
     WANT(old, UNTOUCHED);
 }
 
@@ -146,7 +147,7 @@ static void what_is_locked_is_busy(uint32_t waiter) {
     WANT(after.free, before.free);
     WANT(after.kept, before.kept);
     /* An upsert may make two of them: a replace, and an insert. */
-    WANT(before.tickets - after.tickets <= TURNS * 8 * 4, 1);
+    WANT(before.tickets - after.tickets <= TURNS * 9 * 4, 1);
     all_others_are_there(&scene.mine);
     WANT(scene.removal.is_over, 0);
     leave_reader(&scene);
@@ -163,8 +164,12 @@ static void what_needs_no_lock_is_told(uint32_t waiter) {
     WANT(citrus_replace_once(&scene.mine, GONE, 1, &old), CITRUS_UNCHANGED);
     WANT(citrus_compare_once(&scene.mine, GONE, value_of(GONE), 1, &old), CITRUS_UNCHANGED);
     WANT(citrus_remove_once(&scene.mine, GONE, &old), CITRUS_UNCHANGED);
+    WANT(citrus_take_once(&scene.mine, GONE, value_of(GONE), &old), CITRUS_UNCHANGED);
     WANT(old, UNTOUCHED);
     WANT(citrus_compare_once(&scene.mine, HELD, 1, 2, &old), CITRUS_DIFFERENT);
+    WANT(old, value_of(HELD));
+    old = UNTOUCHED;
+    WANT(citrus_take_once(&scene.mine, HELD, 1, &old), CITRUS_DIFFERENT);
     WANT(old, value_of(HELD));
     leave_reader(&scene);
     all_others_are_there(&scene.mine);

@@ -10,7 +10,7 @@ enum { OWN_KEYS = 12, MOST_KEYS = OWN_KEYS * MOST_THREADS, SPARE_PAIRS = 50, PAT
 
 static uint64_t operations = 1000;
 
-enum kind { INSERT, REPLACE, COMPARE, COMPARE_ANOTHER, UPSERT, REMOVE, KINDS };
+enum kind { INSERT, REPLACE, COMPARE, COMPARE_ANOTHER, UPSERT, TAKE, TAKE_ANOTHER, REMOVE, KINDS };
 
 /* What each is told of a key that is there, and of one that isn't; and whether it tells the value that is there. */
 static const struct answer {
@@ -22,6 +22,8 @@ static const struct answer {
     [COMPARE] = {CITRUS_DONE, CITRUS_UNCHANGED, 0},
     [COMPARE_ANOTHER] = {CITRUS_DIFFERENT, CITRUS_UNCHANGED, 1},
     [UPSERT] = {CITRUS_DONE, CITRUS_NEW, 1},
+    [TAKE] = {CITRUS_DONE, CITRUS_UNCHANGED, 0},
+    [TAKE_ANOTHER] = {CITRUS_DIFFERENT, CITRUS_UNCHANGED, 1},
     [REMOVE] = {CITRUS_DONE, CITRUS_UNCHANGED, 1},
 };
 
@@ -45,6 +47,8 @@ static int32_t make(citrus_handle *handle, const struct update *update, uint64_t
     case COMPARE: return citrus_compare(handle, update->key, update->known, update->value, old);
     case COMPARE_ANOTHER: return citrus_compare(handle, update->key, update->known + 1, update->value, old);
     case UPSERT: return citrus_upsert(handle, update->key, update->value, old);
+    case TAKE: return citrus_take(handle, update->key, update->known, old);
+    case TAKE_ANOTHER: return citrus_take(handle, update->key, update->known + 1, old);
     default: return citrus_remove(handle, update->key, old);
     }
 }
@@ -56,6 +60,8 @@ static int32_t make_once(citrus_handle *handle, const struct update *update, uin
     case COMPARE: return citrus_compare_once(handle, update->key, update->known, update->value, old);
     case COMPARE_ANOTHER: return citrus_compare_once(handle, update->key, update->known + 1, update->value, old);
     case UPSERT: return citrus_upsert_once(handle, update->key, update->value, old);
+    case TAKE: return citrus_take_once(handle, update->key, update->known, old);
+    case TAKE_ANOTHER: return citrus_take_once(handle, update->key, update->known + 1, old);
     default: return citrus_remove_once(handle, update->key, old);
     }
 }
@@ -84,7 +90,8 @@ static uint64_t known_after(const struct update *update) {
     case INSERT: return update->known ? update->known : update->value;
     case REPLACE:
     case COMPARE: return update->known ? update->value : 0;
-    case COMPARE_ANOTHER: return update->known;
+    case COMPARE_ANOTHER:
+    case TAKE_ANOTHER: return update->known;
     case UPSERT: return update->value;
     default: return 0;
     }

@@ -55,11 +55,13 @@ static void replace_by_other(void) { citrus_replace(&second, 9, 1, &told); }
 static void compare_by_other(void) { citrus_compare(&second, 9, 90, 90, &told); }
 static void upsert_by_other(void) { citrus_upsert(&second, 9, 1, &told); }
 static void remove_by_other(void) { citrus_remove(&second, 9, &told); }
+static void take_by_other(void) { citrus_take(&second, 9, 90, &told); }
 static void insert_once_by_other(void) { citrus_insert_once(&second, 100, 1); }
 static void replace_once_by_other(void) { citrus_replace_once(&second, 9, 1, &told); }
 static void compare_once_by_other(void) { citrus_compare_once(&second, 9, 90, 90, &told); }
 static void upsert_once_by_other(void) { citrus_upsert_once(&second, 9, 1, &told); }
 static void remove_once_by_other(void) { citrus_remove_once(&second, 9, &told); }
+static void take_once_by_other(void) { citrus_take_once(&second, 9, 90, &told); }
 static void wait_by_other(void) { citrus_wait(&second, 9, 9); }
 
 static void tidy_by_other(void) {
@@ -70,6 +72,7 @@ static void tidy_by_other(void) {
 static void (*const waiting_calls[])(void) = {
     insert_by_other,       replace_by_other,      compare_by_other,     upsert_by_other,      remove_by_other, wait_by_other, tidy_by_other,
     insert_once_by_other,  replace_once_by_other, compare_once_by_other, upsert_once_by_other, remove_once_by_other,
+    take_by_other,         take_once_by_other,
 };
 
 static void what_may_wait_for_its_own_thread_aborts(uint32_t waiter) {

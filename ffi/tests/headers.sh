@@ -43,10 +43,12 @@ END
 cat >"$room/alone.cpp" <<'END'
 #include <citrus_index.hpp>
 #include <citrus_map.hpp>
+#include <citrus_string_map.hpp>
 #include <prcu.h>
 template class citrus::map<int>;
 template class citrus::map<std::pair<int, float>, int>;
 template class citrus::index<double, int *>;
+template class citrus::string_map<std::unique_ptr<int>>;
 template class citrus::keyed_lanes<bool, char>;
 static citrus_handle kept = CITRUS_CLOSED_HANDLE;
 bool is_kept();
@@ -54,11 +56,15 @@ bool is_kept() {
     kept = citrus_closed_handle();
     citrus::handle mine(100, 2), fixed(citrus::options{100, 2, citrus::waiter::eer, 5, 4096});
     citrus::index index(100, 2);
+    citrus::string_map<int> strings(100, 2);
+    strings.each("five", "six", [](std::string_view, int) {});
+    strings.update("five", [](int value) { return value + 1; });
+    strings.remove_if("five", [](int value) { return value > 5; });
     return mine.insert(5, 50) && fixed.insert(5, 50) && mine.hold(5) && kept.at && index.insert(5, 50);
 }
 END
 printf '#include <citrus.h>\nvoid forget(citrus_handle *mine);\nvoid forget(citrus_handle *mine) { citrus_insert(mine, 5, 50); }\n' >"$room/forgotten.c"
-printf '#include <citrus_index.hpp>\n#include <citrus_map.hpp>\n' >"$room/old.cpp"
+printf '#include <citrus_index.hpp>\n#include <citrus_map.hpp>\n#include <citrus_string_map.hpp>\n' >"$room/old.cpp"
 # What can't be a key, and the sentence that says so.
 no_keys=(
     'citrus::index<std::pair<uint64_t, bool>> kept(1, 1); // a key has 64 bits at most'

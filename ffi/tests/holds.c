@@ -79,8 +79,11 @@ static void each_call_says_so(citrus_handle *inside) {
     WANT(citrus_upsert(inside, 5, 1, &told), CITRUS_HOLDS);
     WANT(citrus_upsert(inside, 100, 1, &told), CITRUS_HOLDS);
     WANT(citrus_remove(inside, 5, &told), CITRUS_HOLDS);
+    WANT(citrus_take(inside, 5, 50, &told), CITRUS_HOLDS);
+    WANT(citrus_take(inside, 5, 0, &told), CITRUS_HOLDS);
     WANT(citrus_wait(inside, 0, UINT64_MAX), CITRUS_HOLDS);
     WANT(citrus_list(inside, 0, 9, &pair, 1, &count, &key), CITRUS_HOLDS);
+    WANT(citrus_list_down(inside, 0, 9, &pair, 1, &count, &key), CITRUS_HOLDS);
     WANT(count, 0);
     WANT(citrus_first(inside, 0, &key, &told), CITRUS_HOLDS);
     WANT(citrus_last(inside, 0, 9, &key, &told), CITRUS_HOLDS);

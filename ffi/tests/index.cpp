@@ -44,6 +44,13 @@ static void each_call(uint32_t waiter) {
     WANT(index.list(0, 9).size(), 2);
     WANT(index.remove(5).value_or(0), 55);
     WANT(index.remove(5).has_value(), false);
+    WANT(index.take(7, expected) == citrus::compared::different, true);
+    WANT(expected, 70);
+    WANT(index.take(7, expected) == citrus::compared::done, true);
+    WANT(index.take(7, expected) == citrus::compared::absent, true);
+    index.insert(8, 80);
+    WANT(index.remove_if(8, [](uint64_t value) { return value < 80; }).has_value(), false);
+    WANT(index.remove_if(8, [](uint64_t value) { return value == 80; }).value_or(0), 80);
 }
 
 // The handles are lent once each, and come back.

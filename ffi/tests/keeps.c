@@ -1,5 +1,5 @@
 /* Readers that stay, in an index whose handles may keep back many slots of removed pairs: removes go on beside a reader until their handle keeps
- * back all that it may, and are BUSY then; so are inserts that need turns. What is kept outlives a close, takes no room from the pairs that always
+ * back all that it may, and are BUSY then; so are inserts that need turns, or find no slot free. What is kept outlives a close, takes no room from the pairs that always
  * fit, and goes back once the reader has left, or is used again, also where its handle waits behind each remove. */
 #include "stays.h"
 
@@ -443,6 +443,46 @@ static void all_pairs_fit_beside_kept_slots(uint32_t waiter) {
     end_scene(&both.scene);
 }
 
+enum { FEWEST = 16, FEW_RETIRED = 4, TALLEST = 64 };
+
+/* The keys of this many bits, in halves: so no way is deep. */
+static uint64_t in_halves(uint64_t number) {
+    uint64_t key = 0;
+    for (uint64_t bit = TALLEST / 2; bit; bit /= 2, number /= 2) key += number % 2 * bit;
+    return TALLEST + key;
+}
+
+/* No slot is free, and its handle keeps some back: such an insert begins a wait for these, is BUSY until the reader has left, and changes nothing.
+ * Removes that have a spare go on meanwhile. */
+static void an_insert_without_a_free_slot_is_busy(uint32_t waiter) {
+    struct scene scene;
+    uint64_t old = UNTOUCHED, pairs = 0;
+    int32_t status = CITRUS_DONE;
+    begin_scene(&scene, 10, 2, waiter, FEWEST);
+    put_and_take_out(&scene.mine, FEW_RETIRED);
+    while (status == CITRUS_DONE && pairs < TALLEST)
+        if ((status = citrus_insert_once(&scene.mine, in_halves(pairs), pairs)) == CITRUS_DONE) pairs++;
+    WANT(status, CITRUS_BUSY);
+    WANT(citrus_insert_once(&scene.mine, in_halves(pairs), pairs), CITRUS_BUSY);
+    const citrus_numbers before = numbers_of(&scene.mine);
+    WANT(before.free, 0);
+    WANT(before.kept, FEW_RETIRED);
+    for (int turn = 0; turn < 100; turn++) WANT(citrus_insert_once(&scene.mine, in_halves(pairs), pairs), CITRUS_BUSY);
+    const citrus_numbers after = numbers_of(&scene.mine);
+    WANT(after.kept, FEW_RETIRED);
+    WANT(after.tickets, before.tickets);
+    WANT(after.waits, before.waits);
+    WANT(citrus_get(&scene.mine, in_halves(pairs), &old), CITRUS_UNCHANGED);
+    WANT(citrus_insert_once(&scene.mine, in_halves(0), 1), CITRUS_UNCHANGED);
+    WANT(citrus_remove_once(&scene.mine, in_halves(pairs - 1), &old), CITRUS_DONE);
+    WANT(old, pairs - 1);
+    leave(&scene);
+    WANT(citrus_insert(&scene.mine, in_halves(pairs), pairs), CITRUS_DONE);
+    WANT(citrus_get(&scene.mine, in_halves(pairs), &old), CITRUS_DONE);
+    WANT(old, pairs);
+    end_scene(&scene);
+}
+
 /* Those that are shared, and those whose places lanes had. */
 static void each_handle_may_keep_back_as_many(uint32_t waiter) {
     const citrus_options options = citrus_options_for(10, 4, waiter);
@@ -474,6 +514,7 @@ static const struct waiter_case cases[] = {
     {"objects are freed beside a reader that stays", objects_are_freed_beside_a_reader_that_stays},
     {"kept slots outlive a close", kept_slots_outlive_a_close},
     {"all pairs fit beside kept slots", all_pairs_fit_beside_kept_slots},
+    {"an insert without a free slot is busy", an_insert_without_a_free_slot_is_busy},
     {"each handle may keep back as many", each_handle_may_keep_back_as_many},
 };
 

@@ -55,7 +55,7 @@ template <class K> struct model {
     }
 
     void call(uint64_t which) {
-        switch (which % 14) {
+        switch (which % 15) {
         case 0: case 1: case 2: return insert();
         case 3: return upsert();
         case 4: return replace();
@@ -67,6 +67,7 @@ template <class K> struct model {
         case 10: return range();
         case 11: return ends();
         case 12: return take_ends();
+        case 13: return take();
         default: return which % 5 ? ranges_go() : clear();
         }
     }
@@ -93,6 +94,18 @@ template <class K> struct model {
         WANT(told == (!there() ? citrus::compared::absent : high % 2 ? citrus::compared::different : citrus::compared::done), true);
         if (told == citrus::compared::different) WANT(expected == there(), true);
         if (told == citrus::compared::done) all[low] = value;
+    }
+
+    void take() {
+        double expected = there().value_or(value) + (high % 2);
+        const auto told = mine.take(least(), expected);
+        WANT(told == (!there() ? citrus::compared::absent : high % 2 ? citrus::compared::different : citrus::compared::done), true);
+        if (told == citrus::compared::different) WANT(expected == there(), true);
+        if (told == citrus::compared::done) all.erase(low);
+        WANT(mine.remove_if(least(), [&](double its) { return its != there(); }).has_value(), false);
+        if (high % 4) return;
+        WANT(mine.remove_if(least(), [&](double its) { return its == there(); }) == there(), true);
+        all.erase(low);
     }
 
     void update() {
@@ -371,6 +384,8 @@ static void keys_become_words_once() {
     WANT(words_of([&] { return index.replace({-5}, 60); }), 1);
     WANT(words_of([&] { return index.update({-5}, [](uint64_t value) { return value + 10; }); }), 1);
     WANT(words_of([&] { return index.compare_exchange({-5}, expected, 80); }), 1);
+    WANT(words_of([&] { return index.take({-5}, expected); }), 1);
+    WANT(words_of([&] { return index.remove_if({-5}, [](uint64_t) { return true; }); }), 1);
     WANT(words_of([&] { return index.upsert({-5}, 90); }), 1);
     WANT(words_of([&] { return index.list({-5}, {5}); }), 2);
     WANT(words_of([&] { return index.size({-5}); }), 1);
@@ -385,6 +400,8 @@ static void keys_become_words_once() {
     WANT(words_of([&] { return map.upsert({-5}, one()); }), 1);
     WANT(words_of([&] { return map.replace({-5}, one()); }), 1);
     WANT(words_of([&] { return map.retain({-5}, {5}, [](counted_key, int) { return true; }); }), 2);
+    WANT(words_of([&] { return map.remove_if({-5}, [](int) { return false; }); }), 1);
+    WANT(words_of([&] { return map.retire_if({-5}, [](int) { return false; }); }), 1);
     WANT(words_of([&] { return map.retire({-5}); }), 1);
     WANT(words_of([&] { return map.insert({-5}, one()); }), 1);
     WANT(words_of([&] { return map.pop_first({-5}).value().key.number; }), 1);

@@ -8,7 +8,7 @@
 #include <thread>
 #include <utility>
 
-// What this thread does behind its next release: in an update that is before the value is compared.
+// What this thread does behind its next release: in an update or a take that is before the value is compared.
 static thread_local std::function<void()> behind_release;
 
 static inline int32_t release_and_more(citrus_handle *handle) {
@@ -103,6 +103,21 @@ static void ranges(uint32_t waiter) {
     WANT(there, 4);
 }
 
+// A pair goes while its value is the one that was asked about.
+static void takes(uint32_t waiter) {
+    objects mine(10, 1, static_cast<citrus::waiter>(waiter));
+    const auto is_it = [](const object &value) { return value.is_of(5); };
+    WANT(mine.remove_if(5, is_it) == nullptr, true);
+    WANT(mine.retire_if(5, is_it), false);
+    mine.insert(5, make(5));
+    WANT(mine.remove_if(5, [](const object &value) { return !value.is_of(5); }) == nullptr, true);
+    WANT(mine.remove_if(5, is_it)->is_of(5), true);
+    mine.insert(5, make(5));
+    WANT(mine.retire_if(5, is_it), true);
+    mine.flush();
+    WANT(there, 0);
+}
+
 // What is made of a value that isn't there any more is dropped, and made again of the one that is.
 static void updates(uint32_t waiter) {
     objects mine(10, 2, static_cast<citrus::waiter>(waiter)), other = mine.share();
@@ -125,9 +140,9 @@ static void updates(uint32_t waiter) {
     WANT(there, 0);
 }
 
-// An object that an update compares with isn't given up before it has: so none at its address is taken for it.
+// An object that an update or a take compares with isn't given up before it has: so none at its address is taken for it.
 static void what_is_compared_stays(uint32_t waiter) {
-    for (const bool retires : {false, true}) {
+    for (const auto &[retires, takes] : {std::pair(false, false), {true, false}, {false, true}, {true, true}}) {
         objects mine(10, 2, static_cast<citrus::waiter>(waiter)), other = mine.share();
         std::atomic<bool> is_over{false};
         std::thread thread;
@@ -142,7 +157,7 @@ static void what_is_compared_stays(uint32_t waiter) {
             }
             is_over = true;
         };
-        const auto changed = [&](const object &value) {
+        const auto is_asked = [&] {
             behind_release = [&] {
                 thread = std::thread(take_out);
                 for (int turn = 0; mine.contains(5) && turn < 1000; turn++) std::this_thread::sleep_for(std::chrono::milliseconds(10));
@@ -150,10 +165,13 @@ static void what_is_compared_stays(uint32_t waiter) {
                 std::this_thread::sleep_for(std::chrono::milliseconds(20));
                 WANT(bool(is_over), false);
             };
-            calls++;
-            return make(value.key);
+            return ++calls;
         };
-        WANT(mine.update(5, changed) == nullptr, true);
+        if (takes) {
+            WANT(mine.remove_if(5, [&](const object &) { return is_asked() > 0; }) == nullptr, true);
+        } else {
+            WANT(mine.update(5, [&](const object &value) { return is_asked(), make(value.key); }) == nullptr, true);
+        }
         thread.join();
         WANT(calls, 1);
         WANT(bool(is_over), true);
@@ -310,6 +328,46 @@ static void removes_go_on_beside_a_held_value(uint32_t waiter) {
     WANT(there, 0);
 }
 
+// A take waits for a held value, since its map object keeps back all the slots that it may. Meanwhile another one retires what it compares with,
+// and more. The held value stays until that is done; where it is waited for, it goes after ten seconds.
+static void retires_go_on_beside_a_take_that_waits(uint32_t waiter) {
+    enum { LAST = 1000 };
+    citrus::options asked_for{100, 3, static_cast<citrus::waiter>(waiter)};
+    asked_for.keep = 16;
+    {
+        objects mine(asked_for), taker = mine.share(), retirer = mine.share();
+        std::atomic<uint64_t> asked{0};
+        std::atomic<bool> is_refused_one{false}, is_retired{false};
+        mine.insert(LAST, make(LAST));
+        const auto held = mine.get(LAST);
+        std::thread taking([&] {
+            const auto takes = [&](uint64_t key) {
+                taker.insert(key, make(key));
+                return taker.retire_if(key, [&](const object &) { return asked.exchange(key) < key; });
+            };
+            for (uint64_t key = 1; key < LAST && !is_refused_one; key++) is_refused_one = !takes(key);
+        });
+        std::thread retiring([&] {
+            uint64_t key = 0;
+            while (key == 0 || asked != key) {
+                key = asked;
+                std::this_thread::sleep_for(std::chrono::milliseconds(50));
+            }
+            bool all = retirer.retire(key);
+            for (key = LAST / 2; key < LAST / 2 + 10; key++) all &= retirer.insert(key, make(key)) && retirer.retire(key);
+            is_retired = all;
+        });
+        for (int turn = 0; !is_retired && turn < 1000; turn++) std::this_thread::sleep_for(std::chrono::milliseconds(10));
+        WANT(bool(is_retired), true);
+        WANT(held->is_of(LAST), true);
+        held.release();
+        taking.join();
+        retiring.join();
+        WANT(bool(is_refused_one), true);
+    }
+    WANT(there, 0);
+}
+
 static void map_objects_are_shared_and_moved() {
     {
         objects first(100, 3), second = first.share(), third = first.share();
@@ -335,7 +393,9 @@ static void work(objects &mine, uint64_t seed, uint64_t keys, std::atomic<long> 
     const auto wants = [&](const std::unique_ptr<object> &gone, uint64_t key) { wrong += gone && !gone->is_of(key); };
     for (int i = 0; i < 5000; i++) {
         const uint64_t key = draw() % keys;
-        switch (draw() % 10) {
+        switch (draw() % 12) {
+        case 10: wants(mine.remove_if(key, [&](const object &value) { return wrong += !value.is_of(key), value.is_of(key); }), key); break;
+        case 9: mine.retire_if(key, [&](const object &value) { return value.is_of(key); }); break;
         case 8: wants(mine.update(key, [&](const object &value) { return wrong += !value.is_of(key), make(key); }), key); break;
         case 0: mine.insert(key, make(key)); break;
         case 1: wants(mine.replace(key, make(key)), key); break;
@@ -373,13 +433,15 @@ static void threads_take_turns(uint32_t waiter) { read_and_take_out(waiter, citr
 static const waiter_case waiter_cases[] = {
     {"C++ map: answers", answers},
     {"C++ map: ranges", ranges},
+    {"C++ map: takes", takes},
     {"C++ map: updates", updates},
-    {"C++ map: what an update compares with stays", what_is_compared_stays},
+    {"C++ map: what an update or a take compares with stays", what_is_compared_stays},
     {"C++ map: threads update the same keys", threads_update_the_same_keys},
     {"C++ map: values that are refused", values_that_are_refused},
     {"C++ map: a held value refuses other calls", a_held_value_refuses_other_calls},
     {"C++ map: retired values are dropped", retired_values_are_dropped},
     {"C++ map: removes go on beside a held value", removes_go_on_beside_a_held_value},
+    {"C++ map: retires go on beside a take that waits", retires_go_on_beside_a_take_that_waits},
     {"C++ map: threads read and take out", threads_read_and_take_out},
     {"C++ map: threads whose updates take turns read and take out", threads_take_turns},
     {"C++ map: who holds a value is refused before it waits for a turn", a_held_value_asks_for_no_turn},

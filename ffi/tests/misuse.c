@@ -20,7 +20,9 @@ static void a_closed_handle_at_each_call(void) {
     WANT(citrus_compare(&closed, 1, 0, 10, &told), CITRUS_CLOSED);
     WANT(citrus_upsert(&closed, 1, 10, &told), CITRUS_CLOSED);
     WANT(citrus_remove(&closed, 1, &told), CITRUS_CLOSED);
+    WANT(citrus_take(&closed, 1, 10, &told), CITRUS_CLOSED);
     WANT(citrus_list(&closed, 0, 9, &pair, 1, &count, &key), CITRUS_CLOSED);
+    WANT(citrus_list_down(&closed, 0, 9, &pair, 1, &count, &key), CITRUS_CLOSED);
     WANT(citrus_first(&closed, 0, &key, &told), CITRUS_CLOSED);
     WANT(citrus_last(&closed, 0, 9, &key, &told), CITRUS_CLOSED);
     WANT(citrus_last(&closed, 9, 0, &key, &told), CITRUS_CLOSED);
@@ -193,6 +195,9 @@ static void lists_of_nothing_and_of_too_much(void) {
     WANT(citrus_list(&index, 6, 5, pairs, 1, &count, &next), CITRUS_BAD_ARGUMENT);
     WANT(count, 0);
     count = 9;
+    WANT(citrus_list_down(&index, 6, 5, pairs, 1, &count, &next), CITRUS_BAD_ARGUMENT);
+    WANT(count, 0);
+    count = 9;
     WANT(citrus_list(&index, 0, 9, pairs, 0, &count, &next), CITRUS_BAD_ARGUMENT);
     WANT(count, 0);
     count = 9;
@@ -227,6 +232,7 @@ static void a_handle_without_tickets(void) {
     WANT(citrus_compare(&spent, 2, 0, 11, &told), CITRUS_SPENT);
     WANT(citrus_upsert(&spent, 1, 11, &told), CITRUS_SPENT);
     WANT(citrus_remove(&spent, 1, &told), CITRUS_SPENT);
+    WANT(citrus_take(&spent, 1, 0, &told), CITRUS_SPENT);
     WANT(told, UNTOUCHED);
     WANT(citrus_left(&spent, &handles, &tickets), CITRUS_DONE);
     WANT(tickets, 3);

@@ -94,6 +94,8 @@ public:
         return its_.compare_exchange(key_at<K>(number), expected, desired);
     }
 
+    citrus::compared take(uint64_t number, uint64_t &expected) { return its_.take(key_at<K>(number), expected); }
+
     citrus::page list(uint64_t low, uint64_t high, size_t room = citrus::handle::page_room) {
         const auto found = its_.list(key_at<K>(low), key_at<K>(high), room);
         citrus::page told;

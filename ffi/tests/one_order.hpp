@@ -17,7 +17,7 @@ using Value = std::optional<uint64_t>;
 
 enum class Kind { Get, Put, Set, Del };
 
-// A call of one key and its reply. An upsert is the set or the put by which it ended, and a compare the set or the get.
+// A call of one key and its reply. An upsert is the set or the put by which it ended, a compare the set or the get, and a take the del or the get.
 struct Call {
     Kind kind;
     uint64_t key, value;      // what a put or a set gives the key
@@ -52,20 +52,20 @@ static inline uint64_t drawn(uint64_t &state) {
     return state;
 }
 
-// What a compare came to, where it found this value or none.
-static inline void told_of_compare(Call &call, citrus::compared told, uint64_t found) {
-    call.kind = told == citrus::compared::done ? Kind::Set : Kind::Get;
+// What a compare or a take came to, which is of this kind where it is done, and where it found this value or none.
+static inline void told_of(Call &call, Kind done, citrus::compared told, uint64_t found) {
+    call.kind = told == citrus::compared::done ? done : Kind::Get;
     call.is_found = told != citrus::compared::absent;
     if (call.is_found) call.found = found;
 }
 
-enum KeyCall : uint64_t { GET, HOLD, INSERT, REPLACE, UPSERT, COMPARE, REMOVE, KEY_CALLS };
+enum KeyCall : uint64_t { GET, HOLD, INSERT, REPLACE, UPSERT, COMPARE, TAKE, REMOVE, KEY_CALLS };
 
 // Makes a call of this kind. What a hold tells is judged as what a get tells: its reply is known before the section is left.
 template <class Index> Call call_of(Index &index, uint64_t which, uint64_t key, uint64_t value) {
     Call call{};
     decltype(index.hold(key)) held;
-    uint64_t found = which == COMPARE ? index.get(key).value_or(value) : value;
+    uint64_t found = which == COMPARE || which == TAKE ? index.get(key).value_or(value) : value;
     call.key = key;
     call.value = value;
     call.begin = ++stamps;
@@ -97,7 +97,12 @@ template <class Index> Call call_of(Index &index, uint64_t which, uint64_t key, 
         break;
     case COMPARE: {
         const citrus::compared told = index.compare_exchange(key, found, value);
-        told_of_compare(call, told, found);
+        told_of(call, Kind::Set, told, found);
+        break;
+    }
+    case TAKE: {
+        const citrus::compared told = index.take(key, found);
+        told_of(call, Kind::Del, told, found);
         break;
     }
     default:

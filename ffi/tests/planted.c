@@ -10,6 +10,7 @@ int32_t __real_citrus_insert_once(citrus_handle *, uint64_t, uint64_t);
 int32_t __real_citrus_compare_once(citrus_handle *, uint64_t, uint64_t, uint64_t, uint64_t *);
 int32_t __real_citrus_upsert_once(citrus_handle *, uint64_t, uint64_t, uint64_t *);
 int32_t __real_citrus_remove_once(citrus_handle *, uint64_t, uint64_t *);
+int32_t __real_citrus_take_once(citrus_handle *, uint64_t, uint64_t, uint64_t *);
 int32_t __real_citrus_list_once(citrus_handle *, uint64_t, uint64_t, citrus_pair *, size_t, size_t *, uint64_t *);
 int32_t __real_citrus_first_once(citrus_handle *, uint64_t, uint64_t *, uint64_t *);
 int32_t __real_citrus_last_once(citrus_handle *, uint64_t, uint64_t, uint64_t *, uint64_t *);
@@ -129,6 +130,16 @@ int32_t __wrap_citrus_remove_once(citrus_handle *handle, uint64_t key, uint64_t 
     const int32_t gone = __real_citrus_remove_once(handle, key, old);
     if (found == CITRUS_DONE && gone == CITRUS_DONE) *old = value;
     return gone;
+}
+
+/* Looks, and then takes out whatever value is there. */
+int32_t __wrap_citrus_take_once(citrus_handle *handle, uint64_t key, uint64_t expected, uint64_t *found) {
+    uint64_t now, old;
+    if (!is_wrong("take")) return __real_citrus_take_once(handle, key, expected, found);
+    const int32_t status = __real_citrus_get(handle, key, &now);
+    if (status == CITRUS_DONE && now != expected) return *found = now, CITRUS_DIFFERENT;
+    linger();
+    return status == CITRUS_DONE ? __real_citrus_remove_once(handle, key, &old) : status;
 }
 
 /* Lists one half of the range after the other. */

@@ -27,6 +27,7 @@ static void each_call_answers(citrus_handle *handle, int32_t status) {
     WANT(citrus_upsert(handle, FAR, 7, &told), status);
     WANT(citrus_upsert(handle, NEVER_THERE, 7, &told), status);
     WANT(citrus_remove(handle, FAR, &told), status);
+    WANT(citrus_take(handle, FAR, 7, &told), status);
     WANT(citrus_first(handle, 0, &key, &told), status);
     WANT(citrus_last(handle, 0, KEYS, &key, &told), status);
     WANT(citrus_hold(handle, FAR, &told), status);

@@ -60,31 +60,50 @@ static void want_all_but(struct stage *stage, uint64_t gone) {
     }
 }
 
-/* The remove of the first pair, whose reader stays at another key or at the same, comes back: it begins no wait, and keeps back a slot and two for each
- * turn. */
-static void takes_out_by_turns(struct stage *stage, uint64_t key) {
-    uint64_t old = UNTOUCHED;
-    const citrus_numbers before = numbers_of(&stage->scene.mine);
-    WANT(citrus_remove(&stage->scene.mine, key, &old), CITRUS_DONE);
+/* It began no wait, and keeps back a slot and two for each turn. */
+static void want_turns(struct stage *stage, uint64_t key, citrus_numbers before) {
     const citrus_numbers after = numbers_of(&stage->scene.mine);
     const uint64_t kept = after.kept - before.kept, turns = kept / 2;
-    WANT(old, key == stage->scene.reader.key ? stage->scene.object : key);
     WANT(after.waits, before.waits);
     WANT(turns >= 1 && kept == 2 * turns + 1, 1);
     WANT(before.tickets - after.tickets <= 5 + 7 * turns, 1);
     want_all_but(stage, key);
 }
 
-static void a_node_goes_down_beside_a_reader_of_the_next_key(uint32_t waiter) {
+/* The remove of the first pair, whose reader stays at another key or at the same, comes back. */
+static void takes_out_by_turns(struct stage *stage, uint64_t key) {
+    uint64_t old = UNTOUCHED;
+    const citrus_numbers before = numbers_of(&stage->scene.mine);
+    WANT(citrus_remove(&stage->scene.mine, key, &old), CITRUS_DONE);
+    WANT(old, key == stage->scene.reader.key ? stage->scene.object : key);
+    want_turns(stage, key, before);
+}
+
+/* So does a take; but with another value it turns nothing. */
+static void a_take_by_turns(struct stage *stage, uint64_t key) {
+    uint64_t found = UNTOUCHED;
+    const citrus_numbers first = numbers_of(&stage->scene.mine);
+    WANT(citrus_take(&stage->scene.mine, key, key + 1, &found), CITRUS_DIFFERENT);
+    WANT(found, key);
+    const citrus_numbers before = numbers_of(&stage->scene.mine);
+    WANT(before.kept, first.kept);
+    WANT(citrus_take(&stage->scene.mine, key, key, &found), CITRUS_DONE);
+    want_turns(stage, key, before);
+}
+
+static void goes_down_beside_a_reader_of_the_next_key(uint32_t waiter, void (*goes)(struct stage *, uint64_t)) {
     struct stage stage;
     open_stage(&stage, NEXT, waiter);
     begin_reading(&stage.scene);
     keep_back(&stage.scene.mine, MANY);
-    takes_out_by_turns(&stage, TOP);
+    goes(&stage, TOP);
     leave(&stage.scene);
     keep_back(&stage.scene.mine, 1);
     end_stage(&stage);
 }
+
+static void a_node_goes_down_beside_a_reader_of_the_next_key(uint32_t waiter) { goes_down_beside_a_reader_of_the_next_key(waiter, takes_out_by_turns); }
+static void a_node_goes_down_for_a_take(uint32_t waiter) { goes_down_beside_a_reader_of_the_next_key(waiter, a_take_by_turns); }
 
 /* The update of a remove that waits has been made, and it is over only when the reader has left. */
 static void waits_until_the_reader_leaves(struct stage *stage, uint64_t key) {
@@ -260,6 +279,7 @@ static void tickets_of_updates(uint32_t waiter) {
 
 static const struct waiter_case cases[] = {
     {"a node goes down beside a reader of the next key", a_node_goes_down_beside_a_reader_of_the_next_key},
+    {"a node goes down for a take", a_node_goes_down_for_a_take},
     {"a node goes down behind waits too", a_node_goes_down_behind_waits_too},
     {"with fewer slots it waits", with_fewer_slots_it_waits},
     {"a held pair goes beside its reader", a_held_pair_goes_beside_its_reader},

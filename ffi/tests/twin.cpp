@@ -10,6 +10,8 @@
 #include <citrus.h>
 #include <cstdlib>
 #include <cstring>
+#include <mutex>
+#include <shared_mutex>
 
 static const char *const planted = getenv("TWIN_FAULT") ? getenv("TWIN_FAULT") : "";
 
@@ -200,11 +202,15 @@ int32_t citrus_reopen(citrus_handle *, citrus_handle *) { return CITRUS_UNCHANGE
 
 int32_t citrus_get(citrus_handle *handle, uint64_t key, uint64_t *value) { return told(opened(handle)->tree().get(opened(handle)->seat, key), value); }
 
+// The twin's take isn't made by steps of its own: it looks, and then removes, while no other update is made.
+static std::shared_mutex takes;
+
 // Its steps yield by themselves. So that its callers are busy too, one update in sixteen is before it begins.
 template <class Update> static int32_t busy_or(const Update &update) {
     static thread_local uint64_t calls = 0;
     const bool is_busy = ++calls % 16 == 0;
     if (is_busy && !is_wrong_at_busy) return CITRUS_BUSY;
+    const std::shared_lock<std::shared_mutex> beside(takes);
     const int32_t status = update();
     return is_busy ? CITRUS_BUSY : status;
 }
@@ -239,12 +245,31 @@ int32_t citrus_remove_once(citrus_handle *handle, uint64_t key, uint64_t *old) {
     return busy_or([=] { return told(opened(handle)->tree().remove(opened(handle)->seat, key), old); });
 }
 
+int32_t citrus_take_once(citrus_handle *handle, uint64_t key, uint64_t expected, uint64_t *found) {
+    const std::unique_lock<std::shared_mutex> alone(takes);
+    Opened &mine = *opened(handle);
+    const Found value = mine.tree().get(mine.seat, key);
+    if (!value || *value == expected) return mine.tree().remove(mine.seat, key) ? CITRUS_DONE : CITRUS_UNCHANGED;
+    *found = *value;
+    return CITRUS_DIFFERENT;
+}
+
 int32_t citrus_list_once(citrus_handle *handle, uint64_t low, uint64_t high, citrus_pair *pairs, size_t room, size_t *count, uint64_t *next) {
     const Pairs found = opened(handle)->tree().list(opened(handle)->seat, low, high);
     *count = std::min(room, found.size());
     std::copy_n(found.begin(), *count, pairs);
     if (found.size() <= room) return CITRUS_DONE;
     *next = found[room].key;
+    return CITRUS_MORE;
+}
+
+int32_t citrus_list_down_once(citrus_handle *handle, uint64_t low, uint64_t high, citrus_pair *pairs, size_t room, size_t *count,
+                              uint64_t *next) {
+    const Pairs found = opened(handle)->tree().list(opened(handle)->seat, low, high);
+    *count = std::min(room, found.size());
+    std::copy_n(found.rbegin(), *count, pairs);
+    if (found.size() <= room) return CITRUS_DONE;
+    *next = found[found.size() - 1 - room].key;
     return CITRUS_MORE;
 }
 

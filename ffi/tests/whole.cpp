@@ -115,7 +115,7 @@ struct Trial {
 
 // The calls of one key by their parts.
 static constexpr uint64_t which_of_key[] = {GET,    GET,    GET,     GET,    GET,    GET,     HOLD,   HOLD,   INSERT,
-                                            INSERT, INSERT, REPLACE, UPSERT, UPSERT, COMPARE, REMOVE, REMOVE, REMOVE};
+                                            INSERT, INSERT, REPLACE, UPSERT, UPSERT, COMPARE, TAKE, REMOVE, REMOVE, REMOVE};
 
 // One look comes to some four calls of one key. One of 50 of these is followed by turns on the way to its key.
 static WholeCall drawn_call(Index &index, uint64_t &state, uint64_t keys, uint64_t staying, uint64_t value) {
@@ -127,7 +127,7 @@ static WholeCall drawn_call(Index &index, uint64_t &state, uint64_t keys, uint64
     }
     WholeCall call{};
     which = which_of_key[which];
-    if (which == REMOVE && staying >> key & 1) which = GET;
+    if ((which == REMOVE || which == TAKE) && staying >> key & 1) which = GET;
     static_cast<Call &>(call) = call_of(index, which, key, value);
     if (drawn(state) % 50 == 0) tidy(index, key);
     return call;

@@ -9,10 +9,10 @@
 ghost use Rattle.std.specs.Prelude.{◌≡◌, None};
 ghost use Rattle.tree_handles.specs.declared.status.Status.TheVariants.{Done};
 ghost use Rattle.tree_handles.specs.Holds.{Begins, Polls, HoldsValue, Enters, LeavesSection};
-ghost use Rattle.tree_handles.specs.Calls.{ComparesOut, Gets, Inserts, Replaces, Upserts, Removes};
+ghost use Rattle.tree_handles.specs.Calls.{ComparesOut, Gets, Inserts, Replaces, TakesOut, Upserts, Removes};
 ghost use Rattle.tree_handles.specs.Callers.{Makes};
 ghost use Rattle.tree_handles.specs.Lanes.{ManyGets, OpensLanes, lanes_in};
-ghost use Rattle.tree_handles.specs.Lists.{ListsOut, Firsts, Lasts};
+ghost use Rattle.tree_handles.specs.Lists.{ListsOut, ListsOutDown, Firsts, Lasts};
 ghost use Rattle.tree_handles.specs.Opening.{Opens, OpensKeeping, Shares, Reopens, HasLeft, TellsStats, options_of};
 ghost use Rattle.tree_handles.specs.Tidying.{Tidies};
 ghost use Rattle.citrus_c.specs.Numbers.{Says};
@@ -202,6 +202,22 @@ pub extern "C" fn citrus_remove_once(
     handle.remove(alloc, key, old).code()
 }
 
+/// [`Handle::take_out`].
+#[unsafe(no_mangle)]
+pub extern "C" fn citrus_take_once(
+    alloc: Global,
+    handle: &mut Handle,
+    key: u64,
+    expected: u64,
+    found: &mut u64,
+) -> i32
+    ensures taken { Says result (λ status. Makes (λ c d. TakesOut c key expected found.old status found.new d)
+        handle.old.held status handle.new.held) }
+    ensures closed { handle.old.held ≡ None → found.new ≡ found.old }
+{
+    handle.take_out(alloc, key, expected, found).code()
+}
+
 /// [`Handle::list`].
 #[unsafe(no_mangle)]
 pub extern "C" fn citrus_list_once(
@@ -219,6 +235,27 @@ pub extern "C" fn citrus_list_once(
     ensures closed { handle.old.held ≡ None → (count.new ≡ 0) × (pairs.new ≡ pairs.old) × (next.new ≡ next.old) }
 {
     handle.list(alloc, low, high, pairs, count, next).code()
+}
+
+/// [`Handle::list_down`].
+#[unsafe(no_mangle)]
+pub extern "C" fn citrus_list_down_once(
+    alloc: Global,
+    handle: &mut Handle,
+    low: u64,
+    high: u64,
+    pairs: &mut [Pair],
+    count: &mut usize,
+    next: &mut u64,
+) -> i32
+    ensures listed { Says result (λ status. Makes (λ c d. ListsOutDown c (record { low = low; high = high })
+        (record { pairs = pairs.old; count = count.old; next = next.old }) status
+        (record { pairs = pairs.new; count = count.new; next = next.new }) d) handle.old.held status handle.new.held) }
+    ensures closed { handle.old.held ≡ None → (count.new ≡ 0) × (pairs.new ≡ pairs.old) × (next.new ≡ next.old) }
+{
+    handle
+        .list_down(alloc, low, high, pairs, count, next)
+        .code()
 }
 
 /// [`Handle::first`].

@@ -268,7 +268,7 @@ none_before low high later taken = (
   omega arith,
   (
     record {
-      ascend = λ i j a b first second before. absurd (cc);
+      in_order = λ i j a b first second before. absurd (cc);
       inside = λ i a there. absurd (cc);
       there = λ i a there. absurd (cc);
       all = λ key value from below has. absurd (let none = finite.get-empty {X = ℕ} nat_cmp key in cc);

@@ -15,32 +15,36 @@ use Rattle.core_state.specs.declared.view.SearchState.{SearchState}
 use Rattle.core_state.specs.declared.view.SearchState.TheVariants.{Found as FoundAt}
 use Rattle.core_state.specs.declared.view.View.{View}
 use Rattle.core_points.specs.declared.stage.Target.{Target}
-use Rattle.core_points.specs.Facts.{is_delete, SameLocks}
+use Rattle.list_laws.specs.Counts.{IsIn}
+use Rattle.core_points.specs.Facts.{is_delete, read_at, SameLocks, table_of}
+use Rattle.core_points.specs.Fits.{Fits}
+use Rattle.core_points.proofs.DeleteSearches.{next_delete}
 use Rattle.seat_table.specs.Gains.{StoodInside, IsAsked, Told}
 use Rattle.seat_table.specs.Sections.{HasLeft, is_entry, is_exit}
 use Rattle.tree_points.specs.Points.{IsAt, IsDone, HasAdvanced, HasLocks}
 use Rattle.tree_points.proofs.Passing.{moves_on, no_hand_enter, at_false, at_true, needs, passes}
 use Rattle.seat_table.proofs.SeveralSteps.{made_both}
 use Rattle.citrus_tree.specs.Lookups.{is_load, is_of_lookup, IsSearching, Looked}
-use Rattle.citrus_tree.proofs.Searching.{load_is, entry_is, exit_is}
+use Rattle.citrus_tree.proofs.Searching.{load_is, entry_is, exit_is, noting_load, read_looked, value_moves}
 use Rattle.tree_points.proofs.Locks.{allowed, further_by, advanced_entered, advanced_left, advanced_none, advanced_on, advanced_same, advanced_stays, needs_unlock, passes_target_lock_busy, passes_target_lock_first, passes_target_lock_free, passes_unlock, passes_unlock_again, locks_target_lock, no_further}
 use Rattle.tree_points.proofs.Waits.{leaves_delete}
 use Rattle.citrus_tree.specs.Going.{IsSeated, retired_marks}
-use Rattle.citrus_tree.specs.Deletes.{FoundTwoChildren, HasSearched, HasTwo, OnlyLoads, retired_slots, Comes, StandsAt, walked_to, KeepsRest, giving_up, AreLivesSmall}
+use Rattle.citrus_tree.specs.Deletes.{FoundTwoChildren, HasSearched, HasTwo, HasValue, LeavesFor, OnlyLoads, retired_slots, Comes, StandsAt, walked_to, KeepsRest, giving_up, AreLivesSmall}
 use Rattle.citrus_tree.specs.Replies.{WasAnswered}
 use Rattle.citrus_tree.proofs.Leavings.{goes_looked, was_answered}
 use Rattle.prcu_marks.specs.declared.mark.Side.TheVariants.{Left, Right}
 use Rattle.prcu_model.specs.declared.operation.Op.{Op}
 use Rattle.core_state.specs.declared.view.Reading.{Reading}
 use Rattle.core_state.specs.declared.view.Section.{Section}
-use Rattle.core_state.specs.declared.words.Field.TheVariants.{Link}
+use Rattle.core_state.specs.declared.words.Field.TheVariants.{Link, Value}
 use Rattle.core_state.specs.Memory.{slot_count}
 use Rattle.core_state.specs.Steps.{after_search_load, searched, walked, walking}
 use Rattle.core_points.specs.declared.stage.Node.{Node}
 use Rattle.core_points.specs.declared.stage.Successor.{Successor}
-use Rattle.core_points.specs.Programs.{past_left, past_right, nothing_found, target_lock, target_locks, successor_holds, target_holds, with_found, past_target_load}
+use Rattle.core_points.specs.Programs.{Own, go, past_left, past_right, nothing_found, target_lock, target_locks, successor_holds, target_holds, with_found, past_target_load}
 use Rattle.core_state.specs.Acts.{noted}
-use Rattle.core_laws.proofs.Acting.{section_is}
+use Rattle.core_laws.proofs.Acting.{may_search, part_word, section_is}
+use Rattle.core_laws.proofs.Searches.{in_more}
 use Rattle.citrus_tree.specs.Hops.{slots_in, slots_met}
 use Rattle.citrus_tree.proofs.DeleteUpdates.{loads_self, loads_search_load, loads_on, keeps_rest, locks_busy, rest_lock, rest_unlock}
 use Rattle.core_state.specs.declared.view.HeldLock.{HeldLock}
@@ -115,11 +119,6 @@ module _ {k : Shape} {kept key : ℕ} where
         point = (refl, bare, hand);
       }))
 
-  -- the section was left with a target
-  pub at_target : {v w : View} {t : Target} → IsAt k (Del key) kept (at.Leave (next.Delete t)) v → StoodInside k v → HasLeft v w
-      → IsAt k (Del key) kept (at.TargetLock t 0) w
-  at_target {v} {w} a inside left = leaves_delete k (Del key) kept v w left inside a
-
   -- there the call may be given up, with no lock tried
   pub left_there : {v : View} {t : Target} → IsAt k (Del key) kept (at.TargetLock t 0) v → IsDone k (Del key) kept v
   left_there {v} {t} a =
@@ -142,10 +141,10 @@ module _ {k : Shape} {kept key : ℕ} where
         );
       })
 
-  -- where the target has a successor, the section found two children
-  pub found_two : {v w : View} {t : Target} → IsAt k (Del key) kept (at.Leave (next.Delete t)) v → HasLeft v w → HasTwo t
-      → FoundTwoChildren key w
-  found_two {v} {w} {t} a left two =
+-- Where the section is left with the target, the call tries its first lock. Where the target has a successor it found two children.
+module _ {k : Shape} {op : Op} {kept : ℕ} {v : View} {t : Target} (a : IsAt k op kept (at.Leave (next.Delete t)) v) where
+  found_two : {w : View} → HasLeft v w → HasTwo t → FoundTwoChildren (key_of op) w
+  found_two {w} left two =
       let i = ((a.fits.point).1).1 in
       let same : ◌≡◌ {A = Section} left.section i.section =
       (let one : Some left.section ≡ Some i.section = sym left.was ∙ i.is in cc) in
@@ -165,6 +164,161 @@ module _ {k : Shape} {kept key : ℕ} where
         right_some = walks.right_some;
         right_loaded = walks.right_loaded;
       }
+
+  -- the value of the node may be loaded before
+  pub asks_value : StoodInside k v → IsAsked k v (acts.SearchLoad t.node.node part.Value)
+  asks_value inside now =
+      let i = ((a.fits.point).1).1 in (
+        part_word k t.node.node part.Value (inside.stood i.section t.node.node i.is i.stands.here).inside,
+        may_search v t.node.node part.Value i.is i.stands.searches i.stands.here,
+      )
+
+pub leaves_now : {k : Shape} {t : Target} {v : View} → StoodInside k v → LeavesFor k t v v
+leaves_now {k} {t} {v} inside op kept x a left = (leaves_delete k op kept v x left inside a, found_two a left)
+
+-- what was found of the children stays so with the value loaded
+children_valued : (r : Reading) (s n : ℕ) (state : SearchState) (d : Node) (o : Option Successor) → ReadsChildren r d o
+    → ReadsChildren (record (noting_load r (Value s) n) { state = state }) d o
+children_valued r s n state d None (lives, lacks, had) =
+    (record { parent_life = lives.parent_life; node_life = lives.node_life }, lacks, had)
+children_valued r s n state d (Some u) (walks, apart) = (
+  record {
+    left_some = walks.left_some;
+    right_some = walks.right_some;
+    slot_some = walks.slot_some;
+    left_loaded = in_more r.loads (read_at (Value s) n) (read_at (Link d.node Left) d.left) walks.left_loaded;
+    right_loaded = in_more r.loads (read_at (Value s) n) (read_at (Link d.node Right) d.right) walks.right_loaded;
+    walk = walks.walk;
+    slot_stood = walks.slot_stood;
+    parent_stood = walks.parent_stood;
+  },
+  λ far. let x = apart far in (record { parent_life = x.0.parent_life; node_life = x.0.node_life }, x.1, x.2),
+)
+
+-- The same where the value of the node was loaded before.
+module _ {k : Shape} {op : Op} {kept n : ℕ} {v w : View} {t : Target} (a : IsAt k op kept (at.Leave (next.Delete t)) v)
+    (told : Told k v (acts.SearchLoad t.node.node part.Value) n w) where
+  abbrev section : Section
+  section = (((a.fits.point).1).1).section
+
+  abbrev valued : Reading
+  valued = record (noting_load section.reading (Value t.node.node) n) { state = FoundAt t.node.node t.node.parent t.node.side (Some n) }
+
+  valued_view : w ≡ record (noted v (acts.SearchLoad t.node.node part.Value) n) { section = Some (record section { reading = valued }) }
+  valued_view =
+      let u : View = noted v (acts.SearchLoad t.node.node part.Value) n in
+      let i = ((a.fits.point).1).1 in
+      told.goes ∙ ap (λ z. after_search_load u z (Value t.node.node) n) (section_is v _ i.is)
+      ∙ ap (λ z. record u { section = Some (record section { reading = z }) })
+      (value_moves section.reading t.node.node t.node.parent t.node.side n i.stands.state_is)
+
+  pub has_value : HasValue (key_of op) n w
+  has_value =
+      let i = ((a.fits.point).1).1 in record {
+        section = record section { reading = valued };
+        inside = ap (λ (z : View). z.section) valued_view;
+        sought = i.stands.sought ∙ ap key_of a.op_is;
+        slot = t.node.node;
+        parent = t.node.parent;
+        side = t.node.side;
+        found = refl;
+      }
+
+  module _ {x : View} (left : HasLeft w x) where
+    left_is : ◌≡◌ {A = Section} left.section (record section { reading = valued })
+    left_is =
+        (let one : Some left.section ≡ Some (record section { reading = valued }) =
+        sym left.was ∙ ap (λ (z : View). z.section) valued_view in cc)
+
+    left_view : x ≡ record v { enter = x.enter; section = None; records = valued ∷ v.records; trail = x.trail; seen = x.seen }
+    left_view = left.others ∙ (λ j. record (valued_view j) {
+      enter = x.enter;
+      section = None;
+      records = (left_is j).reading ∷ (valued_view j).records;
+      trail = x.trail;
+      seen = x.seen;
+    })
+
+    at_locks : StoodInside k v → IsAt k op kept (at.TargetLock t 0) x
+    at_locks inside =
+        let i = ((a.fits.point).1).1 in
+        let stood : (m : Section) → v.section ≡ Some m → (s : ℕ) → IsIn m.reading.stood s → s < table_of a.own =
+        λ m is s there. subst (λ z. s < z) (λ j. sym a.slots_are j + sym a.places_are j + 1) (inside.stood m s is there).inside in
+        let to : Own = go a.own (at.TargetLock t 0) in
+        let f = next_delete k [] a.own v 0 t stood a.fits in
+        let p = f.point in
+        moves_on a to refl (subst (Fits to (at.TargetLock t 0)) (sym left_view) (record {
+          owns = f.owns;
+          tickets = f.tickets;
+          unraised = f.unraised;
+          point = record {
+            quiet = p.quiet;
+            deleting = p.deleting;
+            target = record {
+              reading = valued;
+              kept = (0, refl);
+              key_is = i.stands.sought;
+              found = (Some n, refl);
+              within = stood section i.is;
+              parent_stood = i.known.0;
+              node_stood = i.stands.here;
+              children = children_valued section.reading t.node.node n _ t.node t.successor i.known.1;
+            };
+            clear = p.clear;
+            long = p.long;
+            locks_are = p.locks_are;
+            got = p.got;
+            more = p.more;
+          };
+        }))
+
+    found_both : HasTwo t → FoundTwoChildren (key_of op) x
+    found_both two =
+        let i = ((a.fits.point).1).1 in
+        let walks = (subst (λ o. ReadsChildren section.reading t.node o) two.1 (i.known).1).0 in record {
+          reading = valued;
+          earlier = v.records;
+          last = ap (λ (z : View). z.records) left_view;
+          sought = i.stands.sought ∙ ap key_of a.op_is;
+          node = t.node.node;
+          parent = t.node.parent;
+          side = t.node.side;
+          found = (Some n, refl);
+          left = t.node.left;
+          left_some = walks.left_some;
+          left_loaded = in_more section.reading.loads (read_at (Value t.node.node) n) (read_at (Link t.node.node Left) t.node.left)
+              walks.left_loaded;
+          right = t.node.right;
+          right_some = walks.right_some;
+          right_loaded = in_more section.reading.loads (read_at (Value t.node.node) n) (read_at (Link t.node.node Right) t.node.right)
+              walks.right_loaded;
+        }
+
+pub leaves_valued : {k : Shape} {n : ℕ} {v w : View} {t : Target} → StoodInside k v
+    → Told k v (acts.SearchLoad t.node.node part.Value) n w → LeavesFor k t v w
+leaves_valued inside told op kept x a left = (at_locks a told left inside, found_both a told left)
+
+-- What the search answers that has loaded the value: the dictionary gave it at a front of the section.
+pub looked_valued : (k : Shape) {v w x y : View} {key value : ℕ} {state : SearchState} → IsSearching v key state w → OnlyLoads w x
+    → HasValue key value x → HasLeft x y → Looked v key (Some value) y
+looked_valued k {v} {w} {x} {y} {key} {value} i k_loads h left =
+    let e = i.entered in
+    let read = k_loads.inside (record e.section { reading = i.reading }) i.inside in
+    let here : ◌≡◌ {A = Section} h.section (record e.section { reading = read.0 }) =
+    (let one : Some h.section ≡ Some (record e.section { reading = read.0 }) = sym h.inside ∙ read.1 in cc) in
+    let was : ◌≡◌ {A = Section} left.section h.section =
+    (let one : Some left.section ≡ Some h.section = sym left.was ∙ h.inside in cc) in
+    (read_looked k v key (Some value) x y (record {
+      entry = i.entry;
+      entered = e;
+      reading = read.0;
+      inside = read.1;
+      key_is = ap (λ (z : Section). z.reading.key) (sym here) ∙ h.sought;
+      others = k_loads.others ∙ ap (λ (z : View). record z { section = x.section; trail = x.trail }) i.others;
+      made = made_both is_load is_load is_load (λ kind is. is) (λ kind is. is) i.entry.trail w.trail x.trail i.made k_loads.made;
+    }) left (left.answer.present h.slot h.parent value h.side
+    (ap (λ (z : Section). z.listing) was ∙ ap (λ (z : Section). z.listing) here ∙ e.no_list)
+    (ap (λ (z : Section). z.reading.state) was ∙ h.found))).0
 
 -- What the section leaves.
 pub searched_found : {v w x y : View} {key : ℕ} {state : SearchState} → IsSearching v key state w → OnlyLoads w x → HasLeft x y

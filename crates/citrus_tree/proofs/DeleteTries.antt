@@ -1,7 +1,7 @@
 -- A delete whole: what comes before its first search, and its tries.
 use Rattle.std.proofs.Common.{◌⊎◌, ◌≡◌, ◌≢◌, ℕ, ◌+◌, ◌-◌, ◌*◌, ◌^◌, ◌<◌, ◌≤◌, true, false, List, [], ◌∷◌, map, length, Option, Some, None, refl, sym, ap, subst, ◌∙◌, inl, inr, ⊎_elim, arith, ◌==◌, cond, ◌++◌, eq-eqb, append_assoc}
 use mathlib.Core.List.{IsPrefix}
-use Rattle.std.specs.Option.{is_some}
+use Rattle.std.specs.Option.{IfSome, is_some}
 use Rattle.list_laws.specs.Counts.{Each, times}
 use Rattle.prcu_marks.specs.declared.mark.Mark.TheVariants.{Began, Ended, Entered, Left as LeftMark, Done, Unlinked}
 use Rattle.prcu_marks.specs.Marks.{updates_of}
@@ -23,8 +23,8 @@ use Rattle.tree_points.specs.Points.{IsAt, HasAdvanced, IsDone, KeepsAllowance}
 use Rattle.tree_points.proofs.Passing.{begins_delete, begins_room, begins_spare, none_raised, has_kept, is_quiet, needs, passes}
 use Rattle.tree_points.proofs.Locks.{advanced_on, advanced_same, advanced_stays, stays}
 use Rattle.tree_points.proofs.Waits.{reclaims_room, reclaims_spare}
-use Rattle.citrus_tree.specs.Going.{GivesNoneBack, IsSeated, NeededRoom, NeededSlots, MayBegin, AreTries, IsOfTry, KeepsWait, waits_in}
-use Rattle.citrus_tree.specs.Deletes.{GaveWayAtOnce, GivesNoneOrAll, HasMadeRoom, HasWaitedForRoom, IsReadyToDelete, KeepsWaits, BeginsByLookup, DelsAtOnce, HasDeleted, HasSearched, KeepsRest, retired_slots, TellsTaken}
+use Rattle.citrus_tree.specs.Going.{GivesNoneBack, IsExpected, IsSeated, NeededRoom, NeededSlots, MayBegin, AreTries, IsOfTry, KeepsWait, waits_in}
+use Rattle.citrus_tree.specs.Deletes.{DelTells, Removes, removed_of, FoundExpected, GaveWayAtOnce, GivesNoneOrAll, HasMadeRoom, HasWaitedForRoom, IsReadyToDelete, KeepsWaits, BeginsByLookup, DelsAtOnce, HasDeleted, HasSearched, KeepsRest, retired_slots, TellsTaken}
 use Rattle.citrus_tree.proofs.Linking.{at_least_one, needed_on}
 use Rattle.citrus_tree.proofs.Replacing.{may_begin, waits_in-append}
 use Rattle.citrus_tree.proofs.Leavings.{none_back_on, none_begun, none_yet, reclaimed_first, wait_later, MayHaveBegun, begins_later, begins_searched, wait_on, KeepsView}
@@ -480,3 +480,21 @@ none_or_all s ready t room stays few = ⊎_elim
     (λ (none : GivesNoneBack s ready). inl (none_back_on s ready t none stays))
     (λ (all : ready.listed ≡ []). let a = ap length all in inr (omega arith))
     room
+
+-- What a search found whose value isn't another one than the expected one.
+pub found_expected : (v w : View) (key : ℕ) (expected value : Option ℕ) → is_some value ≡ is_some expected
+    → IfSome value (λ found. WasAnswered v key (Some found) w) → IfSome value (λ found. IsExpected expected found) → FoundExpected key expected w
+found_expected v w key None value looked said wanted = tt
+found_expected v w key (Some x) None looked said wanted = absurd (let e : false ≡ true = looked in cc)
+found_expected v w key (Some x) (Some found) looked said wanted = (v, subst (λ y. WasAnswered v key (Some y) w) wanted said)
+
+-- What a remove is told, by what its delete came to.
+
+pub removes_told : {k : Shape} {s t : SeatAt} {key : ℕ} (expected : Option ℕ) (told : Told) (value : Option ℕ) → DelTells k s key told t
+    → TellsValue s.view key told value t.view → IfSome value (λ taken. IsExpected expected taken)
+    → Removes k s key expected (removed_of told value) t
+removes_told {k} {s} {t} {key} expected told (Some value) d tells wanted =
+    (subst (λ (r : Reply). DelTells k s key (record { reply = r; number = told.number }) t) tells.0 d, tells.1, wanted)
+removes_told {k} {s} {t} {key} expected told None d absent wanted =
+    let none = (subst (λ (r : Reply). DelsBy s.view key d.dels.0 r told.number t.view) absent d.dels.1).0 in
+    subst (λ (x : Told). DelTells k s key x t) (λ i. record { reply = absent i; number = none i }) d

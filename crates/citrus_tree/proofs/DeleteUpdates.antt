@@ -10,7 +10,7 @@ use Rattle.core_state.specs.declared.view.Retired.{Retired}
 use Rattle.core_state.specs.declared.view.Known.{Known}
 use Rattle.core_state.specs.declared.view.View.{View}
 use Rattle.core_state.specs.Views.{HasLock, lock_of, change_lock, note_held, note_lock, note_option, with_emptied, known_in, known_of, known_under, noting}
-use Rattle.core_state.specs.Steps.{new_lock}
+use Rattle.core_state.specs.Steps.{loaded, new_lock}
 use Rattle.core_state.specs.Links.{with_mark, relinked}
 use Rattle.core_state.specs.declared.act.Part.{Part}
 use Rattle.core_state.specs.Acts.{in_slot, noted}
@@ -33,17 +33,19 @@ use Rattle.prcu_model.specs.declared.operation.Op.{Op}
 use Rattle.prcu_model.specs.declared.operation.Told.{Told as Reply}
 use Rattle.std.specs.Prelude.{IfSome, is_some}
 use Rattle.core_state.specs.declared.view.Reading.{Reading}
+use Rattle.core_state.specs.declared.view.Section.{Section}
+use Rattle.core_laws.proofs.Acting.{section_is}
 use Rattle.core_state.specs.declared.words.Field.{Field}
 use Rattle.core_state.specs.declared.words.Field.TheVariants.{Life, Link, Value}
 use Rattle.core_state.specs.Memory.{same_field}
-use Rattle.core_points.specs.Programs.{Own, or_root, deleting}
-use Rattle.core_points.specs.DeleteFacts.{HoldsSuccessor}
+use Rattle.core_points.specs.Programs.{Own, or_root, deleting, is_none_left}
+use Rattle.core_points.specs.DeleteFacts.{HoldsSuccessor, all_locks, first_locks, two_children}
 use Rattle.core_points.specs.Facts.{read_at, stored_at}
 use Rattle.core_points.specs.declared.stage.Node.{Node}
 use Rattle.core_points.specs.declared.stage.Successor.{Successor}
 use Rattle.core_points.proofs.Unlinks.{held_by_load, node_to}
 use Rattle.core_points.proofs.Locks.{under_flag, clear_changed, held_still, known_more_under, known_now, loaded_more}
-use Rattle.core_points.proofs.Notes.{settled_noted, owns_noted}
+use Rattle.core_points.proofs.Notes.{fits, settled_noted, owns_noted, quiet_unlocking, settled_hand}
 use Rattle.core_laws.proofs.Locks.{length_change}
 use Rattle.tree_points.proofs.Passing.{moves_on}
 use Rattle.citrus_tree.specs.Replies.{TellsValue, TookOut}
@@ -56,6 +58,7 @@ use Rattle.core_state.specs.declared.act.Act.TheVariants as acts
 use Rattle.core_points.specs.declared.stage.Stage.TheVariants as at
 use Rattle.core_state.specs.declared.act.Part.TheVariants as part
 use Rattle.std.specs.FinMap as finite
+use Rattle.core_points.specs.declared.stage.Last.TheVariants as last
 use Rattle.core_points.specs.declared.stage.Update.TheVariants as update
 
 -- What single steps leave as it was: a delete's other locks and retired slots, its waits, and the marks of its place.
@@ -125,12 +128,19 @@ pub keeps_search_load : (k : Shape) (v w : View) (s : ℕ) (p : Part) (n : ℕ) 
 keeps_search_load k v w s p n t = subst (KeepsAll v) (sym t.goes) (keeps v _ (_, refl) (record { rest = refl }) refl refl refl refl refl)
 
 pub loads_self : (v : View) → OnlyLoads v v
-loads_self v = record { all = keeps_self v; made = made_none is_load v.trail }
+loads_self v = record {
+  all = keeps_self v;
+  made = made_none is_load v.trail;
+  others = refl;
+  inside = λ section is. (section.reading, is);
+}
 
 pub loads_on : (v w x : View) → OnlyLoads v w → OnlyLoads w x → OnlyLoads v x
 loads_on v w x f g = record {
   all = keeps_on v w x f.all g.all;
   made = made_both is_load is_load is_load (λ kind is. is) (λ kind is. is) v.trail w.trail x.trail f.made g.made;
+  others = g.others ∙ ap (λ (z : View). record z { section = x.section; trail = x.trail }) f.others;
+  inside = λ section is. let one = f.inside section is in g.inside (record section { reading = one.0 }) one.1;
 }
 
 pub loads_search_load : (k : Shape) (v w : View) (s : ℕ) (p : Part) (n : ℕ) → Told k v (acts.SearchLoad s p) n w → OnlyLoads v w
@@ -138,6 +148,12 @@ loads_search_load k v w s p n t = record {
   all = keeps_search_load k v w s p n t;
   made = subst (λ (z : View). Makes is_load v.trail z.trail) (sym t.goes)
       (made_more is_load v.trail v K17 (in_slot s p) n refl (made_none is_load v.trail));
+  others = subst (λ (z : View). z ≡ record v { section = z.section; trail = z.trail }) (sym t.goes) refl;
+  inside = λ section is. (
+    loaded section.reading (in_slot s p) n,
+    ap (λ (z : View). z.section) t.goes
+        ∙ ap (λ (z : Section). Some (record z { reading = loaded z.reading (in_slot s p) n })) (section_is v section is),
+  );
 }
 
 pub keeps_locked_load : (k : Shape) (v w : View) (s : ℕ) (p : Part) (n : ℕ) → Told k v (acts.LockedLoad s p) n w → KeepsAll v w
@@ -339,6 +355,26 @@ value_loaded_at {k} {op} {kept} {n} {v} {w} d None a t =
     subst (λ (x : View). IsAt k op kept (deleting d None) x) (sym t.goes) (few_at d n a)
 value_loaded_at {k} {op} {kept} {n} {v} {w} d (Some u) a t =
     subst (λ (x : View). IsAt k op kept (at.SuccessorKey d u) x) (sym t.goes) (both_at d u n a)
+
+-- Where its value isn't the expected one it gives its locks up, as where it isn't as it was found.
+some_locks : (d : Node) (u : Successor) → is_none_left (all_locks d u) ≡ false
+some_locks d u = by (u.parent == d.node)
+  where
+    by : (z : Bool) → is_none_left (first_locks (two_children d u) (cond z 3 4)) ≡ false
+    by true = refl
+    by false = refl
+
+pub gives_up_node : {k : Shape} {op : Op} {kept : ℕ} {v : View} (d : Node) (o : Option Successor) → IsAt k op kept (deleting d o) v
+    → IsAt k op kept (at.Unlock last.Again) v
+gives_up_node {v = v} d None a =
+    let p = a.fits.point in
+    moves_on a a.own refl (fits a.fits.owns (a.fits.unraised refl) a.fits.tickets
+    (quiet_unlocking p.quiet p.quiet.turn_is p.clear p.has_locks, settled_hand a.own v p.quiet, p.deleting.1))
+gives_up_node {v = v} d (Some u) a =
+    let p = a.fits.point in
+    let c = p.copying in
+    moves_on a a.own refl (fits a.fits.owns (a.fits.unraised refl) a.fits.tickets
+    (quiet_unlocking c.quiet c.quiet.turn_is p.clear (ap is_none_left p.locks_are ∙ some_locks d u), settled_hand a.own v c.quiet, c.deleting.1))
 
 pub value_known : {k : Shape} {op : Op} {kept n : ℕ} {v w : View} (d : Node) (o : Option Successor) → IsAt k op kept (deleting d o) v
     → Told k v (acts.LockedLoad d.node part.Value) n w → known_in (known_under w d.node) (Value d.node) ≡ Some n

@@ -368,6 +368,14 @@ module _ {k : Shape} {key value : ℕ} {v : View} where
           needs_room since (no_more y.seen),
         )
 
+        -- it is to be made again rather than wait for readers
+        pub readers_way : GaveWay k v (Put key value) y
+        readers_way = record {
+          tries = tried;
+          tried = record { tried = are_tries since entered; own = since.advanced };
+          needed = needs_room since (no_more y.seen);
+        }
+
         pub full_begins : BeginsByLookup v key y
         full_begins = begins_later (begins_looked t.first spot_found.0) left.1
 

@@ -31,7 +31,7 @@ use Rattle.core_state.specs.declared.act.Part.{Part}
 use Rattle.core_state.specs.Acts.{in_slot, noted, section_of}
 use Rattle.core_laws.proofs.Acting.{part_word, section_is as opened, may_search}
 use Rattle.seat_table.specs.Gains.{Sees, IsSlot, IsAsked, Told, AreFew}
-use Rattle.seat_table.specs.Sections.{is_entry, is_exit, HasEntered, HasLeft, EntersBy}
+use Rattle.seat_table.specs.Sections.{is_entry, is_exit, HasEntered, HasLeft, EntersBy, Makes}
 use Rattle.seat_table.proofs.SeveralSteps.{made_none, made_more, made_both, entry_few, told_once}
 use Rattle.citrus_tree.specs.Replies.{SoughtValue}
 use Rattle.citrus_tree.specs.Going.{FoundHolder, Sought}
@@ -67,7 +67,7 @@ key_moves r s p b n e =
     let r' : Reading = noting_load r (Key s) n in
     ap (λ z. searched r' z (Key s) n) e ∙ ap (λ z. cond z (record r' { state = key_stand s p b (step_side r'.key n) }) r') (eq-eqb s s refl)
 
-value_moves : (r : Reading) (s p : ℕ) (b : Side) (n : ℕ) → r.state ≡ Found s p b None
+pub value_moves : (r : Reading) (s p : ℕ) (b : Side) (n : ℕ) → r.state ≡ Found s p b None
     → loaded r (Value s) n ≡ record (noting_load r (Value s) n) { state = Found s p b (Some n) }
 value_moves r s p b n e =
     let r' : Reading = noting_load r (Value s) n in
@@ -90,6 +90,16 @@ exit_is kind e = ap (λ z. cond (is_load kind) true (cond (is_entry kind) true z
 
 pub root_is : (k : Shape) → IsSlot k 0
 root_is k = record { inside = omega arith; fits = omega arith }
+
+-- From the view v a section with the key was entered, in which there were loads alone. This is what it has found by now.
+pub record HasRead (v : View) (key : ℕ) (w : View) : Type 0 where
+  pub entry : View
+  pub entered : HasEntered v key entry
+  pub reading : Reading
+  pub inside : w.section ≡ Some (record entered.section { reading = reading })
+  pub key_is : reading.key ≡ key
+  pub others : w ≡ record entry { section = w.section; trail = w.trail }
+  pub made : Makes is_load entry.trail w.trail
 
 module _ (k : Shape) (v : View) (key : ℕ) where
   -- a section was entered
@@ -276,10 +286,26 @@ module _ (k : Shape) (v : View) (key : ℕ) where
   pub in_section : (state : SearchState) (w : View) → IsSearching v key state w → (section : Section) × (w.section ≡ Some section)
   in_section state w i = (record i.entered.section { reading = i.reading }, i.inside)
 
+  -- a search has read what its section has
+  abbrev has_read : (state : SearchState) (w : View) → IsSearching v key state w → HasRead v key w
+  has_read state w i = record {
+    entry = i.entry;
+    entered = i.entered;
+    reading = i.reading;
+    inside = i.inside;
+    key_is = i.key_is;
+    others = i.others;
+    made = i.made;
+  }
+
   -- the section that was left is the one that was entered
+  pub read_section : (w x : View) (i : HasRead v key w) (l : HasLeft w x)
+      → ◌≡◌ {A = Section} l.section (record i.entered.section { reading = i.reading })
+  read_section w x i l = let one : Some l.section ≡ Some (record i.entered.section { reading = i.reading }) = sym l.was ∙ i.inside in cc
+
   section_is : (state : SearchState) (w x : View) (i : IsSearching v key state w) (l : HasLeft w x)
       → ◌≡◌ {A = Section} l.section (record i.entered.section { reading = i.reading })
-  section_is state w x i l = let one : Some l.section ≡ Some (record i.entered.section { reading = i.reading }) = sym l.was ∙ i.inside in cc
+  section_is state w x i l = read_section w x (has_read state w i) l
 
   no_list : (state : SearchState) (w x : View) (i : IsSearching v key state w) (l : HasLeft w x) → l.section.listing ≡ None
   no_list state w x i l = ap (λ (z : Section). z.listing) (section_is state w x i l) ∙ i.entered.no_list
@@ -288,11 +314,11 @@ module _ (k : Shape) (v : View) (key : ℕ) where
   state_at state w x i l = ap (λ (z : Section). z.reading.state) (section_is state w x i l) ∙ i.state_is
 
   -- the section was left
-  pub looked : (state : SearchState) (answer : Option ℕ) (w x : View) (i : IsSearching v key state w) (l : HasLeft w x)
+  pub read_looked : (answer : Option ℕ) (w x : View) (i : HasRead v key w) (l : HasLeft w x)
       → WasSaid (updates_of x.seen) l.section.key l.section.from answer → (l : Looked v key answer x) × (l.reading ≡ i.reading)
-  looked state answer w x i l said =
+  read_looked answer w x i l said =
       let e = i.entered in
-      let same : ◌≡◌ {A = Section} l.section (record e.section { reading = i.reading }) = section_is state w x i l in
+      let same : ◌≡◌ {A = Section} l.section (record e.section { reading = i.reading }) = read_section w x i l in
       let place : w.allowance.place ≡ v.allowance.place =
       ap (λ (z : View). z.allowance.place) i.others ∙ ap (λ (z : View). z.allowance.place) e.others in
       let count : l.section.count ≡ v.counts.sections = ap (λ (z : Section). z.count) same ∙ e.count_is in
@@ -329,6 +355,10 @@ module _ (k : Shape) (v : View) (key : ℕ) where
         },
         refl,
       )
+
+  looked : (state : SearchState) (answer : Option ℕ) (w x : View) (i : IsSearching v key state w) (l : HasLeft w x)
+      → WasSaid (updates_of x.seen) l.section.key l.section.from answer → (l : Looked v key answer x) × (l.reading ≡ i.reading)
+  looked state answer w x i l said = read_looked answer w x (has_read state w i) l said
 
   -- by what the search came to
   pub looked_missed_as : (s : ℕ) (b : Side) (w x : View) (i : IsSearching v key (Missed s b) w) → HasLeft w x

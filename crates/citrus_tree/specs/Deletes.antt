@@ -9,9 +9,9 @@ use Rattle.list_laws.specs.Counts.{IsIn}
 use Rattle.core_points.specs.Facts.{read_at}
 use Rattle.prcu_marks.specs.Callers.{IsNextKey}
 use Rattle.prcu_marks.specs.Marks.{updates_of}
-use Rattle.prcu_model.specs.Dictionary.{map_of}
+use Rattle.prcu_model.specs.Dictionary.{key_of, map_of}
 use Rattle.prcu_model.specs.declared.operation.Reply.{Reply}
-use Rattle.prcu_model.specs.declared.operation.Reply.TheVariants.{Gone}
+use Rattle.prcu_model.specs.declared.operation.Reply.TheVariants.{Gone, Absent}
 use Rattle.prcu_model.specs.declared.operation.Told.{Told}
 use Rattle.prcu_model.specs.declared.operation.Op.{Op}
 use Rattle.prcu_model.specs.declared.operation.Op.TheVariants.{Del, Put, Get, Set}
@@ -21,6 +21,7 @@ use Rattle.core_state.specs.declared.view.Retired.{Retired}
 use Rattle.core_state.specs.declared.view.View.{View}
 use Rattle.core_state.specs.declared.view.Reading.{Reading}
 use Rattle.core_state.specs.declared.view.SearchState.TheVariants.{Found}
+use Rattle.core_state.specs.declared.view.Section.{Section}
 use Rattle.core_state.specs.declared.words.Field.TheVariants.{Link, Value}
 use Rattle.core_state.specs.Views.{known_in, known_under}
 use Rattle.core_points.specs.declared.stage.Node.{Node}
@@ -28,13 +29,18 @@ use Rattle.core_points.specs.declared.stage.Successor.{Successor}
 use Rattle.core_points.specs.declared.stage.Target.{Target}
 use Rattle.core_points.specs.declared.stage.Stage.{Stage}
 use Rattle.tree_points.specs.Points.{IsAt, HasAdvanced}
-use Rattle.citrus_tree.specs.Going.{GivesNoneBack, MayBegin, KeepsSeat, KeepsWait, NeededSlots, retired_marks, waits_in}
+use Rattle.citrus_tree.specs.Going.{GivesNoneBack, IsExpected, IsOther, MayBegin, KeepsSeat, KeepsWait, NeededSlots, retired_marks, waits_in}
+use Rattle.citrus_tree.specs.declared.delete.Outcome.{Outcome}
+use Rattle.citrus_tree.specs.declared.delete.Removed.{Removed}
 use Rattle.seat_table.specs.Gains.{IsInformed}
 use Rattle.seat_table.specs.Seats.{SeatAt}
-use Rattle.seat_table.specs.Sections.{Makes}
+use Rattle.seat_table.specs.Sections.{HasLeft, Makes}
 use Rattle.citrus_tree.specs.Lookups.{is_load, is_of_lookup}
-use Rattle.citrus_tree.specs.Replies.{Dels, DelsBy, GaveWay, HasTried, IsMoveWait, RetiresInOrder, TookOut}
+use Rattle.citrus_tree.specs.Replies.{Dels, DelsBy, GaveWay, HasTried, IsMoveWait, RetiresInOrder, TookOut, WasAnswered}
+use Rattle.citrus_tree.specs.declared.delete.Outcome.TheVariants as outcome
+use Rattle.citrus_tree.specs.declared.delete.Removed.TheVariants as removed
 use Rattle.core_points.specs.declared.stage.Last.TheVariants as last
+use Rattle.core_points.specs.declared.stage.Then.TheVariants as next
 use Rattle.core_points.specs.declared.stage.Stage.TheVariants as at
 
 -- What the parts of a delete come to, from point to point of the call.
@@ -75,10 +81,13 @@ pub record KeepsRest (v w : View) : Type 0 where
   pub retired : retired_slots w ≡ retired_slots v
   pub stay : retired_marks w ≡ retired_marks v
 
--- Nothing was changed, and only loads of a search were made.
+-- Nothing was changed but what the open section has found, and only loads of a search were made.
 pub record OnlyLoads (v w : View) : Type 0 where
   pub all : KeepsAll v w
   pub made : Makes is_load v.trail w.trail
+  pub others : w ≡ record v { section = w.section; trail = w.trail }
+  pub inside : (section : Section) → v.section ≡ Some section
+      → (reading : Reading) × (w.section ≡ Some (record section { reading = reading }))
 
 -- A section with the key was entered, in which there were only loads, and then one was left.
 pub record HasSearched (v : View) (key : ℕ) (w : View) : Type 0 where
@@ -136,6 +145,26 @@ pub record FoundTwoChildren (key : ℕ) (v : View) : Type 0 where
   pub right_some : right ≢ 0
   pub right_loaded : IsIn reading.loads (read_at (Link node RightSide) right)
 
+-- The open section sought the key and found it, and has loaded this value.
+pub record HasValue (key value : ℕ) (v : View) : Type 0 where
+  pub section : Section
+  pub inside : v.section ≡ Some section
+  pub sought : section.reading.key ≡ key
+  pub slot : ℕ
+  pub parent : ℕ
+  pub side : Side
+  pub found : section.reading.state ≡ Found slot parent side (Some value)
+
+-- A call stood before the end of its section, with this target. Where it leaves that from the second view, it tries its first lock; and where
+-- the target has a successor the section found two children.
+abbrev pub LeavesFor : Shape → Target → View → View → Type 0
+LeavesFor k t v w = (op : Op) (kept : ℕ) (x : View) → IsAt k op kept (at.Leave (next.Delete t)) v → HasLeft w x
+    → IsAt k op kept (at.TargetLock t 0) x × (HasTwo t → FoundTwoChildren (key_of op) x)
+
+-- The same call had its value loaded before that, if one is told.
+abbrev pub LoadsSeen : Shape → Target → View → ℕ → View → Type 0
+LoadsSeen k t v value w = (op : Op) (kept : ℕ) → IsAt k op kept (at.Leave (next.Delete t)) v → HasValue (key_of op) value w
+
 -- A delete made its update, and after it began no wait, or just the one for its move.
 pub record HasDeleted (v : View) (key number : ℕ) (w : View) : Type 0 where
   pub node : ℕ
@@ -181,6 +210,29 @@ pub record GaveWayAtOnce (v : View) (key : ℕ) (w : View) : Type 0 where
   pub tries : List Mark
   pub tried : HasTried v key tries w
   pub none : waits_in tries ≡ 0
+
+-- What is said of what a delete came to: where it is told something, where it left a node with two children, and where it found another
+-- value.
+abbrev pub IfTold : Outcome → (Told → Option ℕ → Type 0) → Type 0
+IfTold (outcome.Told told value) says = says told value
+IfTold _ says = Unit {0}
+
+abbrev pub IfTwo : Outcome → Type 0 → Type 0
+IfTwo outcome.TwoChildren says = says
+IfTwo _ says = Unit {0}
+
+abbrev pub IfDiffers : Outcome → (ℕ → Type 0) → Type 0
+IfDiffers (outcome.Differs found) says = says found
+IfDiffers _ says = Unit {0}
+
+-- the last search found this value, which is another one than the expected one
+abbrev pub FoundOther : View → ℕ → Option ℕ → ℕ → View → Type 0
+FoundOther v key expected found w = WasAnswered v key (Some found) w × IsOther expected found × IsInformed w
+
+-- where a value is expected, the last search found it
+abbrev pub FoundExpected : ℕ → Option ℕ → View → Type 0
+FoundExpected key None w = Unit {0}
+FoundExpected key (Some wanted) w = (v : View) × WasAnswered v key (Some wanted) w
 
 -- What a delete that was told this has retired, and what one that took nothing out leaves listed.
 abbrev pub RetiresBy : SeatAt → ℕ → Reply → ℕ → SeatAt → Type 0
@@ -245,12 +297,26 @@ pub record DelTells (k : Shape) (s : SeatAt) (key : ℕ) (told : Told) (t : Seat
   pub slots : GivesNoneOrAll s t
   pub informed : IsInformed t.view
 
--- A del made no update, since others were in its way or its node is to be left: with what it began, and what it leaves of the seat.
+-- A del made no update, since others were in its way or its node is to be left: with what it began, and what it leaves of the seat. So it is
+-- of a remove that found another value than the expected one.
 pub record DelGaveWay (k : Shape) (s : SeatAt) (key : ℕ) (t : SeatAt) : Type 0 where
   pub gave : GaveWay k s.view (Del key) t.view
   pub begins : BeginsOnceReady k s.view key t.view
   pub keeps : KeepsSeat 4 s t
   pub slots : GivesNoneOrAll s t
+
+-- What a remove is told. Gone where it made its update: just before it the dictionary gave the key this value, which is the expected one, if
+-- one is. Differs where its last search found another value, and Absent where it found none, with no update.
+abbrev pub Removes : Shape → SeatAt → ℕ → Option ℕ → Removed → SeatAt → Type 0
+Removes k s key expected (removed.Gone number value) t = DelTells k s key (record { reply = Gone; number = number }) t
+    × TookOut (updates_of t.view.seen) s.view.allowance.place key value number × IsExpected expected value
+Removes k s key expected (removed.Differs found) t = DelGaveWay k s key t × FoundOther s.view key expected found t.view
+Removes k s key expected removed.Absent t = DelTells k s key (record { reply = Absent; number = 0 }) t
+
+-- what a remove is told whose delete is told this
+abbrev pub removed_of : Told → Option ℕ → Removed
+removed_of told None = removed.Absent
+removed_of told (Some value) = removed.Gone told.number value
 
 -- with what the call of an operation begins; a get is a lookup and nothing else
 abbrev pub Begins : Shape → View → Op → View → Type 0

@@ -243,6 +243,11 @@ abbrev pub IsOther : Option ℕ → ℕ → Type 0
 IsOther None value = ⊥
 IsOther (Some wanted) value = value ≢ wanted
 
+-- this value, or any where none is asked for
+abbrev pub IsExpected : Option ℕ → ℕ → Type 0
+IsExpected None value = Unit {0}
+IsExpected (Some wanted) value = value ≡ wanted
+
 -- the value was stored: just before its update the dictionary gave the key the old one
 abbrev pub Stores : View → ℕ → ℕ → Replaced → View → Type 0
 Stores v key value done w = (before : List Mark) × MakesUpdate v (Set key value) before done.number w

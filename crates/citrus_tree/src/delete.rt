@@ -10,8 +10,8 @@ ghost use Rattle.seat_table.specs.Gains.{IsInformed};
 ghost use Rattle.seat_table.specs.Sections.{HasMade};
 ghost use Rattle.seat_table.specs.Seats.{AreListed, IsQuietSeat, shape_of};
 ghost use Rattle.tree_points.specs.Points.{IsAt, IsDone};
-ghost use Rattle.citrus_tree.specs.Deletes.{BeginsByLookup, KeepsRest, HasDeleted, HasMadeRoom, IsReadyToDelete, DelsAtOnce, DelGaveWay, GaveWayAtOnce, RetiresBy, StandsAt, Comes, KeepsAll, TellsTaken, DelTells, KeepsWaits, HasTwo, FoundTwoChildren, WaitsOnceAtMost};
-ghost use Rattle.citrus_tree.specs.Going.{GivesNoneBack, MayBegin, KeepsSlots, KeepsWait};
+ghost use Rattle.citrus_tree.specs.Deletes.{BeginsByLookup, KeepsRest, HasDeleted, HasMadeRoom, IsReadyToDelete, DelsAtOnce, DelGaveWay, FoundExpected, FoundOther, GaveWayAtOnce, RetiresBy, StandsAt, Comes, IfDiffers, IfTold, IfTwo, KeepsAll, Removes, TellsTaken, DelTells, KeepsWaits, HasTwo, FoundTwoChildren, WaitsOnceAtMost, removed_of};
+ghost use Rattle.citrus_tree.specs.Going.{GivesNoneBack, IsExpected, IsOther, MayBegin, KeepsSeat, KeepsSlots, KeepsWait};
 ghost use Rattle.citrus_tree.specs.Replies.{RetiresInOrder, TellsValue};
 
 mod bypass;
@@ -19,6 +19,7 @@ mod locks;
 mod shift;
 mod target;
 
+use crate::replace::is_other;
 use bypass::bypass;
 use core_points::stage::{Node, Successor, Target};
 use locks::{lock_target, unlock_target, validate};
@@ -31,13 +32,26 @@ use seat_table::{CitrusTable, Part, Seat, WaitPart, steps};
 use shift::shift;
 use target::find_target;
 
-/// What a `remove` came to: what a `del` is told, and the value of the pair that was taken out.
+/// What a `remove` came to.
 #[derive(Clone, Copy, Debug, PartialEq, Eq)]
-pub struct Removed {
-    /// `Gone` with the update's position, or `Absent`.
-    pub told: Told,
-    /// The value that the key had until then, at `Gone`.
-    pub value: Option<u64>,
+pub enum Removed {
+    /// The pair was taken out by the update of this number. Until then the key had this value.
+    Gone { number: u64, value: u64 },
+    /// The key had another value than the expected one, this one.
+    Differs { found: u64 },
+    /// The key was absent.
+    Absent,
+}
+
+/// What a delete came to.
+#[derive(Clone, Copy)]
+enum Outcome {
+    /// It is told this, and the value of the pair that it took out, where that was loaded.
+    Told { told: Told, value: Option<u64> },
+    /// The node has two children, and is left as it is.
+    TwoChildren,
+    /// The key had another value than the expected one, this one.
+    Differs { found: u64 },
 }
 
 /// The number of an update that took a pair out, and the pair's value where it was loaded.
@@ -52,6 +66,8 @@ struct Deleted {
 struct Manner {
     /// Whether it tells the value of the pair.
     tells_value: bool,
+    /// The one value with which the pair is taken out, if there is one.
+    expected: Option<u64>,
     /// Whether a node with two children is left as it is.
     leaves_two: bool,
 }
@@ -79,38 +95,42 @@ pub fn del<P: Patience, W: WaitPart, G: Gate>(
 {
     let manner = Manner {
         tells_value: false,
+        expected: None,
         leaves_two: false,
     };
     match delete_so(patience, table, seat, gate, key, manner)? {
-        Ok(Some(removed)) => Ok(Ok(removed.told)),
-        Ok(None) => unreachable!(),
+        Ok(Outcome::Told { told, .. }) => Ok(Ok(told)),
+        Ok(Outcome::TwoChildren) => unreachable!(),
+        Ok(Outcome::Differs { .. }) => unreachable!(),
         Err(busy) => Ok(Err(busy)),
     }
 }
 
-/// Takes the key's pair out as `del` does, and tells its value too. For that it makes one step more, a load under the node's lock just
-/// before the update's first step.
+/// Takes the key's pair out as `del` does, where its value is the expected one if there is one: `Gone` with the value too, and the update's
+/// position. `Differs` with the value that the key had at some time of the call, where that is another one: then it took no lock, but where
+/// the value was replaced between its search and its lock. `Absent` as at `get`.
+///
+/// It makes a load more than a `del` under the node's lock, just before the update's first step, and with an expected value one more in its
+/// section. A value that is replaced and put back between the two isn't told from one that stayed.
 pub fn remove<P: Patience, W: WaitPart, G: Gate>(
     patience: &P,
     table: &CitrusTable<W>,
     seat: &mut Seat<W>,
     gate: &G,
     key: u64,
+    expected: Option<u64>,
 ) -> Result<Result<Removed, P::Busy>, P::Tired>
     requires table { seat.old.table ≡ table.now }
     requires quiet { IsQuietSeat seat.old }
     requires tickets { 4 ≤ seat.old.view.allowance.tickets }
     ensures table { seat.new.table ≡ seat.old.table }
-    ensures tells { IfOk result (λ answer. IfOk answer (λ removed. DelTells (shape_of W.WAY table.now) seat.old key removed.told seat.new)) }
-    ensures value { IfOk result (λ answer. IfOk answer (λ removed. TellsValue seat.old.view key removed.told removed.value seat.new.view)) }
+    ensures removes { IfOk result (λ answer. IfOk answer
+        (λ removed. Removes (shape_of W.WAY table.now) seat.old key expected removed seat.new)) }
+    ensures keeps { IfOk result (λ _. KeepsSeat 4 seat.old seat.new) }
     ensures busy { IfOk result (λ answer. IfErr answer (λ _. DelGaveWay (shape_of W.WAY table.now) seat.old key seat.new)) }
     ensures tired { IfErr result (λ _. HasMade (P.least patience.now) seat.new.view) }
 {
-    let manner = Manner {
-        tells_value: true,
-        leaves_two: false,
-    };
-    match delete_so(patience, table, seat, gate, key, manner)? {
+    match remove_so(patience, table, seat, gate, key, expected, false)? {
         Ok(Some(removed)) => Ok(Ok(removed)),
         Ok(None) => unreachable!(),
         Err(busy) => Ok(Err(busy)),
@@ -118,38 +138,87 @@ pub fn remove<P: Patience, W: WaitPart, G: Gate>(
 }
 
 /// Takes the key's pair out as `remove` does, where its node has one child at most: then it waits for no reader once it has a spare, and room
-/// for two more retired slots. `None` where its search found two children at the node: it made no update then and holds nothing, and the
-/// node is to be turned down first.
+/// for two more retired slots. `None` where its search found two children at the node, and no other value than the expected one: it made no
+/// update then and holds nothing, and the node is to be turned down first.
 pub fn remove_by_bypass<P: Patience, W: WaitPart, G: Gate>(
     patience: &P,
     table: &CitrusTable<W>,
     seat: &mut Seat<W>,
     gate: &G,
     key: u64,
+    expected: Option<u64>,
 ) -> Result<Result<Option<Removed>, P::Busy>, P::Tired>
     requires table { seat.old.table ≡ table.now }
     requires quiet { IsQuietSeat seat.old }
     requires tickets { 4 ≤ seat.old.view.allowance.tickets }
     ensures table { seat.new.table ≡ seat.old.table }
-    ensures tells { IfOk result (λ answer. IfOk answer (λ outcome. IfSome outcome
-        (λ removed. DelTells (shape_of W.WAY table.now) seat.old key removed.told seat.new))) }
-    ensures value { IfOk result (λ answer. IfOk answer (λ outcome. IfSome outcome
-        (λ removed. TellsValue seat.old.view key removed.told removed.value seat.new.view))) }
+    ensures removes { IfOk result (λ answer. IfOk answer (λ outcome. IfSome outcome
+        (λ removed. Removes (shape_of W.WAY table.now) seat.old key expected removed seat.new))) }
+    ensures keeps { IfOk result (λ _. KeepsSeat 4 seat.old seat.new) }
     ensures two { IfOk result (λ answer. IfOk answer (λ outcome. IfNone outcome (FoundTwoChildren key seat.new.view))) }
+    ensures seen { IfOk result (λ answer. IfOk answer (λ outcome. IfNone outcome (FoundExpected key expected seat.new.view))) }
     ensures left { IfOk result (λ answer. IfOk answer (λ outcome. IfNone outcome
         (DelGaveWay (shape_of W.WAY table.now) seat.old key seat.new))) }
     ensures busy { IfOk result (λ answer. IfErr answer (λ _. DelGaveWay (shape_of W.WAY table.now) seat.old key seat.new)) }
     ensures unwaited { IfOk result (λ _. WaitsOnceAtMost (shape_of W.WAY table.now) seat.old.view seat.new.view) }
     ensures tired { IfErr result (λ _. HasMade (P.least patience.now) seat.new.view) }
 {
-    let manner = Manner {
-        tells_value: true,
-        leaves_two: true,
-    };
-    delete_so(patience, table, seat, gate, key, manner)
+    remove_so(patience, table, seat, gate, key, expected, true)
 }
 
-// A delete in this manner. `None` where it leaves a node with two children as it is.
+// A remove. `None` where it leaves a node with two children as it is.
+fn remove_so<P: Patience, W: WaitPart, G: Gate>(
+    patience: &P,
+    table: &CitrusTable<W>,
+    seat: &mut Seat<W>,
+    gate: &G,
+    key: u64,
+    expected: Option<u64>,
+    leaves_two: bool,
+) -> Result<Result<Option<Removed>, P::Busy>, P::Tired>
+    requires table { seat.old.table ≡ table.now }
+    requires quiet { IsQuietSeat seat.old }
+    requires tickets { 4 ≤ seat.old.view.allowance.tickets }
+    ensures table { seat.new.table ≡ seat.old.table }
+    ensures removes { IfOk result (λ answer. IfOk answer (λ outcome. IfSome outcome
+        (λ removed. Removes (shape_of W.WAY table.now) seat.old key expected removed seat.new))) }
+    ensures keeps { IfOk result (λ _. KeepsSeat 4 seat.old seat.new) }
+    ensures asked { IfOk result (λ answer. IfOk answer (λ outcome. IfNone outcome (leaves_two ≡ true))) }
+    ensures two { IfOk result (λ answer. IfOk answer (λ outcome. IfNone outcome (FoundTwoChildren key seat.new.view))) }
+    ensures seen { IfOk result (λ answer. IfOk answer (λ outcome. IfNone outcome (FoundExpected key expected seat.new.view))) }
+    ensures left { IfOk result (λ answer. IfOk answer (λ outcome. IfNone outcome
+        (DelGaveWay (shape_of W.WAY table.now) seat.old key seat.new))) }
+    ensures busy { IfOk result (λ answer. IfErr answer (λ _. DelGaveWay (shape_of W.WAY table.now) seat.old key seat.new)) }
+    ensures unwaited { IfOk result (λ _. leaves_two ≡ true → WaitsOnceAtMost (shape_of W.WAY table.now) seat.old.view seat.new.view) }
+    ensures tired { IfErr result (λ _. HasMade (P.least patience.now) seat.new.view) }
+{
+    let manner = Manner {
+        tells_value: true,
+        expected,
+        leaves_two,
+    };
+    match delete_so(patience, table, seat, gate, key, manner)? {
+        Ok(Outcome::Told { told, value }) => Ok(Ok(Some(removed_of(told, value)))),
+        Ok(Outcome::Differs { found }) => Ok(Ok(Some(Removed::Differs { found }))),
+        Ok(Outcome::TwoChildren) => Ok(Ok(None)),
+        Err(busy) => Ok(Err(busy)),
+    }
+}
+
+// What a remove is told whose delete is told this, with the value that it took out.
+fn removed_of(told: Told, value: Option<u64>) -> Removed
+    ensures { result ≡ removed_of told value }
+{
+    match value {
+        Some(value) => Removed::Gone {
+            number: told.number,
+            value,
+        },
+        None => Removed::Absent,
+    }
+}
+
+// A delete in this manner.
 fn delete_so<P: Patience, W: WaitPart, G: Gate>(
     patience: &P,
     table: &CitrusTable<W>,
@@ -157,18 +226,25 @@ fn delete_so<P: Patience, W: WaitPart, G: Gate>(
     gate: &G,
     key: u64,
     manner: Manner,
-) -> Result<Result<Option<Removed>, P::Busy>, P::Tired>
+) -> Result<Result<Outcome, P::Busy>, P::Tired>
     requires table { seat.old.table ≡ table.now }
     requires quiet { IsQuietSeat seat.old }
     requires tickets { 4 ≤ seat.old.view.allowance.tickets }
     ensures table { seat.new.table ≡ seat.old.table }
-    ensures tells { IfOk result (λ answer. IfOk answer (λ outcome. IfSome outcome
-        (λ removed. DelTells (shape_of W.WAY table.now) seat.old key removed.told seat.new))) }
-    ensures value { IfOk result (λ answer. IfOk answer (λ outcome. IfSome outcome
-        (λ removed. manner.tells_value ≡ true → TellsValue seat.old.view key removed.told removed.value seat.new.view))) }
-    ensures asked { IfOk result (λ answer. IfOk answer (λ outcome. IfNone outcome (manner.leaves_two ≡ true))) }
-    ensures two { IfOk result (λ answer. IfOk answer (λ outcome. IfNone outcome (FoundTwoChildren key seat.new.view))) }
-    ensures left { IfOk result (λ answer. IfOk answer (λ outcome. IfNone outcome
+    ensures tells { IfOk result (λ answer. IfOk answer (λ outcome. IfTold outcome
+        (λ told value. DelTells (shape_of W.WAY table.now) seat.old key told seat.new))) }
+    ensures value { IfOk result (λ answer. IfOk answer (λ outcome. IfTold outcome
+        (λ told value. manner.tells_value ≡ true → TellsValue seat.old.view key told value seat.new.view))) }
+    ensures wanted { IfOk result (λ answer. IfOk answer (λ outcome. IfTold outcome
+        (λ told value. IfSome value (λ taken. IsExpected manner.expected taken)))) }
+    ensures differs { IfOk result (λ answer. IfOk answer (λ outcome. IfDiffers outcome
+        (λ found. FoundOther seat.old.view key manner.expected found seat.new.view))) }
+    ensures other { IfOk result (λ answer. IfOk answer (λ outcome. IfDiffers outcome
+        (λ found. DelGaveWay (shape_of W.WAY table.now) seat.old key seat.new))) }
+    ensures asked { IfOk result (λ answer. IfOk answer (λ outcome. IfTwo outcome (manner.leaves_two ≡ true))) }
+    ensures two { IfOk result (λ answer. IfOk answer (λ outcome. IfTwo outcome (FoundTwoChildren key seat.new.view))) }
+    ensures seen { IfOk result (λ answer. IfOk answer (λ outcome. IfTwo outcome (FoundExpected key manner.expected seat.new.view))) }
+    ensures left { IfOk result (λ answer. IfOk answer (λ outcome. IfTwo outcome
         (DelGaveWay (shape_of W.WAY table.now) seat.old key seat.new))) }
     ensures busy { IfOk result (λ answer. IfErr answer (λ _. DelGaveWay (shape_of W.WAY table.now) seat.old key seat.new)) }
     ensures unwaited { IfOk result (λ _. manner.leaves_two ≡ true
@@ -178,11 +254,15 @@ fn delete_so<P: Patience, W: WaitPart, G: Gate>(
     // Before the first search: inside a section of its own a wait for everybody would wait for itself.
     make_room(patience, table, seat)?;
     match delete(patience, table, seat, gate, key, manner)? {
-        Ok(Some(removed)) => {
+        Ok(Outcome::Told { told, value }) => {
             gate.pass(Point::Answered, seat.place());
-            Ok(Ok(Some(removed)))
+            Ok(Ok(Outcome::Told { told, value }))
         }
-        Ok(None) => Ok(Ok(None)),
+        Ok(Outcome::Differs { found }) => {
+            gate.pass(Point::Answered, seat.place());
+            Ok(Ok(Outcome::Differs { found }))
+        }
+        Ok(Outcome::TwoChildren) => Ok(Ok(Outcome::TwoChildren)),
         Err(busy) => Ok(Err(busy)),
     }
 }
@@ -260,64 +340,97 @@ fn delete<P: Patience, W: WaitPart, G: Gate>(
     gate: &G,
     key: u64,
     manner: Manner,
-) -> Result<Result<Option<Removed>, P::Busy>, P::Tired>
+) -> Result<Result<Outcome, P::Busy>, P::Tired>
     requires table { seat.old.table ≡ table.now }
     requires at { (kept : ℕ) × MayBegin (shape_of W.WAY table.now) (Del key) kept seat.old.view }
     requires listed { AreListed seat.old }
     ensures table { seat.new.table ≡ seat.old.table }
     ensures done { IfOk result (λ _. (kept : ℕ) → MayBegin (shape_of W.WAY table.now) (Del key) kept seat.old.view
         → IsDone (shape_of W.WAY table.now) (Del key) kept seat.new.view) }
-    ensures dels { IfOk result (λ answer. IfOk answer (λ outcome. IfSome outcome
-        (λ removed. DelsAtOnce seat.old.view key removed.told seat.new.view))) }
-    ensures value { IfOk result (λ answer. IfOk answer (λ outcome. IfSome outcome
-        (λ removed. manner.tells_value ≡ true → TellsValue seat.old.view key removed.told removed.value seat.new.view))) }
-    ensures asked { IfOk result (λ answer. IfOk answer (λ outcome. IfNone outcome (manner.leaves_two ≡ true))) }
-    ensures two { IfOk result (λ answer. IfOk answer (λ outcome. IfNone outcome (FoundTwoChildren key seat.new.view))) }
-    ensures left { IfOk result (λ answer. IfOk answer (λ outcome. IfNone outcome (GaveWayAtOnce seat.old.view key seat.new.view))) }
+    ensures dels { IfOk result (λ answer. IfOk answer (λ outcome. IfTold outcome
+        (λ told value. DelsAtOnce seat.old.view key told seat.new.view))) }
+    ensures value { IfOk result (λ answer. IfOk answer (λ outcome. IfTold outcome
+        (λ told value. manner.tells_value ≡ true → TellsValue seat.old.view key told value seat.new.view))) }
+    ensures wanted { IfOk result (λ answer. IfOk answer (λ outcome. IfTold outcome
+        (λ told value. IfSome value (λ taken. IsExpected manner.expected taken)))) }
+    ensures differs { IfOk result (λ answer. IfOk answer (λ outcome. IfDiffers outcome
+        (λ found. FoundOther seat.old.view key manner.expected found seat.new.view))) }
+    ensures other { IfOk result (λ answer. IfOk answer (λ outcome. IfDiffers outcome
+        (λ found. GaveWayAtOnce seat.old.view key seat.new.view))) }
+    ensures asked { IfOk result (λ answer. IfOk answer (λ outcome. IfTwo outcome (manner.leaves_two ≡ true))) }
+    ensures two { IfOk result (λ answer. IfOk answer (λ outcome. IfTwo outcome (FoundTwoChildren key seat.new.view))) }
+    ensures seen { IfOk result (λ answer. IfOk answer (λ outcome. IfTwo outcome (FoundExpected key manner.expected seat.new.view))) }
+    ensures left { IfOk result (λ answer. IfOk answer (λ outcome. IfTwo outcome (GaveWayAtOnce seat.old.view key seat.new.view))) }
     ensures busy { IfOk result (λ answer. IfErr answer (λ _. GaveWayAtOnce seat.old.view key seat.new.view)) }
     ensures begins { IfOk result (λ _. BeginsByLookup seat.old.view key seat.new.view) }
-    ensures retires { IfOk result (λ answer. IfOk answer (λ outcome. IfSome outcome
-        (λ removed. RetiresBy seat.old key removed.told.reply removed.told.number seat.new))) }
+    ensures retires { IfOk result (λ answer. IfOk answer (λ outcome. IfTold outcome
+        (λ told value. RetiresBy seat.old key told.reply told.number seat.new))) }
     ensures wait { IfOk result (λ _. KeepsWait seat.old.view seat.new.view) }
     ensures unwaited { IfOk result (λ _. manner.leaves_two ≡ true → KeepsWaits seat.old.view seat.new.view) }
     ensures slots { IfOk result (λ _. KeepsSlots seat.old seat.new) }
     ensures stays { IfOk result (λ _. GivesNoneBack seat.old seat.new) }
     ensures few { IfOk result (λ _. length seat.new.listed ≤ length seat.old.listed + 2) }
     ensures listed { IfOk result (λ _. AreListed seat.new) }
-    ensures informed { IfOk result (λ answer. IfOk answer (λ outcome. IfSome outcome (λ _. IsInformed seat.new.view))) }
+    ensures informed { IfOk result (λ answer. IfOk answer (λ outcome. IfTold outcome (λ told value. IsInformed seat.new.view))) }
     ensures tired { IfErr result (λ _. HasMade (P.least patience.now) seat.new.view) }
 {
     let mut pauses = patience.pauses();
     for round in 0..u64::MAX {
-        let Some(target) = find_target(table, seat, gate, key) else {
-            return Ok(Ok(Some(Removed {
+        let Some(sighted) = find_target(table, seat, gate, key, manner.expected.is_some()) else {
+            return Ok(Ok(Outcome::Told {
                 told: Told {
                     reply: Reply::Absent,
                     number: 0,
                 },
                 value: None,
-            })));
+            }));
         };
-        // No lock is held here. One that lacks a child now and has two under its locks isn't as it was found, and is searched for again.
-        if is_left(manner, &target) {
-            return Ok(Ok(None));
+        // No lock is held here.
+        if let Some(found) = other_value(manner.expected, sighted.value) {
+            return Ok(Ok(Outcome::Differs { found }));
+        }
+        // One that lacks a child now and has two under its locks isn't as it was found, and is searched for again.
+        if is_left(manner, &sighted.target) {
+            return Ok(Ok(Outcome::TwoChildren));
         }
         gate.pass(Point::BeforeLock, seat.place());
-        let tells_value = manner.tells_value;
-        if let Some(taken) = delete_node(patience, table, seat, gate, key, &target, tells_value)? {
-            return Ok(Ok(Some(Removed {
+        // Where the value is another one by now, the next search tells which.
+        if let Some(taken) = delete_node(
+            patience,
+            table,
+            seat,
+            gate,
+            key,
+            &sighted.target,
+            manner,
+        )? {
+            return Ok(Ok(Outcome::Told {
                 told: Told {
                     reply: Reply::Gone,
                     number: taken.number,
                 },
                 value: taken.value,
-            })));
+            }));
         }
         if let Err(busy) = patience.rest(&mut pauses) {
             return Ok(Err(busy));
         }
     }
     Err(patience.tired())
+}
+
+// The value that was loaded, where it is another one than the expected one.
+fn other_value(expected: Option<u64>, value: Option<u64>) -> Option<u64>
+    ensures other { IfSome result (λ found. (value ≡ Some found) × IsOther expected found) }
+    ensures wanted { IfNone result (IfSome value (λ found. IsExpected expected found)) }
+{
+    let Some(found) = value else {
+        return None;
+    };
+    if is_other(expected, found) {
+        return Some(found);
+    }
+    None
 }
 
 // Whether the target is left as it is, since it has two children.
@@ -328,8 +441,8 @@ fn is_left(manner: Manner, target: &Target) -> bool
     manner.leaves_two && target.successor.is_some()
 }
 
-// Locks the target, takes it out and answers the update's number, with the value where it is to be told; or nothing, where a lock is taken
-// or the target isn't as it was found any more.
+// Locks the target, takes it out and answers the update's number, with the value where it is to be told; or nothing, where a lock is taken,
+// the target isn't as it was found any more, or its value isn't the expected one.
 fn delete_node<P: Patience, W: WaitPart, G: Gate>(
     patience: &P,
     table: &CitrusTable<W>,
@@ -337,18 +450,21 @@ fn delete_node<P: Patience, W: WaitPart, G: Gate>(
     gate: &G,
     key: u64,
     target: &Target,
-    tells_value: bool,
+    manner: Manner,
 ) -> Result<Option<Deleted>, P::Tired>
     requires table { seat.old.table ≡ table.now }
     requires at { (kept : ℕ) × IsAt (shape_of W.WAY table.now) (Del key) kept (at.TargetLock target.now 0) seat.old.view }
     requires listed { AreListed seat.old }
+    requires seen { FoundExpected key manner.expected seat.old.view }
     ensures table { seat.new.table ≡ seat.old.table }
     ensures done { IfOk result (λ answer. IfSome answer
         (λ taken. (kept : ℕ) → IsAt (shape_of W.WAY table.now) (Del key) kept (at.TargetLock target.now 0) seat.old.view
         → IsDone (shape_of W.WAY table.now) (Del key) kept seat.new.view)) }
     ensures deleted { IfOk result (λ answer. IfSome answer (λ taken. HasDeleted seat.old.view key taken.number seat.new.view)) }
     ensures value { IfOk result (λ answer. IfSome answer
-        (λ taken. tells_value ≡ true → TellsTaken seat.old.view key taken.number taken.value seat.new.view)) }
+        (λ taken. manner.tells_value ≡ true → TellsTaken seat.old.view key taken.number taken.value seat.new.view)) }
+    ensures wanted { IfOk result (λ answer. IfSome answer
+        (λ taken. IfSome taken.value (λ value. IsExpected manner.expected value))) }
     ensures retires { IfOk result (λ answer. IfSome answer (λ taken. RetiresInOrder seat.old key taken.number seat.new)) }
     ensures waits { IfOk result (λ answer. IfSome answer (λ taken. KeepsWait seat.old.view seat.new.view)) }
     ensures unwaited { IfOk result (λ answer. IfSome answer
@@ -371,7 +487,11 @@ fn delete_node<P: Patience, W: WaitPart, G: Gate>(
         unlock_target(table, seat, target);
         return Ok(None);
     };
-    let value = value_where(table, seat, node, target.successor, tells_value);
+    let value = value_where(table, seat, node, target.successor, manner.tells_value);
+    if other_value(manner.expected, value).is_some() {
+        unlock_target(table, seat, target);
+        return Ok(None);
+    }
     match target.successor {
         None => {
             let number = bypass(patience, table, seat, node, key)?;

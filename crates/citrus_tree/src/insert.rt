@@ -56,8 +56,8 @@ pub enum Reuse {
 /// Adds the pair, where the key is absent: `New` with the update's position. `Old` where the key is present, as at `get`, and `Full`
 /// where it is absent, no slot is free, and the caller has none to give back. It waits for the holder of the lock of the node above, for
 /// other updates, and, where no slot is free, for all open sections. The depth is that of its last search, and 0 where no pair was added.
-/// It answers busy where the lock is taken, the side isn't as the search left it, or others have the front for long, and its patience would
-/// rather be called again: then it made no update, and no slot is in hand.
+/// It answers busy where the lock is taken, the side isn't as the search left it, others have the front for long, or no slot is free while the
+/// place has some to give back, and its patience would rather be called again: then it made no update, and no slot is in hand.
 pub fn put<P: Patience, W: WaitPart, G: Gate>(
     patience: &P,
     table: &CitrusTable<W>,
@@ -120,7 +120,11 @@ pub fn put_reusing<P: Patience, W: WaitPart, G: Gate>(
                 depth: 0,
             }));
         };
-        let Some(leaf) = leaf_in_hand(patience, table, seat, spot.slot, key, value, reuse)? else {
+        let leaf = match leaf_in_hand(patience, table, seat, spot.slot, key, value, reuse)? {
+            Ok(leaf) => leaf,
+            Err(busy) => return Ok(Err(busy)),
+        };
+        let Some(leaf) = leaf else {
             return Ok(Ok(Called {
                 told: answered(gate, seat, Reply::Full, 0),
                 depth: 0,
@@ -196,7 +200,7 @@ fn give_up_leaf<W: WaitPart>(table: &CitrusTable<W>, seat: &mut Seat<W>)
 }
 
 // The slot in hand, filled with the pair. It is filled once, after it was taken. There is none where no slot is free, and no retired one to
-// give back.
+// give back; and it answers busy where it would have to wait for readers to give some back.
 fn leaf_in_hand<P: Patience, W: WaitPart>(
     patience: &P,
     table: &CitrusTable<W>,
@@ -205,7 +209,7 @@ fn leaf_in_hand<P: Patience, W: WaitPart>(
     key: u64,
     value: u64,
     reuse: Reuse,
-) -> Result<Option<u32>, P::Tired>
+) -> Result<Result<Option<u32>, P::Busy>, P::Tired>
     requires table { seat.old.table ≡ table.now }
     requires listed { AreListed seat.old }
     requires ready { seat.old.view.hands.hand ≡ None → MayUse reuse seat.old.view }
@@ -213,24 +217,32 @@ fn leaf_in_hand<P: Patience, W: WaitPart>(
         (leaf_stage seat.old.view.hands.hand spot) seat.old.view }
     ensures table { seat.new.table ≡ seat.old.table }
     ensures listed { IfOk result (λ _. AreListed seat.new) }
-    ensures slot { IfOk result (λ answer. (slot : ℕ) → answer ≡ Some slot → IsSlotOf (Some slot) seat.new.view.hands.hand) }
+    ensures slot { IfOk result (λ answer. IfOk answer
+        (λ leaf. (slot : ℕ) → leaf ≡ Some slot → IsSlotOf (Some slot) seat.new.view.hands.hand)) }
     ensures room { IfOk result (λ _. MakesRoom (shape_of W.WAY table.now) seat.old.view seat.new.view) }
     ensures slots { IfOk result (λ _. LeafBy seat.old.view.hands.hand reuse seat.old seat.new) }
-    ensures full { IfOk result (λ answer. answer ≡ None → IsFullNow (shape_of W.WAY table.now) seat.new.view) }
-    ensures at { IfOk result (λ answer. (kept : ℕ) (spot : Spot)
+    ensures full { IfOk result (λ answer. IfOk answer (λ leaf. leaf ≡ None → IsFullNow (shape_of W.WAY table.now) seat.new.view)) }
+    ensures at { IfOk result (λ answer. IfOk answer (λ leaf. (kept : ℕ) (spot : Spot)
         → IsAt (shape_of W.WAY table.now) (Put key value) kept (leaf_stage seat.old.view.hands.hand spot) seat.old.view
-        → IsAt (shape_of W.WAY table.now) (Put key value) kept (filled_stage answer spot) seat.new.view) }
-    ensures informed { IfOk result (λ answer. answer ≡ None → IsInformed seat.new.view) }
+        → IsAt (shape_of W.WAY table.now) (Put key value) kept (filled_stage leaf spot) seat.new.view)) }
+    ensures busy { IfOk result (λ answer. IfErr answer (λ _. (kept : ℕ) (spot : Spot)
+        → IsAt (shape_of W.WAY table.now) (Put key value) kept (leaf_stage seat.old.view.hands.hand spot) seat.old.view
+        → IsAt (shape_of W.WAY table.now) (Put key value) kept at.Finished seat.new.view)) }
+    ensures informed { IfOk result (λ answer. IfOk answer (λ leaf. leaf ≡ None → IsInformed seat.new.view)) }
     ensures tired { IfErr result (λ _. HasMade (P.least patience.now) seat.new.view) }
 {
     if let Some(slot) = seat.in_hand() {
-        return Ok(Some(slot));
+        return Ok(Ok(Some(slot)));
     }
-    let Some(slot) = take_slot(patience, table, seat, near, reuse)? else {
-        return Ok(None);
+    let taken = match take_slot(patience, table, seat, near, reuse)? {
+        Ok(taken) => taken,
+        Err(busy) => return Ok(Err(busy)),
+    };
+    let Some(slot) = taken else {
+        return Ok(Ok(None));
     };
     fill_leaf(table, seat, slot, key, value);
-    Ok(Some(slot))
+    Ok(Ok(Some(slot)))
 }
 
 // Stores the pair in the slot in hand, and no children.
@@ -263,25 +275,28 @@ fn take_slot<P: Patience, W: WaitPart>(
     seat: &mut Seat<W>,
     near: u32,
     reuse: Reuse,
-) -> Result<Option<u32>, P::Tired>
+) -> Result<Result<Option<u32>, P::Busy>, P::Tired>
     requires table { seat.old.table ≡ table.now }
     requires listed { AreListed seat.old }
     requires ready { MayUse reuse seat.old.view }
     requires at { (spot : Spot) × (expected : ℕ) × StandsAt (shape_of W.WAY table.now) (at.Reserve (Leaf spot) expected) seat.old.view }
     ensures table { seat.new.table ≡ seat.old.table }
     ensures listed { IfOk result (λ _. AreListed seat.new) }
-    ensures slot { IfOk result (λ answer. (slot : ℕ) → answer ≡ Some slot → IsSlotOf (Some slot) seat.new.view.hands.hand) }
+    ensures slot { IfOk result (λ answer. IfOk answer
+        (λ taken. (slot : ℕ) → taken ≡ Some slot → IsSlotOf (Some slot) seat.new.view.hands.hand)) }
     ensures room { IfOk result (λ _. MakesRoom (shape_of W.WAY table.now) seat.old.view seat.new.view) }
     ensures slots { IfOk result (λ _. TakesBy reuse seat.old.view.hands.spare seat.old seat.new) }
-    ensures full { IfOk result (λ answer. answer ≡ None → IsFullNow (shape_of W.WAY table.now) seat.new.view) }
-    ensures at { IfOk result (λ answer. (spot : Spot) (expected : ℕ)
-        → Comes (shape_of W.WAY table.now) (at.Reserve (Leaf spot) expected) seat.old.view (taken_stage answer spot) seat.new.view) }
+    ensures full { IfOk result (λ answer. IfOk answer (λ taken. taken ≡ None → IsFullNow (shape_of W.WAY table.now) seat.new.view)) }
+    ensures at { IfOk result (λ answer. IfOk answer (λ taken. (spot : Spot) (expected : ℕ)
+        → Comes (shape_of W.WAY table.now) (at.Reserve (Leaf spot) expected) seat.old.view (taken_stage taken spot) seat.new.view)) }
+    ensures busy { IfOk result (λ answer. IfErr answer (λ _. (spot : Spot) (expected : ℕ)
+        → Comes (shape_of W.WAY table.now) (at.Reserve (Leaf spot) expected) seat.old.view at.Finished seat.new.view)) }
     ensures informed { IfOk result (λ _. IsInformed seat.new.view) }
     ensures tired { IfErr result (λ _. HasMade (P.least patience.now) seat.new.view) }
 {
     if let Some(slot) = slot_to_use(seat, reuse) {
         node_slots::reuse(table, seat, slot);
-        return Ok(Some(slot));
+        return Ok(Ok(Some(slot)));
     }
     seat.note_near(table, near);
     take_free(patience, table, seat)
@@ -298,36 +313,42 @@ fn slot_to_use<W: WaitPart>(seat: &Seat<W>, reuse: Reuse) -> Option<u32>
     Some(slot)
 }
 
-// A free slot, for which the retired ones are given back where none is free.
+// A free slot, for which the retired ones are given back where none is free. That takes a wait for all readers: there it may be busy.
 fn take_free<P: Patience, W: WaitPart>(
     patience: &P,
     table: &CitrusTable<W>,
     seat: &mut Seat<W>,
-) -> Result<Option<u32>, P::Tired>
+) -> Result<Result<Option<u32>, P::Busy>, P::Tired>
     requires table { seat.old.table ≡ table.now }
     requires listed { AreListed seat.old }
     requires at { (spot : Spot) × (expected : ℕ) × StandsAt (shape_of W.WAY table.now) (at.Reserve (Leaf spot) expected) seat.old.view }
     ensures table { seat.new.table ≡ seat.old.table }
     ensures listed { IfOk result (λ _. AreListed seat.new) }
-    ensures slot { IfOk result (λ answer. (slot : ℕ) → answer ≡ Some slot → IsSlotOf (Some slot) seat.new.view.hands.hand) }
+    ensures slot { IfOk result (λ answer. IfOk answer
+        (λ taken. (slot : ℕ) → taken ≡ Some slot → IsSlotOf (Some slot) seat.new.view.hands.hand)) }
     ensures room { IfOk result (λ _. MakesRoom (shape_of W.WAY table.now) seat.old.view seat.new.view) }
     ensures slots { IfOk result (λ _. KeepsSlots seat.old seat.new) }
-    ensures full { IfOk result (λ answer. answer ≡ None → IsFullNow (shape_of W.WAY table.now) seat.new.view) }
-    ensures at { IfOk result (λ answer. (spot : Spot) (expected : ℕ)
-        → Comes (shape_of W.WAY table.now) (at.Reserve (Leaf spot) expected) seat.old.view (taken_stage answer spot) seat.new.view) }
+    ensures full { IfOk result (λ answer. IfOk answer (λ taken. taken ≡ None → IsFullNow (shape_of W.WAY table.now) seat.new.view)) }
+    ensures at { IfOk result (λ answer. IfOk answer (λ taken. (spot : Spot) (expected : ℕ)
+        → Comes (shape_of W.WAY table.now) (at.Reserve (Leaf spot) expected) seat.old.view (taken_stage taken spot) seat.new.view)) }
+    ensures busy { IfOk result (λ answer. IfErr answer (λ _. (spot : Spot) (expected : ℕ)
+        → Comes (shape_of W.WAY table.now) (at.Reserve (Leaf spot) expected) seat.old.view at.Finished seat.new.view)) }
     ensures informed { IfOk result (λ _. IsInformed seat.new.view) }
     ensures tired { IfErr result (λ _. HasMade (P.least patience.now) seat.new.view) }
 {
     if let Taken::Slot { slot, .. } = take(patience, table, seat)? {
-        return Ok(Some(slot));
+        return Ok(Ok(Some(slot)));
     }
     if seat.retired().is_empty() {
-        return Ok(None);
+        return Ok(Ok(None));
+    }
+    if let Err(busy) = patience.before_readers() {
+        return Ok(Err(busy));
     }
     reclaim(patience, table, seat)?;
     match take(patience, table, seat)? {
-        Taken::Slot { slot, .. } => Ok(Some(slot)),
-        Taken::Empty => Ok(None),
+        Taken::Slot { slot, .. } => Ok(Ok(Some(slot))),
+        Taken::Empty => Ok(Ok(None)),
     }
 }
 

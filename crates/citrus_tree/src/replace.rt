@@ -110,7 +110,7 @@ fn find_holder<W: WaitPart, G: Gate>(
 }
 
 // Whether a value is another one than the one that is asked for, if one is.
-fn is_other(expected: Option<u64>, value: u64) -> bool
+pub(crate) fn is_other(expected: Option<u64>, value: u64) -> bool
     ensures { IsTrue result ↔ IsOther expected value }
 {
     match expected {

@@ -1,7 +1,7 @@
 //! The calls, for callers that never give up.
 ghost use Rattle.std.specs.Prelude.{◌≡◌, ◌≤◌};
-ghost use Rattle.citrus_tree.specs.Deletes.{Begins, BeginsByLookup, DelTells};
-ghost use Rattle.citrus_tree.specs.Replies.{IsTold, Compares, Puts, Sets, TellsValue};
+ghost use Rattle.citrus_tree.specs.Deletes.{Begins, BeginsByLookup, DelTells, Removes};
+ghost use Rattle.citrus_tree.specs.Replies.{IsTold, Compares, Puts, Sets};
 ghost use Rattle.citrus_tree.specs.Going.{KeepsSeat};
 ghost use Rattle.seat_table.specs.Gains.{IsInformed};
 ghost use Rattle.seat_table.specs.Seats.{IsQuietSeat, shape_of};
@@ -122,23 +122,24 @@ pub fn del<R: Wait, W: WaitPart, G: Gate>(
     }
 }
 
-/// Takes the key's pair out as `del` does, and tells its value too. For that it makes one step more, a load under the node's lock just
-/// before the update's first step.
+/// Takes the key's pair out as `del` does, where its value is the expected one if there is one: `Gone` with the value too, and the update's
+/// position. `Differs` with the value that the key had at some time of the call, where that is another one, and `Absent` as at `get`.
 pub fn remove<R: Wait, W: WaitPart, G: Gate>(
     rt: &R,
     table: &CitrusTable<W>,
     seat: &mut Seat<W>,
     gate: &G,
     key: u64,
+    expected: Option<u64>,
 ) -> Removed
     requires table { seat.old.table ≡ table.now }
     requires quiet { IsQuietSeat seat.old }
     requires tickets { 4 ≤ seat.old.view.allowance.tickets }
     ensures table { seat.new.table ≡ seat.old.table }
-    ensures tells { DelTells (shape_of W.WAY table.now) seat.old key result.told seat.new }
-    ensures value { TellsValue seat.old.view key result.told result.value seat.new.view }
+    ensures removes { Removes (shape_of W.WAY table.now) seat.old key expected result seat.new }
+    ensures keeps { KeepsSeat 4 seat.old seat.new }
 {
-    match patient::remove(&Steadfast::new(rt), table, seat, gate, key) {
+    match patient::remove(&Steadfast::new(rt), table, seat, gate, key, expected) {
         Ok(Ok(removed)) => removed,
         Ok(Err(never)) => match never {},
         Err(never) => match never {},

@@ -225,13 +225,13 @@ counted_pair pairs more way s key value loads is x =
       paid = omega (arith, keys, roots, paid);
     }
 
-counted_right : (pairs : List Pair) (way : Way) (s n : ℕ) (loads : List StepMade) → s ≢ 0 → HasCounted pairs way loads
-    → HasCounted pairs way (loads ++ load (Link s Right) n ∷ [])
-counted_right pairs way s n loads ne x =
-    let one : List StepMade = load (Link s Right) n ∷ [] in
+counted_link : (pairs : List Pair) (way : Way) (s n : ℕ) (side : Side) (loads : List StepMade) → s ≢ 0 → HasCounted pairs way loads
+    → HasCounted pairs way (loads ++ load (Link s side) n ∷ [])
+counted_link pairs way s n side loads ne x =
+    let one : List StepMade = load (Link s side) n ∷ [] in
     let keys = how_many-append is_key loads one in
     let roots = how_many-append is_root loads one in
-    let below = link_below s n Right ne in
+    let below = link_below s n side ne in
     let paid = x.paid in
     record {
       values = values-append loads one ∙ append-nil (values_of loads) ∙ x.values;
@@ -279,8 +279,8 @@ module _ {v u : View} {pairs : List Pair} {way : Way} (z : HasWalked v (HasCount
           → Told k u (ListLoad s part.Value) value w → HasWalked v (HasCounted more way) w
       counts_pair {s} {value} more key added t = walked_more z t (λ a is. counted_pair pairs more way s key value a added is)
 
-      pub counts_right : {s n : ℕ} → s ≢ 0 → Told k u (ListLoad s (part.Link Right)) n w → HasWalked v (HasCounted pairs way) w
-      counts_right {s} {n} ne t = walked_more z t (λ a is. counted_right pairs way s n a ne is)
+      pub counts_link : {s n : ℕ} {side : Side} → s ≢ 0 → Told k u (ListLoad s (part.Link side)) n w → HasWalked v (HasCounted pairs way) w
+      counts_link {s} {n} {side} ne t = walked_more z t (λ a is. counted_link pairs way s n side a ne is)
 
       pub counts_full : {s value : ℕ} (next : ℕ) → Told k u (ListLoad s part.Value) value w → HasWalked v (IsOneWalk pairs (Some next)) w
       counts_full {s} {value} next t = walked_more z t (λ a is. counted_full pairs way s next value a is)

@@ -27,10 +27,10 @@ use native.Mathlib.Decide.{ℕ_discrete, dec_le}
 use Rattle.prcu_marks.specs.declared.mark.Side.{Side}
 use Rattle.core_state.specs.declared.view.Fact.{Fact}
 use Rattle.core_state.specs.declared.view.Gap.{Gap}
-use Rattle.exact_list.specs.Pairs.{fact_of}
+use Rattle.exact_list.specs.Pairs.{fact_of, IsBefore}
 use Rattle.core_state.specs.Parts.{low_bound, high_bound, IsBetween}
 use Rattle.exact_list.specs.declared.way.Passed.{Passed}
-use Rattle.exact_list.specs.Loads.{IsOn, IsBefore, FindsNearest, IsOpenTo, bound_on, IsPassed, HasReached}
+use Rattle.exact_list.specs.Loads.{IsOn, FindsNearest, IsOpenTo, bound_on, IsPassed, HasReached}
 use Rattle.core_state.specs.declared.words.Kind.TheVariants as kinds
 use Rattle.core_state.specs.declared.act.Part.TheVariants as part
 
@@ -324,20 +324,23 @@ module _ (k : Shape) (v : View) where
 -- The way down to the pair that is nearest to a key, load by load.
 
 -- bounds, from the root on
-open_first : (side : Side) (from : ℕ) → from < 2 ^ 64 → IsOpenTo side from no_bounds
+pub open_first : (side : Side) (from : ℕ) → from < 2 ^ 64 → IsOpenTo side from no_bounds
 open_first Left from fits = fits
 open_first Right from fits = omega arith
 
+pub bound_first : (side : Side) → bound_on side no_bounds ≡ None
+bound_first Left = refl
+bound_first Right = refl
+
 none_passed : (k : Shape) (visits : List Visit) (side : Side) (from : ℕ) → IsPassed k visits side from no_bounds None
-none_passed k visits Left from = refl
-none_passed k visits Right from = refl
+none_passed k visits side from = bound_first side
 
 -- past a key that is on the side
-open_away : (side : Side) (from key : ℕ) (bounds : Gap) → IsOpenTo side from bounds → IsOpenTo side from (narrowed bounds key (across side))
+pub open_away : (side : Side) (from key : ℕ) (bounds : Gap) → IsOpenTo side from bounds → IsOpenTo side from (narrowed bounds key (across side))
 open_away Left from key bounds near = near
 open_away Right from key bounds near = near
 
-bound_away : (side : Side) (key : ℕ) (bounds : Gap) → bound_on side (narrowed bounds key (across side)) ≡ Some key
+pub bound_away : (side : Side) (key : ℕ) (bounds : Gap) → bound_on side (narrowed bounds key (across side)) ≡ Some key
 bound_away Left key bounds = refl
 bound_away Right key bounds = refl
 
@@ -347,7 +350,7 @@ open_towards : (side : Side) (from key : ℕ) (bounds : Gap) → key < 2 ^ 64 �
 open_towards Left from key bounds fits off = dite (dec_le key from) (λ on. absurd (off on)) (λ less. omega (arith, less))
 open_towards Right from key bounds fits off = dite (dec_le from key) (λ on. absurd (off (on, fits))) (λ less. omega (arith, less))
 
-bound_towards : (side : Side) (key : ℕ) (bounds : Gap) → bound_on side (narrowed bounds key side) ≡ bound_on side bounds
+pub bound_towards : (side : Side) (key : ℕ) (bounds : Gap) → bound_on side (narrowed bounds key side) ≡ bound_on side bounds
 bound_towards Left key bounds = refl
 bound_towards Right key bounds = refl
 

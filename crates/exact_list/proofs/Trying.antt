@@ -22,7 +22,7 @@ use Rattle.seat_table.specs.Gains.{Told, IsAsked, IsListedNow}
 use Rattle.seat_table.specs.Sections.{Makes, is_entry, is_exit, HasEntered, HasLeft}
 use Rattle.seat_table.proofs.Seats.{still_quiet}
 use Rattle.seat_table.proofs.SeveralSteps.{made_none, made_more, made_both, seen_more, own_more}
-use Rattle.exact_list.specs.Tries.{Try, numbers_of, looks_of, looks_from, marks_from, is_load, is_look, is_of_list, HasTried, IsListing, HasLoaded, is_exchange, LosesFront, TakesFront, GivesFrontBack, HasGivenWay, HasMoved, Paged, IsWhole, IsPart, IsBetweenFronts, IsRecent, HasStood, EndAs, Gathers}
+use Rattle.exact_list.specs.Tries.{Try, numbers_of, looks_of, looks_from, marks_from, is_load, is_look, is_of_list, HasTried, IsListing, HasLoaded, is_exchange, LosesFront, TakesFront, GivesFrontBack, HasGivenWay, HasMoved, Paged, IsWholeTo, IsPartTo, low_before, end_before, IsBetweenFronts, IsRecent, HasStood, EndAs, Gathers}
 use Rattle.core_state.specs.declared.words.Kind.TheVariants.{K19}
 use Rattle.core_state.specs.Memory.{IsEven, IsOdd}
 use Rattle.std.proofs.Math.Seq.{take-append_seam}
@@ -41,7 +41,7 @@ use Rattle.list_laws.specs.Counts.{Each}
 use Rattle.core_frames.proofs.First.{each_one, each_none, each_append}
 use Rattle.exact_list.specs.declared.listing.Listed.{Listed}
 use Rattle.exact_list.specs.declared.listing.Listed.TheVariants.{Whole, Part, Moved}
-use Rattle.exact_list.specs.Pairs.{Pair, had_at, ArePairs, fact_of, Cover}
+use Rattle.exact_list.specs.Pairs.{Pair, had_at, ArePairsTo, fact_of, Cover}
 use Rattle.exact_list.specs.Loads.{HoldsUpTo, loads_of, HasWalked, HasListedAlone, HasListed, IsNearest, IsInGap, FindsNearest, ComesBy, IsTold}
 use Rattle.exact_list.proofs.Counting.{quiet_look, quiet_entry, quiet_exit, walked_within}
 use Rattle.exact_list.proofs.Walking.{covers_exact}
@@ -451,28 +451,29 @@ module _ {k : Shape} {v : View} {key first n : ℕ} {d : View} (z : LooksTwice k
     pub had : (y : ℕ) → had_at (updates_of d.seen) front y ≡ map_now z.told.marks y
     had = had_now z.told.marks d.seen front in_all count
 
-    exact : (low below : ℕ) (pairs : List Pair) → Cover z.loads.after.facts z.loads.after.gaps low below pairs
-        → ArePairs (had_at (updates_of d.seen) front) low below pairs
-    exact low below pairs cover = covers_exact (had_at (updates_of d.seen) front) z.loads.after.facts z.loads.after.gaps low below pairs
+    exact : (side : Side) (low below : ℕ) (pairs : List Pair) → Cover side z.loads.after.facts z.loads.after.gaps low below pairs
+        → ArePairsTo side (had_at (updates_of d.seen) front) low below pairs
+    exact side low below pairs cover =
+        covers_exact side (had_at (updates_of d.seen) front) z.loads.after.facts z.loads.after.gaps low below pairs
         (λ j (f : Fact) at. had f.key ∙ now.facts j f at) (λ j (gap : Gap) at y between. had y ∙ now.gaps j gap at y between) cover
 
-    pub holds_whole : (keys : Interval) (page : Paged) → length page.pairs ≤ page.capacity
-        → Cover z.loads.after.facts z.loads.after.gaps keys.low (keys.high + 1) page.pairs → IsWhole keys d.seen front page
-    holds_whole keys page fit cover = record { pairs = exact keys.low (keys.high + 1) page.pairs cover; fit = fit }
+    pub holds_whole : (side : Side) (keys : Interval) (page : Paged) → length page.pairs ≤ page.capacity
+        → Gathers side z.loads.after keys page None → IsWholeTo side keys d.seen front page
+    holds_whole side keys page fit cover = record { pairs = exact side keys.low (keys.high + 1) page.pairs cover; fit = fit }
 
-    pub holds_part : (keys : Interval) (next : ℕ) (page : Paged) → Gathers z.loads.after keys page (Some next)
-        → IsPart keys d.seen front next page
-    holds_part keys next page g = record {
-      pairs = exact keys.low next page.pairs g.0;
+    pub holds_part : (side : Side) (keys : Interval) (next : ℕ) (page : Paged) → Gathers side z.loads.after keys page (Some next)
+        → IsPartTo side keys d.seen front next page
+    holds_part side keys next page g = record {
+      pairs = exact side (low_before side keys next) (end_before side keys next) page.pairs g.0;
       full = g.2;
       inside = g.1;
       there = (g.3.0, had next ∙ now.facts g.3.1.0 (fact_of (next, g.3.0)) g.3.1.1);
     }
 
-    pub holds_up_to : (keys : Interval) (next : Option ℕ) (page : Paged) → length page.pairs ≤ page.capacity
-        → Gathers z.loads.after keys page next → HoldsUpTo front next keys d.seen page
-    holds_up_to keys None page fit cover = holds_whole keys page fit cover
-    holds_up_to keys (Some next) page fit g = holds_part keys next page g
+    pub holds_up_to : (side : Side) (keys : Interval) (next : Option ℕ) (page : Paged) → length page.pairs ≤ page.capacity
+        → Gathers side z.loads.after keys page next → HoldsUpTo side front next keys d.seen page
+    holds_up_to side keys None page fit cover = holds_whole side keys page fit cover
+    holds_up_to side keys (Some next) page fit g = holds_part side keys next page g
 
   listing_is : ◌≡◌ {A = ℕ} z.loads.after.front first
   listing_is = front_is v key first z.first_seen z.loaded z.begins z.loads
@@ -609,10 +610,10 @@ module _ {k : Shape} {v : View} {key front first n : ℕ} {d : View} (x : ListsH
       gives = subst (λ f. GivesFrontBack d f w) twice gives;
     }
 
-    pub alone_holds : (keys : Interval) (next : Option ℕ) (page : Paged) → length page.pairs ≤ page.capacity
-        → Gathers x.looks.loads.after keys page next → HoldsUpTo count next keys w.seen page
-    alone_holds keys next page fit g = subst (λ (h : List Mark). HoldsUpTo count next keys h page) (sym seen)
-        (holds_up_to x.looks now half_first keys next page fit g)
+    pub alone_holds : (side : Side) (keys : Interval) (next : Option ℕ) (page : Paged) → length page.pairs ≤ page.capacity
+        → Gathers side x.looks.loads.after keys page next → HoldsUpTo side count next keys w.seen page
+    alone_holds side keys next page fit g = subst (λ (h : List Mark). HoldsUpTo side count next keys h page) (sym seen)
+        (holds_up_to x.looks now half_first side keys next page fit g)
 
     pub alone_recent : IsBetweenFronts count v.seen w.seen
     alone_recent = subst (λ (h : List Mark). IsBetweenFronts count v.seen h) (sym seen)

@@ -11,7 +11,7 @@ use Rattle.exact_list.specs.declared.way.Next.{Next}
 use Rattle.exact_list.specs.declared.way.Next.TheVariants.{At, Done, Lost}
 use Rattle.exact_list.specs.declared.way.Passed.{Passed}
 use Rattle.exact_list.specs.declared.way.Way.{Way}
-use Rattle.exact_list.specs.Tries.{KnowsKey, Leads, is_load, TakesFront, GivesFrontBack, Paged, IsWhole, IsPart, HasStood, Try, HasMoved, HasTried, IsBetweenFronts}
+use Rattle.exact_list.specs.Tries.{KnowsKey, Leads, is_load, TakesFront, GivesFrontBack, Paged, IsWholeTo, IsPartTo, HasStood, Try, HasMoved, HasTried, IsBetweenFronts}
 use Rattle.std.specs.List.{filter, filter_map}
 use Rattle.prcu_marks.specs.declared.mark.Side.{Side}
 use Rattle.prcu_marks.specs.declared.mark.Side.TheVariants.{Right, Left}
@@ -21,7 +21,7 @@ use Rattle.core_state.specs.declared.words.Kind.TheVariants.{K17}
 use Rattle.core_state.specs.declared.view.StepMade.{StepMade}
 use Rattle.core_state.specs.declared.view.View.{View}
 use Rattle.exact_list.specs.declared.nearest.Found.{Found}
-use Rattle.exact_list.specs.Pairs.{Pair, had_at, fact_of}
+use Rattle.exact_list.specs.Pairs.{Pair, had_at, fact_of, IsBefore}
 use Rattle.key_interval.specs.Keys.{Interval}
 use Rattle.prcu_marks.specs.declared.mark.Mark.{Mark}
 use Rattle.list_laws.specs.Counts.{Each, IsIn}
@@ -45,31 +45,56 @@ NextIs way (At p) new = (way.passed.items ≡ new.passed.items ++ p ∷ []) × (
 NextIs way Done new = (way.passed.items ≡ []) × (way.cut ≡ false)
 NextIs way Lost new = (way.passed.items ≡ []) × (way.cut ≡ true) × (new.passed.items ≡ []) × (new.cut ≡ false)
 
--- At least so many slots were passed to the left since the way began at the root: those kept, or where it was cut one more than there is
--- room for.
+-- At least so many slots were passed since the way began at the root: those kept, or where it was cut one more than there is room for.
 abbrev pub least_passed : Way → ℕ
 least_passed way = if way.cut then most_kept + 1 else length way.passed.items
 
--- a slot where the walk has been, with the key that it found there, and this upper bound
-pub record IsKept (k : Shape) (visits : List Visit) (high : Option ℕ) (p : Passed) : Type 0 where
-  pub low : Option ℕ
-  pub known : KnowsKey k visits p.slot p.key (record { low = low; high = high })
+-- the bound on the other side doesn't leave the key out
+abbrev pub IsOpenTo : Side → ℕ → Gap → Type 0
+IsOpenTo Left from bounds = from < high_bound bounds.high
+IsOpenTo Right from bounds = low_bound bounds.low ≤ from
 
--- The walk was at each of these slots. The upper bound is the first number at the first, the key of the one before at each other, and the
--- key of the last where the walk is now.
-abbrev pub AreKept : Shape → List Visit → Option ℕ → List Passed → Option ℕ → Type 0
-AreKept k visits first [] high = high ≡ first
-AreKept k visits first (p ∷ ps) high = IsKept k visits first p × AreKept k visits (Some p.key) ps high
+-- the bound on this side
+abbrev pub bound_on : Side → Gap → Option ℕ
+bound_on Left bounds = bounds.low
+bound_on Right bounds = bounds.high
 
--- Where a walk for keys from one on has come to by its latest link. Where nothing was given up of its way, the first slot has no upper
--- bound.
-pub record HasCome (k : Shape) (l : Listing) (from link : ℕ) (way : Way) : Type 0 where
+-- a slot where the walk has been, with the key that it found there, and this bound on the side
+pub record IsKept (k : Shape) (side : Side) (visits : List Visit) (bound : Option ℕ) (p : Passed) : Type 0 where
   pub bounds : Gap
-  pub low : low_bound bounds.low ≤ from
+  pub ends : bound_on side bounds ≡ bound
+  pub known : KnowsKey k visits p.slot p.key bounds
+
+-- The walk was at each of these slots. The bound on the side is the first number at the first, the key of the one before at each other, and
+-- the key of the last where the walk is now.
+abbrev pub AreKept : Shape → Side → List Visit → Option ℕ → List Passed → Option ℕ → Type 0
+AreKept k side visits first [] bound = bound ≡ first
+AreKept k side visits first (p ∷ ps) bound = IsKept k side visits first p × AreKept k side visits (Some p.key) ps bound
+
+-- Where a walk to this side, for keys from one on, has come to by its latest link. Where nothing was given up of its way, the first slot has
+-- no bound on the side.
+pub record HasCome (k : Shape) (side : Side) (l : Listing) (from link : ℕ) (way : Way) : Type 0 where
+  pub bounds : Gap
+  pub near : IsOpenTo side from bounds
   pub first : Option ℕ
   pub whole : way.cut ≡ false → first ≡ None
-  pub kept : AreKept k l.visits first way.passed.items bounds.high
+  pub kept : AreKept k side l.visits first way.passed.items (bound_on side bounds)
   pub leads : Leads k l bounds link
+
+-- The end of a range from which a list goes to this side.
+abbrev pub start_of : Side → Interval → ℕ
+start_of Left keys = keys.high
+start_of Right keys = keys.low
+
+-- a key isn't the last one of all on this side
+abbrev pub HasNext : Side → ℕ → Type 0
+HasNext Left key = 1 ≤ key
+HasNext Right key = key + 1 < 2 ^ 64
+
+-- the first key past another, for who goes to this side
+abbrev pub IsNextTo : Side → ℕ → ℕ → Type 0
+IsNextTo Left key next = next + 1 ≡ key
+IsNextTo Right key next = next ≡ key + 1
 
 -- Which loads a walk makes: of a list, and of a search for the nearest pair.
 -- Source: docs/TREE_CALLS.md, "Lists of a key range".
@@ -148,13 +173,17 @@ IsOneWayDown (Some pair) loads = (way : List StepMade) × (slot : ℕ) × IsWayD
 -- Lists that always come: by a try, or alone, under a front that the seat holds.
 -- Source: docs/TREE_CALLS.md, "Lists of a key range".
 
--- what the page holds: all pairs of the range, or the first ones, with the key after them
-abbrev pub HoldsUpTo : ℕ → Option ℕ → Interval → List Mark → Paged → Type 0
-HoldsUpTo front None keys h page = IsWhole keys h front page
-HoldsUpTo front (Some next) keys h page = IsPart keys h front next page
+-- what the page holds: all pairs of the range, or the first ones, with the key after them, in the order of a list to this side
+abbrev pub HoldsUpTo : Side → ℕ → Option ℕ → Interval → List Mark → Paged → Type 0
+HoldsUpTo side front None keys h page = IsWholeTo side keys h front page
+HoldsUpTo side front (Some next) keys h page = IsPartTo side keys h front next page
 
+abbrev pub HoldsExactlyTo : Side → Exact → Interval → List Mark → Paged → Type 0
+HoldsExactlyTo side answer keys h page = HoldsUpTo side answer.front answer.next keys h page
+
+-- and keys ascend
 abbrev pub HoldsExactly : Exact → Interval → List Mark → Paged → Type 0
-HoldsExactly answer keys h page = HoldsUpTo answer.front answer.next keys h page
+HoldsExactly answer keys h page = HoldsExactlyTo Right answer keys h page
 
 -- The seat took the front after so many updates, made one try, both of whose looks found the front as it had made it, and gave it back. So
 -- it held the front for one section, and made no update under it. All that it loaded meanwhile is this walk.
@@ -192,11 +221,6 @@ abbrev pub IsOn : Side → ℕ → ℕ → Type 0
 IsOn Left from key = key ≤ from
 IsOn Right from key = (from ≤ key) × (key < 2 ^ 64)
 
--- who goes to this side comes past the first key before the second
-abbrev pub IsBefore : Side → ℕ → ℕ → Type 0
-IsBefore Left key end = end < key
-IsBefore Right key end = key < end
-
 -- The map has the pair, which is on this side of the key, and it has no key there that comes before.
 pub record IsNearestPair (map : ℕ → Option ℕ) (side : Side) (from : ℕ) (pair : Found) : Type 0 where
   pub there : map pair.key ≡ Some pair.value
@@ -232,16 +256,6 @@ abbrev pub IsTold : Option Nearest → Side → ℕ → List Mark → List Mark 
 IsTold None side from before now = Unit {0}
 IsTold (Some nearest) side from before now = IsNearest (had_at (updates_of now) nearest.front) side from nearest.pair
     × IsBetweenFronts nearest.front before now
-
--- the bound on the other side doesn't leave the key out
-abbrev pub IsOpenTo : Side → ℕ → Gap → Type 0
-IsOpenTo Left from bounds = from < high_bound bounds.high
-IsOpenTo Right from bounds = low_bound bounds.low ≤ from
-
--- the bound on this side
-abbrev pub bound_on : Side → Gap → Option ℕ
-bound_on Left bounds = bounds.low
-bound_on Right bounds = bounds.high
 
 -- the slot passed last on the side on which a pair is sought: its key is there, and is the bound on that side
 abbrev pub IsPassed : Shape → List Visit → Side → ℕ → Gap → Option Passed → Type 0

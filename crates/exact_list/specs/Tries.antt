@@ -5,6 +5,8 @@ use Rattle.std.specs.Prelude.{◌≡◌, ◌≢◌, ℕ, ◌+◌, ◌⊎◌, if�
 use mathlib.Core.List.{IsPrefix}
 use Rattle.prcu_marks.specs.declared.mark.Mark.{Mark}
 use Rattle.prcu_marks.specs.declared.mark.Mark.TheVariants.{Entered, Left}
+use Rattle.prcu_marks.specs.declared.mark.Side.{Side}
+use Rattle.prcu_marks.specs.declared.mark.Side.TheVariants as sides
 use Rattle.prcu_marks.specs.Marks.{own_of, updates_of}
 use Rattle.core_state.specs.declared.words.Kind.{Kind}
 use Rattle.core_state.specs.declared.words.Kind.TheVariants.{K17, K37, K19, K39}
@@ -19,7 +21,7 @@ use Rattle.key_interval.specs.Keys.{Interval}
 use Rattle.list_laws.specs.Counts.{Each, IsIn}
 use Rattle.exact_list.specs.declared.listing.Listed.{Listed}
 use Rattle.exact_list.specs.declared.listing.Listed.TheVariants.{Whole, Part, Moved}
-use Rattle.exact_list.specs.Pairs.{Pair, had_at, ArePairs, fact_of, Cover}
+use Rattle.exact_list.specs.Pairs.{Pair, had_at, ArePairsTo, fact_of, Cover}
 use Rattle.core_state.specs.declared.shape.Shape.{Shape}
 use Rattle.core_state.specs.declared.view.Fact.{Fact}
 use Rattle.core_state.specs.declared.view.Gap.{Gap}
@@ -144,23 +146,47 @@ pub record Paged : Type 0 where
   pub capacity : ℕ
   pub pairs : List Pair
 
--- The page holds exactly the dictionary's pairs with these keys, after so many updates.
-pub record IsWhole (keys : Interval) (h : List Mark) (front : ℕ) (page : Paged) : Type 0 where
-  pub pairs : ArePairs (had_at (updates_of h) front) keys.low (keys.high + 1) page.pairs
+-- The keys of a range past which a list to this side comes before another key: those from the first number on and below the second.
+abbrev pub low_before : Side → Interval → ℕ → ℕ
+low_before sides.Right keys next = keys.low
+low_before sides.Left keys next = next + 1
+
+abbrev pub end_before : Side → Interval → ℕ → ℕ
+end_before sides.Right keys next = next
+end_before sides.Left keys next = keys.high + 1
+
+-- A list to this side that comes to the key hasn't left the range: so it ascends to its high end, or descends to its low one.
+abbrev pub IsUpTo : Side → Interval → ℕ → Type 0
+IsUpTo sides.Right keys next = next ≤ keys.high
+IsUpTo sides.Left keys next = keys.low ≤ next
+
+-- The page holds exactly the dictionary's pairs with these keys, after so many updates, in the order of a list to this side.
+pub record IsWholeTo (side : Side) (keys : Interval) (h : List Mark) (front : ℕ) (page : Paged) : Type 0 where
+  pub pairs : ArePairsTo side (had_at (updates_of h) front) keys.low (keys.high + 1) page.pairs
   pub fit : length page.pairs ≤ page.capacity
 
 -- There are more than the page was made for: it is full of the first ones, and the next key is the one after them.
-pub record IsPart (keys : Interval) (h : List Mark) (front next : ℕ) (page : Paged) : Type 0 where
-  pub pairs : ArePairs (had_at (updates_of h) front) keys.low next page.pairs
+pub record IsPartTo (side : Side) (keys : Interval) (h : List Mark) (front next : ℕ) (page : Paged) : Type 0 where
+  pub pairs : ArePairsTo side (had_at (updates_of h) front) (low_before side keys next) (end_before side keys next) page.pairs
   pub full : length page.pairs ≡ page.capacity
-  pub inside : next ≤ keys.high
+  pub inside : IsUpTo side keys next
   pub there : (value : ℕ) × (had_at (updates_of h) front next ≡ Some value)
 
 -- what the page holds, by the answer
+abbrev pub HoldsTo : Side → Listed → Interval → List Mark → Paged → Type 0
+HoldsTo side (Whole front) keys h page = IsWholeTo side keys h front page
+HoldsTo side (Part front next) keys h page = IsPartTo side keys h front next page
+HoldsTo side (Moved first last) keys h page = page.pairs ≡ []
+
+-- and keys ascend
+abbrev pub IsWhole : Interval → List Mark → ℕ → Paged → Type 0
+IsWhole keys h front page = IsWholeTo sides.Right keys h front page
+
+abbrev pub IsPart : Interval → List Mark → ℕ → ℕ → Paged → Type 0
+IsPart keys h front next page = IsPartTo sides.Right keys h front next page
+
 abbrev pub Holds : Listed → Interval → List Mark → Paged → Type 0
-Holds (Whole front) keys h page = IsWhole keys h front page
-Holds (Part front next) keys h page = IsPart keys h front next page
-Holds (Moved first last) keys h page = page.pairs ≡ []
+Holds answer keys h page = HoldsTo sides.Right answer keys h page
 
 -- The front isn't below the number of updates that were seen before, nor above the number seen now.
 abbrev pub IsBetweenFronts : ℕ → List Mark → List Mark → Type 0
@@ -236,7 +262,7 @@ abbrev pub AreGaps : List Gap → ℕ → ℕ → Type 0
 AreGaps gaps from below = (y : ℕ) → from ≤ y → y < below → (gap : Gap) × IsIn gaps gap × IsBetween gap y
 
 -- The page holds what was found of these keys; where one more was found, it is full.
-abbrev pub Gathers : Listing → Interval → Paged → Option ℕ → Type 0
-Gathers l keys page None = Cover l.facts l.gaps keys.low (keys.high + 1) page.pairs
-Gathers l keys page (Some next) = Cover l.facts l.gaps keys.low next page.pairs × (next ≤ keys.high) × (length page.pairs ≡ page.capacity)
-    × ((value : ℕ) × IsIn l.facts (fact_of (next, value)))
+abbrev pub Gathers : Side → Listing → Interval → Paged → Option ℕ → Type 0
+Gathers side l keys page None = Cover side l.facts l.gaps keys.low (keys.high + 1) page.pairs
+Gathers side l keys page (Some next) = Cover side l.facts l.gaps (low_before side keys next) (end_before side keys next) page.pairs
+    × IsUpTo side keys next × (length page.pairs ≡ page.capacity) × ((value : ℕ) × IsIn l.facts (fact_of (next, value)))

@@ -1,37 +1,17 @@
 //! The way down to the pair that is nearest to a key.
-ghost use Rattle.std.specs.Prelude.{◌≡◌, ◌↔◌, IsTrue, IfOk, IfErr};
-ghost use Rattle.core_state.specs.Memory.{across};
+ghost use Rattle.std.specs.Prelude.{◌≡◌, IfOk, IfErr};
 ghost use Rattle.seat_table.specs.Sections.{HasMade};
 ghost use Rattle.seat_table.specs.Seats.{shape_of};
-ghost use Rattle.exact_list.specs.Loads.{HasWalked, IsWayDown, IsOneWayDown, IsOn, HasReached, FindsNearest};
+ghost use Rattle.exact_list.specs.Loads.{HasWalked, IsWayDown, IsOneWayDown, HasReached, FindsNearest};
 ghost use Rattle.exact_list.specs.Tries.{IsListing, HasLoaded};
 
+use crate::direction::{across, is_on};
 use crate::nearest::Found;
 use crate::way::Passed;
 use core_state::{Part, child_of};
 use patience::Patience;
 use prcu_marks::Side;
 use seat_table::{CitrusTable, Seat, WaitWords, steps};
-
-// The other side.
-fn across(side: Side) -> Side
-    ensures { result ≡ across side }
-{
-    match side {
-        Side::Left => Side::Right,
-        Side::Right => Side::Left,
-    }
-}
-
-// Whether the key is on this side of the other one, or is it.
-fn is_on(side: Side, from: u64, key: u64) -> bool
-    ensures { IsTrue result ↔ IsOn side from key }
-{
-    match side {
-        Side::Left => key <= from,
-        Side::Right => from <= key,
-    }
-}
 
 // Goes down from the root to an end: away from the side past keys that are on it, and to the side past others. Of the first each is nearer
 // than the one before, so that the last one is the nearest.

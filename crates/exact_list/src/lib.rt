@@ -4,6 +4,7 @@
 
 mod alone;
 mod descent;
+mod direction;
 mod front;
 pub mod laws;
 mod listing;
@@ -18,4 +19,4 @@ pub use alone::Exact;
 pub use listing::Listed;
 pub use nearest::{Found, Nearest};
 pub use page::Page;
-pub use steadfast::{list, list_always, nearest_always};
+pub use steadfast::{list, list_always, list_always_to, nearest_always};

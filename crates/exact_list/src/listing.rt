@@ -2,8 +2,9 @@
 ghost use Rattle.std.specs.Prelude.{◌≡◌, ◌≤◌, List, [], ◌∷◌, None, IfOk, IfErr};
 ghost use Rattle.seat_table.specs.Sections.{HasMade};
 ghost use Rattle.seat_table.specs.Seats.{IsQuietSeat};
-ghost use Rattle.exact_list.specs.Tries.{Holds, IsRecent, EndAs, Try, HasTried};
+ghost use Rattle.exact_list.specs.Tries.{Holds, HoldsTo, IsRecent, EndAs, Try, HasTried};
 
+use crate::direction::{Ascending, Direction};
 use crate::page::Page;
 use crate::walks::gather;
 use core_state::{front_of, linking};
@@ -24,7 +25,7 @@ pub enum Listed {
 }
 
 // One try, in a section of its own.
-fn attempt<P: Patience, W: WaitPart>(
+fn attempt<D: Direction, P: Patience, W: WaitPart>(
     patience: &P,
     table: &CitrusTable<W>,
     seat: &mut Seat<W>,
@@ -39,7 +40,7 @@ fn attempt<P: Patience, W: WaitPart>(
     ensures tried { IfOk result (λ answer. (t : Try) × HasTried seat.old.view keys.now.low (t ∷ []) seat.new.view
         × EndAs answer 1 (t ∷ [])) }
     ensures left_off { IfErr result (λ _. (t : Try) × HasTried seat.old.view keys.now.low (t ∷ []) seat.new.view) }
-    ensures holds { IfOk result (λ answer. Holds answer keys.now seat.new.view.seen page.new) }
+    ensures holds { IfOk result (λ answer. HoldsTo D.SIDE answer keys.now seat.new.view.seen page.new) }
     ensures recent { IfOk result (λ answer. IsRecent answer seat.old.view.seen seat.new.view.seen) }
     ensures tired { IfErr result (λ _. HasMade (P.least patience.now) seat.new.view) }
 {
@@ -50,7 +51,7 @@ fn attempt<P: Patience, W: WaitPart>(
         W::leave(table, seat);
         return Ok(Listed::Moved { first, last: first });
     }
-    let gathered = gather(patience, table, seat, keys, page);
+    let gathered = gather::<D, P, W>(patience, table, seat, keys, page);
     // The same number again: no update came between, so what was found is so at that front. docs/TREE_CALLS.md#lists-of-a-key-range
     let last = steps::look_at_front(table, seat);
     W::leave(table, seat);
@@ -64,6 +65,40 @@ fn attempt<P: Patience, W: WaitPart>(
         None => Ok(Listed::Whole { front }),
         Some(next) => Ok(Listed::Part { front, next }),
     }
+}
+
+// Lists as [`list`] does, in this direction.
+pub(crate) fn list_in<D: Direction, P: Patience, W: WaitPart>(
+    patience: &P,
+    table: &CitrusTable<W>,
+    seat: &mut Seat<W>,
+    keys: Keys,
+    page: &mut Page,
+    tries: u32,
+) -> Result<Listed, P::Tired>
+    requires table { seat.old.table ≡ table.now }
+    requires quiet { IsQuietSeat seat.old }
+    requires tries { 1 ≤ tries }
+    ensures seat { (seat.new.table ≡ seat.old.table) × (seat.new.listed ≡ seat.old.listed) }
+    ensures quiet { IsQuietSeat seat.new }
+    ensures tickets { seat.new.view.allowance.tickets ≡ seat.old.view.allowance.tickets }
+    ensures capacity { IfOk result (λ _. page.new.capacity ≡ page.old.capacity) }
+    ensures tried { IfOk result (λ answer. (made : List Try) × HasTried seat.old.view keys.low made seat.new.view
+        × EndAs answer tries made) }
+    ensures holds { IfOk result (λ answer. HoldsTo D.SIDE answer keys seat.new.view.seen page.new) }
+    ensures recent { IfOk result (λ answer. IsRecent answer seat.old.view.seen seat.new.view.seen) }
+    ensures tired { IfErr result (λ _. HasMade (P.least patience.now) seat.new.view) }
+{
+    let mut listed = attempt::<D, P, W>(patience, table, seat, &keys, page)?;
+    for tried in 1..tries {
+        match listed {
+            Listed::Moved { .. } => listed = attempt::<D, P, W>(
+                patience, table, seat, &keys, page,
+            )?,
+            _ => return Ok(listed),
+        }
+    }
+    Ok(listed)
 }
 
 /// Lists the pairs with these keys on the page, keys ascending, as the dictionary had them after some number of updates: the front.
@@ -96,12 +131,5 @@ pub fn list<P: Patience, W: WaitPart>(
     ensures recent { IfOk result (λ answer. IsRecent answer seat.old.view.seen seat.new.view.seen) }
     ensures tired { IfErr result (λ _. HasMade (P.least patience.now) seat.new.view) }
 {
-    let mut listed = attempt(patience, table, seat, &keys, page)?;
-    for tried in 1..tries {
-        match listed {
-            Listed::Moved { .. } => listed = attempt(patience, table, seat, &keys, page)?,
-            _ => return Ok(listed),
-        }
-    }
-    Ok(listed)
+    list_in::<Ascending, P, W>(patience, table, seat, keys, page, tries)
 }

@@ -2,7 +2,7 @@
 ghost use Rattle.std.specs.Prelude.{◌≡◌, ◌≤◌, List};
 ghost use Rattle.prcu_marks.specs.Marks.{updates_of};
 ghost use Rattle.seat_table.specs.Seats.{IsQuietSeat};
-ghost use Rattle.exact_list.specs.Loads.{HasListed, HoldsExactly, IsOneWalk, IsOneWayDown, IsNearest};
+ghost use Rattle.exact_list.specs.Loads.{HasListed, HoldsExactly, HoldsExactlyTo, IsOneWalk, IsOneWayDown, IsNearest};
 ghost use Rattle.exact_list.specs.Tries.{Holds, IsBetweenFronts, IsRecent, EndAs, Try, HasTried};
 ghost use Rattle.exact_list.specs.Pairs.{had_at};
 
@@ -79,6 +79,36 @@ pub fn list_always<R: Wait, W: WaitPart>(
     ensures recent { IsBetweenFronts result.front seat.old.view.seen seat.new.view.seen }
 {
     match patient::list_always(&Steadfast::new(rt), table, seat, keys, page, tries) {
+        Ok(Ok(exact)) => exact,
+        Ok(Err(never)) => match never {},
+        Err(never) => match never {},
+    }
+}
+
+/// Lists as [`list_always`] does, to this side: with `Side::Right` keys ascend, and with `Side::Left` they descend, from the greatest of these
+/// keys on. Where there were more pairs than the page is for, it holds the first ones of those, and `next` is the key after them: to the left
+/// the greatest key that isn't on the page.
+pub fn list_always_to<R: Wait, W: WaitPart>(
+    rt: &R,
+    table: &CitrusTable<W>,
+    seat: &mut Seat<W>,
+    side: Side,
+    keys: Keys,
+    page: &mut Page,
+    tries: u32,
+) -> Exact
+    requires table { seat.old.table ≡ table.now }
+    requires quiet { IsQuietSeat seat.old }
+    requires tries { 1 ≤ tries }
+    ensures seat { (seat.new.table ≡ seat.old.table) × (seat.new.listed ≡ seat.old.listed) }
+    ensures quiet { IsQuietSeat seat.new }
+    ensures tickets { seat.new.view.allowance.tickets ≡ seat.old.view.allowance.tickets }
+    ensures capacity { page.new.capacity ≡ page.old.capacity }
+    ensures came { HasListed seat.old.view keys.low result.front tries (IsOneWalk page.new.pairs result.next) seat.new.view }
+    ensures holds { HoldsExactlyTo side result keys seat.new.view.seen page.new }
+    ensures recent { IsBetweenFronts result.front seat.old.view.seen seat.new.view.seen }
+{
+    match patient::list_always_to(&Steadfast::new(rt), table, seat, side, keys, page, tries) {
         Ok(Ok(exact)) => exact,
         Ok(Err(never)) => match never {},
         Err(never) => match never {},

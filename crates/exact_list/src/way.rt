@@ -7,14 +7,14 @@ use arrayvec::ArrayVec;
 /// How many slots of a way are kept.
 const KEPT: usize = 64;
 
-/// A slot past which a walk went to the left. Its key comes next where no lesser one is left.
+/// A slot to which a walk goes back. Its key comes next where none before it is left.
 #[derive(Clone, Copy, Default)]
 pub(crate) struct Passed {
     pub(crate) slot: u32,
     pub(crate) key: u64,
 }
 
-/// The slots past which a walk went to the left, on the way on which it came, the latest last.
+/// The slots to which a walk goes back, on the way on which it came, the latest last.
 #[derive(Drop)]
 pub(crate) struct Way {
     pub(crate) passed: ArrayVec<Passed, KEPT>,

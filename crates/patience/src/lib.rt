@@ -47,6 +47,9 @@ pub trait Patience {
     /// be made again.
     fn rest(&self, pauses: &mut Self::Pauses) -> Result<(), Self::Busy>;
 
+    /// Before a wait for all readers, where the call holds nothing: has it wait, or ends the call, to be made again when readers may have left.
+    fn before_readers(&self) -> Result<(), Self::Busy>;
+
     /// After 2^64 - 1 rounds.
     fn tired(&self) -> Self::Tired
         ensures { least self.now ≤ 18446744073709551615 };
@@ -95,6 +98,10 @@ impl<'a, R: Wait> Patience for Steadfast<'a, R> {
 
     fn rest(&self, pauses: &mut Backoff) -> Result<(), Infallible> {
         pauses.snooze();
+        Ok(())
+    }
+
+    fn before_readers(&self) -> Result<(), Infallible> {
         Ok(())
     }
 

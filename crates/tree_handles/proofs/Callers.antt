@@ -3,8 +3,8 @@
 use Rattle.std.proofs.Common.{◌≤◌, refl, inl, ◌≡◌, ℕ, ◌+◌, ◌-◌, ◌*◌, inr, arith, subst, sym, ◌∙◌, true, false, List, [], Option, Some, None, ap, ⊎_elim, append-nil, zero, suc, is_some, length, ◌∷◌, ◌++◌, ◌≢◌}
 use Rattle.prcu_model.specs.declared.operation.Op.{Op}
 use Rattle.prcu_model.specs.declared.operation.Told.{Told}
-use Rattle.tree_handles.specs.Callers.{CallerAt, IsSameCaller, KeepsCookie, IsInside, MayGoOn, pairs_that_fit, slots_for, IsFilled, AreOfOneIndex}
-use Rattle.tree_handles.specs.Calls.{KeepsKeeperBy, CausedReady, GetsReady, HasTurnedDown, LacksRoom, MayTurnDown, MeetsLastingReader, TurnsDown, WasTurnedDown, TreeTells, IsCalled, ComesBehind, IsCalledAndKept, CallsMeetFronts, StaysInside, IsLost, WereBusy, CausedBy, IsHinderedBy, Inserts, MissesOnceMore, Upserts, IsBusy, IsBusyTended, IsCalledTended, IsAnsweredTended, CausedTended}
+use Rattle.tree_handles.specs.Callers.{CallerAt, IsSameCaller, KeepsCookie, KeepsKeeper, IsInside, MayGoOn, pairs_that_fit, slots_for, IsFilled, AreOfOneIndex}
+use Rattle.tree_handles.specs.Calls.{KeepsKeeperBy, CausedReady, GetsReady, HasTurnedDown, LacksRoom, MayTurnDown, MeetsLastingReader, TurnsDown, WasTurnedDown, TreeTells, IsCalled, ComesBehind, IsCalledAndKept, CallsMeetFronts, StaysInside, IsLost, WereBusy, CausedBy, IsHinderedBy, Inserts, MissesOnceMore, Upserts, IsBusy, IsBusyTended, IsCalledTended, IsAnsweredTended, IsRemoved, IsRemovedTended, CausedTended}
 use Rattle.prcu_marks.specs.Marks.{updates_of, own_of}
 use Rattle.prcu_model.specs.Dictionary.{key_of, map_of, Explains}
 use Rattle.prcu_model.specs.declared.operation.Op.TheVariants.{Put, Del}
@@ -13,6 +13,8 @@ use Rattle.prcu_model.specs.declared.operation.Reply.TheVariants.{Absent as Abse
 use Rattle.core_state.specs.declared.view.View.{View}
 use Rattle.seat_table.specs.Seats.{SeatAt, TableAt, shape_of, IsInside as IsInsideOf}
 use Rattle.citrus_tree.specs.Replies.{Puts, PutsBy, ClientAt, caller_of, room_of}
+use Rattle.citrus_tree.specs.Deletes.{DelTells, Removes}
+use Rattle.citrus_tree.specs.declared.delete.Removed.{Removed}
 use Rattle.prcu_marks.proofs.Callers.{told_meets}
 use Rattle.prcu_marks.specs.Callers.{HasAnswered}
 use Rattle.core_state.specs.declared.shape.Shape.{Shape}
@@ -45,6 +47,7 @@ use Rattle.exact_list.specs.Pairs.{Pair}
 use Rattle.tree_lift.specs.declared.lifting.Stop.{Stop}
 use Rattle.tree_handles.specs.declared.tidying.Tally.{Tally}
 use Rattle.std.specs.FinMap as finite
+use Rattle.citrus_tree.specs.declared.delete.Removed.TheVariants as removal
 use Rattle.tree_lift.specs.declared.lifting.Stop.TheVariants as stop
 use Rattle.tree_handles.specs.declared.tidying.Ending.TheVariants as ending
 
@@ -75,6 +78,38 @@ nothing_behind {d = d} index keeper before enough tells may = record {
   tells = tells;
   behind = inl (record { seat = refl; may = may });
 }
+
+-- A remove, by what the tree's call told and left of the seat.
+
+tree_tells : {c : CallerAt} {key : ℕ} {told : Told} {s : SeatAt} → s.table ≡ c.table
+    → DelTells (shape_of c.way c.table) c.seat key told s → TreeTells c (Del key) told s
+tree_tells table d = record { table = table; answer = d.dels; begins = d.begins; keeps = d.keeps; uses = tt; informed = d.informed }
+
+pub removed_so : {c d : CallerAt} (key : ℕ) (expected : Option ℕ) (answer : Removed) → KeepsCookie c d → KeepsKeeper c d → MayGoOn c
+    → 4 ≤ c.seat.view.allowance.tickets → d.seat.table ≡ c.table → MayGoOn d
+    → Removes (shape_of c.way c.table) c.seat key expected answer d.seat → IsRemoved c key expected answer d
+removed_so key expected (removal.Gone number value) index keeper before enough table may r =
+    (nothing_behind index keeper before enough (tree_tells table r.0) may, r.1, r.2)
+removed_so key expected (removal.Differs found) index keeper before enough table may r = (
+  record {
+    index = index;
+    keeper = keeper;
+    before = before;
+    enough = enough;
+    gave = r.0.gave;
+    begins = r.0.begins;
+    keeps = r.0.keeps;
+    may = may;
+  },
+  r.1,
+)
+removed_so key expected removal.Absent index keeper before enough table may r = nothing_behind index keeper before enough (tree_tells table r) may
+
+-- what a take took out is the expected value
+pub takes_expected : {c d : CallerAt} {key : ℕ} (expected number value : ℕ) → IsRemovedTended c key (Some expected) (removal.Gone number value) d
+    → (n : ℕ) × IsRemovedTended c key (Some expected) (removal.Gone n expected) d
+takes_expected {c} {d} {key} expected number value t =
+    (number, subst (λ v. IsRemovedTended c key (Some expected) (removal.Gone number v) d) t.removed.removed.2 t)
 
 -- A put that is told Full fills the index: as many pairs are there as always fit.
 

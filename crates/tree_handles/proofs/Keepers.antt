@@ -1,5 +1,6 @@
 -- What asking about a keeper, giving slots back by it, and beginning one leave.
-use Rattle.std.proofs.Common.{◌≡◌, ◌≢◌, ℕ, ◌+◌, ◌≤◌, ◌<◌, ◌⊎◌, true, false, List, [], ◌∷◌, take, Option, Some, None, inl, inr, refl, sym, ap, subst, ◌∙◌, ⊎_elim, arith, append-nil}
+use Rattle.std.proofs.Common.{◌≡◌, ◌≢◌, ℕ, ◌+◌, ◌≤◌, ◌<◌, ◌⊎◌, true, false, List, [], ◌∷◌, take, Option, Some, None, inl, inr, refl, sym, ap, subst, ◌∙◌, ⊎_elim, arith, append-nil, length, nat_eq}
+use Rattle.std.proofs.lemmas.Bool.{eqb-false}
 use mathlib.Core.List.{IsPrefix}
 use Rattle.prcu_marks.specs.declared.mark.Mark.{Mark}
 use Rattle.prcu_marks.specs.declared.mark.Mark.TheVariants.{Ended}
@@ -9,7 +10,7 @@ use Rattle.core_state.specs.declared.view.View.{View}
 use Rattle.core_state.specs.declared.view.Waiting.{Waiting}
 use Rattle.core_state.specs.Views.{held_list}
 use Rattle.seat_table.specs.Looks.{FindsNone}
-use Rattle.seat_table.specs.Seats.{SeatAt, shape_of}
+use Rattle.seat_table.specs.Seats.{IsLastFound, SeatAt, shape_of}
 use Rattle.seat_table.specs.Waits.{IsOver}
 use Rattle.tree_points.specs.Points.{HasAdvanced}
 use Rattle.tree_points.proofs.Locks.{allowed, further_by, no_further, advanced_none, advanced_over, advanced_stays}
@@ -20,7 +21,7 @@ use Rattle.grace_cookie.specs.declared.answers.Ask.TheVariants.{Over, NotYet, Gi
 use Rattle.grace_cookie.specs.Cookies.{CookieAt, everybody, IsLatest, IsOf, HasKept, IsSameCookie, Asked, GivesFirst}
 use Rattle.grace_cookie.proofs.Giving.{gives_latest, others_stay}
 use Rattle.grace_cookie.proofs.Keeping.{waits_stay, same_keys}
-use Rattle.tree_handles.specs.Keepers.{HasCookie, HasCookies, HasKeeper, HasLatest, GivesBy, LeavesEnd, StaysFor}
+use Rattle.tree_handles.specs.Keepers.{AreEnough, FoundNoneFree, HasCookie, HasCookies, HasKeeper, HasLatest, GivesBy, LacksSlots, LeavesEnd, StaysFor, many_kept}
 
 -- nothing was left of marks
 nothing_left : (keeper : Option CookieAt) (v w : View) → IsPrefix v.trail.steps w.trail.steps → w.allowance ≡ v.allowance
@@ -206,3 +207,17 @@ latest_since cookie d v since is apart (c, there, count) =
 pub user_earlier : (k : Shape) (cookie : Option CookieAt) (v : View) (c : CookieAt) → HasCookie k cookie v → cookie ≡ Some c
     → c.count < v.counts.waits
 user_earlier k cookie v c has is = (has.each c is).1.begun
+
+-- A place that last found some slot free found none free in no way.
+
+pub some_free : (s : SeatAt) (seen : ℕ) → IsLastFound s.table.slots seen s.view.latest.free → nat_eq seen 0 ≡ false → FoundNoneFree s → ⊥
+some_free s seen found some none = eqb-false seen 0 some (none seen found)
+
+pub not_enough : (s : SeatAt) (seen : ℕ) → IsLastFound s.table.slots seen s.view.latest.free → nat_eq seen 0 ≡ false
+    → (many_kept s.table.room ≤ length s.listed → ⊥) → AreEnough s → ⊥
+not_enough s seen found some few enough = ⊎_elim few (λ (none : (1 ≤ length s.listed) × FoundNoneFree s). some_free s seen found some none.1) enough
+
+pub not_lacking : (s : SeatAt) (seen : ℕ) → IsLastFound s.table.slots seen s.view.latest.free → nat_eq seen 0 ≡ false
+    → (s.table.room ≤ length s.listed + 1 → ⊥) → LacksSlots s → ⊥
+not_lacking s seen found some room lacks =
+    ⊎_elim room (λ (none : (s.view.hands.spare ≡ None) × FoundNoneFree s). some_free s seen found some none.1) lacks

@@ -19,7 +19,8 @@ use Rattle.seat_table.proofs.Seats.{unlisted_here, unlisted_other}
 use Rattle.node_slots.specs.Reclaiming.{IsReady, LeavesEach, first_of, first_spare, return_marks}
 use Rattle.citrus_tree.specs.declared.insert.Reuse.{Reuse}
 use Rattle.citrus_tree.specs.Going.{GivesNoneBack, KeepsSeat, KeepsSeatBy, KeepsSlots, KeepsSlotsBy, MayUse, UsesSlot, retired_marks, without_mark}
-use Rattle.citrus_tree.specs.Deletes.{GivesNoneOrAll}
+use Rattle.citrus_tree.specs.Deletes.{GivesNoneOrAll, Removes}
+use Rattle.citrus_tree.specs.declared.delete.Removed.{Removed}
 use Rattle.grace_cookie.specs.declared.answers.Ask.TheVariants.{Over}
 use Rattle.grace_cookie.specs.Cookies.{CookieAt, GivesFirst, HasKept, IsOf, KeepsLatest, StaysRetired, UsesListed, everybody, less_one}
 use Rattle.grace_cookie.proofs.Keeping.{mark_of, marked_at, waits_stay}
@@ -29,6 +30,7 @@ use Rattle.tree_handles.specs.Calls.{ComesBehind, MayServe}
 use Rattle.tree_handles.specs.Keepers.{GoBackNow, HasCookie, HasCookies, HasKeeper, ServesInsert, StaysBehind, StaysFor, Tends, TendsTo, one_as_spare, slot_for}
 use Rattle.tree_handles.proofs.Cookies.{called_latest, forgotten, gone_first, none_listed, seen_on, stayed_first, stays_good, without}
 use Rattle.tree_handles.proofs.Keepers.{left_apart, left_keeper, same_left}
+use Rattle.citrus_tree.specs.declared.delete.Removed.TheVariants as removal
 use Rattle.citrus_tree.specs.declared.insert.Reuse.TheVariants as reuse
 
 -- Where no slot goes back nothing is changed.
@@ -331,6 +333,12 @@ served_behind {op} {told} {keeper} {mid} {d} s first least second behind kept = 
     first
 
 -- What a remove leaves of both.
+
+pub removed_slots : (k : Shape) (s t : SeatAt) (key : ℕ) (expected : Option ℕ) (answer : Removed) → Removes k s key expected answer t
+    → GivesNoneOrAll s t
+removed_slots k s t key expected (removal.Gone number value) r = r.0.slots
+removed_slots k s t key expected (removal.Differs found) r = r.0.slots
+removed_slots k s t key expected removal.Absent r = r.slots
 
 pub cookies_removed : {k : Shape} {cookie : Option CookieAt} {n : ℕ} (waits : ℕ) (keeper : Option CookieAt) (s t : SeatAt) (left : Option CookieAt)
     → waits ≡ s.view.counts.waits → KeepsSeat n s t → GivesNoneOrAll s t → StaysBehind waits keeper t left → HasCookies k cookie keeper s

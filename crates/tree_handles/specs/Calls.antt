@@ -10,16 +10,17 @@ use Rattle.seat_table.specs.Gains.{IsInformed}
 use Rattle.seat_table.specs.Sections.{HasMade}
 use Rattle.seat_table.specs.Seats.{SeatAt, shape_of}
 use Rattle.citrus_tree.specs.declared.comparing.Compared.{Compared}
-use Rattle.citrus_tree.specs.Deletes.{Begins, BeginsByLookup, FoundTwoChildren, WaitsOnceAtMost}
+use Rattle.citrus_tree.specs.declared.delete.Removed.{Removed}
+use Rattle.citrus_tree.specs.Deletes.{Begins, BeginsByLookup, FoundOther, FoundTwoChildren, WaitsOnceAtMost}
 use Rattle.citrus_tree.specs.Hops.{EndsWithin}
-use Rattle.citrus_tree.specs.Replies.{GaveWay, IsTold, Compares, TellsValue, room_of}
+use Rattle.citrus_tree.specs.Replies.{GaveWay, IsTold, Compares, TookOut, room_of}
 use Rattle.citrus_tree.specs.declared.insert.Reuse.{Reuse}
-use Rattle.citrus_tree.specs.Going.{KeepsSeat, KeepsSeatBy, TakesBy}
+use Rattle.citrus_tree.specs.Going.{IsExpected, KeepsSeat, KeepsSeatBy, TakesBy}
 use Rattle.tree_lift.specs.declared.lifting.Aim.{Aim}
 use Rattle.tree_lift.specs.declared.lifting.Lifted.{Lifted}
 use Rattle.tree_lift.specs.Lifts.{LeavesNoUpdate, HasLifted as TriesTurns}
 use Rattle.tree_handles.specs.Callers.{CallerAt, AreOfOneIndex, IsSameCaller, KeepsCookie, KeepsKeeper, StaysUnlessGone, IsFilled, IsInside, MayGoOn}
-use Rattle.tree_handles.specs.Keepers.{IsUnderWay, SeesToKeeper, ServesInsert, slot_for}
+use Rattle.tree_handles.specs.Keepers.{IsUnderWay, LacksSlots, SeesToKeeper, ServesInsert, slot_for}
 use Rattle.tree_handles.specs.declared.status.Status.{Status}
 use Rattle.tree_handles.specs.declared.status.Status.TheVariants.{Done, Unchanged, Full, Moved, New, Different, Busy, Spent, Lost, Holds}
 use Rattle.prcu_marks.specs.Callers.{MeetsFronts, IsChain}
@@ -29,6 +30,7 @@ use Rattle.prcu_model.specs.Dictionary.{Explains}
 use Rattle.prcu_model.specs.declared.operation.Reply.TheVariants as reply
 use Rattle.citrus_tree.specs.declared.comparing.Compared.TheVariants as compared
 use Rattle.citrus_tree.specs.declared.insert.Reuse.TheVariants as reuse
+use Rattle.citrus_tree.specs.declared.delete.Removed.TheVariants as removal
 
 -- how many steps a seat has made at least with which a call gives up
 abbrev pub patient_steps : ℕ
@@ -207,12 +209,12 @@ abbrev pub IsHinderedBy : ℕ → Status → CallerAt → CallerAt → Type 0
 IsHinderedBy needed Spent c d = IsSpent needed c d
 IsHinderedBy needed status c d = IsStoppedBy status c d
 
--- The place has no room for two more retired slots, and the keeper isn't over. Nothing has changed.
+-- The place lacks the slots for a remove, and the keeper isn't over. Nothing has changed.
 pub record LacksRoom (c d : CallerAt) : Type 0 where
   pub same : d ≡ c
   pub may : MayGoOn c
   pub going : IsUnderWay c.keeper
-  pub full : c.table.room ≤ length c.seat.listed + 1
+  pub lacks : LacksSlots c.seat
 
 -- Why the update of a caller that is ready for it wasn't made.
 abbrev pub CausedReady : Op → Status → CallerAt → CallerAt → Type 0
@@ -257,9 +259,13 @@ Replaces c key value was Done old d = IsAnswered c (Set key value) (reply.Was ol
 Replaces c key value was Unchanged old d = IsAnswered c (Set key value) reply.Absent d × (old ≡ was)
 Replaces c key value was status old d = CausedBy (Set key value) status c d × (old ≡ was)
 
--- The tree's call took the key's pair out, and told its value; or the key was absent, and there is none.
-abbrev pub IsRemoved : CallerAt → ℕ → Option ℕ → CallerAt → Type 0
-IsRemoved c key value d = (told : Told) × IsCalled c (Del key) told d × TellsValue c.seat.view key told value d.seat.view
+-- The tree's call took the key's pair out, and told its value, which is the expected one, if one is; or the key was absent. Or its last search
+-- found another value, and it made no update.
+abbrev pub IsRemoved : CallerAt → ℕ → Option ℕ → Removed → CallerAt → Type 0
+IsRemoved c key expected (removal.Gone number value) d = IsCalled c (Del key) (record { reply = reply.Gone; number = number }) d
+    × TookOut (updates_of d.seat.view.seen) c.seat.view.allowance.place key value number × IsExpected expected value
+IsRemoved c key expected (removal.Differs found) d = IsBusy (Del key) c d × FoundOther c.seat.view key expected found d.seat.view
+IsRemoved c key expected removal.Absent d = IsCalled c (Del key) (record { reply = reply.Absent; number = 0 }) d
 
 -- No more turns are made: so many were, or fewer tickets are left than one takes with the removes around it.
 abbrev pub StopsTurning : ℕ → CallerAt → Type 0
@@ -267,24 +273,32 @@ StopsTurning times c = (times ≡ 64) ⊎ (c.seat.view.allowance.tickets < 11)
 
 -- The same behind turns, of a caller that had room or no keeper. Where a reader is known to stay it waits for no readers of a move, unless no
 -- more turns are made.
-pub record IsRemovedReady (c : CallerAt) (key : ℕ) (value : Option ℕ) (d : CallerAt) : Type 0 where
+pub record IsRemovedReady (c : CallerAt) (key : ℕ) (expected : Option ℕ) (answer : Removed) (d : CallerAt) : Type 0 where
   pub ready : CallerAt
   pub turned : HasTurnedDown key c ready
-  pub removed : IsRemoved ready key value d
+  pub removed : IsRemoved ready key expected answer d
   pub had_room : LacksRoom c c → ⊥
   pub waits : MeetsLastingReader c → WaitsOnceAtMost (shape_of ready.way ready.table) ready.seat.view d.seat.view
       ⊎ StopsTurning turned.times ready
 
 -- with what the caller did about its keeper
-pub record IsRemovedTended (c : CallerAt) (key : ℕ) (value : Option ℕ) (d : CallerAt) : Type 0 where
+pub record IsRemovedTended (c : CallerAt) (key : ℕ) (expected : Option ℕ) (answer : Removed) (d : CallerAt) : Type 0 where
   pub tended : CallerAt
   pub sees : SeesToKeeper c tended
-  pub removed : IsRemovedReady tended key value d
+  pub removed : IsRemovedReady tended key expected answer d
 
 abbrev pub Removes : CallerAt → ℕ → ℕ → Status → ℕ → CallerAt → Type 0
-Removes c key was Done old d = IsRemovedTended c key (Some old) d
-Removes c key was Unchanged old d = IsRemovedTended c key None d × (old ≡ was)
+Removes c key was Done old d = (number : ℕ) × IsRemovedTended c key None (removal.Gone number old) d
+Removes c key was Unchanged old d = IsRemovedTended c key None removal.Absent d × (old ≡ was)
 Removes c key was status old d = CausedTended (Del key) status c d × (old ≡ was)
+
+-- What a take answers: a remove of the pair with the expected value. `was` is what stood where the value found is told.
+abbrev pub TakesOut : CallerAt → ℕ → ℕ → ℕ → Status → ℕ → CallerAt → Type 0
+TakesOut c key expected was Done found d =
+    (number : ℕ) × IsRemovedTended c key (Some expected) (removal.Gone number expected) d × (found ≡ was)
+TakesOut c key expected was Different found d = IsRemovedTended c key (Some expected) (removal.Differs found) d
+TakesOut c key expected was Unchanged found d = IsRemovedTended c key (Some expected) removal.Absent d × (found ≡ was)
+TakesOut c key expected was status found d = CausedTended (Del key) status c d × (found ≡ was)
 
 -- The caller, which had four tickets or more, made a compare, which was answered so by the tree's, and began by a lookup of the key. Nothing
 -- comes behind it.

@@ -85,7 +85,7 @@ TakenIsLeftFirst = (h until : List Mark) (q c key value number p n : ℕ) (keys 
 -- Source: docs/WAITERS.md, "What is proved".
 
 -- The call from the view d made the update with this number, which took the key's value out, or gave the key another one: a del that was
--- told Gone, a set that was told Was, or a compare that was told Replaced.
+-- told Gone, as a remove and a take are, a set that was told Was, or a compare that was told Replaced.
 pub data TakesOrReplaces (k : Shape) (d : View) (key number : ℕ) (e : View) : Type 0 where
   by_del : (told : Told) → told.number ≡ number → told.reply ≡ Gone → Dels k d key told e → TakesOrReplaces k d key number e
   by_set : (told : Told) (old other : ℕ) → told.number ≡ number → told.reply ≡ Was old → Sets d key other told e

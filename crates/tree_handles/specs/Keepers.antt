@@ -108,6 +108,18 @@ HasLatest cookie v = (c : CookieAt) × (cookie ≡ Some c) × (v.counts.waits �
 abbrev pub many_kept : ℕ → ℕ
 many_kept room = min 32 (room / 2)
 
+-- the place last found no slot free
+abbrev pub FoundNoneFree : SeatAt → Type 0
+FoundNoneFree s = (seen : ℕ) → IsLastFound s.table.slots seen s.view.latest.free → seen ≡ 0
+
+-- The place has no room for two more retired slots; or it has no spare for a copy, and last found no slot free.
+abbrev pub LacksSlots : SeatAt → Type 0
+LacksSlots s = (s.table.room ≤ length s.listed + 1) ⊎ ((s.view.hands.spare ≡ None) × FoundNoneFree s)
+
+-- enough slots are kept back for a keeper: so many; or some, where none was free
+abbrev pub AreEnough : SeatAt → Type 0
+AreEnough s = (many_kept s.table.room ≤ length s.listed) ⊎ ((1 ≤ length s.listed) × FoundNoneFree s)
+
 -- A keeper came too early: there is room for no more slots, and at least half of those that are kept back were retired behind its start.
 pub record IsOutgrown (keeper : CookieAt) (s : SeatAt) : Type 0 where
   pub full : s.table.room ≤ length s.listed + 1
@@ -122,7 +134,7 @@ MakesWay (Some keeper) s = IsOutgrown keeper s
 -- the user began is the latest one.
 pub record CanBegin (keeper cookie : Option CookieAt) (s : SeatAt) : Type 0 where
   pub place : MakesWay keeper s
-  pub many : many_kept s.table.room ≤ length s.listed
+  pub enough : AreEnough s
   pub paid : 5 ≤ s.view.allowance.tickets
   pub free : HasLatest cookie s.view → ⊥
 

@@ -8,7 +8,7 @@ use Rattle.prcu_marks.specs.declared.mark.Side.{Side}
 use Rattle.prcu_marks.specs.declared.mark.Side.TheVariants.{Left, Right}
 use Rattle.prcu_marks.specs.Marks.{updates_of}
 use Rattle.exact_list.specs.declared.alone.Exact.{Exact}
-use Rattle.exact_list.specs.Loads.{HasListed, HoldsExactly, IsOneWalk, IsOneWayDown, IsNearest}
+use Rattle.exact_list.specs.Loads.{HasListed, HoldsExactlyTo, IsOneWalk, IsOneWayDown, IsNearest}
 use Rattle.exact_list.specs.declared.nearest.Nearest.{Nearest}
 use Rattle.exact_list.specs.Tries.{Paged, HasGivenWay, IsBetweenFronts}
 use Rattle.exact_list.specs.Pairs.{had_at}
@@ -43,11 +43,14 @@ abbrev pub IsPreventedBy : ℕ → Status → CallerAt → CallerAt → Type 0
 IsPreventedBy key Busy c d = LooksInVain c key d
 IsPreventedBy key status c d = IsStoppedBy status c d
 
--- The caller listed these keys on the page.
-pub record Lists (c : CallerAt) (keys : Interval) (page : Paged) (exact : Exact) (d : CallerAt) : Type 0 where
+-- The caller listed these keys on the page, to this side: ascending to the right, descending to the left.
+pub record ListsTo (side : Side) (c : CallerAt) (keys : Interval) (page : Paged) (exact : Exact) (d : CallerAt) : Type 0 where
   pub looks : Looks c keys.low exact.front (IsOneWalk page.pairs exact.next) d
-  pub holds : HoldsExactly exact keys d.seat.view.seen page
+  pub holds : HoldsExactlyTo side exact keys d.seat.view.seen page
   pub recent : IsBetweenFronts exact.front c.seat.view.seen d.seat.view.seen
+
+abbrev pub Lists : CallerAt → Interval → Paged → Exact → CallerAt → Type 0
+Lists c keys page exact d = ListsTo Right c keys page exact d
 
 -- what a list writes
 pub record Output : Type 0 where
@@ -84,16 +87,23 @@ pub record IsLeft (c d : CallerAt) : Type 0 where
   pub same : d ≡ c
   pub may : MayGoOn c
 
--- What a list answers. At Done and More these are the pairs that the dictionary had at one front.
-abbrev pub ListsOut : CallerAt → Interval → Output → Status → Output → CallerAt → Type 0
-ListsOut c keys was Done out d = (front : ℕ) × (page : Paged) × Lists c keys page (record { front = front; next = None }) d
+-- What a list to this side answers. At Done and More these are the pairs that the dictionary had at one front.
+abbrev pub ListsOutTo : Side → CallerAt → Interval → Output → Status → Output → CallerAt → Type 0
+ListsOutTo side c keys was Done out d = (front : ℕ) × (page : Paged) × ListsTo side c keys page (record { front = front; next = None }) d
     × IsWritten was page out × (out.next ≡ was.next)
-ListsOut c keys was More out d = (front : ℕ) × (page : Paged) × Lists c keys page (record { front = front; next = Some out.next }) d
-    × IsWritten was page out
-ListsOut c keys was Busy out d = IsGoodList keys (length was.pairs) × LooksInVain c keys.low d × IsUnwritten was out
-ListsOut c keys was BadArgument out d = IsBadList keys (length was.pairs) × IsLeft c d × IsUnwritten was out
-ListsOut c keys was NoMemory out d = IsGoodList keys (length was.pairs) × IsLeft c d × IsUnwritten was out
-ListsOut c keys was status out d = IsStoppedBy status c d × IsUnwritten was out
+ListsOutTo side c keys was More out d = (front : ℕ) × (page : Paged)
+    × ListsTo side c keys page (record { front = front; next = Some out.next }) d × IsWritten was page out
+ListsOutTo side c keys was Busy out d = IsGoodList keys (length was.pairs) × LooksInVain c keys.low d × IsUnwritten was out
+ListsOutTo side c keys was BadArgument out d = IsBadList keys (length was.pairs) × IsLeft c d × IsUnwritten was out
+ListsOutTo side c keys was NoMemory out d = IsGoodList keys (length was.pairs) × IsLeft c d × IsUnwritten was out
+ListsOutTo side c keys was status out d = IsStoppedBy status c d × IsUnwritten was out
+
+abbrev pub ListsOut : CallerAt → Interval → Output → Status → Output → CallerAt → Type 0
+ListsOut c keys was status out d = ListsOutTo Right c keys was status out d
+
+-- and down, with keys descending: at More the next key is the greatest one that isn't listed
+abbrev pub ListsOutDown : CallerAt → Interval → Output → Status → Output → CallerAt → Type 0
+ListsOutDown c keys was status out d = ListsOutTo Left c keys was status out d
 
 -- The caller looked for the pair at this key, or the nearest one on that side of it, and it is the one after so many updates.
 pub record Seeks (c : CallerAt) (side : Side) (from : ℕ) (nearest : Nearest) (d : CallerAt) : Type 0 where

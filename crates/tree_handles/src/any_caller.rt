@@ -6,7 +6,7 @@ ghost use Rattle.tree_handles.specs.Holds.{HasStarted, Polls, HasHeld, HasOutwai
 ghost use Rattle.tree_handles.specs.Callers.{MayGoOn, IsFresh, IsShared, IsReopened, slots_for};
 ghost use Rattle.tree_handles.specs.Calls.{IsCalled, IsCalledTended, IsCompared, IsLost, IsRemovedTended, IsWaitFree, CausedBy, CausedTended, IsHinderedBy, IsStoppedBy};
 ghost use Rattle.tree_handles.specs.Lanes.{HasLanes};
-ghost use Rattle.tree_handles.specs.Lists.{IsPreventedBy, Lists, Seeks};
+ghost use Rattle.tree_handles.specs.Lists.{IsPreventedBy, ListsTo, Seeks};
 ghost use Rattle.tree_handles.specs.Opening.{FailsToReopen, HasStats};
 ghost use Rattle.tree_handles.specs.Tidying.{GivesBack, HasNoneBack, LiftsWay};
 
@@ -15,7 +15,7 @@ use crate::caller::Caller;
 use crate::spinning::GaveUp;
 use crate::stats::Stats;
 use crate::status::Status;
-use citrus_tree::Compared;
+use citrus_tree::{Compared, Removed};
 use exact_list::{Exact, Nearest, Page};
 use key_interval::Keys;
 use prcu_marks::Side;
@@ -165,15 +165,16 @@ impl AnyCaller {
         }
     }
 
-    /// Takes the key's pair out, where it is present, and tells its value. Where others are in its way it spins, or is busy.
-    pub(crate) fn remove(&mut self, key: u64) -> Result<Option<u64>, Status>
-        ensures taken { IfOk result (λ value. IsRemovedTended self.old key value self.new) }
+    /// Takes the key's pair out, where it is present and its value is the expected one if there is one, and tells its value. Where others are in
+    /// its way it spins, or is busy.
+    pub(crate) fn remove(&mut self, key: u64, expected: Option<u64>) -> Result<Removed, Status>
+        ensures taken { IfOk result (λ removed. IsRemovedTended self.old key expected removed self.new) }
         ensures cause { IfErr result (λ status. CausedTended (Del key) status self.old self.new) }
     {
         match &mut self.caller {
-            ByWaiter::Eer(caller) => caller.remove(key),
-            ByWaiter::Domain(caller) => caller.remove(key),
-            ByWaiter::Deer(caller) => caller.remove(key),
+            ByWaiter::Eer(caller) => caller.remove(key, expected),
+            ByWaiter::Domain(caller) => caller.remove(key, expected),
+            ByWaiter::Deer(caller) => caller.remove(key, expected),
         }
     }
 
@@ -194,17 +195,17 @@ impl AnyCaller {
         }
     }
 
-    /// Lists the pairs with these keys on the page, as they were at one moment of the call. It takes no ticket. Where others have the front that
-    /// it takes it spins, or is busy.
-    pub(crate) fn list(&mut self, keys: Keys, page: &mut Page) -> Result<Exact, Status>
+    /// Lists the pairs with these keys on the page to this side, as they were at one moment of the call. It takes no ticket. Where others have
+    /// the front that it takes it spins, or is busy.
+    pub(crate) fn list(&mut self, side: Side, keys: Keys, page: &mut Page) -> Result<Exact, Status>
         ensures capacity { IfOk result (λ _. page.new.capacity ≡ page.old.capacity) }
-        ensures listed { IfOk result (λ exact. Lists self.old keys page.new exact self.new) }
+        ensures listed { IfOk result (λ exact. ListsTo side self.old keys page.new exact self.new) }
         ensures cause { IfErr result (λ status. IsPreventedBy keys.low status self.old self.new) }
     {
         match &mut self.caller {
-            ByWaiter::Eer(caller) => caller.list(keys, page),
-            ByWaiter::Domain(caller) => caller.list(keys, page),
-            ByWaiter::Deer(caller) => caller.list(keys, page),
+            ByWaiter::Eer(caller) => caller.list(side, keys, page),
+            ByWaiter::Domain(caller) => caller.list(side, keys, page),
+            ByWaiter::Deer(caller) => caller.list(side, keys, page),
         }
     }
 

@@ -10,15 +10,15 @@ ghost use Rattle.tree_handles.specs.Callers.{KeepsCookie, KeepsKeeper, MayGoOn, 
 ghost use Rattle.tree_handles.specs.Opening.{HasStats};
 ghost use Rattle.tree_handles.specs.Calls.{ComesBehind, IsCalled, IsCalledTended, IsCompared, IsLost, IsWaitFree, CausedBy, CausedTended, IsHinderedBy, IsStoppedBy, LacksRoom};
 ghost use Rattle.tree_handles.specs.Keepers.{SeesToKeeper, StartsKeeper, Tends};
-ghost use Rattle.tree_handles.specs.Lists.{IsPreventedBy, Lists, Seeks};
+ghost use Rattle.tree_handles.specs.Lists.{IsPreventedBy, ListsTo, Seeks};
 ghost use Rattle.tree_handles.specs.Tidying.{GivesBack, HasNoneBack, LiftsWay};
 
 mod dividing;
 mod removing;
 
 use crate::keeper::{
-    begin_if_many, count_reused, forget_if, give_up_unless_over, is_at_rest, is_under_way,
-    slot_for_insert, tend,
+    begin_if_needed, count_reused, forget_if, give_up_unless_over, is_at_rest, is_under_way,
+    lacks_slots, serves_next, slot_for_insert, tend_in_place,
 };
 use crate::shared::Shared;
 use crate::spinning::{GaveUp, InTheWay, Spinning};
@@ -27,7 +27,7 @@ use crate::status::Status;
 use crate::tidying::attempts_for;
 use citrus_tree::patient::{compare, put_reusing, set};
 use citrus_tree::{Called, Compared, get, hold, release};
-use exact_list::patient::{list_always, nearest_always};
+use exact_list::patient::{list_always_to, nearest_always};
 use exact_list::{Exact, Nearest, Page};
 use grace_cookie::{Ask, Cookie, ask, start};
 use key_interval::Keys;
@@ -259,18 +259,17 @@ impl<W: WaitPart> Caller<W> {
         if is_at_rest(&self.seat, &self.keeper) {
             return;
         }
-        let keeper = self.keeper.take();
-        self.keeper = tend(self.shared.table(), &mut self.seat, keeper);
+        tend_in_place(self.shared.table(), &mut self.seat, &mut self.keeper);
     }
 
-    // Begins a keeper where many slots are kept, and none is under way.
+    // Begins a keeper where many slots are kept, or some while none was free, and none is under way.
     #[inline(always)]
     fn start_keeper(&mut self)
         requires may { MayGoOn self.old }
         ensures { StartsKeeper self.old self.new }
     {
         let table = self.shared.table();
-        begin_if_many(table, &mut self.seat, &mut self.keeper, &self.cookie);
+        begin_if_needed(table, &mut self.seat, &mut self.keeper, &self.cookie);
     }
 
     // What comes before an update that retires slots, or takes one. Begun here, and not behind the update, a keeper is asked about before the
@@ -298,7 +297,8 @@ impl<W: WaitPart> Caller<W> {
     }
 
     /// Adds the pair, where the key is absent, and lifts nodes on its way where that was deep. Where others are in its way it spins, or is busy;
-    /// and so it is where the last way was far too deep and its place has no room for turns, until the keeper is over.
+    /// and so it is where the last way was far too deep and its place has no room for turns, or where no slot is free and its place keeps some
+    /// back, until the keeper is over.
     #[inline(always)]
     pub(crate) fn put(&mut self, key: u64, value: u64) -> Result<Told, Status>
         ensures called { IfOk result (λ told. IsCalledTended self.old (Put key value) told self.new) }
@@ -326,7 +326,11 @@ impl<W: WaitPart> Caller<W> {
         let reuse = slot_for_insert(&self.seat, &self.keeper);
         let waits = self.seat.waits();
         let kept = self.seat.retired().len();
-        let patience = self.spinning.for_call(self.shared.queue());
+        let again = serves_next(&self.seat, &self.keeper, &self.cookie);
+        let patience = self
+            .spinning
+            .for_call(self.shared.queue())
+            .leaving_readers(again);
         let answer = put_reusing(
             &patience,
             table,
@@ -376,13 +380,13 @@ impl<W: WaitPart> Caller<W> {
         }
     }
 
-    // Whether the place has no room for what a remove retires, and the keeper isn't over: then a remove would stand still for all readers.
+    // Whether the place lacks the slots for a remove, and the keeper isn't over: then a remove would stand still for all readers.
     fn lacks_room(&self) -> bool
         requires may { MayGoOn self.now }
         ensures holds { result ≡ true → LacksRoom self.now self.now }
         ensures fails { result ≡ false → LacksRoom self.now self.now → ⊥ }
     {
-        is_under_way(&self.keeper) && self.seat.retired().len() + 1 >= self.seat.room()
+        is_under_way(&self.keeper) && lacks_slots(&self.seat)
     }
 
     // How many pairs there are at most, by what is known without a step: the slots that weren't free when the seat reserved one for its pair; or
@@ -469,11 +473,11 @@ impl<W: WaitPart> Caller<W> {
         }
     }
 
-    /// Lists the pairs with these keys on the page, as they were at one moment of the call. It takes no ticket. Where others have the front that
-    /// it takes it spins, or is busy.
-    pub(crate) fn list(&mut self, keys: Keys, page: &mut Page) -> Result<Exact, Status>
+    /// Lists the pairs with these keys on the page to this side, as they were at one moment of the call. It takes no ticket. Where others have
+    /// the front that it takes it spins, or is busy.
+    pub(crate) fn list(&mut self, side: Side, keys: Keys, page: &mut Page) -> Result<Exact, Status>
         ensures capacity { IfOk result (λ _. page.new.capacity ≡ page.old.capacity) }
-        ensures listed { IfOk result (λ exact. Lists self.old keys page.new exact self.new) }
+        ensures listed { IfOk result (λ exact. ListsTo side self.old keys page.new exact self.new) }
         ensures cause { IfErr result (λ status. IsPreventedBy keys.low status self.old self.new) }
     {
         if let Some(status) = self.stopped() {
@@ -481,7 +485,7 @@ impl<W: WaitPart> Caller<W> {
         }
         let table = self.shared.table();
         let patience = self.spinning.for_call(self.shared.queue());
-        match list_always(&patience, table, &mut self.seat, keys, page, TRIES) {
+        match list_always_to(&patience, table, &mut self.seat, side, keys, page, TRIES) {
             Ok(Ok(exact)) => Ok(exact),
             Ok(Err(InTheWay)) => Err(Status::Busy),
             Err(GaveUp) => {

@@ -2,10 +2,10 @@
 ghost use Rattle.std.specs.Prelude.{◌≡◌, None};
 ghost use Rattle.tree_handles.specs.declared.status.Status.TheVariants.{Done};
 ghost use Rattle.tree_handles.specs.Holds.{Begins, Polls, HoldsValue, Enters, LeavesSection, Waits};
-ghost use Rattle.tree_handles.specs.Calls.{ComparesOut, Gets, Inserts, Replaces, Upserts, Removes};
+ghost use Rattle.tree_handles.specs.Calls.{ComparesOut, Gets, Inserts, Replaces, TakesOut, Upserts, Removes};
 ghost use Rattle.tree_handles.specs.Callers.{Makes};
 ghost use Rattle.tree_handles.specs.Lanes.{OpensLanes, lanes_in};
-ghost use Rattle.tree_handles.specs.Lists.{ListsOut, Firsts, Lasts};
+ghost use Rattle.tree_handles.specs.Lists.{ListsOut, ListsOutDown, Firsts, Lasts};
 ghost use Rattle.tree_handles.specs.Opening.{Shares, Reopens, HasLeft, TellsStats};
 ghost use Rattle.tree_handles.specs.Tidying.{Tidies};
 
@@ -215,6 +215,22 @@ impl Handle {
         status
     }
 
+    /// Takes the pair out, where its value is `expected`.
+    ///
+    /// `Done`; `Different` where the key had another value at some time of the call, which is told; `Unchanged` where it is absent; `Busy` as of a
+    /// remove; `Closed`; `Lost`; `Holds`; `Spent`. At each answer but `Done` no pair has changed. Only at `Different` the value found is written.
+    pub fn take_out(&mut self, alloc: Global, key: u64, expected: u64, found: &mut u64) -> Status
+        ensures taken { Makes (λ c d. TakesOut c key expected found.old result found.new d) self.old.held result self.new.held }
+        ensures closed { self.old.held ≡ None → found.new ≡ found.old }
+    {
+        let Some(mut caller) = self.take(alloc) else {
+            return Status::Closed;
+        };
+        let status = caller.take_out(key, expected, found);
+        *self = Handle::of(caller);
+        status
+    }
+
     /// Lists the pairs with keys from `low` to `high`, both among them, as they were at one moment of the call: keys ascending, as many as
     /// there is room for (1 to 1,048,576).
     ///
@@ -241,7 +257,33 @@ impl Handle {
             *count = 0;
             return Status::Closed;
         };
-        let status = caller.list_out(alloc, low, high, pairs, count, next);
+        let status = caller.list_out(alloc, Side::Right, low, high, pairs, count, next);
+        *self = Handle::of(caller);
+        status
+    }
+
+    /// Lists the pairs with keys from `low` to `high`, both among them, as they were at one moment of the call, from the greatest key down: keys
+    /// descending, as many as there is room for. It comes as [`Handle::list`] does, and its answers are the same; at `More` `next` is the
+    /// greatest key that isn't listed, so that a call with `next` in the place of `high` goes on.
+    pub fn list_down(
+        &mut self,
+        alloc: Global,
+        low: u64,
+        high: u64,
+        pairs: &mut [Pair],
+        count: &mut usize,
+        next: &mut u64,
+    ) -> Status
+        ensures listed { Makes (λ c d. ListsOutDown c (record { low = low; high = high })
+            (record { pairs = pairs.old; count = count.old; next = next.old }) result
+            (record { pairs = pairs.new; count = count.new; next = next.new }) d) self.old.held result self.new.held }
+        ensures closed { self.old.held ≡ None → (count.new ≡ 0) × (pairs.new ≡ pairs.old) × (next.new ≡ next.old) }
+    {
+        let Some(mut caller) = self.take(alloc) else {
+            *count = 0;
+            return Status::Closed;
+        };
+        let status = caller.list_out(alloc, Side::Left, low, high, pairs, count, next);
         *self = Handle::of(caller);
         status
     }

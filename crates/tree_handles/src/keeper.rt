@@ -5,7 +5,7 @@ ghost use Rattle.grace_cookie.specs.Cookies.{CookieAt, less_one};
 ghost use Rattle.seat_table.specs.Seats.{IsQuietSeat, shape_of};
 ghost use Rattle.grace_cookie.specs.declared.answers.Ask.TheVariants.{Over};
 ghost use Rattle.tree_handles.specs.Callers.{if_over};
-ghost use Rattle.tree_handles.specs.Keepers.{BeginsKeeper, CanBegin, GivesBy, GoBackNow, HasCookies, HasKeeper, HasLatest, IsUnderWay, LeavesEnd, MakesWay, MayStay, StaysBehind, StaysFor, TendsTo, slot_for};
+ghost use Rattle.tree_handles.specs.Keepers.{AreEnough, BeginsKeeper, CanBegin, GivesBy, GoBackNow, HasCookies, HasKeeper, HasLatest, IsUnderWay, LacksSlots, LeavesEnd, MakesWay, MayStay, StaysBehind, StaysFor, TendsTo, slot_for};
 
 use citrus_tree::Reuse;
 use grace_cookie::{Ask, Cookie, ask, give_some, start};
@@ -22,7 +22,8 @@ const MANY_TO_STAY: usize = 48;
 /// The slots of a keeper stay for inserts only where so many were free when its handle last asked: else others may need them.
 const FEW_FREE: u64 = 48;
 
-/// How many slots are kept before a keeper is begun, or half of the room where that is less. With fewer each keeper would be worth little.
+/// How many slots are kept before a keeper is begun, or half of the room where that is less. With fewer each keeper would be worth little, unless
+/// no slot is free.
 const MANY_KEPT: usize = 32;
 
 /// A remove that gave all retired slots back has retired so many at most since.
@@ -31,11 +32,9 @@ const MOST_BEHIND_ALL: usize = 2;
 /// The tickets of a wait, and of the update behind it.
 const PAID: u64 = 5;
 
-/// Asks about the keeper once, where there is one. When it is over its slots stay for inserts, or the first of them go back, and it is kept for
-/// the others.
-// Most updates have no keeper: they shouldn't save registers for one.
-#[inline(never)]
-pub(crate) fn tend<W: WaitPart>(
+// Asks about the keeper once, where there is one. When it is over its slots stay for inserts, or the first of them go back, and it is kept for
+// the others.
+fn tend<W: WaitPart>(
     table: &CitrusTable<W>,
     seat: &mut Seat<W>,
     keeper: Option<Cookie<W>>,
@@ -56,6 +55,29 @@ pub(crate) fn tend<W: WaitPart>(
         Ask::NotYet { why: _ } => Some(held),
         Ask::GivenUp { latest: _ } => None,
     }
+}
+
+/// Asks about the keeper once, where there is one, and leaves it where it is, if it is kept. When it is over its slots stay for inserts, or the
+/// first of them go back, and it is kept for the others.
+// Most updates have none, or one at rest: they shouldn't make room for a cookie.
+#[inline(never)]
+pub(crate) fn tend_in_place<W: WaitPart>(
+    table: &CitrusTable<W>,
+    seat: &mut Seat<W>,
+    keeper: &mut Option<Cookie<W>>,
+)
+    requires table { seat.old.table ≡ table.now }
+    requires quiet { IsQuietSeat seat.old }
+    requires keeper { HasKeeper (shape_of W.WAY table.now) keeper.old seat.old }
+    ensures table { seat.new.table ≡ seat.old.table }
+    ensures tends { TendsTo (shape_of W.WAY table.now) keeper.old seat.old keeper.new seat.new }
+    ensures leaves { LeavesEnd keeper.old seat.old.view seat.new.view }
+    ensures quiet { IsQuietSeat seat.new }
+    ensures cookies { (cookie : Option CookieAt) → HasCookies (shape_of W.WAY table.now) cookie keeper.old seat.old
+        → HasCookies (shape_of W.WAY table.now) cookie keeper.new seat.new }
+{
+    let held = keeper.take();
+    *keeper = tend(table, seat, held);
 }
 
 /// Whether there is nothing to be done about the keeper before an update: there is none, or it is over, and its slots stay for inserts.
@@ -148,6 +170,18 @@ fn makes_way<W: WaitPart>(seat: &Seat<W>, keeper: &Option<Cookie<W>>) -> bool
     keeper.slots() as usize * 2 <= kept
 }
 
+// Whether enough slots are kept back for a keeper. Where none was free when the place last asked, each one counts.
+fn are_enough<W: WaitPart>(seat: &Seat<W>) -> bool
+    ensures holds { result ≡ true → AreEnough seat.now }
+    ensures fails { result ≡ false → AreEnough seat.now → ⊥ }
+{
+    let kept = seat.retired().len();
+    if kept >= MANY_KEPT.min(seat.room() / 2) {
+        return true;
+    }
+    kept >= 1 && seat.free_seen() == 0
+}
+
 // Whether a keeper may be begun: enough slots are kept back, the one that there is makes way, an update's tickets are left behind it, and the
 // wait that the user may ask about is none, or isn't the place's latest, since a later one would give it up.
 fn can_begin<W: WaitPart>(
@@ -159,7 +193,7 @@ fn can_begin<W: WaitPart>(
     ensures holds { result ≡ true → CanBegin keeper.now cookie.now seat.now }
     ensures fails { result ≡ false → CanBegin keeper.now cookie.now seat.now → ⊥ }
 {
-    if seat.retired().len() < MANY_KEPT.min(seat.room() / 2) {
+    if !are_enough(seat) {
         return false;
     }
     if !makes_way(seat, keeper) {
@@ -171,8 +205,29 @@ fn can_begin<W: WaitPart>(
     !is_latest(seat, cookie)
 }
 
+// Begins a keeper, by one ticket.
+// Few updates do: the others shouldn't make room for a cookie.
+#[inline(never)]
+fn begin<W: WaitPart>(
+    table: &CitrusTable<W>,
+    seat: &mut Seat<W>,
+    keeper: &mut Option<Cookie<W>>,
+    cookie: &Option<Cookie<W>>,
+)
+    requires table { seat.old.table ≡ table.now }
+    requires quiet { IsQuietSeat seat.old }
+    requires cookies { HasCookies (shape_of W.WAY table.now) cookie.now keeper.old seat.old }
+    requires may { CanBegin keeper.old cookie.now seat.old }
+    ensures table { seat.new.table ≡ seat.old.table }
+    ensures begins { BeginsKeeper keeper.old cookie.now seat.old keeper.new seat.new }
+    ensures quiet { IsQuietSeat seat.new }
+    ensures cookies { HasCookies (shape_of W.WAY table.now) cookie.now keeper.new seat.new }
+{
+    *keeper = Some(start(table, seat, Keys::all()));
+}
+
 /// Begins a keeper where it may be begun, by one ticket.
-pub(crate) fn begin_if_many<W: WaitPart>(
+pub(crate) fn begin_if_needed<W: WaitPart>(
     table: &CitrusTable<W>,
     seat: &mut Seat<W>,
     keeper: &mut Option<Cookie<W>>,
@@ -187,8 +242,24 @@ pub(crate) fn begin_if_many<W: WaitPart>(
     ensures cookies { HasCookies (shape_of W.WAY table.now) cookie.now keeper.new seat.new }
 {
     if can_begin(seat, keeper, cookie) {
-        *keeper = Some(start(table, seat, Keys::all()));
+        begin(table, seat, keeper, cookie);
     }
+}
+
+/// Whether a call that finds no slot free is better made again than left to wait for readers: there is a keeper, or the next call may begin one,
+/// and gives slots of the place back when it is over.
+#[inline(always)]
+pub(crate) fn serves_next<W: WaitPart>(
+    seat: &Seat<W>,
+    keeper: &Option<Cookie<W>>,
+    cookie: &Option<Cookie<W>>,
+) -> bool
+    requires begun { (c : CookieAt) → cookie.now ≡ Some c → c.count < seat.now.view.counts.waits }
+{
+    if keeper.is_some() {
+        return true;
+    }
+    seat.tickets() >= PAID && !is_latest(seat, cookie)
 }
 
 /// Whether the keeper is under way: its wait isn't over.
@@ -200,6 +271,18 @@ pub(crate) fn is_under_way<W: WaitPart>(keeper: &Option<Cookie<W>>) -> bool
         return false;
     };
     !keeper.is_over()
+}
+
+/// Whether a remove would wait for readers before its search: the place has no room for what it retires, or no spare, and found none free.
+#[inline(always)]
+pub(crate) fn lacks_slots<W: WaitPart>(seat: &Seat<W>) -> bool
+    ensures holds { result ≡ true → LacksSlots seat.now }
+    ensures fails { result ≡ false → LacksSlots seat.now → ⊥ }
+{
+    if seat.retired().len() + 1 >= seat.room() {
+        return true;
+    }
+    seat.spare().is_none() && seat.free_seen() == 0
 }
 
 /// What stays of the keeper beside a wait of the user: one that is over. A later wait gives up any other.
@@ -239,13 +322,15 @@ pub(crate) fn count_reused<W: WaitPart>(used: bool, keeper: &mut Option<Cookie<W
     if !used {
         return;
     }
-    let Some(mut held) = keeper.take() else {
+    let Some(held) = keeper else {
         return;
     };
+    // In its place: to take the cookie out and put it back again would be more than all else that an insert does with a kept slot.
     if held.slots() > 1 {
         held.count_used();
-        *keeper = Some(held);
+        return;
     }
+    *keeper = None;
 }
 
 /// The keeper is forgotten where the place has begun a wait, and its slots may have gone back by it. One that is over stays where more slots are

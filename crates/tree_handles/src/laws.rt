@@ -27,9 +27,9 @@ pub fn taken_is_left_first()
     ensures { TakenIsLeftFirst }
 {}
 
-/// One caller held a value, and may have released it or not. Another took the key's value out, or replaced it, by a set or a compare; and a
-/// wait for the key, of whatever seat, was begun after that and has ended. So the holder's section was left before the wait ended, or found
-/// the value at a front by which that update or a later one had put it.
+/// One caller held a value, and may have released it or not. Another took the key's value out, by a remove or a take, or replaced it, by a set
+/// or a compare; and a wait for the key, of whatever seat, was begun after that and has ended. So the holder's section was left before the wait
+/// ended, or found the value at a front by which that update or a later one had put it.
 pub fn outlives_its_holders()
     ensures { OutlivesItsHolders }
 {}

@@ -1,6 +1,6 @@
 //! Lists of a caller, and the first and the last pair of a range.
 ghost use Rattle.std.specs.Prelude.{◌≡◌, ◌≤◌, ◌++◌, length, map, drop};
-ghost use Rattle.tree_handles.specs.Lists.{Finds, ListsOut, end_of, pair_of};
+ghost use Rattle.tree_handles.specs.Lists.{Finds, ListsOutTo, end_of, pair_of};
 
 use crate::any_caller::AnyCaller;
 use crate::status::Status;
@@ -44,17 +44,18 @@ fn near_end(side: Side, low: u64, high: u64) -> u64
 }
 
 impl AnyCaller {
-    /// Lists the pairs with keys from `low` to `high`, as they were at one moment of the call: as many as there is room for.
+    /// Lists the pairs with keys from `low` to `high` to this side, as they were at one moment of the call: as many as there is room for.
     pub(crate) fn list_out(
         &mut self,
         alloc: Global,
+        side: Side,
         low: u64,
         high: u64,
         pairs: &mut [Pair],
         count: &mut usize,
         next: &mut u64,
     ) -> Status
-        ensures { ListsOut self.old (record { low = low; high = high })
+        ensures { ListsOutTo side self.old (record { low = low; high = high })
             (record { pairs = pairs.old; count = count.old; next = next.old }) result
             (record { pairs = pairs.new; count = count.new; next = next.new }) self.new }
     {
@@ -71,7 +72,7 @@ impl AnyCaller {
         let Ok(mut page) = Page::new(alloc, pairs.len() as u32) else {
             return Status::NoMemory;
         };
-        match self.list(keys, &mut page) {
+        match self.list(side, keys, &mut page) {
             Ok(exact) => {
                 *count = write_out(&page, pairs);
                 let Some(after) = exact.next else {

@@ -32,6 +32,10 @@ const LONGEST_IN_CROWD: u32 = 8192;
 /// An odd number whose bits are mixed, that of the golden ratio: so places that are near begin their draws far from each other.
 const SPREAD: u32 = 0x9e37_79b9;
 
+/// With so many handles, or fewer, nobody stands in the queue of the front: to line up and to let the next one try moves more lines of memory than
+/// so few callers at the front do.
+const FEW_HANDLES: u32 = 4;
+
 /// How many turns a caller stands in the queue of the front: so many for each handle of the index, but no fewer than `SHORTEST_IN_LINE`, and
 /// no more than `LONGEST_IN_LINE`.
 const TURNS_IN_LINE_A_HANDLE: u32 = 96;
@@ -61,6 +65,8 @@ pub struct Spinning {
     paused: Cell<bool>,
     // The number that was drawn last, which is never 0.
     drawn: Cell<u32>,
+    // Whether it stands in the queue at all.
+    lines_up: bool,
     // How many turns it stands in the queue at most.
     patience_in_line: u32,
     // Whether it had to stand in the queue the last time. Then it lines up before it tries.
@@ -78,6 +84,8 @@ pub struct Spinning {
 pub(crate) struct Spins<'a> {
     of: &'a Spinning,
     queue: &'a FrontQueue,
+    // Whether the call is made again rather than wait for all readers.
+    leaves_readers: bool,
 }
 
 /// What a loop counts its pauses with.
@@ -127,6 +135,7 @@ impl Spinning {
             bound: Cell::new(SHORTEST_IN_CROWD),
             paused: Cell::new(false),
             drawn: Cell::new(place.wrapping_mul(SPREAD) | 1),
+            lines_up: handles > FEW_HANDLES,
             patience_in_line: handles
                 .saturating_mul(TURNS_IN_LINE_A_HANDLE)
                 .clamp(SHORTEST_IN_LINE, LONGEST_IN_LINE),
@@ -144,7 +153,11 @@ impl Spinning {
         if bound > SHORTEST_IN_CROWD && !self.paused.replace(false) {
             self.bound.set((bound / 2).max(SHORTEST_IN_CROWD));
         }
-        Spins { of: self, queue }
+        Spins {
+            of: self,
+            queue,
+            leaves_readers: false,
+        }
     }
 
     // The next number of a xorshift of 32 bits (Marsaglia 2003).
@@ -166,8 +179,11 @@ impl Spinning {
         bound
     }
 
-    // Whether it may line up: it didn't give up lately, and the number that it gave up was passed over.
+    // Whether it may line up: there are many handles, it didn't give up lately, and the number that it gave up was passed over.
     fn may_line_up(&self, queue: &FrontQueue) -> bool {
+        if !self.lines_up {
+            return false;
+        }
         let without = self.without.get();
         if without > 0 {
             self.without.set(without - 1);
@@ -223,6 +239,15 @@ impl Spinning {
 }
 
 impl<'a> Spins<'a> {
+    /// The same, for a call that is to be made again rather than wait for all readers, if so it is said.
+    #[inline(always)]
+    pub(crate) fn leaving_readers(self, leaves: bool) -> Spins<'a> {
+        Spins {
+            leaves_readers: leaves,
+            ..self
+        }
+    }
+
     // Pauses at the front, and answers whether it could have been for long.
     fn pause_at_front(&self, turn: &mut Turn) -> bool {
         match turn {
@@ -314,6 +339,13 @@ impl<'a> Patience for Spins<'a> {
         }
         self.pass_on(pauses);
         Err(InTheWay)
+    }
+
+    fn before_readers(&self) -> Result<(), InTheWay> {
+        if self.leaves_readers {
+            return Err(InTheWay);
+        }
+        Ok(())
     }
 
     fn tired(&self) -> GaveUp {

@@ -10,6 +10,7 @@ use crate::spinning::GaveUp;
 use crate::status::Status;
 use exact_list::Page;
 use key_interval::Keys;
+use prcu_marks::Side;
 use std::alloc::Global;
 use tree_lift::Stop;
 
@@ -151,7 +152,7 @@ impl AnyCaller {
         let Ok(mut page) = Page::new(alloc, KEYS) else {
             return Status::NoMemory;
         };
-        match self.list(keys, &mut page) {
+        match self.list(Side::Right, keys, &mut page) {
             Ok(exact) => self.level_page(&page, exact.next, turns, made, next),
             Err(status) => status,
         }

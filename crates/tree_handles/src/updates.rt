@@ -1,9 +1,9 @@
 //! Gets and updates of a caller, with what they tell.
-ghost use Rattle.tree_handles.specs.Calls.{ComparesOut, Gets, Inserts, Replaces, Removes, Upserts};
+ghost use Rattle.tree_handles.specs.Calls.{ComparesOut, Gets, Inserts, Replaces, Removes, TakesOut, Upserts};
 
 use crate::any_caller::AnyCaller;
 use crate::status::Status;
-use citrus_tree::Compared;
+use citrus_tree::{Compared, Removed};
 use prcu_model::Reply;
 
 /// How many rounds an upsert makes.
@@ -27,6 +27,7 @@ impl AnyCaller {
     }
 
     /// Adds the pair, where the key is absent.
+    #[inline(always)]
     pub(crate) fn insert(&mut self, key: u64, value: u64) -> Status
         ensures { Inserts self.old key value result self.new }
     {
@@ -81,12 +82,33 @@ impl AnyCaller {
     pub(crate) fn remove_out(&mut self, key: u64, old: &mut u64) -> Status
         ensures { Removes self.old key old.old result old.new self.new }
     {
-        match self.remove(key) {
-            Ok(Some(value)) => {
+        match self.remove(key, None) {
+            Ok(Removed::Gone { number: _, value }) => {
                 *old = value;
                 Status::Done
             }
-            Ok(None) => Status::Unchanged,
+            Ok(Removed::Differs { found: _ }) => unreachable!(),
+            Ok(Removed::Absent) => Status::Unchanged,
+            Err(status) => status,
+        }
+    }
+
+    /// Takes the pair out, where its value is the expected one; else tells the value that the key has.
+    pub(crate) fn take_out(&mut self, key: u64, expected: u64, found: &mut u64) -> Status
+        ensures { TakesOut self.old key expected found.old result found.new self.new }
+    {
+        match self.remove(key, Some(expected)) {
+            Ok(
+                Removed::Gone {
+                    number: _,
+                    value: _,
+                },
+            ) => Status::Done,
+            Ok(Removed::Differs { found: other }) => {
+                *found = other;
+                Status::Different
+            }
+            Ok(Removed::Absent) => Status::Unchanged,
             Err(status) => status,
         }
     }

@@ -19,15 +19,10 @@ fn letters(cache: &mut MapHandle<Entry>, id: u64) -> Result<Option<usize>, Error
     Ok(cache.get(id)?.filter(|entry| entry.until > Instant::now()).map(|entry| entry.text.len()))
 }
 
-/// Takes out what is past its time, and says how many that were. Their strings are dropped when nobody reads them any more.
+/// Takes out what is past its time, and nothing that another thread put in since; says how many that were. Their strings are dropped when nobody
+/// reads them any more.
 fn sweep(cache: &mut MapHandle<Entry>) -> Result<usize, Error> {
-    let mut swept = 0;
-    for id in cache.keys(..)? {
-        let is_past = cache.get(id)?.map_or(false, |entry| entry.until <= Instant::now());
-        // Where another thread has put a new entry in since then, that is a miss more.
-        swept += usize::from(is_past && cache.retire(id)?);
-    }
-    Ok(swept)
+    cache.retain(.., |_, entry| entry.until > Instant::now())
 }
 
 fn main() -> Result<(), Error> {

@@ -1,9 +1,9 @@
 //! Which values the updates under way compare with (Michael, "Hazard pointers: safe memory reclamation for lock-free objects", 2004).
 //!
-//! An update reads a value in a section, leaves that, and then replaces the value where the index has its node still, by a comparison of
-//! addresses. If that node could be given up meanwhile, another one might have its address, and would be taken for it. So the update names
-//! the node before it leaves the section, and whoever took the node out first waits for the readers, and then until nobody names it. The
-//! update has named it by then, since the wait for readers lasts until its section is left. A section that this wait doesn't wait for began
+//! An update reads a value in a section, leaves that, and then replaces the value, or takes its pair out, where the index has its node still, by
+//! a comparison of addresses. If that node could be given up meanwhile, another one might have its address, and would be taken for it. So the
+//! update names the node before it leaves the section, and whoever took the node out first waits for the readers, and then until nobody names
+//! it. The update has named it by then, since the wait for readers lasts until its section is left. A section that this wait doesn't wait for began
 //! after it, and found another node.
 
 use std::sync::atomic::{AtomicU64, Ordering::SeqCst};
@@ -40,14 +40,18 @@ impl Hazards {
         Named(hazard)
     }
 
-    /// Waits until nobody names the node of this word, which was taken out and has no readers. Whoever does is about to be told that the
-    /// index doesn't have it, and waits for nobody who waits here: that one has no lock of the index and is in no section.
+    /// Whether somebody names the node of this word, which was taken out and has no readers. Where nobody does, nobody will.
+    pub(crate) fn is_named(&self, word: u64) -> bool {
+        self.0.iter().any(|hazard| hazard.0.load(SeqCst) == word)
+    }
+
+    /// Waits until nobody names such a node. Whoever does will be told that the index doesn't have it, and waits for nobody who waits here: that
+    /// one has no lock of the index and is in no section. But who takes a pair out may have to wait for readers first, so what waits for no reader
+    /// doesn't wait here.
     pub(crate) fn outlast(&self, word: u64) {
-        self.0.iter().for_each(|hazard| {
-            while hazard.0.load(SeqCst) == word {
-                yield_now();
-            }
-        });
+        while self.is_named(word) {
+            yield_now();
+        }
     }
 }
 

@@ -146,4 +146,20 @@ impl<K: Key> KeyedIndex<K> {
     pub fn remove(&self, key: K) -> Result<Option<u64>, Error> {
         self.lend()?.remove(key)
     }
+
+    /// As [`Handle::take`].
+    ///
+    /// # Errors
+    /// As that, and [`Error::NoHandle`].
+    pub fn take(&self, key: K, current: u64) -> Result<Result<u64, Option<u64>>, Error> {
+        self.lend()?.take(key, current)
+    }
+
+    /// As [`Handle::remove_if`].
+    ///
+    /// # Errors
+    /// As that, and [`Error::NoHandle`].
+    pub fn remove_if(&self, key: K, goes: impl FnMut(u64) -> bool) -> Result<Option<u64>, Error> {
+        self.lend()?.remove_if(key, goes)
+    }
 }

@@ -134,7 +134,17 @@ extern "C" {
     pub(crate) fn citrus_compare_once(handle: *mut RawHandle, key: u64, expected: u64, value: u64, found: *mut u64) -> i32;
     pub(crate) fn citrus_upsert_once(handle: *mut RawHandle, key: u64, value: u64, old: *mut u64) -> i32;
     pub(crate) fn citrus_remove_once(handle: *mut RawHandle, key: u64, old: *mut u64) -> i32;
+    pub(crate) fn citrus_take_once(handle: *mut RawHandle, key: u64, expected: u64, found: *mut u64) -> i32;
     pub(crate) fn citrus_list_once(
+        handle: *mut RawHandle,
+        low: u64,
+        high: u64,
+        pairs: *mut RawPair,
+        room: usize,
+        count: *mut usize,
+        next: *mut u64,
+    ) -> i32;
+    pub(crate) fn citrus_list_down_once(
         handle: *mut RawHandle,
         low: u64,
         high: u64,

@@ -12,7 +12,7 @@ pub(crate) const PAGE_ROOM: usize = 1_000;
 /// Pairs of a key range as they were at one moment, and where to go on.
 #[derive(Clone, Debug, PartialEq, Eq)]
 pub struct Page<K = u64> {
-    /// Key and value of each pair, keys ascending.
+    /// Key and value of each pair, keys ascending, or descending on a [`page_down`](KeyedHandle::page_down).
     pub pairs: Vec<(K, u64)>,
     /// The key after them in the range at that moment, where there were more than fitted.
     pub next: Option<K>,
@@ -28,6 +28,14 @@ struct RawPage {
 fn decoded<K: Key>(RawPair { key, value }: RawPair) -> (K, u64) {
     (K::decode(key), value)
 }
+
+/// The same with its keys.
+fn page_of<K: Key>(RawPage { pairs, next }: RawPage) -> Page<K> {
+    Page { pairs: pairs.into_iter().map(decoded).collect(), next: next.map(K::decode) }
+}
+
+/// A list of the library, up or down.
+type RawList = unsafe extern "C" fn(*mut RawHandle, u64, u64, *mut RawPair, usize, *mut usize, *mut u64) -> i32;
 
 /// The pairs of a key range, page by page: see [`KeyedHandle::range`].
 #[must_use = "it lists nothing before it is asked for a pair"]
@@ -141,6 +149,30 @@ impl<K: Key> KeyedHandle<K> {
     pub fn page(&self, keys: impl RangeBounds<K>, room: usize) -> Result<Page<K>, Error> {
         match ends(&keys) {
             Some((low, high)) => self.list_from(low, high, room.clamp(1, MAX_ROOM)),
+            None => Ok(Page { pairs: Vec::new(), next: None }),
+        }
+    }
+
+    /// The last pairs with keys in the range, keys descending, as [`page`](KeyedHandle::page) has the first ones: `next` is the greatest key
+    /// that isn't among them, with which the range of the next page ends.
+    ///
+    /// # Errors
+    /// [`Error::NoMemory`].
+    ///
+    /// ```
+    /// let index = citrus_map::Index::new(100, 1)?;
+    /// let handle = index.handle()?;
+    /// for key in 0..10 {
+    ///     handle.insert(key, key * key)?;
+    /// }
+    /// let page = handle.page_down(.., 2)?;
+    /// assert_eq!((page.pairs, page.next), (vec![(9, 81), (8, 64)], Some(7)));
+    /// assert_eq!(handle.page_down(6..=7, 2)?.pairs, [(7, 49), (6, 36)]);
+    /// # Ok::<(), citrus_map::Error>(())
+    /// ```
+    pub fn page_down(&self, keys: impl RangeBounds<K>, room: usize) -> Result<Page<K>, Error> {
+        match ends(&keys) {
+            Some((low, high)) => self.listed(citrus_list_down_once, low, high, room.clamp(1, MAX_ROOM)).map(page_of),
             None => Ok(Page { pairs: Vec::new(), next: None }),
         }
     }
@@ -307,7 +339,7 @@ impl<K: Key> KeyedHandle<K> {
 
     /// Takes out each pair with a key in the range that `stays(key, value)` says no to, and tells how many. It goes page by page, as
     /// [`range`](KeyedHandle::range), and each pair is taken out by an update of its own. The value is that of the page: where another thread
-    /// gives the key another one after that, the pair is taken out with it.
+    /// gives the key another one after that, `stays` is asked once more, with that.
     ///
     /// # Errors
     /// As [`remove`](KeyedHandle::remove), and [`Error::NoMemory`]. The pairs before stay out.
@@ -327,7 +359,7 @@ impl<K: Key> KeyedHandle<K> {
         while let Some((low, high)) = from {
             let page = self.list_words(low, high, PAGE_ROOM)?;
             for RawPair { key, value } in page.pairs {
-                gone += usize::from(!stays(K::decode(key), value) && self.remove_word(key)?.is_some());
+                gone += usize::from(self.take_while(key, value, |value| !stays(K::decode(key), value))?.is_some());
             }
             from = page.next.map(|next| (next, high));
         }
@@ -345,17 +377,21 @@ impl<K: Key> KeyedHandle<K> {
 
     /// The keys are from `low` to `high`, both among them, and `room` is from 1 to `MAX_ROOM`.
     fn list_from(&self, low: u64, high: u64, room: usize) -> Result<Page<K>, Error> {
-        let RawPage { pairs, next } = self.list_words(low, high, room)?;
-        Ok(Page { pairs: pairs.into_iter().map(decoded).collect(), next: next.map(K::decode) })
+        self.list_words(low, high, room).map(page_of)
     }
 
     /// The same by words.
     fn list_words(&self, low: u64, high: u64, room: usize) -> Result<RawPage, Error> {
+        self.listed(citrus_list_once, low, high, room)
+    }
+
+    /// What this list of the library tells.
+    fn listed(&self, list: RawList, low: u64, high: u64, room: usize) -> Result<RawPage, Error> {
         let mut pairs: Vec<RawPair> = Vec::new();
         pairs.try_reserve_exact(room).map_err(|_| Error::NoMemory)?;
         let (mut count, mut next) = (0, 0);
         // SAFETY: as in `get`; there is room for so many pairs at `pairs`, and a `RawPair` is laid out as in C.
-        let status = self.call_again(|raw| unsafe { citrus_list_once(raw, low, high, pairs.as_mut_ptr(), room, &mut count, &mut next) });
+        let status = self.call_again(|raw| unsafe { list(raw, low, high, pairs.as_mut_ptr(), room, &mut count, &mut next) });
         let next = match status {
             status::DONE => None,
             status::MORE => Some(next),

@@ -526,11 +526,56 @@ impl<K: Key, V: Send + Sync> KeyedMapHandle<K, V> {
 
     /// The same of a key by its word.
     pub(crate) fn retire_word(&mut self, key: u64) -> Result<bool, Error> {
+        self.retire_by(|handle| handle.take_out(key))
+    }
+
+    /// Takes the pair out as [`remove`](MapHandle::remove), where `goes` says yes to its value. Where another thread gives the key another value
+    /// meanwhile, `goes` is asked once more, with that. Where it waits for readers, as the tree may have to, whoever takes the same value out
+    /// meanwhile and waits for its readers waits for this call too.
+    ///
+    /// `goes` reads the value as a [`Guard`] does, so it is to be short and makes no update of the map.
+    ///
+    /// # Errors
+    /// As [`remove`](MapHandle::remove).
+    ///
+    /// ```
+    /// let map = citrus_map::Map::new(100, 1)?;
+    /// let mut handle = map.handle()?;
+    /// handle.insert(5, "five")?;
+    /// assert_eq!(handle.remove_if(5, |value| value.is_empty())?, None);
+    /// assert_eq!(handle.remove_if(5, |value| value.len() == 4)?, Some("five"));
+    /// # Ok::<(), citrus_map::Error>(())
+    /// ```
+    pub fn remove_if(&mut self, key: K, goes: impl FnMut(&V) -> bool) -> Result<Option<V>, Error> {
+        // Where it will be refused, `goes` isn't called.
+        self.handle.may_wait()?;
+        match self.take_while(key.encode(), goes)? {
+            Some(node) => Ok(Some(self.outwait(node)?)),
+            None => Ok(None),
+        }
+    }
+
+    /// Takes the pair out as [`retire`](MapHandle::retire), where `goes` says yes to its value, and says whether it did: as
+    /// [`remove_if`](MapHandle::remove_if).
+    ///
+    /// # Errors
+    /// As [`remove`](MapHandle::remove).
+    pub fn retire_if(&mut self, key: K, goes: impl FnMut(&V) -> bool) -> Result<bool, Error> {
+        self.retire_word_if(key.encode(), goes)
+    }
+
+    /// The same of a key by its word.
+    pub(crate) fn retire_word_if(&mut self, key: u64, goes: impl FnMut(&V) -> bool) -> Result<bool, Error> {
+        self.retire_by(|handle| handle.take_while(key, goes))
+    }
+
+    /// Retires what this takes out.
+    fn retire_by(&mut self, take: impl FnOnce(&mut Self) -> Result<Option<TakenOut<V>>, Error>) -> Result<bool, Error> {
         // What is asked for may have to outlast a hazard.
         self.handle.may_wait()?;
         // The removal's own wait may take the place of the one that was begun: ask for that before.
         self.ask();
-        match self.take_out(key)? {
+        match take(self)? {
             Some(node) => {
                 self.kept.retired.push(node);
                 self.settle();
@@ -572,6 +617,32 @@ impl<K: Key, V: Send + Sync> KeyedMapHandle<K, V> {
         Ok(word.map(|word| unsafe { TakenOut::new(word) }))
     }
 
+    /// Takes the pair out while `goes` says yes to its value: the node that was asked about, which nobody drops before that is told.
+    fn take_while(&mut self, key: u64, mut goes: impl FnMut(&V) -> bool) -> Result<Option<TakenOut<V>>, Error> {
+        let place = self.handle.place();
+        loop {
+            let held = match self.handle.hold(key)? {
+                Some(held) => held,
+                None => return Ok(None),
+            };
+            let word = held.value();
+            // SAFETY: `held` is its section, and is left behind this.
+            if !goes(&unsafe { Found::<V>::new(word) }.node().value) {
+                return Ok(None);
+            }
+            let named = self.shared.hazards.name(place, word);
+            drop(held);
+            let told = self.handle.take(key, word)?;
+            drop(named);
+            match told {
+                // SAFETY: the update took this value of the key's out, and the index has it no more (`taken`).
+                Ok(word) => return Ok(Some(unsafe { TakenOut::new(word) })),
+                Err(Some(_)) => (),
+                Err(None) => return Ok(None),
+            }
+        }
+    }
+
     /// Waits for the readers of a node that this handle took out. Where that fails the node is kept: a reader may be left.
     fn outwait(&mut self, node: TakenOut<V>) -> Result<V, Error> {
         match self.handle.wait(node.key()..=node.key()) {
@@ -597,12 +668,15 @@ impl<K: Key, V: Send + Sync> KeyedMapHandle<K, V> {
         drop(unsafe { self.kept.retired.give_up(count) });
     }
 
-    /// Drops the first of the retired values where the wait for their readers is over.
+    /// Drops the first of the retired values where the wait for their readers is over. A value that another handle's update compares with stays
+    /// for a later wait: that update may wait for readers.
     fn ask(&mut self) {
         if let Some(begun) = self.kept.begun.take() {
             match self.handle.poll(begun.cookie) {
                 // SAFETY: this handle took each of them out, and then began the wait for the keys of all (`begun`, `polled`).
-                Ok(GracePeriod::Over) => unsafe { self.drop_first(begun.nodes) },
+                Ok(GracePeriod::Over) => {
+                    drop(unsafe { self.kept.retired.give_up_but(begun.nodes, |word| self.shared.hazards.is_named(word)) })
+                }
                 Ok(GracePeriod::UnderWay) => self.kept.begun = Some(begun),
                 Ok(GracePeriod::Displaced) | Err(_) => {}
             }

@@ -97,8 +97,8 @@ impl<K: Key, V: Send + Sync> KeyedMapHandle<K, V> {
     }
 
     /// [Retires](KeyedMapHandle::retire) each pair with a key in the range that `stays(key, value)` says no to, and tells how many. It goes page
-    /// by page, as [`Handle::range`](crate::Handle::range). Where another thread gives the key another value after that was asked, the pair
-    /// goes with it.
+    /// by page, as [`Handle::range`](crate::Handle::range). Where another thread gives the key another value after that was asked, it is asked
+    /// once more, with that.
     ///
     /// `stays` reads the value as a [`Guard`](crate::Guard) does, so it is to be short and makes no update of the map.
     ///
@@ -116,7 +116,7 @@ impl<K: Key, V: Send + Sync> KeyedMapHandle<K, V> {
     /// # Ok::<(), citrus_map::Error>(())
     /// ```
     pub fn retain(&mut self, keys: impl RangeBounds<K>, mut stays: impl FnMut(K, &V) -> bool) -> Result<usize, Error> {
-        self.retire_where(keys, |handle, word| Ok(handle.get_word(word)?.map_or(false, |value| !stays(K::decode(word), &value))))
+        self.retire_each(keys, |handle, word| handle.retire_word_if(word, |value| !stays(K::decode(word), value)))
     }
 
     /// Retires all pairs, page by page, and tells how many: as [`retain`](KeyedMapHandle::retain). What other threads put in behind the page
@@ -125,20 +125,20 @@ impl<K: Key, V: Send + Sync> KeyedMapHandle<K, V> {
     /// # Errors
     /// As [`retain`](KeyedMapHandle::retain).
     pub fn clear(&mut self) -> Result<usize, Error> {
-        self.retire_where(.., |_, _| Ok(true))
+        self.retire_each(.., Self::retire_word)
     }
 
-    /// Retires the pairs of these keys that are to go, page by page.
-    fn retire_where(
+    /// Retires pairs of these keys, one by one, page by page.
+    fn retire_each(
         &mut self,
         keys: impl RangeBounds<K>,
-        mut goes: impl FnMut(&mut Self, u64) -> Result<bool, Error>,
+        mut retire: impl FnMut(&mut Self, u64) -> Result<bool, Error>,
     ) -> Result<usize, Error> {
         let (mut gone, mut from) = (0, ends(&keys));
         while let Some((low, high)) = from {
             let page = self.handle.page(low..=high, PAGE_ROOM)?;
             for (key, _) in page.pairs {
-                gone += usize::from(goes(self, key)? && self.retire_word(key)?);
+                gone += usize::from(retire(self, key)?);
             }
             from = page.next.map(|next| (next, high));
         }

@@ -126,6 +126,17 @@ impl<V> Retired<V> {
         self.nodes[..count].iter().map(TakenOut::word)
     }
 
+    /// Of the first so many nodes those that don't stay, by what the index had for them. Those that stay are behind all others then.
+    ///
+    /// # Safety
+    /// As of [`give_up`](Retired::give_up), of those that don't stay.
+    pub(crate) unsafe fn give_up_but(&mut self, count: usize, stays: impl Fn(u64) -> bool) -> Vec<Box<Node<V>>> {
+        let (staying, leaving): (Vec<_>, Vec<_>) = self.nodes.drain(..count).partition(|node| stays(node.word()));
+        self.nodes.extend(staying);
+        // SAFETY: so says the caller.
+        leaving.into_iter().map(|node| unsafe { node.into_box() }).collect()
+    }
+
     /// The first so many nodes. Where one of their values panics as it is dropped, the others are dropped all the same.
     ///
     /// # Safety

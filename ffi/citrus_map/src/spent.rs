@@ -17,6 +17,8 @@ fn a_handle_without_tickets_is_spent_and_not_given_out_again() {
     assert_eq!(short.insert(5, 50), Err(Error::Spent));
     assert_eq!(short.compare_exchange(5, 50, 51), Err(Error::Spent));
     assert_eq!(short.update(5, |value| value), Err(Error::Spent));
+    assert_eq!(short.take(5, 50), Err(Error::Spent));
+    assert_eq!(short.remove_if(5, |_| true), Err(Error::Spent));
     assert_eq!(short.remove(5), Err(Error::Spent));
     assert_eq!(short.pop_first(), Ok(None));
     assert_eq!((short.len(), short.first(), short.last()), (Ok(0), Ok(None), Ok(None)));

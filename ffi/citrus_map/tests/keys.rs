@@ -146,6 +146,12 @@ fn call_for_a_key<K: Numbered>(handle: &KeyedHandle<K>, number: u64, value: u64,
             model.entry(number).and_modify(|its| *its += 1);
         }
         7 => assert_eq!(handle.remove(key), Ok(model.remove(&number))),
+        8 => {
+            let expected = has.unwrap_or(value);
+            assert_eq!(handle.take(key, expected + 1), Ok(Err(has)));
+            assert_eq!(handle.remove_if(key, |its| its != expected), Ok(None));
+            assert_eq!(handle.take(key, expected), Ok(model.remove(&number).ok_or(None)));
+        }
         _ => {
             assert_eq!(handle.get(key), Ok(has));
             assert_eq!(handle.contains_key(key), Ok(has.is_some()));
@@ -198,11 +204,11 @@ fn calls_answer_as_a_model<K: Numbered>(waiter: Waiter) {
     for value in 0..1_000 {
         let (number, other) = (draws.below(KEYS), draws.below(KEYS));
         let (low, high) = (number.min(other), number.max(other));
-        match draws.below(13) {
-            which @ 0..=8 => call_for_a_key(&handle, number, value, which, &mut model),
-            9 => look_at_a_range(&handle, low, high, &model),
-            10 => look_at_ends(&handle, number, &model),
-            11 => take_out(&handle, low, high, &mut model),
+        match draws.below(14) {
+            which @ 0..=9 => call_for_a_key(&handle, number, value, which, &mut model),
+            10 => look_at_a_range(&handle, low, high, &model),
+            11 => look_at_ends(&handle, number, &model),
+            12 => take_out(&handle, low, high, &mut model),
             _ => {
                 let held = handle.hold(K::of(number)).unwrap();
                 assert_eq!(held.as_ref().map(|held| held.value()), model.get(&number).copied());
@@ -245,11 +251,13 @@ fn a_map_answers_as_a_model<K: Numbered>(waiter: Waiter) {
     assert_eq!(handle.remove(K::of(7)).unwrap(), Some("77".to_string()));
     assert_eq!(handle.contains_key(K::of(7)), Ok(false));
     assert_eq!(handle.retire(K::of(8)), Ok(true));
+    assert_eq!(handle.remove_if(K::of(9), |text| text != "9").unwrap(), None);
+    assert_eq!(handle.remove_if(K::of(9), |text| text == "9").unwrap(), Some("9".to_string()));
     assert_eq!(handle.pop_first().unwrap().map(|(key, text)| (key.number(), text)), Some((0, "0".to_string())));
     assert_eq!(handle.pop_last().unwrap().map(|(key, _)| key.number()), Some(KEYS - 1));
     assert_eq!(handle.retain(K::of(10)..K::of(20), |key, text| key.number() % 2 == 0 && text.len() == 2), Ok(5));
     assert_eq!(handle.tidy(.., 1_000).unwrap().next.map(K::number), None);
-    assert_eq!(handle.clear(), Ok(KEYS as usize - 9));
+    assert_eq!(handle.clear(), Ok(KEYS as usize - 10));
 }
 
 #[test]
@@ -263,7 +271,7 @@ fn work_on_own_keys<K: Numbered>(index: &KeyedIndex<K>, thread: u64, threads: u6
     let (mut model, mut draws) = (Model::new(), draws_of(thread));
     for value in 0..600 {
         let number = draws.below(KEYS / threads) * threads + thread;
-        call_for_a_key(&handle, number, value, draws.below(9), &mut model);
+        call_for_a_key(&handle, number, value, draws.below(10), &mut model);
         if value % 50 == 0 {
             let there = by_numbers(handle.list(..).unwrap());
             assert!(there.iter().all(|(number, _)| *number < KEYS) && there.windows(2).all(|pair| pair[0].0 < pair[1].0));
@@ -296,12 +304,13 @@ fn work_on_shared_keys<K: Numbered>(index: &KeyedIndex<K>, thread: u64, numbers:
         let key = K::of(number);
         let expected = index.get(key).unwrap().unwrap_or(0);
         let begin = clock.fetch_add(1, SeqCst);
-        let told = match draws.below(7) {
+        let told = match draws.below(8) {
             0 | 1 => Told::Get { found: index.get(key).unwrap() },
             2 => Told::Insert { value: begin, added: index.insert(key, begin).unwrap() },
             3 => Told::Replace { value: begin, old: index.replace(key, begin).unwrap() },
             4 => Told::Upsert { value: begin, old: index.upsert(key, begin).unwrap() },
             5 => Told::Compare { value: begin, expected, told: index.compare_exchange(key, expected, begin).unwrap() },
+            6 => Told::Take { expected, told: index.take(key, expected).unwrap() },
             _ => Told::Remove { old: index.remove(key).unwrap() },
         };
         (number, Call { thread: thread as usize, begin, end: clock.fetch_add(1, SeqCst), told })
@@ -374,6 +383,8 @@ fn words_of_a_handle(handle: &mut KeyedHandle<Counting>) {
     assert_eq!(words_of(|| handle.replace(key, 60)), 1);
     assert_eq!(words_of(|| handle.update(key, |value| value + 10)), 1);
     assert_eq!(words_of(|| handle.compare_exchange(key, 70, 80)), 1);
+    assert_eq!(words_of(|| handle.take(key, 70)), 1);
+    assert_eq!(words_of(|| handle.remove_if(key, |_| true)), 1);
     assert_eq!(words_of(|| handle.upsert(key, 90)), 1);
     assert_eq!(words_of(|| handle.list(key..=key)), 2);
     assert_eq!(words_of(|| handle.page(key.., 1)), 1);
@@ -396,6 +407,8 @@ fn words_of_a_map(handle: &mut KeyedMapHandle<Counting, u64>) {
     assert_eq!(words_of(|| handle.contains_key(key)), 1);
     assert_eq!(words_of(|| handle.replace(key, 60)), 1);
     assert_eq!(words_of(|| handle.update(key, |value| value + 10)), 1);
+    assert_eq!(words_of(|| handle.remove_if(key, |_| false)), 1);
+    assert_eq!(words_of(|| handle.retire_if(key, |_| false)), 1);
     assert_eq!(words_of(|| handle.upsert(key, 90)), 1);
     assert_eq!(words_of(|| handle.keys(key..=key)), 2);
     assert_eq!(words_of(|| handle.retain(key.., |_, _| true)), 1);

@@ -26,6 +26,10 @@ fn each_call_answers_as_a_handle() {
         assert_eq!(index.upsert(5, 55), Ok(Some(54)));
         assert_eq!(index.upsert(7, 70), Ok(None));
         assert_eq!(index.lend().unwrap().list(..), Ok(vec![(5, 55), (7, 70)]));
+        assert_eq!(index.take(7, 71), Ok(Err(Some(70))));
+        assert_eq!(index.take(7, 70), Ok(Ok(70)));
+        assert_eq!(index.take(7, 70), Ok(Err(None)));
+        assert_eq!(index.remove_if(5, |value| value != 55), Ok(None));
         assert_eq!(index.remove(5), Ok(Some(55)));
         assert_eq!(index.remove(5), Ok(None));
     }

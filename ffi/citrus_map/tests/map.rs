@@ -94,6 +94,24 @@ fn pairs_are_taken_out_at_both_ends_and_by_ranges() {
 }
 
 #[test]
+fn a_pair_goes_while_its_value_is_the_one_that_was_read() {
+    for waiter in waiters() {
+        let count = Arc::new(AtomicUsize::new(0));
+        let map = Map::build(Index::builder(100, 2).waiter(waiter)).unwrap();
+        let mut handle = map.handle().unwrap();
+        assert!(handle.remove_if(5, |_| panic!("it is absent")).unwrap().is_none());
+        assert_eq!(handle.retire_if(5, |_| panic!("it is absent")), Ok(false));
+        handle.insert(5, Counted::new(5, &count)).unwrap();
+        assert!(handle.remove_if(5, |value| value.key != 5).unwrap().is_none());
+        assert_eq!(handle.remove_if(5, |value| value.key == 5).unwrap().map(|value| value.key), Some(5));
+        handle.insert(6, Counted::new(6, &count)).unwrap();
+        assert_eq!((handle.retire_if(6, |value| value.key != 6), handle.retire_if(6, |value| value.key == 6)), (Ok(false), Ok(true)));
+        handle.flush().unwrap();
+        assert_eq!((handle.is_empty(), count.load(SeqCst)), (Ok(true), 0));
+    }
+}
+
+#[test]
 fn an_update_reads_the_value_and_gives_it_back() {
     for waiter in waiters() {
         let count = Arc::new(AtomicUsize::new(0));
@@ -414,6 +432,50 @@ fn a_wait_that_is_over_drops_what_was_retired_before_it_began() {
     assert_eq!(count.load(SeqCst), 2);
 }
 
+/// A take waits for a reader, since its handle keeps back all the slots that it may. Meanwhile another handle retires what it compares with, and more.
+#[test]
+fn a_retire_waits_for_no_take_that_waits_for_a_reader() {
+    const KEPT: u32 = 40;
+    const LAST: u64 = 1_000;
+    for waiter in waiters() {
+        let count = Arc::new(AtomicUsize::new(0));
+        let map = Map::build(Index::builder(100, 3).keep(KEPT).waiter(waiter)).unwrap();
+        let (mut reader, mut taker, mut writer) = (map.handle().unwrap(), map.handle().unwrap(), map.handle().unwrap());
+        let (asked, is_retired) = (AtomicU64::new(0), AtomicBool::new(false));
+        reader.insert(LAST, Counted::new(LAST, &count)).unwrap();
+        let guard = reader.get(LAST).unwrap().unwrap();
+        thread::scope(|scope| {
+            let (asked, is_retired, count) = (&asked, &is_retired, &count);
+            scope.spawn(move || {
+                let mut takes = |key| {
+                    taker.insert(key, Counted::new(key, count)).unwrap();
+                    taker.retire_if(key, |_| asked.swap(key, SeqCst) < key).unwrap()
+                };
+                assert!((1..LAST).any(|key| !takes(key)), "each of its values was there still");
+            });
+            scope.spawn(move || {
+                let mut key = 0;
+                while key == 0 || asked.load(SeqCst) != key {
+                    key = asked.load(SeqCst);
+                    thread::sleep(Duration::from_millis(50));
+                }
+                assert!(writer.retire(key).unwrap());
+                for key in LAST / 2..LAST / 2 + 25 {
+                    writer.insert(key, Counted::new(key, count)).unwrap();
+                    assert!(writer.retire(key).unwrap());
+                }
+                is_retired.store(true, SeqCst);
+            });
+            (0..1_000).take_while(|_| !is_retired.load(SeqCst)).for_each(|_| thread::sleep(Duration::from_millis(10)));
+            let in_time = is_retired.load(SeqCst);
+            drop(guard);
+            assert!(in_time, "a retire waited for a reader");
+        });
+        drop((reader, map));
+        assert_eq!(count.load(SeqCst), 0);
+    }
+}
+
 #[test]
 fn a_value_that_panics_as_it_is_dropped_keeps_no_other_from_being_dropped() {
     struct Panics(Counted);
@@ -491,7 +553,7 @@ fn work_on_shared_keys<K: Key>(handle: &mut KeyedMapHandle<K, Counted>, thread: 
         let key = (keys.of)(number);
         let is_of = |value: &Counted| keys.lie || value.key == number;
         let made = || Counted::new(number, count);
-        match draws.below(11) {
+        match draws.below(13) {
             0 | 1 => drop(handle.insert(key, made())),
             2 => drop(handle.replace(key, made())),
             3 => drop(handle.upsert(key, made()).unwrap()),
@@ -504,6 +566,8 @@ fn work_on_shared_keys<K: Key>(handle: &mut KeyedMapHandle<K, Counted>, thread: 
                 };
                 drop(handle.update(key, changed).unwrap());
             }
+            7 => drop(handle.remove_if(key, |value| value.live == LIVE && is_of(value)).unwrap()),
+            8 => drop(handle.retire_if(key, |value| value.live == LIVE && is_of(value)).unwrap()),
             _ => {
                 if let Some(value) = handle.get(key).unwrap() {
                     for _ in 0..draws.below(32) {

@@ -130,6 +130,9 @@ fn a_thread_in_a_section_updates_and_waits_by_no_handle() {
     assert_eq!(other.update(5, |value| value), Err(Error::Holds));
     assert_eq!(other.upsert(5, 51), Err(Error::Holds));
     assert_eq!(other.remove(5), Err(Error::Holds));
+    assert_eq!(other.take(5, 50), Err(Error::Holds));
+    assert_eq!(other.take(5, 51), Err(Error::Holds));
+    assert_eq!(other.remove_if(5, |value| value == 50), Err(Error::Holds));
     assert_eq!(other.pop_first(), Err(Error::Holds));
     assert_eq!(other.clear(), Err(Error::Holds));
     assert_eq!(other.wait(9..10), Err(Error::Holds));
@@ -162,6 +165,8 @@ fn each_call_leaves_the_section_of_a_forgotten_guard() {
     after_a_forgotten_guard!(handle.insert(5, 51), Ok(false));
     after_a_forgotten_guard!(handle.replace(5, 52), Ok(Some(50)));
     after_a_forgotten_guard!(handle.compare_exchange(5, 50, 53), Ok(Err(Some(52))));
+    after_a_forgotten_guard!(handle.take(5, 50), Ok(Err(Some(52))));
+    after_a_forgotten_guard!(handle.remove_if(5, |value| value == 50), Ok(None));
     after_a_forgotten_guard!(handle.upsert(5, 53), Ok(Some(52)));
     after_a_forgotten_guard!(handle.list(..), Ok(vec![(5, 53)]));
     after_a_forgotten_guard!(handle.first_from(0), Ok(Some((5, 53))));

@@ -1,8 +1,12 @@
 //! From commands to replies.
 
-use crate::commands::{Command, Range};
+use crate::clock;
+use crate::commands::{Command, Range, Scan};
+use crate::deadlines::{Case, Only, Options, Stay, Unit};
+use crate::entries::Content;
+use crate::glob::matches;
 use crate::replies::Replies;
-use crate::store::{Store, Uncounted};
+use crate::store::{Step, Store, Uncounted};
 use citrus_map::Error;
 
 /// A `FLUSHALL` that isn't through. It goes in pieces, so that the worker's other connections have their turns.
@@ -24,9 +28,10 @@ impl Clearing {
     }
 }
 
-/// Does what the command says, and adds one reply; or, where it takes longer, tells what to go on with, which adds the reply at its end.
+/// Does what the command says, and adds one reply; or, where it takes longer, tells what to go on with, which adds the reply at its end. What
+/// is about the connection, or about the server as a whole, has its answer elsewhere, and none here.
 pub fn answer(command: &Command, store: &Store, replies: &mut Replies) -> Option<Clearing> {
-    if *command == Command::Clear {
+    if matches!(command, Command::Clear) {
         return Some(Clearing { from: 0 });
     }
     if let Err(error) = try_answer(command, store, replies) {
@@ -52,37 +57,121 @@ fn words_of(error: Error) -> String {
 fn try_answer(command: &Command, store: &Store, replies: &mut Replies) -> Result<(), Error> {
     match command {
         Command::Get(key) => replies.number_or_nil(store.get(*key)?),
-        Command::GetMany(keys) => {
-            let values = store.get_many(keys)?;
-            replies.array(values.len());
-            for value in values {
-                replies.number_or_nil(value);
-            }
-        }
+        Command::GetMany(keys) => tell_many(&store.get_many(keys)?, replies),
+        Command::GetAndExpire { key, stay } => replies.number_or_nil(get_and_expire(*key, *stay, store)?),
         Command::Set { key, value } => {
-            store.set(*key, *value)?;
+            store.set(*key, Content::staying(*value))?;
             replies.status("OK");
         }
+        Command::SetAs { key, value, options } => set_as(*key, *value, *options, store, replies)?,
         Command::SetMany(pairs) => {
-            pairs.iter().try_for_each(|(key, value)| store.set(*key, *value).map(|_| ()))?;
+            pairs.iter().try_for_each(|(key, value)| store.set(*key, Content::staying(*value)).map(|_| ()))?;
             replies.status("OK");
         }
         Command::SetIfAbsent { key, value } => replies.count(store.set_if_absent(*key, *value)?.into()),
-        Command::Exchange { key, value } => replies.number_or_nil(store.set(*key, *value)?),
+        Command::Exchange { key, value } => replies.number_or_nil(store.set(*key, Content::staying(*value))?),
         Command::Add { key, amount } => add(*key, *amount, store, replies)?,
+        Command::Expire { key, deadline, only } => replies.count(expire(*key, *deadline, *only, store)?.into()),
+        Command::Persist(key) => replies.count(persist(*key, store)?.into()),
+        Command::Deadline { key, unit, is_from_now } => replies.signed(time_of(store.content(*key)?, *unit, *is_from_now)),
         Command::Delete(keys) => replies.count(how_many(keys, |key| Ok(store.remove(key)?.is_some()))?),
         Command::Take(key) => replies.number_or_nil(store.remove(*key)?),
         Command::Exist(keys) => replies.count(store.get_many(keys)?.into_iter().flatten().count() as u64),
+        Command::Type(key) => replies.status(if store.get(*key)?.is_some() { "string" } else { "none" }),
         Command::Range(range) => tell(*range, store, replies)?,
+        Command::Scan(scan) => tell_keys(*scan, store, replies)?,
         Command::Size => replies.count(store.size()),
+        others => answer_without_store(others, replies),
+    }
+    Ok(())
+}
+
+/// Adds one reply to a command that asks for no pair.
+fn answer_without_store(command: &Command, replies: &mut Replies) {
+    match command {
         Command::Ping(None) => replies.status("PONG"),
         Command::Ping(Some(word)) | Command::Echo(word) => replies.bulk(word),
         Command::Commands => replies.array(0),
         Command::Setting(name) => setting(name, replies),
         Command::Quit => replies.status("OK"),
-        Command::Clear | Command::Http => {}
+        _ => {}
+    }
+}
+
+fn tell_many(values: &[Option<u64>], replies: &mut Replies) {
+    replies.array(values.len());
+    values.iter().for_each(|value| replies.number_or_nil(*value));
+}
+
+/// Where the value isn't put in that is told by a nil, in whose place the value before is told if that was asked for.
+fn set_as(key: u64, value: u64, options: Options, store: &Store, replies: &mut Replies) -> Result<(), Error> {
+    let (before, is_put) = match options {
+        Options { case: Case::Any, stay: Stay::Until(deadline), .. } => {
+            (store.set(key, Content { value, deadline: Some(deadline) })?, true)
+        }
+        Options { case: Case::Any, stay: Stay::ForGood, .. } => (store.set(key, Content::staying(value))?, true),
+        Options { case, stay, .. } => store.change(key, |found| {
+            let before = found.map(|content| content.value);
+            match (case, found) {
+                (Case::Absent, Some(_)) | (Case::Present, None) => (Step::Leave, (before, false)),
+                _ => {
+                    let deadline = stay.deadline(found.and_then(|content| content.deadline));
+                    (Step::Put(Content { value, deadline }), (before, true))
+                }
+            }
+        })?,
+    };
+    match (options.tells_before, is_put) {
+        (true, _) => replies.number_or_nil(before),
+        (false, true) => replies.status("OK"),
+        (false, false) => replies.nil(),
     }
     Ok(())
+}
+
+fn get_and_expire(key: u64, stay: Stay, store: &Store) -> Result<Option<u64>, Error> {
+    store.change(key, |found| match found {
+        None => (Step::Leave, None),
+        Some(before) => {
+            let after = Content { deadline: stay.deadline(before.deadline), ..before };
+            (if after == before { Step::Leave } else { Step::Put(after) }, Some(before.value))
+        }
+    })
+}
+
+/// Whether the key got the deadline, or was taken out since that is over.
+fn expire(key: u64, deadline: u64, only: Only, store: &Store) -> Result<bool, Error> {
+    store.change(key, |found| match found {
+        Some(content) if only.allows(content.deadline, deadline) => {
+            let is_over = deadline <= clock::now();
+            let after = Content { deadline: Some(deadline), ..content };
+            (if is_over { Step::Remove } else { Step::Put(after) }, true)
+        }
+        _ => (Step::Leave, false),
+    })
+}
+
+/// Whether the key had a deadline, and has none from now on.
+fn persist(key: u64, store: &Store) -> Result<bool, Error> {
+    store.change(key, |found| match found {
+        Some(Content { value, deadline: Some(_) }) => (Step::Put(Content::staying(value)), true),
+        _ => (Step::Leave, false),
+    })
+}
+
+/// When a key with this goes: -1 where it stays, and -2 where it isn't there. Seconds are rounded, as in Redis.
+fn time_of(content: Option<Content>, unit: Unit, is_from_now: bool) -> i64 {
+    let deadline = match content {
+        None => return -2,
+        Some(Content { deadline: None, .. }) => return -1,
+        Some(Content { deadline: Some(deadline), .. }) => deadline,
+    };
+    let milliseconds = if is_from_now { deadline.saturating_sub(clock::now()) } else { deadline };
+    let time = match unit {
+        Unit::Milliseconds => milliseconds,
+        Unit::Seconds => (milliseconds + 500) / 1_000,
+    };
+    i64::try_from(time).unwrap_or(i64::MAX)
 }
 
 fn how_many(keys: &[u64], mut is_so: impl FnMut(u64) -> Result<bool, Error>) -> Result<u64, Error> {
@@ -113,14 +202,26 @@ fn tell(Range { low, high, limit, is_down }: Range, store: &Store, replies: &mut
     Ok(())
 }
 
+/// The cursor to go on from, 0 where all was told, and the keys of this part that are asked for.
+fn tell_keys(scan: Scan, store: &Store, replies: &mut Replies) -> Result<(), Error> {
+    let page = store.page(scan.from, u64::MAX, scan.count)?;
+    let looks_so = |key: &u64| scan.are_strings && scan.pattern.map_or(true, |pattern| matches(pattern, key.to_string().as_bytes()));
+    let keys: Vec<u64> = page.pairs.iter().map(|(key, _)| *key).filter(looks_so).collect();
+    replies.array(2);
+    replies.number(page.next.unwrap_or(0));
+    replies.array(keys.len());
+    keys.into_iter().for_each(|key| replies.number(key));
+    Ok(())
+}
+
 /// The settings for which `redis-benchmark` asks: nothing is saved.
 fn setting(name: &[u8], replies: &mut Replies) {
     let value: &[u8] = match name.to_ascii_lowercase().as_slice() {
         b"save" => b"",
         b"appendonly" => b"no",
-        _ => return replies.array(0),
+        _ => return replies.map(0),
     };
-    replies.array(2);
+    replies.map(1);
     replies.bulk(name);
     replies.bulk(value);
 }
@@ -197,6 +298,155 @@ mod tests {
                 ("GETDEL 3", "$-1"),
                 ("DBSIZE", ":2"),
                 ("mget 1", "*1 $2 12"),
+            ],
+        );
+    }
+
+    #[test]
+    fn a_set_may_be_for_absent_or_present_keys_and_tell_the_value_before() {
+        check(
+            100,
+            &[
+                ("SET 5 50 XX", "$-1"),
+                ("SET 5 50 NX", "+OK"),
+                ("SET 5 51 NX", "$-1"),
+                ("SET 5 51 NX GET", "$2 50"),
+                ("set 5 52 xx get", "$2 50"),
+                ("SET 6 60 NX GET", "$-1"),
+                ("SET 7 70 XX GET", "$-1"),
+                ("SET 5 53 GET", "$2 52"),
+                ("MGET 5 6 7", "*3 $2 53 $2 60 $-1"),
+                ("TYPE 5", "+string"),
+                ("TYPE 7", "+none"),
+                ("UNLINK 5 6 7", ":2"),
+                ("DBSIZE", ":0"),
+            ],
+        );
+    }
+
+    #[test]
+    fn keys_go_at_their_deadline_and_not_where_they_lost_it() {
+        let store = new_store(100, 1);
+        check_at(
+            &store,
+            &[
+                ("SET 1 10 EXAT 99999999999", "+OK"),
+                ("EXPIRETIME 1", ":99999999999"),
+                ("SET 1 11 KEEPTTL", "+OK"),
+                ("INCR 1", ":12"),
+                ("EXPIRETIME 1", ":99999999999"),
+                ("PERSIST 1", ":1"),
+                ("PERSIST 1", ":0"),
+                ("TTL 1", ":-1"),
+                ("PTTL 2", ":-2"),
+                ("EXPIRE 2 100", ":0"),
+                ("EXPIRE 1 100 XX", ":0"),
+                ("EXPIRE 1 100 NX", ":1"),
+                ("EXPIREAT 1 99999999999 GT", ":1"),
+                ("EXPIRETIME 1", ":99999999999"),
+                ("PEXPIRETIME 1", ":99999999999000"),
+                ("PEXPIREAT 1 99999999999499", ":1"),
+                ("EXPIRETIME 1", ":99999999999"),
+                ("PEXPIREAT 1 99999999999500", ":1"),
+                ("EXPIRETIME 1", ":100000000000"),
+                ("GETEX 1 PERSIST", "$2 12"),
+                ("EXPIRETIME 1", ":-1"),
+                ("GETEX 1 PXAT 99999999999000", "$2 12"),
+                ("GETEX 1", "$2 12"),
+                ("EXPIRETIME 1", ":99999999999"),
+                ("GETEX 2 EX 5", "$-1"),
+                ("SET 1 13", "+OK"),
+                ("TTL 1", ":-1"),
+                ("EXPIRE 1 -1", ":1"),
+                ("GET 1", "$-1"),
+                ("SETEX 3 100 30", "+OK"),
+                ("PSETEX 4 100000 40", "+OK"),
+                ("RANGE - +", "*2 $-1 *4 $1 3 $2 30 $1 4 $2 40"),
+                ("REVRANGE + -", "*2 $-1 *4 $1 4 $2 40 $1 3 $2 30"),
+                ("FLUSHDB ASYNC", "+OK"),
+                ("DBSIZE", ":0"),
+            ],
+        );
+        assert_eq!(store.deadlines(), (0, 0));
+    }
+
+    #[test]
+    fn the_time_that_is_left_is_told() {
+        let store = new_store(100, 1);
+        for line in ["SET 1 10 EX 100", "SET 1 10 PX 100000", "SETEX 1 100 10", "PSETEX 1 100000 10", "EXPIRE 1 100", "PEXPIRE 1 100000"] {
+            assert!(["+OK", ":1"].contains(&told(&store, line).trim_end()), "{line}");
+            let left = |line| told(&store, line).trim_end().trim_start_matches(':').parse::<u64>().expect("it is a number");
+            assert!((50..=100).contains(&left("TTL 1")), "{line}");
+            assert!((50_000..=100_000).contains(&left("PTTL 1")), "{line}");
+        }
+    }
+
+    /// Each command that reads or changes a key whose deadline is over takes it for absent.
+    #[test]
+    fn a_key_whose_deadline_is_over_is_absent() {
+        let lines = [
+            ("GET 5", "$-1"),
+            ("MGET 5 5", "*2 $-1 $-1"),
+            ("EXISTS 5 5", ":0"),
+            ("SETNX 5 51", ":1"),
+            ("SET 5 51 NX", "+OK"),
+            ("SET 5 51 XX", "$-1"),
+            ("SET 5 51 GET", "$-1"),
+            ("SET 5 51 KEEPTTL", "+OK"),
+            ("GETSET 5 51", "$-1"),
+            ("INCR 5", ":1"),
+            ("DEL 5", ":0"),
+            ("GETDEL 5", "$-1"),
+            ("TTL 5", ":-2"),
+            ("PERSIST 5", ":0"),
+            ("EXPIRE 5 10", ":0"),
+            ("GETEX 5", "$-1"),
+            ("TYPE 5", "+none"),
+            ("RANGE - +", "*2 $-1 *0"),
+            ("REVRANGE + -", "*2 $-1 *0"),
+            ("SCAN 0", "*2 $1 0 *0"),
+        ];
+        for (line, reply) in lines {
+            let store = new_store(100, 1);
+            check_at(&store, &[("SET 5 50 PXAT 1", "+OK"), (line, reply)]);
+            let is_there = store.get(5) != Ok(None);
+            check_at(
+                &store,
+                &[("TTL 5", if is_there { ":-1" } else { ":-2" }), ("DEL 5", if is_there { ":1" } else { ":0" }), ("DBSIZE", ":0")],
+            );
+        }
+    }
+
+    #[test]
+    fn keys_are_told_by_a_cursor() {
+        check(
+            100,
+            &[
+                ("SCAN 0", "*2 $1 0 *0"),
+                ("MSET 1 1 12 1 123 1 2 1", "+OK"),
+                ("SCAN 0 COUNT 3", "*2 $3 123 *3 $1 1 $1 2 $2 12"),
+                ("SCAN 123 COUNT 3", "*2 $1 0 *1 $3 123"),
+                ("SCAN 0 MATCH 1* COUNT 100 TYPE string", "*2 $1 0 *3 $1 1 $2 12 $3 123"),
+                ("SCAN 0 MATCH ?2", "*2 $1 0 *1 $2 12"),
+                ("SCAN 0 TYPE list", "*2 $1 0 *0"),
+            ],
+        );
+    }
+
+    #[test]
+    fn values_as_great_as_names_are_values() {
+        check(
+            100,
+            &[
+                ("SET 5 18446744073709551615", "+OK"),
+                ("SETNX 6 18374686479671623680", ":1"),
+                ("MGET 5 6", "*2 $20 18446744073709551615 $20 18374686479671623680"),
+                ("EXPIRE 5 100", ":1"),
+                ("GETSET 5 18446744073709551614", "$20 18446744073709551615"),
+                ("TTL 5", ":-1"),
+                ("RANGE - +", "*2 $-1 *4 $1 5 $20 18446744073709551614 $1 6 $20 18374686479671623680"),
+                ("INCR 5", "-ERR value is not an integer or out of range"),
+                ("GETDEL 5", "$20 18446744073709551614"),
             ],
         );
     }
@@ -343,7 +593,30 @@ mod tests {
                 ("SET 5 18446744073709551616", NO_NUMBER),
                 ("SET 5 +6", NO_NUMBER),
                 ("SET key:000000000001 1", NO_KEY),
-                ("SET 5 60 EX 10", "-ERR syntax error"),
+                ("SET 5 60 EX 0", "-ERR invalid expire time in 'set' command"),
+                ("SET 5 60 EX", "-ERR syntax error"),
+                ("SET 5 60 NX XX", "-ERR syntax error"),
+                ("SET 5 60 EX 10 PX 10", "-ERR syntax error"),
+                ("SET 5 60 KEEPTTL EX 10", "-ERR syntax error"),
+                ("SET 5 60 FOO", "-ERR syntax error"),
+                ("SET 5 60 EX 01", NO_NUMBER),
+                ("SET 5 60 PX 9223372036854775807", "-ERR invalid expire time in 'set' command"),
+                ("SETEX 5 0 60", "-ERR invalid expire time in 'setex' command"),
+                ("PSETEX 5 -1 60", "-ERR invalid expire time in 'psetex' command"),
+                ("GETEX 5 EX 10 PERSIST", "-ERR syntax error"),
+                ("EXPIRE 5 x", NO_NUMBER),
+                ("EXPIRE 5 10 NX XX", "-ERR NX and XX, GT or LT options at the same time are not compatible"),
+                ("EXPIRE 5 10 GT LT", "-ERR GT and LT options at the same time are not compatible"),
+                ("EXPIRE 5 10 FOO", "-ERR Unsupported option FOO"),
+                ("EXPIRE 5 9223372036854775807", "-ERR invalid expire time in 'expire' command"),
+                ("PEXPIRE 5 9223372036854775807", "-ERR invalid expire time in 'pexpire' command"),
+                ("EXPIRE 5", "-ERR wrong number of arguments for 'expire' command"),
+                ("TTL", "-ERR wrong number of arguments for 'ttl' command"),
+                ("TTL 5", ":-1"),
+                ("SCAN x", "-ERR invalid cursor"),
+                ("SCAN 0 COUNT 0", "-ERR syntax error"),
+                ("SCAN 0 COUNT", "-ERR syntax error"),
+                ("FLUSHDB X", "-ERR syntax error"),
                 ("SET 5", "-ERR wrong number of arguments for 'set' command"),
                 ("Get", "-ERR wrong number of arguments for 'get' command"),
                 ("GET 5 6", "-ERR wrong number of arguments for 'get' command"),

@@ -1,8 +1,10 @@
 //! From requests to commands.
 
+use crate::deadlines::{Only, Options, Stay, Time, Unit};
 use crate::parser::Request;
-use std::fmt;
-use std::str::FromStr;
+use crate::refusals::{shown, Refusal};
+use crate::session_commands::{self, SessionCommand};
+use crate::words::{amount, integer, key_of, keys_of, negative, value_of, Name};
 
 /// So many pairs a `RANGE` or `REVRANGE` tells where it has no limit.
 pub const DEFAULT_LIMIT: usize = 1_000;
@@ -10,6 +12,8 @@ pub const DEFAULT_LIMIT: usize = 1_000;
 pub const MAX_LIMIT: usize = 65_536;
 /// The greatest limit of a `REVRANGE`, which searches for each pair.
 pub const MAX_LIMIT_DOWN: usize = 8_192;
+/// So many keys a `SCAN` looks at where it says nothing, as in Redis.
+const DEFAULT_COUNT: usize = 10;
 
 /// Which pairs a `RANGE` or `REVRANGE` tells.
 #[derive(Clone, Copy, Debug, PartialEq, Eq)]
@@ -24,7 +28,20 @@ pub struct Range {
     pub is_down: bool,
 }
 
-/// What a request asks for. Keys and values are numbers by then.
+/// Which keys a `SCAN` tells.
+#[derive(Clone, Copy, Debug, PartialEq, Eq)]
+pub struct Scan<'a> {
+    /// The least key.
+    pub from: u64,
+    /// So many keys are looked at, at most, and one at least.
+    pub count: usize,
+    /// What they look like.
+    pub pattern: Option<&'a [u8]>,
+    /// Whether keys of this type are asked for: all have one type.
+    pub are_strings: bool,
+}
+
+/// What a request asks for. Keys and values are numbers by then, and times are moments.
 #[derive(Clone, Debug, PartialEq, Eq)]
 pub enum Command<'a> {
     /// A sign of life, with this answer or `PONG`.
@@ -35,12 +52,28 @@ pub enum Command<'a> {
     Get(u64),
     /// The values of these keys, one after another.
     GetMany(Vec<u64>),
-    /// The key gets this value.
+    /// The key's value, and what becomes of its deadline.
+    GetAndExpire {
+        /// The key.
+        key: u64,
+        /// How long it stays from now on.
+        stay: Stay,
+    },
+    /// The key gets this value, and no deadline.
     Set {
         /// The key.
         key: u64,
         /// Its value from now on.
         value: u64,
+    },
+    /// The same with options.
+    SetAs {
+        /// The key.
+        key: u64,
+        /// Its value from now on, in the cases that the options say.
+        value: u64,
+        /// In which cases, how long it stays, and what is told.
+        options: Options,
     },
     /// Each of these keys gets the value beside it, one after another.
     SetMany(Vec<(u64, u64)>),
@@ -65,127 +98,55 @@ pub enum Command<'a> {
         /// Its value, where it has none.
         value: u64,
     },
+    /// The key gets this deadline in these cases. One that is over takes it out.
+    Expire {
+        /// The key.
+        key: u64,
+        /// When it goes, in milliseconds since the begin of 1970.
+        deadline: u64,
+        /// In which cases.
+        only: Only,
+    },
+    /// The key stays for good from now on.
+    Persist(u64),
+    /// When the key goes.
+    Deadline {
+        /// The key.
+        key: u64,
+        /// In what it is told.
+        unit: Unit,
+        /// Whether it is told how long that is from now on.
+        is_from_now: bool,
+    },
     /// These keys are taken out, one after another.
     Delete(Vec<u64>),
     /// The key is taken out, and its value told.
     Take(u64),
     /// How many of these keys are present, one after another.
     Exist(Vec<u64>),
+    /// The type of the key's value.
+    Type(u64),
     /// Pairs in the order of their keys.
     Range(Range),
+    /// Keys in their order.
+    Scan(Scan<'a>),
     /// How many pairs there are.
     Size,
     /// All pairs are taken out.
     Clear,
+    /// What the server knows of itself, by sections with these names.
+    Info(Vec<&'a [u8]>),
     /// Which commands there are. Redis's tools ask this when they start, and make do with no answer.
     Commands,
     /// A setting.
     Setting(&'a [u8]),
+    /// What is about the connection.
+    Session(SessionCommand<'a>),
     /// The connection is to end.
     Quit,
     /// A line of HTTP, as a web page has a browser send it to any port. The connection is to end at once: what follows are no commands of
     /// somebody who means this server.
     Http,
-}
-
-/// What a number stands for in a request.
-#[derive(Clone, Copy, Debug, PartialEq, Eq)]
-pub enum Role {
-    /// It is a key, or an end of a range.
-    Key,
-    /// It is a value, an amount or a limit.
-    Value,
-}
-
-impl fmt::Display for Role {
-    fn fmt(&self, text: &mut fmt::Formatter<'_>) -> fmt::Result {
-        text.write_str(match self {
-            Role::Key => "key",
-            Role::Value => "value",
-        })
-    }
-}
-
-/// Why a request is no command.
-#[derive(Clone, Debug, PartialEq, Eq)]
-pub enum Refusal {
-    /// There is no command of this name.
-    Unknown {
-        /// The name and the words behind it.
-        words: Vec<String>,
-    },
-    /// The command takes another number of words.
-    Arguments {
-        /// The command's name.
-        name: String,
-    },
-    /// A key or a value isn't decimal digits or is above 2^64 - 1, or an amount isn't from -2^63 to 2^63 - 1.
-    Number(Role),
-    /// A number has zeros before its digits, or a minus before 0.
-    Spelling(Role),
-    /// An amount to take away is -2^63, which can't be added.
-    Decrement,
-    /// A word stands where none of the command's may.
-    Syntax,
-    /// A limit isn't from 1 to this.
-    Limit(usize),
-}
-
-impl fmt::Display for Refusal {
-    fn fmt(&self, text: &mut fmt::Formatter<'_>) -> fmt::Result {
-        match self {
-            Refusal::Unknown { words } => {
-                let (name, arguments) = words.split_first().map_or(("", &words[..]), |(name, rest)| (name, rest));
-                write!(text, "ERR unknown command '{name}', with args beginning with: ")?;
-                arguments.iter().try_for_each(|word| write!(text, "'{word}' "))
-            }
-            Refusal::Arguments { name } => write!(text, "ERR wrong number of arguments for '{name}' command"),
-            Refusal::Number(role) => write!(text, "ERR {role} is not an integer or out of range"),
-            Refusal::Spelling(role) => write!(text, "ERR {role} is not in its one spelling, which has no zeros before its digits"),
-            Refusal::Decrement => text.write_str("ERR decrement would overflow"),
-            Refusal::Syntax => text.write_str("ERR syntax error"),
-            Refusal::Limit(most) => write!(text, "ERR LIMIT is out of range, must be from 1 to {most}"),
-        }
-    }
-}
-
-/// A word as an error may say it: its first bytes.
-fn shown(word: &[u8]) -> String {
-    String::from_utf8_lossy(&word[..word.len().min(128)]).into_owned()
-}
-
-/// The number that a word spells, in the one way in which it may be spelled. So a proxy, which shares keys out by their bytes, takes no key
-/// for two, and a value comes back as it was sent.
-fn number<N: FromStr>(word: &[u8], role: Role) -> Result<N, Refusal> {
-    let text = std::str::from_utf8(word).ok().filter(|text| !text.starts_with('+')).ok_or(Refusal::Number(role))?;
-    let number = text.parse().map_err(|_| Refusal::Number(role))?;
-    let digits = text.strip_prefix('-').unwrap_or(text);
-    if digits.starts_with('0') && text != "0" {
-        return Err(Refusal::Spelling(role));
-    }
-    Ok(number)
-}
-
-fn key_of(word: &[u8]) -> Result<u64, Refusal> {
-    number(word, Role::Key)
-}
-
-fn keys_of(words: &[&[u8]]) -> Result<Vec<u64>, Refusal> {
-    words.iter().map(|word| key_of(word)).collect()
-}
-
-fn value_of(word: &[u8]) -> Result<u64, Refusal> {
-    number(word, Role::Value)
-}
-
-/// What is to be added, with a minus before it or not.
-fn amount(word: &[u8]) -> Result<i64, Refusal> {
-    number(word, Role::Value)
-}
-
-/// What is added where this is to be taken away.
-fn negative(word: &[u8]) -> Result<i64, Refusal> {
-    amount(word)?.checked_neg().ok_or(Refusal::Decrement)
 }
 
 /// The pairs of an `MSET`, where their number is even and there is one.
@@ -216,8 +177,46 @@ impl Range {
     }
 }
 
-/// The longest name of a command.
-const LONGEST_NAME: usize = 8;
+impl<'a> Scan<'a> {
+    fn of(cursor: &[u8], rest: &[&'a [u8]]) -> Result<Scan<'a>, Refusal> {
+        let from = value_of(cursor).map_err(|_| Refusal::Told("ERR invalid cursor"))?;
+        let mut scan = Scan { from, count: DEFAULT_COUNT, pattern: None, are_strings: true };
+        for option in rest.chunks(2) {
+            match (Name::of(option[0]).capitals(), option.get(1)) {
+                (b"COUNT", Some(word)) => match usize::try_from(integer(word)?) {
+                    Ok(count) if count > 0 => scan.count = count.min(MAX_LIMIT),
+                    _ => return Err(Refusal::Syntax),
+                },
+                (b"MATCH", Some(word)) => scan.pattern = Some(word),
+                (b"TYPE", Some(word)) => scan.are_strings = word.eq_ignore_ascii_case(b"string"),
+                _ => return Err(Refusal::Syntax),
+            }
+        }
+        Ok(scan)
+    }
+}
+
+/// A `SET` of these words. Where no option is among them it is the plain one.
+fn set<'a>(key: &[u8], value: &[u8], options: &[&[u8]]) -> Result<Command<'a>, Refusal> {
+    let (key, value) = (key_of(key)?, value_of(value)?);
+    match options {
+        [] => Ok(Command::Set { key, value }),
+        _ => Ok(Command::SetAs { key, value, options: Options::of_set(options)? }),
+    }
+}
+
+/// A `SETEX` or `PSETEX`.
+fn set_for<'a>(key: &[u8], time: &[u8], value: &[u8], unit: Unit, name: &'static str) -> Result<Command<'a>, Refusal> {
+    let (key, value) = (key_of(key)?, value_of(value)?);
+    let stay = Stay::Until(Time::After(unit).of_value(time, name)?);
+    Ok(Command::SetAs { key, value, options: Options { stay, ..Options::default() } })
+}
+
+/// An `EXPIRE` or one of the three like it.
+fn expire<'a>(key: &[u8], time: &[u8], options: &[&[u8]], kind: Time, name: &'static str) -> Result<Command<'a>, Refusal> {
+    let only = Only::of(options)?;
+    Ok(Command::Expire { deadline: kind.of_key(time, name)?, key: key_of(key)?, only })
+}
 
 impl<'a> Command<'a> {
     /// The command that a request is.
@@ -227,13 +226,24 @@ impl<'a> Command<'a> {
     pub fn of(request: &'a Request) -> Result<Command<'a>, Refusal> {
         let words = request.words();
         let (name, arguments) = words.split_first().ok_or(Refusal::Syntax)?;
-        let mut upper = [0; LONGEST_NAME];
-        let upper = upper.get_mut(..name.len()).unwrap_or_default();
-        upper.iter_mut().zip(*name).for_each(|(place, byte)| *place = byte.to_ascii_uppercase());
+        let name = Name::of(name);
+        let upper = name.capitals();
         if let Some(command) = Command::with_keys(upper, arguments)? {
             return Ok(command);
         }
-        Command::without_keys(upper, arguments)?.ok_or_else(|| refused(&words, upper))
+        Command::of_others(upper, arguments)?.ok_or_else(|| refused(&words, upper))
+    }
+
+    /// The commands that aren't asked for all the time.
+    #[inline(never)]
+    fn of_others(name: &[u8], arguments: &[&'a [u8]]) -> Result<Option<Command<'a>>, Refusal> {
+        if let Some(command) = Command::with_deadlines(name, arguments)? {
+            return Ok(Some(command));
+        }
+        if let Some(command) = Command::without_keys(name, arguments)? {
+            return Ok(Some(command));
+        }
+        Ok(SessionCommand::of(name, arguments)?.map(Command::Session))
     }
 
     /// A command on pairs. The name is in capitals.
@@ -241,8 +251,7 @@ impl<'a> Command<'a> {
         Ok(Some(match (name, arguments) {
             (b"GET", [key]) => Command::Get(key_of(key)?),
             (b"MGET", [_, ..]) => Command::GetMany(keys_of(arguments)?),
-            (b"SET", [key, value]) => Command::Set { key: key_of(key)?, value: value_of(value)? },
-            (b"SET", [_, _, _, ..]) => return Err(Refusal::Syntax),
+            (b"SET", [key, value, options @ ..]) => set(key, value, options)?,
             (b"MSET", _) => Command::SetMany(pairs(arguments)?),
             (b"SETNX", [key, value]) => Command::SetIfAbsent { key: key_of(key)?, value: value_of(value)? },
             (b"GETSET", [key, value]) => Command::Exchange { key: key_of(key)?, value: value_of(value)? },
@@ -250,24 +259,49 @@ impl<'a> Command<'a> {
             (b"DECR", [key]) => Command::Add { key: key_of(key)?, amount: -1 },
             (b"INCRBY", [key, more]) => Command::Add { key: key_of(key)?, amount: amount(more)? },
             (b"DECRBY", [key, less]) => Command::Add { key: key_of(key)?, amount: negative(less)? },
-            (b"DEL", [_, ..]) => Command::Delete(keys_of(arguments)?),
+            (b"DEL" | b"UNLINK", [_, ..]) => Command::Delete(keys_of(arguments)?),
             (b"GETDEL", [key]) => Command::Take(key_of(key)?),
             (b"EXISTS", [_, ..]) => Command::Exist(keys_of(arguments)?),
+            (b"TYPE", [key]) => Command::Type(key_of(key)?),
             (b"RANGE", [low, high, rest @ ..]) => Command::Range(Range::of(low, high, rest, false)?),
             (b"REVRANGE", [high, low, rest @ ..]) => Command::Range(Range::of(low, high, rest, true)?),
             _ => return Ok(None),
         }))
     }
 
-    /// A command on the index as a whole, or on the connection.
+    /// A command on the deadline of a key.
+    fn with_deadlines(name: &[u8], arguments: &[&[u8]]) -> Result<Option<Command<'a>>, Refusal> {
+        use Unit::{Milliseconds, Seconds};
+        let told = |key: &[u8], unit, is_from_now| Ok(Command::Deadline { key: key_of(key)?, unit, is_from_now });
+        Ok(Some(match (name, arguments) {
+            (b"EXPIRE", [key, time, rest @ ..]) => expire(key, time, rest, Time::After(Seconds), "expire")?,
+            (b"PEXPIRE", [key, time, rest @ ..]) => expire(key, time, rest, Time::After(Milliseconds), "pexpire")?,
+            (b"EXPIREAT", [key, time, rest @ ..]) => expire(key, time, rest, Time::At(Seconds), "expireat")?,
+            (b"PEXPIREAT", [key, time, rest @ ..]) => expire(key, time, rest, Time::At(Milliseconds), "pexpireat")?,
+            (b"TTL", [key]) => told(key, Seconds, true)?,
+            (b"PTTL", [key]) => told(key, Milliseconds, true)?,
+            (b"EXPIRETIME", [key]) => told(key, Seconds, false)?,
+            (b"PEXPIRETIME", [key]) => told(key, Milliseconds, false)?,
+            (b"PERSIST", [key]) => Command::Persist(key_of(key)?),
+            (b"GETEX", [key, options @ ..]) => Command::GetAndExpire { key: key_of(key)?, stay: Stay::of_get(options)? },
+            (b"SETEX", [key, time, value]) => set_for(key, time, value, Seconds, "setex")?,
+            (b"PSETEX", [key, time, value]) => set_for(key, time, value, Milliseconds, "psetex")?,
+            _ => return Ok(None),
+        }))
+    }
+
+    /// A command on the index as a whole, or on the server.
     fn without_keys(name: &[u8], arguments: &[&'a [u8]]) -> Result<Option<Command<'a>>, Refusal> {
         Ok(Some(match (name, arguments) {
             (b"DBSIZE", []) => Command::Size,
-            (b"FLUSHALL", []) => Command::Clear,
-            (b"FLUSHALL", [_, ..]) => return Err(Refusal::Syntax),
+            (b"FLUSHALL" | b"FLUSHDB", []) => Command::Clear,
+            (b"FLUSHALL" | b"FLUSHDB", [how]) if matches!(Name::of(how).capitals(), b"ASYNC" | b"SYNC") => Command::Clear,
+            (b"FLUSHALL" | b"FLUSHDB", [_, ..]) => return Err(Refusal::Syntax),
+            (b"SCAN", [cursor, rest @ ..]) => Command::Scan(Scan::of(cursor, rest)?),
             (b"PING", []) => Command::Ping(None),
             (b"PING", [word]) => Command::Ping(Some(word)),
             (b"ECHO", [word]) => Command::Echo(word),
+            (b"INFO", _) => Command::Info(arguments.to_vec()),
             (b"COMMAND", _) => Command::Commands,
             (b"CONFIG", [get, name]) if get.eq_ignore_ascii_case(b"GET") => Command::Setting(name),
             (b"CONFIG", [_, ..]) => return Err(Refusal::Syntax),
@@ -278,30 +312,13 @@ impl<'a> Command<'a> {
     }
 }
 
+/// The names of commands that take a number of words of their own, but those about the connection.
+const NAMES: &str = "GET MGET SET MSET SETNX GETSET INCR DECR INCRBY DECRBY DEL UNLINK GETDEL EXISTS TYPE RANGE REVRANGE EXPIRE PEXPIRE \
+                     EXPIREAT PEXPIREAT TTL PTTL EXPIRETIME PEXPIRETIME PERSIST GETEX SETEX PSETEX DBSIZE SCAN PING ECHO CONFIG";
+
 /// Why words are no command: there is none of this name, or it takes another number of words.
 fn refused(words: &[&[u8]], upper: &[u8]) -> Refusal {
-    let is_name = matches!(
-        upper,
-        b"GET"
-            | b"MGET"
-            | b"SET"
-            | b"SETNX"
-            | b"GETSET"
-            | b"INCR"
-            | b"DECR"
-            | b"INCRBY"
-            | b"DECRBY"
-            | b"DEL"
-            | b"GETDEL"
-            | b"EXISTS"
-            | b"RANGE"
-            | b"REVRANGE"
-            | b"DBSIZE"
-            | b"PING"
-            | b"ECHO"
-            | b"CONFIG"
-    );
-    if is_name {
+    if [NAMES, session_commands::NAMES].iter().any(|names| names.split(' ').any(|name| name.as_bytes() == upper)) {
         Refusal::Arguments { name: String::from_utf8_lossy(upper).to_ascii_lowercase() }
     } else {
         Refusal::Unknown { words: words.iter().take(5).map(|word| shown(word)).collect() }

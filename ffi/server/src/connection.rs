@@ -1,9 +1,12 @@
 //! One connection: what came by it, what is to be sent, and what it waits for. No call here waits.
 
 use crate::answers::{answer, Clearing};
+use crate::census::Census;
 use crate::commands::Command;
+use crate::info;
 use crate::parser::Parser;
 use crate::replies::Replies;
+use crate::session::Session;
 use crate::store::Store;
 use std::io::{self, ErrorKind, Read, Write};
 use std::net::{Shutdown, SocketAddr, TcpStream};
@@ -65,6 +68,7 @@ pub(crate) struct Connection {
     parser: Parser,
     replies: Replies,
     clearing: Option<Clearing>,
+    session: Session,
     phase: Phase,
     /// Whether requests that came whole may be unanswered.
     is_behind: bool,
@@ -73,9 +77,10 @@ pub(crate) struct Connection {
 }
 
 impl Connection {
-    pub(crate) fn new(stream: TcpStream, now: Instant) -> Connection {
-        let (parser, replies) = (Parser::default(), Replies::default());
-        Connection { stream, parser, replies, clearing: None, phase: Phase::Open, is_behind: false, alive: now }
+    /// The number is this connection's alone.
+    pub(crate) fn new(stream: TcpStream, number: u64, now: Instant) -> Connection {
+        let (parser, replies, session) = (Parser::default(), Replies::default(), Session::new(number));
+        Connection { stream, parser, replies, clearing: None, session, phase: Phase::Open, is_behind: false, alive: now }
     }
 
     /// What is to be waited for.
@@ -100,7 +105,7 @@ impl Connection {
     ///
     /// # Errors
     /// Where the client is gone.
-    pub(crate) fn turn(&mut self, store: &Store, chunk: &mut [u8], now: Instant) -> io::Result<Next> {
+    pub(crate) fn turn(&mut self, store: &Store, census: &Census, chunk: &mut [u8], now: Instant) -> io::Result<Next> {
         if !self.send(now)? {
             return Ok(Next::Write);
         }
@@ -110,7 +115,7 @@ impl Connection {
             Phase::Open | Phase::Heard | Phase::Ending => {}
         }
         if self.phase != Phase::Ending {
-            match self.answer_some(store, now) {
+            match self.answer_some(store, census, now) {
                 Stop::Http => {
                     self.send(now)?;
                     return Ok(Next::EndOfHttp);
@@ -182,7 +187,7 @@ impl Connection {
     }
 
     /// Answers requests that came whole, until there are as many replies as are sent at once. Each request has its reply, in their order.
-    fn answer_some(&mut self, store: &Store, now: Instant) -> Stop {
+    fn answer_some(&mut self, store: &Store, census: &Census, now: Instant) -> Stop {
         while self.replies.unsent().len() < CHUNK {
             if let Some(clearing) = self.clearing.take() {
                 self.alive = now;
@@ -200,13 +205,18 @@ impl Connection {
                 }
             };
             self.alive = now;
-            match &command {
+            let (session, replies) = (&mut self.session, &mut self.replies);
+            match command {
                 Ok(Command::Http) => return Stop::Http,
-                Ok(command) => self.clearing = answer(command, store, &mut self.replies),
-                Err(refusal) => self.replies.error(&refusal.to_string()),
-            }
-            if command == Ok(Command::Quit) {
-                return Stop::Farewell;
+                Ok(Command::Quit) => {
+                    replies.status("OK");
+                    return Stop::Farewell;
+                }
+                Ok(Command::Session(command)) => session.answer(&command, replies),
+                Ok(_) if session.is_in_transaction() => replies.status("QUEUED"),
+                Ok(Command::Info(names)) => info::tell(&names, store, census, replies),
+                Ok(command) => self.clearing = answer(&command, store, replies),
+                Err(refusal) => replies.error(&refusal.to_string()),
             }
         }
         Stop::Turn

@@ -1,10 +1,13 @@
-//! From answers to the bytes of RESP2.
+//! From answers to the bytes of RESP2, or of RESP3 where a client asked for that.
+
+use crate::session_commands::Protocol;
 
 /// Replies, and how far they have been sent.
 #[derive(Debug, Default)]
 pub struct Replies {
     bytes: Vec<u8>,
     sent: usize,
+    protocol: Protocol,
 }
 
 impl Replies {
@@ -25,6 +28,11 @@ impl Replies {
     /// Gives memory back but for so many bytes, where all was sent.
     pub fn shrink_to(&mut self, room: usize) {
         self.bytes.shrink_to(room);
+    }
+
+    /// Replies are written in this protocol from now on.
+    pub fn speak(&mut self, protocol: Protocol) {
+        self.protocol = protocol;
     }
 
     /// A word that says how it went.
@@ -59,7 +67,47 @@ impl Replies {
     pub fn number_or_nil(&mut self, number: Option<u64>) {
         match number {
             Some(number) => self.number(number),
-            None => self.bytes.extend_from_slice(b"$-1\r\n"),
+            None => self.nil(),
+        }
+    }
+
+    /// Something that is absent.
+    pub fn nil(&mut self) {
+        self.bytes.extend_from_slice(match self.protocol {
+            Protocol::Second => b"$-1\r\n",
+            Protocol::Third => b"_\r\n",
+        });
+    }
+
+    /// A text for people.
+    pub fn text(&mut self, text: &str) {
+        match self.protocol {
+            Protocol::Second => self.bulk(text.as_bytes()),
+            Protocol::Third => {
+                self.line(b'=', Decimal::of(text.len() as u64 + 4).digits());
+                self.bytes.extend_from_slice(b"txt:");
+                self.bytes.extend_from_slice(text.as_bytes());
+                self.bytes.extend_from_slice(b"\r\n");
+            }
+        }
+    }
+
+    /// A number that counts, or tells of an absence where it is below 0.
+    pub fn signed(&mut self, number: i64) {
+        if number < 0 {
+            self.bytes.extend_from_slice(b":-");
+            self.bytes.extend_from_slice(Decimal::of(number.unsigned_abs()).digits());
+            self.bytes.extend_from_slice(b"\r\n");
+        } else {
+            self.count(number.unsigned_abs());
+        }
+    }
+
+    /// The begin of a map: so many pairs of replies follow.
+    pub fn map(&mut self, length: usize) {
+        match self.protocol {
+            Protocol::Second => self.array(2 * length),
+            Protocol::Third => self.line(b'%', Decimal::of(length as u64).digits()),
         }
     }
 
@@ -120,6 +168,21 @@ mod tests {
         replies.number(345);
         replies.number_or_nil(None);
         assert_eq!(replies.unsent(), b"+OK\r\n-ERR a  b\r\n:12\r\n*3\r\n$0\r\n\r\n$3\r\n345\r\n$-1\r\n");
+    }
+
+    #[test]
+    fn the_third_protocol_has_kinds_of_its_own() {
+        let mut replies = Replies::default();
+        for protocol in [Protocol::Second, Protocol::Third] {
+            replies.speak(protocol);
+            replies.nil();
+            replies.map(2);
+            replies.text("ab");
+            replies.signed(-2);
+            replies.signed(2);
+        }
+        let (second, third) = ("$-1\r\n*4\r\n$2\r\nab\r\n:-2\r\n:2\r\n", "_\r\n%2\r\n=6\r\ntxt:ab\r\n:-2\r\n:2\r\n");
+        assert_eq!(String::from_utf8_lossy(replies.unsent()), [second, third].concat());
     }
 
     #[test]

@@ -1,5 +1,6 @@
 //! Connections are taken in one thread, and each is handed over to the worker that has the fewest.
 
+use crate::census::Census;
 use crate::replies::Replies;
 use crate::store::Store;
 use crate::system::let_wait;
@@ -38,13 +39,14 @@ impl Default for Limits {
 pub struct Server {
     listener: TcpListener,
     workers: Vec<Inbox>,
-    limits: Limits,
+    census: Arc<Census>,
     /// Of connections that couldn't be taken.
     warnings: Warnings,
 }
 
 impl Server {
-    /// Listens at the address, with a worker for each handle of the index that nobody has.
+    /// Listens at the address, with a worker for each handle of the index that nobody has. Nobody else may update the index, and what it has
+    /// already are values below 2^64 - 2^56.
     ///
     /// # Errors
     /// What the system says to the address, or to one more thread or file. Where all handles are out, and where the pairs of the index
@@ -53,13 +55,14 @@ impl Server {
         let listener = TcpListener::bind(address)?;
         let_wait(&listener, QUEUE)?;
         let stores = Store::all(&index).map_err(|error| io::Error::new(ErrorKind::Other, error))?;
+        let census = Arc::new(Census::new(stores.len(), listener.local_addr()?.port(), limits.connections));
         let of_http = Arc::new(Warnings::default());
-        let inboxes = stores.into_iter().map(|store| Inbox::start(store, limits.idle, Arc::clone(&of_http)));
+        let inboxes = stores.into_iter().map(|store| Inbox::start(store, Arc::clone(&census), limits.idle, Arc::clone(&of_http)));
         let workers = inboxes.collect::<io::Result<Vec<_>>>()?;
         if workers.is_empty() {
             return Err(io::Error::new(ErrorKind::Other, citrus_map::Error::NoHandle));
         }
-        Ok(Server { listener, workers, limits, warnings: Warnings::default() })
+        Ok(Server { listener, workers, census, warnings: Warnings::default() })
     }
 
     /// Where it listens: the port is the system's choice where none was asked for.
@@ -85,8 +88,7 @@ impl Server {
 
     /// Gives the connection to a worker, or tells it why it has none. This thread alone adds connections.
     fn welcome(&self, stream: TcpStream) {
-        let all: usize = self.workers.iter().map(Inbox::load).sum();
-        if all >= self.limits.connections {
+        if self.census.connections() >= self.census.most {
             return turn_away(&stream, "ERR max number of clients reached");
         }
         let handed_over = match self.workers.iter().min_by_key(|worker| worker.load()) {

@@ -1,5 +1,6 @@
 //! A worker: a thread with a handle of the index and with connections of its own.
 
+use crate::census::Census;
 use crate::connection::{Connection, Next, CHUNK};
 use crate::store::Store;
 use crate::system::{Epoll, Interest};
@@ -8,7 +9,6 @@ use std::collections::HashMap;
 use std::io::{self, Read, Write};
 use std::net::TcpStream;
 use std::os::unix::net::UnixStream;
-use std::sync::atomic::{AtomicUsize, Ordering::Relaxed};
 use std::sync::mpsc::{channel, Receiver, Sender, TryRecvError};
 use std::sync::Arc;
 use std::thread;
@@ -17,6 +17,8 @@ use std::time::{Duration, Instant};
 /// It looks for connections that are to end at least so often, and no oftener than the other.
 const LONGEST_BETWEEN_SWEEPS: Duration = Duration::from_millis(500);
 const SHORTEST_BETWEEN_SWEEPS: Duration = Duration::from_millis(10);
+/// So often it looks for keys whose deadline is over, once there are deadlines.
+const BETWEEN_EXPIRIES: Duration = Duration::from_millis(100);
 /// The token of the socket by which a worker is woken. Connections have greater ones.
 const WAKE: u64 = 0;
 
@@ -25,23 +27,23 @@ const WAKE: u64 = 0;
 pub(crate) struct Inbox {
     connections: Sender<TcpStream>,
     wake: UnixStream,
-    load: Arc<AtomicUsize>,
+    census: Arc<Census>,
+    worker: usize,
 }
 
 impl Inbox {
-    /// Starts a worker.
+    /// Starts a worker, which has the number of its store in the census.
     ///
     /// # Errors
     /// Where there is no file or no thread for it.
-    pub(crate) fn start(store: Store, idle: Option<Duration>, warnings: Arc<Warnings>) -> io::Result<Inbox> {
+    pub(crate) fn start(store: Store, census: Arc<Census>, idle: Option<Duration>, warnings: Arc<Warnings>) -> io::Result<Inbox> {
         let (connections, handed_over) = channel();
         let (wake, woken) = UnixStream::pair()?;
         wake.set_nonblocking(true)?;
         woken.set_nonblocking(true)?;
         let epoll = Epoll::new()?;
         epoll.add(&woken, WAKE, Interest::Read)?;
-        let load = Arc::new(AtomicUsize::new(0));
-        let its_load = Arc::clone(&load);
+        let (worker, its_census) = (store.worker(), Arc::clone(&census));
         thread::Builder::new().name("citrus worker".into()).spawn(move || {
             let worker = Worker {
                 epoll,
@@ -54,7 +56,8 @@ impl Inbox {
                 store,
                 idle,
                 swept: Instant::now(),
-                load: its_load,
+                expired: Instant::now(),
+                census: its_census,
                 warnings,
             };
             if let Err(error) = worker.run() {
@@ -62,12 +65,12 @@ impl Inbox {
                 eprintln!("a worker ended, with its connections: {error}");
             }
         })?;
-        Ok(Inbox { connections, wake, load })
+        Ok(Inbox { connections, wake, census, worker })
     }
 
     /// How many connections it has.
     pub(crate) fn load(&self) -> usize {
-        self.load.load(Relaxed)
+        self.census.load(self.worker)
     }
 
     /// Hands a connection over.
@@ -75,7 +78,7 @@ impl Inbox {
     /// # Errors
     /// Gives it back where the worker has ended.
     pub(crate) fn hand_over(&self, stream: TcpStream) -> Result<(), TcpStream> {
-        self.load.fetch_add(1, Relaxed);
+        self.census.came(self.worker);
         self.connections.send(stream).map_err(|refused| refused.0)?;
         // Where there is no room for one more byte it will be woken by those before.
         let _ = (&self.wake).write(&[0]);
@@ -103,7 +106,9 @@ struct Worker {
     idle: Option<Duration>,
     /// When it last looked for connections that are to end.
     swept: Instant,
-    load: Arc<AtomicUsize>,
+    /// When it last looked for keys whose deadline is over.
+    expired: Instant,
+    census: Arc<Census>,
     warnings: Arc<Warnings>,
 }
 
@@ -125,17 +130,28 @@ impl Worker {
                 }
             }
             self.sweep(now);
+            self.expire(now);
         }
     }
 
-    /// How long it may wait: not at all where connections go on, and for ever where there are none.
+    /// How long it may wait: not at all where connections go on, and for ever where there are none and no deadlines.
     fn time_to_sweep(&self) -> Option<Duration> {
         if !self.behind.is_empty() {
-            Some(Duration::ZERO)
-        } else if self.connections.is_empty() {
-            None
-        } else {
-            Some(self.between_sweeps().saturating_sub(self.swept.elapsed()))
+            return Some(Duration::ZERO);
+        }
+        let of_connections = (!self.connections.is_empty()).then(|| self.between_sweeps().saturating_sub(self.swept.elapsed()));
+        let of_keys = self.store.may_expire().then(|| BETWEEN_EXPIRIES.saturating_sub(self.expired.elapsed()));
+        of_connections.into_iter().chain(of_keys).min()
+    }
+
+    /// Takes out some keys whose deadline is over. Where there are many more it does so again when its connections had a turn.
+    fn expire(&mut self, now: Instant) {
+        if !self.store.may_expire() || now.saturating_duration_since(self.expired) < BETWEEN_EXPIRIES {
+            return;
+        }
+        // Where its handle is at its end its clients are told so.
+        if !self.store.expire_some().unwrap_or(false) {
+            self.expired = now;
         }
     }
 
@@ -162,10 +178,10 @@ impl Worker {
         self.last_token += 1;
         let is_ready = stream.set_nonblocking(true).and_then(|()| stream.set_nodelay(true));
         if is_ready.and_then(|()| self.epoll.add(&stream, self.last_token, Interest::Read)).is_ok() {
-            let watched = Watched { connection: Connection::new(stream, now), interest: Interest::Read };
-            self.connections.insert(self.last_token, watched);
+            let connection = Connection::new(stream, self.census.next_number(), now);
+            self.connections.insert(self.last_token, Watched { connection, interest: Interest::Read });
         } else {
-            self.load.fetch_sub(1, Relaxed);
+            self.census.went(self.store.worker(), 1);
         }
     }
 
@@ -174,7 +190,7 @@ impl Worker {
             Some(watched) => watched,
             None => return,
         };
-        let interest = match watched.connection.turn(&self.store, &mut self.chunk, now) {
+        let interest = match watched.connection.turn(&self.store, &self.census, &mut self.chunk, now) {
             Ok(Next::Read) => Interest::Read,
             Ok(Next::Write) => Interest::Write,
             Ok(Next::Turn) => return self.behind.push(token),
@@ -196,7 +212,7 @@ impl Worker {
 
     fn end(&mut self, token: u64) {
         self.connections.remove(&token);
-        self.load.fetch_sub(1, Relaxed);
+        self.census.went(self.store.worker(), 1);
     }
 
     /// Ends the connections that have been quiet for too long.
@@ -207,7 +223,7 @@ impl Worker {
         self.swept = now;
         let (before, idle) = (self.connections.len(), self.idle);
         self.connections.retain(|_, watched| !watched.connection.is_over(now, idle));
-        self.load.fetch_sub(before - self.connections.len(), Relaxed);
+        self.census.went(self.store.worker(), before - self.connections.len());
     }
 }
 
@@ -220,7 +236,7 @@ mod tests {
     fn worker() -> Inbox {
         let index = Index::new(10, 1).expect("there is memory");
         let store = Store::all(&index).expect("an empty index is counted").remove(0);
-        Inbox::start(store, None, Arc::default()).expect("there are files and a thread")
+        Inbox::start(store, Arc::new(Census::new(1, 0, 10)), None, Arc::default()).expect("there are files and a thread")
     }
 
     /// A client, and the connection with it.

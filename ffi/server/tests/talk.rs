@@ -1,45 +1,15 @@
 //! A server on a port of the system's choice, and clients that talk to it.
 
+mod common;
+
 use citrus_map::Index;
 use citrus_server::server::{Limits, Server};
+use common::{client, expect, rest, server, server_with};
 use std::io::{Read, Write};
-use std::net::{Shutdown, SocketAddr, TcpStream};
+use std::net::{Shutdown, TcpStream};
 use std::process::Command;
 use std::thread;
 use std::time::{Duration, Instant};
-
-fn server(pairs: u32, handles: u32) -> SocketAddr {
-    server_with(pairs, handles, Limits::default())
-}
-
-fn server_with(pairs: u32, handles: u32, limits: Limits) -> SocketAddr {
-    let index = Index::new(pairs, handles).unwrap();
-    let server = Server::bind("127.0.0.1:0", index, limits).unwrap();
-    let address = server.address().unwrap();
-    thread::spawn(move || server.run());
-    address
-}
-
-fn client(address: SocketAddr) -> TcpStream {
-    let stream = TcpStream::connect(address).unwrap();
-    stream.set_read_timeout(Some(Duration::from_secs(20))).unwrap();
-    stream
-}
-
-/// Asks, and reads a reply as long as the expected one.
-fn expect(mut stream: &TcpStream, asked: &[u8], expected: &[u8]) {
-    stream.write_all(asked).unwrap();
-    let mut told = vec![0; expected.len()];
-    stream.read_exact(&mut told).unwrap();
-    assert_eq!(String::from_utf8_lossy(&told), String::from_utf8_lossy(expected));
-}
-
-/// All that comes until the server ends the connection.
-fn rest(mut stream: &TcpStream) -> String {
-    let mut told = String::new();
-    stream.read_to_string(&mut told).unwrap();
-    told
-}
 
 #[test]
 fn a_session_is_answered() {

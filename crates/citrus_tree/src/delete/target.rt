@@ -1,5 +1,5 @@
 //! What is deleted, as a section finds it.
-ghost use Rattle.std.specs.Prelude.{◌≡◌, ◌<◌, ◌^◌, ℕ, IfSome, IfNone, Some, None};
+ghost use Rattle.std.specs.Prelude.{◌≡◌, ◌<◌, ◌^◌, ℕ, IfSome, IfNone, Some, None, is_some};
 ghost use Rattle.prcu_model.specs.declared.operation.Op.TheVariants.{Del};
 ghost use Rattle.core_points.specs.declared.stage.Then.TheVariants as next;
 ghost use Rattle.core_points.specs.declared.stage.Stage.TheVariants as at;
@@ -8,7 +8,7 @@ ghost use Rattle.seat_table.specs.Gains.{IsInformed, StoodInside};
 ghost use Rattle.seat_table.specs.Sections.{HasStepped};
 ghost use Rattle.seat_table.specs.Seats.{shape_of};
 ghost use Rattle.tree_points.specs.Points.{IsAt, IsDone};
-ghost use Rattle.citrus_tree.specs.Deletes.{StandsAt, Comes, OnlyLoads, HasSearched, HasTwo, FoundTwoChildren, walked_to};
+ghost use Rattle.citrus_tree.specs.Deletes.{StandsAt, Comes, LeavesFor, LoadsSeen, OnlyLoads, HasSearched, HasTwo, FoundTwoChildren, walked_to};
 ghost use Rattle.citrus_tree.specs.Going.{MayBegin};
 ghost use Rattle.citrus_tree.specs.Replies.{WasAnswered};
 
@@ -18,24 +18,36 @@ use core_state::generation_of;
 use prcu_marks::{Gate, Side};
 use seat_table::{CitrusTable, Part, Seat, WaitPart, steps};
 
-/// Finds the node with the key, in a section of its own, and its successor where it has two children; or nothing, where the key is absent.
+/// A node that a section found, and its value where it was loaded there.
+#[derive(Clone, Copy)]
+pub(crate) struct Sighted {
+    pub(crate) target: Target,
+    pub(crate) value: Option<u64>,
+}
+
+/// Finds the node with the key, in a section of its own, and its successor where it has two children; or nothing, where the key is absent. It
+/// loads the value too, where it looks at that.
 pub(crate) fn find_target<W: WaitPart, G: Gate>(
     table: &CitrusTable<W>,
     seat: &mut Seat<W>,
     gate: &G,
     key: u64,
-) -> Option<Target>
+    looks: bool,
+) -> Option<Sighted>
     requires table { seat.old.table ≡ table.now }
     requires at { (kept : ℕ) × MayBegin (shape_of W.WAY table.now) (Del key) kept seat.old.view }
     ensures seat { (seat.new.table ≡ seat.old.table) × (seat.new.listed ≡ seat.old.listed) }
     ensures found { IfSome result
-        (λ target. (kept : ℕ) → MayBegin (shape_of W.WAY table.now) (Del key) kept seat.old.view
-        → IsAt (shape_of W.WAY table.now) (Del key) kept (at.TargetLock target 0) seat.new.view) }
+        (λ sighted. (kept : ℕ) → MayBegin (shape_of W.WAY table.now) (Del key) kept seat.old.view
+        → IsAt (shape_of W.WAY table.now) (Del key) kept (at.TargetLock sighted.target 0) seat.new.view) }
+    ensures looked { IfSome result (λ sighted. is_some sighted.value ≡ looks) }
+    ensures said { IfSome result (λ sighted. IfSome sighted.value
+        (λ value. WasAnswered seat.old.view key (Some value) seat.new.view)) }
     ensures done { IfNone result
         ((kept : ℕ) → MayBegin (shape_of W.WAY table.now) (Del key) kept seat.old.view
         → IsDone (shape_of W.WAY table.now) (Del key) kept seat.new.view) }
     ensures absent { IfNone result (WasAnswered seat.old.view key None seat.new.view) }
-    ensures two { IfSome result (λ target. HasTwo target → FoundTwoChildren key seat.new.view) }
+    ensures two { IfSome result (λ sighted. HasTwo sighted.target → FoundTwoChildren key seat.new.view) }
     ensures searched { HasSearched seat.old.view key seat.new.view }
     ensures informed { IsInformed seat.new.view }
     ensures stepped { HasStepped seat.old.view seat.new.view }
@@ -43,14 +55,38 @@ pub(crate) fn find_target<W: WaitPart, G: Gate>(
     match descend(table, seat, gate, key) {
         Descent::Found { slot, parent, side } => {
             let target = load_target(table, seat, parent, side, slot);
+            let value = load_seen(table, seat, target, looks);
             W::leave(table, seat);
-            Some(target)
+            Some(Sighted { target, value })
         }
         Descent::Ended { .. } => {
             W::leave(table, seat);
             None
         }
     }
+}
+
+// The value of the node that was found, where it is looked at; else no step is made. It is loaded last, so that all that the call records was
+// found before it.
+fn load_seen<W: WaitPart>(
+    table: &CitrusTable<W>,
+    seat: &mut Seat<W>,
+    target: Target,
+    looks: bool,
+) -> Option<u64>
+    requires table { seat.old.table ≡ table.now }
+    requires at { StandsAt (shape_of W.WAY table.now) (at.Leave (next.Delete target)) seat.old.view }
+    requires inside { StoodInside (shape_of W.WAY table.now) seat.old.view }
+    ensures seat { (seat.new.table ≡ seat.old.table) × (seat.new.listed ≡ seat.old.listed) }
+    ensures looked { is_some result ≡ looks }
+    ensures seen { IfSome result (λ value. LoadsSeen (shape_of W.WAY table.now) target seat.old.view value seat.new.view) }
+    ensures leaves { LeavesFor (shape_of W.WAY table.now) target seat.old.view seat.new.view }
+    ensures same { OnlyLoads seat.old.view seat.new.view }
+{
+    if !looks {
+        return None;
+    }
+    Some(steps::search_load(table, seat, target.node.node, Part::Value))
 }
 
 // What has to be known again of the node that was found, under its locks.

@@ -12,6 +12,7 @@ use super::{Caller, TICKETS};
 use crate::keeper::{forget_if, forget_unless_kept, is_under_way};
 use crate::spinning::{GaveUp, InTheWay};
 use crate::status::Status;
+use citrus_tree::Removed;
 use citrus_tree::patient::{remove, remove_by_bypass};
 use prcu_marks::OpenGate;
 use seat_table::WaitPart;
@@ -28,33 +29,33 @@ const MOST_TURNS: u32 = 64;
 const TURN_TICKETS: u64 = 11;
 
 impl<W: WaitPart> Caller<W> {
-    /// Takes the key's pair out, where it is present, and tells its value. Where others are in its way it spins, or is busy; and so it is where
-    /// its place has no room for what it takes out, until the keeper is over.
-    pub(crate) fn remove(&mut self, key: u64) -> Result<Option<u64>, Status>
-        ensures taken { IfOk result (λ value. IsRemovedTended self.old key value self.new) }
+    /// Takes the key's pair out, where it is present and its value is the expected one if there is one, and tells its value. Where others are in
+    /// its way it spins, or is busy; and so it is where its place has no room for what it takes out, until the keeper is over.
+    pub(crate) fn remove(&mut self, key: u64, expected: Option<u64>) -> Result<Removed, Status>
+        ensures taken { IfOk result (λ removed. IsRemovedTended self.old key expected removed self.new) }
         ensures cause { IfErr result (λ status. CausedTended (Del key) status self.old self.new) }
     {
         if let Some(status) = self.hindrance(TICKETS) {
             return Err(status);
         }
         self.see_to_keeper();
-        self.remove_ready(key)
+        self.remove_ready(key, expected)
     }
 
     // The same, but for what is done about the keeper: by turns where a reader is known to stay.
-    fn remove_ready(&mut self, key: u64) -> Result<Option<u64>, Status>
+    fn remove_ready(&mut self, key: u64, expected: Option<u64>) -> Result<Removed, Status>
         requires may { MayGoOn self.old }
         requires tickets { 4 ≤ self.old.seat.view.allowance.tickets }
-        ensures taken { IfOk result (λ value. IsRemovedReady self.old key value self.new) }
+        ensures taken { IfOk result (λ removed. IsRemovedReady self.old key expected removed self.new) }
         ensures cause { IfErr result (λ status. (ready : CallerAt) × HasTurnedDown key self.old ready × CausedReady (Del key) status ready self.new) }
     {
         if self.lacks_room() {
             return Err(Status::Busy);
         }
         if self.meets_lasting_reader() {
-            return self.remove_by_turns(key);
+            return self.remove_by_turns(key, expected);
         }
-        self.remove_at_once(key)
+        self.remove_at_once(key, expected)
     }
 
     // Whether a reader is known to stay.
@@ -67,12 +68,12 @@ impl<W: WaitPart> Caller<W> {
 
     // Removes the key's pair so that the readers of a move aren't waited for, unless so many turns come to nothing: while the key's node has two
     // children it is turned down.
-    fn remove_by_turns(&mut self, key: u64) -> Result<Option<u64>, Status>
+    fn remove_by_turns(&mut self, key: u64, expected: Option<u64>) -> Result<Removed, Status>
         requires may { MayGoOn self.old }
         requires tickets { 4 ≤ self.old.seat.view.allowance.tickets }
         requires room { LacksRoom self.old self.old → ⊥ }
         requires reader { MeetsLastingReader self.old }
-        ensures taken { IfOk result (λ value. IsRemovedReady self.old key value self.new) }
+        ensures taken { IfOk result (λ removed. IsRemovedReady self.old key expected removed self.new) }
         ensures cause { IfErr result (λ status. (ready : CallerAt) × HasTurnedDown key self.old ready × CausedReady (Del key) status ready self.new) }
     {
         for times in 0..MOST_TURNS {
@@ -82,19 +83,19 @@ impl<W: WaitPart> Caller<W> {
             if self.lacks_room() {
                 return Err(Status::Busy);
             }
-            if let Some(value) = self.bypass(key)? {
-                return Ok(value);
+            if let Some(removed) = self.bypass(key, expected)? {
+                return Ok(removed);
             }
             self.turn_down(key)?;
         }
-        self.remove_at_once(key)
+        self.remove_at_once(key, expected)
     }
 
     // Takes the pair out where its node has one child at most. `None` where it has two, and then no update was made.
-    fn bypass(&mut self, key: u64) -> Result<Option<Option<u64>>, Status>
+    fn bypass(&mut self, key: u64, expected: Option<u64>) -> Result<Option<Removed>, Status>
         requires may { MayGoOn self.old }
         requires tickets { 4 ≤ self.old.seat.view.allowance.tickets }
-        ensures taken { IfOk result (λ answer. IfSome answer (λ value. IsRemoved self.old key value self.new)) }
+        ensures taken { IfOk result (λ answer. IfSome answer (λ removed. IsRemoved self.old key expected removed self.new)) }
         ensures two { IfOk result (λ answer. IfNone answer (IsBusy (Del key) self.old self.new × FoundTwoChildren key self.new.seat.view)) }
         ensures waits { IfOk result (λ _. WaitsOnceAtMost (shape_of self.old.way self.old.table) self.old.seat.view self.new.seat.view) }
         ensures cause { IfErr result (λ status. CausedBy (Del key) status self.old self.new) }
@@ -102,10 +103,10 @@ impl<W: WaitPart> Caller<W> {
         let table = self.shared.table();
         let waits = self.seat.waits();
         let patience = self.spinning.for_call(self.shared.queue());
-        let answer = remove_by_bypass(&patience, table, &mut self.seat, &OpenGate, key);
+        let answer = remove_by_bypass(&patience, table, &mut self.seat, &OpenGate, key, expected);
         forget_if(self.seat.waits() != waits, &mut self.keeper);
         match answer {
-            Ok(Ok(Some(removed))) => Ok(Some(removed.value)),
+            Ok(Ok(Some(removed))) => Ok(Some(removed)),
             Ok(Ok(None)) => Ok(None),
             Ok(Err(InTheWay)) => Err(Status::Busy),
             Err(GaveUp) => {
@@ -137,19 +138,19 @@ impl<W: WaitPart> Caller<W> {
     }
 
     // Removes the key's pair by the copy of its successor where its node has two children: then it waits for the readers between the two.
-    fn remove_at_once(&mut self, key: u64) -> Result<Option<u64>, Status>
+    fn remove_at_once(&mut self, key: u64, expected: Option<u64>) -> Result<Removed, Status>
         requires may { MayGoOn self.old }
         requires tickets { 4 ≤ self.old.seat.view.allowance.tickets }
-        ensures taken { IfOk result (λ value. IsRemoved self.old key value self.new) }
+        ensures taken { IfOk result (λ removed. IsRemoved self.old key expected removed self.new) }
         ensures cause { IfErr result (λ status. CausedBy (Del key) status self.old self.new) }
     {
         let table = self.shared.table();
         let waits = self.seat.waits();
         let patience = self.spinning.for_call(self.shared.queue());
-        let answer = remove(&patience, table, &mut self.seat, &OpenGate, key);
+        let answer = remove(&patience, table, &mut self.seat, &OpenGate, key, expected);
         forget_unless_kept(&self.seat, waits, &mut self.keeper);
         match answer {
-            Ok(Ok(removed)) => Ok(removed.value),
+            Ok(Ok(removed)) => Ok(removed),
             Ok(Err(InTheWay)) => Err(Status::Busy),
             Err(GaveUp) => {
                 self.lost = true;

@@ -5,6 +5,7 @@ ghost use Rattle.seat_table.specs.Seats.{IsQuietSeat};
 use super::{assert_there, put_new, value_of};
 use crate::same::assert_same;
 use citrus_tree::patient::remove_by_bypass;
+use citrus_tree::{Removed, remove};
 use node_slots::{Lock, try_lock, unlock};
 use patience::Steadfast;
 use prcu_marks::OpenGate;
@@ -19,9 +20,29 @@ use waiters::Eer;
 #[derive(Clone, Copy)]
 enum Row {
     /// The key's node is turned down.
-    Sinks { key: u64, comes_to: Sunk },
+    Sinks {
+        key: u64,
+        comes_to: Sunk,
+    },
     /// The key's pair is taken out by a bypass; or its node has two children.
-    Goes { key: u64, gone: bool },
+    Goes {
+        key: u64,
+        gone: bool,
+    },
+    /// The key's pair is taken out where its value is the expected one.
+    Takes {
+        key: u64,
+        expected: u64,
+        comes_to: Removed,
+    },
+}
+
+// The value that a remove took out.
+fn taken_by(removed: Removed) -> Option<u64> {
+    match removed {
+        Removed::Gone { value, .. } => Some(value),
+        _ => None,
+    }
 }
 
 fn make<R: Abort + Wait>(rt: &R, table: &CitrusTable<Eer>, seat: &mut Seat<Eer>, row: Row)
@@ -37,14 +58,24 @@ fn make<R: Abort + Wait>(rt: &R, table: &CitrusTable<Eer>, seat: &mut Seat<Eer>,
             Ok(sunk) => assert_same(rt, sunk, comes_to, key),
             Err(never) => match never {},
         },
-        Row::Goes { key, gone } => match remove_by_bypass(&patience, table, seat, &OpenGate, key) {
-            Ok(Ok(Some(removed))) => {
-                assert_same(rt, removed.value, gone.then_some(value_of(key)), key);
+        Row::Goes { key, gone } => {
+            match remove_by_bypass(&patience, table, seat, &OpenGate, key, None) {
+                Ok(Ok(Some(removed))) => {
+                    assert_same(rt, taken_by(removed), gone.then_some(value_of(key)), key);
+                }
+                Ok(Ok(None)) => assert_same(rt, gone, false, key),
+                Ok(Err(never)) => match never {},
+                Err(never) => match never {},
             }
-            Ok(Ok(None)) => assert_same(rt, gone, false, key),
-            Ok(Err(never)) => match never {},
-            Err(never) => match never {},
-        },
+        }
+        Row::Takes {
+            key,
+            expected,
+            comes_to,
+        } => {
+            let removed = remove(rt, table, seat, &OpenGate, key, Some(expected));
+            assert_same(rt, removed, comes_to, key);
+        }
     }
 }
 
@@ -175,5 +206,40 @@ fn a_full_table_turns_nothing(rt: HostRuntime) -> Result<(), Fail> {
             comes_to: Sunk::NoSlot,
         }],
     );
+    Ok(())
+}
+
+#[test]
+fn a_pair_goes_where_its_value_is_the_expected_one(rt: HostRuntime) -> Result<(), Fail> {
+    let (table, mut seat) = CitrusTable::<Eer>::new(rt.alloc(), 40, 1, 1000)?;
+    put_all(&rt, &table, &mut seat, &[2, 1, 3]);
+    let rows = [
+        Row::Takes {
+            key: 4,
+            expected: value_of(4),
+            comes_to: Removed::Absent,
+        },
+        Row::Takes {
+            key: 2,
+            expected: value_of(3),
+            comes_to: Removed::Differs { found: value_of(2) },
+        },
+        Row::Takes {
+            key: 3,
+            expected: value_of(3),
+            comes_to: Removed::Gone {
+                number: 4,
+                value: value_of(3),
+            },
+        },
+        Row::Takes {
+            key: 3,
+            expected: value_of(3),
+            comes_to: Removed::Absent,
+        },
+    ];
+    make_each(&rt, &table, &mut seat, &rows);
+    assert_all_there(&rt, &table, &mut seat, &[1, 2]);
+    assert_there(&rt, &table, &mut seat, 3, false);
     Ok(())
 }

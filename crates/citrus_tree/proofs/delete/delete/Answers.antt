@@ -1,19 +1,19 @@
 use Rattle.core_points.specs.declared.stage.Stage.TheVariants as at
-use Rattle.std.specs.declared.option.Option.TheVariants.{None}
-use Rattle.std.specs.Option.{IfSome, IfNone}
+use Rattle.std.specs.declared.option.Option.TheVariants.{None, Some}
+use Rattle.std.specs.Option.{IfSome, IfNone, is_some}
 use Rattle.seat_table.specs.Gains.{IsInformed}
 use Rattle.citrus_tree.specs.Replies.{RetiresInOrder, WasAnswered}
 use Rattle.citrus_tree.specs.declared.delete.Deleted.{Deleted}
-use Rattle.citrus_tree.specs.Going.{KeepsWait, MayBegin}
+use Rattle.citrus_tree.specs.Going.{IsExpected, IsOther, KeepsWait, MayBegin}
 use Rattle.citrus_tree.specs.Deletes.{FoundTwoChildren, HasDeleted, HasTwo, KeepsRest, KeepsWaits, TellsTaken}
-use Rattle.core_points.specs.declared.stage.Target.{Target}
+use Rattle.citrus_tree.specs.declared.delete.target.Sighted.{Sighted}
 use Rattle.prcu_model.specs.declared.operation.Op.TheVariants.{Del}
 use Rattle.tree_points.specs.Points.{IsAt, IsDone}
 use Rattle.seat_table.specs.Seats.{shape_of}
 use Rattle.std.specs.declared.option.Option.{Option}
 use Rattle.std.proofs.Common.{refl, ◌∙◌, ap, length, subst, ℕ, ◌≡◌, true, arith}
-use Rattle.citrus_tree.proofs.DeleteTries.{absent_begins, absent_dels, absent_wait, gone_begins, gone_dels, gone_wait, listed_still, rests_begins, rests_wait, rests_way, tried_retires, tries_again, tries_first, tells_gone, searched_waits, waits_on}
-use Rattle.citrus_tree.proofs.DeleteSearches.{left_there, rest_none}
+use Rattle.citrus_tree.proofs.DeleteTries.{absent_begins, absent_dels, absent_wait, gone_begins, gone_dels, gone_wait, listed_still, rests_begins, rests_wait, rests_way, tried_retires, tries_again, tries_first, found_expected, tells_gone, searched_waits, waits_on}
+use Rattle.citrus_tree.proofs.DeleteSearches.{answered_before, left_there, rest_none}
 use Rattle.citrus_tree.proofs.Replacing.{rests_at}
 use Rattle.citrus_tree.proofs.Leavings.{none_back_on, none_back_same, searched_slots, slots_on, slots_self}
 use Rattle.citrus_tree.proofs.DeleteMoves.{few_retired}
@@ -35,7 +35,7 @@ pub find_target-requires-clause-at : goal.find_target-requires-clause-at
 find_target-requires-clause-at g c = let a = c.requires.at in (a.0, c.loop-round.invariant.tries.ready a.0 a.1)
 
 pub returns-in_default-clause-done : goal.returns-in_default-clause-done
-returns-in_default-clause-done g c kept a = subst (λ (r : Option Target). IfNone r ((kept : ℕ)
+returns-in_default-clause-done g c kept a = subst (λ (r : Option Sighted). IfNone r ((kept : ℕ)
     → MayBegin (shape_of g.W.WaitWords.WAY c.args.table.now) (Del c.args.key) kept c.loop-round.seat.view
     → IsDone (shape_of g.W.WaitWords.WAY c.args.table.now) (Del c.args.key) kept c.find_target.new.seat.view)) c.in_default.is
     c.find_target.ensures.done kept (c.loop-round.invariant.tries.ready kept a)
@@ -53,26 +53,39 @@ delete_node-requires-clause-listed g c = listed_still c.loop-round.seat c.find_t
 
 pub returns-in_default-clause-dels : goal.returns-in_default-clause-dels
 returns-in_default-clause-dels g c = absent_dels c.loop-round.invariant.tries c.find_target.ensures.searched
-    (subst (λ (r : Option Target). IfNone r
+    (subst (λ (r : Option Sighted). IfNone r
     (WasAnswered c.loop-round.seat.view c.args.key None c.find_target.new.seat.view)) c.in_default.is c.find_target.ensures.absent)
 
 pub delete_node-requires-clause-at : goal.delete_node-requires-clause-at
 delete_node-requires-clause-at g c = let a = c.requires.at in (
   a.0,
-  (subst (λ (r : Option Target). IfSome r
-      (λ target. (kept : ℕ) → MayBegin (shape_of g.W.WaitWords.WAY c.args.table.now) (Del c.args.key) kept c.loop-round.seat.view
+  (subst (λ (r : Option Sighted). IfSome r
+      (λ sighted. (kept : ℕ) → MayBegin (shape_of g.W.WaitWords.WAY c.args.table.now) (Del c.args.key) kept c.loop-round.seat.view
       → IsAt (shape_of g.W.WaitWords.WAY c.args.table.now) (Del c.args.key) kept
-      (at.TargetLock target 0) c.find_target.new.seat.view)) c.in-Some.is c.find_target.ensures.found) a.0
+      (at.TargetLock sighted.target 0) c.find_target.new.seat.view)) c.in-Some.is c.find_target.ensures.found) a.0
       (c.loop-round.invariant.tries.ready a.0 a.1),
 )
 
+pub delete_node-requires-clause-seen : goal.delete_node-requires-clause-seen
+delete_node-requires-clause-seen g c =
+    let v = c.loop-round.seat.view in
+    let w = c.find_target.new.seat.view in
+    let expected = c.args.manner.expected in
+    found_expected v w c.args.key expected c.in-Some.sighted.value
+    (subst (λ (r : Option Sighted). IfSome r (λ sighted. is_some sighted.value ≡ c.is_some.result)) c.in-Some.is c.find_target.ensures.looked
+    ∙ c.is_some.ensures)
+    (subst (λ (r : Option Sighted). IfSome r (λ sighted. IfSome sighted.value (λ value. WasAnswered v c.args.key (Some value) w))) c.in-Some.is
+    c.find_target.ensures.said)
+    (subst (λ (r : Option ℕ). IfNone r (IfSome c.in-Some.sighted.value (λ found. IsExpected expected found))) c.in_default-other_value.is
+    c.other_value.ensures.wanted)
+
 pub returns-in-Some-2-clause-done : goal.returns-in-Some-2-clause-done
 returns-in-Some-2-clause-done g c kept a =
-    let target = c.in-Some.target in
-    let locks = subst (λ (r : Option Target). IfSome r (λ target. (kept : ℕ)
+    let target = c.in-Some.sighted.target in
+    let locks = subst (λ (r : Option Sighted). IfSome r (λ sighted. (kept : ℕ)
     → MayBegin (shape_of g.W.WaitWords.WAY c.args.table.now) (Del c.args.key) kept c.loop-round.seat.view
     → IsAt (shape_of g.W.WaitWords.WAY c.args.table.now) (Del c.args.key) kept
-    (at.TargetLock target 0) c.find_target.new.seat.view)) c.in-Some.is c.find_target.ensures.found kept
+    (at.TargetLock sighted.target 0) c.find_target.new.seat.view)) c.in-Some.is c.find_target.ensures.found kept
     (c.loop-round.invariant.tries.ready kept a) in
     subst (λ (r : Option Deleted). IfSome r (λ _. (kept : ℕ)
     → IsAt (shape_of g.W.WaitWords.WAY c.args.table.now) (Del c.args.key) kept
@@ -108,13 +121,13 @@ loop-round-preserved g c = record {
       (KeepsRest c.find_target.new.seat.view c.delete_node.new.seat.view)) c.in_default-2.is c.in_ok-taken.ensures.same)
       (λ kept a. (subst (λ (r : Option Deleted). IfNone r
       ((kept : ℕ) → IsAt (shape_of g.W.WaitWords.WAY c.args.table.now) (Del c.args.key) kept
-      (at.TargetLock c.in-Some.target 0) c.find_target.new.seat.view
+      (at.TargetLock c.in-Some.sighted.target 0) c.find_target.new.seat.view
       → IsAt (shape_of g.W.WaitWords.WAY c.args.table.now)
       (Del c.args.key) kept at.EnterClock c.delete_node.new.seat.view)) c.in_default-2.is c.in_ok-taken.ensures.again) kept
-      ((subst (λ (r : Option Target). IfSome r (λ target. (kept : ℕ)
+      ((subst (λ (r : Option Sighted). IfSome r (λ sighted. (kept : ℕ)
       → MayBegin (shape_of g.W.WaitWords.WAY c.args.table.now) (Del c.args.key) kept c.loop-round.seat.view
       → IsAt (shape_of g.W.WaitWords.WAY c.args.table.now) (Del c.args.key) kept
-      (at.TargetLock target 0) c.find_target.new.seat.view)) c.in-Some.is c.find_target.ensures.found) kept a));
+      (at.TargetLock sighted.target 0) c.find_target.new.seat.view)) c.in-Some.is c.find_target.ensures.found) kept a));
   slots = slots_on c.args.seat.now c.find_target.new.seat c.delete_node.new.seat
       (searched_slots c.args.seat.now c.loop-round.seat c.find_target.new.seat c.args.key c.loop-round.invariant.slots
       c.find_target.ensures.searched
@@ -187,13 +200,13 @@ returns-in-Err-clause-begins g c = rests_begins c.loop-round.invariant.tries c.f
 pub returns-in-Err-clause-done : goal.returns-in-Err-clause-done
 returns-in-Err-clause-done g c kept a = rests_at refl ((subst (λ (r : Option Deleted). IfNone r
     ((kept : ℕ) → IsAt (shape_of g.W.WaitWords.WAY c.args.table.now) (Del c.args.key) kept
-    (at.TargetLock c.in-Some.target 0) c.find_target.new.seat.view
+    (at.TargetLock c.in-Some.sighted.target 0) c.find_target.new.seat.view
     → IsAt (shape_of g.W.WaitWords.WAY c.args.table.now)
     (Del c.args.key) kept at.EnterClock c.delete_node.new.seat.view)) c.in_default-2.is c.in_ok-taken.ensures.again) kept
-    ((subst (λ (r : Option Target). IfSome r (λ target. (kept : ℕ)
+    ((subst (λ (r : Option Sighted). IfSome r (λ sighted. (kept : ℕ)
     → MayBegin (shape_of g.W.WaitWords.WAY c.args.table.now) (Del c.args.key) kept c.loop-round.seat.view
     → IsAt (shape_of g.W.WaitWords.WAY c.args.table.now) (Del c.args.key) kept
-    (at.TargetLock target 0) c.find_target.new.seat.view)) c.in-Some.is c.find_target.ensures.found) kept
+    (at.TargetLock sighted.target 0) c.find_target.new.seat.view)) c.in-Some.is c.find_target.ensures.found) kept
     (c.loop-round.invariant.tries.ready kept a)))
 
 pub returns-in-Err-clause-wait : goal.returns-in-Err-clause-wait
@@ -241,7 +254,7 @@ returns-in_default-clause-unwaited g c = λ leaves. searched_waits c.loop-round.
 pub returns-in-Some-2-clause-unwaited : goal.returns-in-Some-2-clause-unwaited
 returns-in-Some-2-clause-unwaited g c = λ leaves.
     waits_on (searched_waits c.loop-round.invariant.tries c.find_target.ensures.searched)
-    ((subst (λ (r : Option Deleted). IfSome r (λ _. c.in-Some.target.successor ≡ None
+    ((subst (λ (r : Option Deleted). IfSome r (λ _. c.in-Some.sighted.target.successor ≡ None
     → KeepsWaits c.find_target.new.seat.view c.delete_node.new.seat.view)) c.in-Some-2.is c.in_ok-taken.ensures.unwaited)
     (c.is_left.ensures.taken c.if-is_left.false leaves))
 
@@ -252,10 +265,10 @@ returns-in-Err-clause-unwaited g c = λ leaves.
     c.in_ok-taken.ensures.same).waits
 
 pub returns-then-is_left-clause-done : goal.returns-then-is_left-clause-done
-returns-then-is_left-clause-done g c kept a = left_there ((subst (λ (r : Option Target). IfSome r (λ target. (kept : ℕ)
+returns-then-is_left-clause-done g c kept a = left_there ((subst (λ (r : Option Sighted). IfSome r (λ sighted. (kept : ℕ)
     → MayBegin (shape_of g.W.WaitWords.WAY c.args.table.now) (Del c.args.key) kept c.loop-round.seat.view
     → IsAt (shape_of g.W.WaitWords.WAY c.args.table.now) (Del c.args.key) kept
-    (at.TargetLock target 0) c.find_target.new.seat.view)) c.in-Some.is c.find_target.ensures.found) kept
+    (at.TargetLock sighted.target 0) c.find_target.new.seat.view)) c.in-Some.is c.find_target.ensures.found) kept
     (c.loop-round.invariant.tries.ready kept a))
 
 pub returns-then-is_left-clause-asked : goal.returns-then-is_left-clause-asked
@@ -263,8 +276,21 @@ returns-then-is_left-clause-asked g c = (c.is_left.ensures.left c.if-is_left.tru
 
 pub returns-then-is_left-clause-two : goal.returns-then-is_left-clause-two
 returns-then-is_left-clause-two g c =
-    (subst (λ (r : Option Target). IfSome r (λ target. HasTwo target → FoundTwoChildren c.args.key c.find_target.new.seat.view)) c.in-Some.is
+    (subst (λ (r : Option Sighted). IfSome r (λ sighted. HasTwo sighted.target → FoundTwoChildren c.args.key c.find_target.new.seat.view)) c.in-Some.is
     c.find_target.ensures.two) (c.is_left.ensures.left c.if-is_left.true).1
+
+pub returns-then-is_left-clause-seen : goal.returns-then-is_left-clause-seen
+returns-then-is_left-clause-seen g c =
+    let v = c.loop-round.seat.view in
+    let w = c.find_target.new.seat.view in
+    let expected = c.args.manner.expected in
+    found_expected v w c.args.key expected c.in-Some.sighted.value
+    (subst (λ (r : Option Sighted). IfSome r (λ sighted. is_some sighted.value ≡ c.is_some.result)) c.in-Some.is c.find_target.ensures.looked
+    ∙ c.is_some.ensures)
+    (subst (λ (r : Option Sighted). IfSome r (λ sighted. IfSome sighted.value (λ value. WasAnswered v c.args.key (Some value) w))) c.in-Some.is
+    c.find_target.ensures.said)
+    (subst (λ (r : Option ℕ). IfNone r (IfSome c.in-Some.sighted.value (λ found. IsExpected expected found))) c.in_default-other_value.is
+    c.other_value.ensures.wanted)
 
 pub returns-then-is_left-clause-left : goal.returns-then-is_left-clause-left
 returns-then-is_left-clause-left g c =
@@ -296,3 +322,58 @@ returns-then-is_left-clause-stays g c = none_back_on c.args.seat.now c.loop-roun
 pub returns-then-is_left-clause-few : goal.returns-then-is_left-clause-few
 returns-then-is_left-clause-few g c =
     let same = ap length (c.find_target.ensures.seat.1 ∙ c.loop-round.invariant.same) in omega (arith, same)
+
+pub returns-in-Some-other_value-clause-done : goal.returns-in-Some-other_value-clause-done
+returns-in-Some-other_value-clause-done g c kept a = left_there ((subst (λ (r : Option Sighted). IfSome r (λ sighted. (kept : ℕ)
+    → MayBegin (shape_of g.W.WaitWords.WAY c.args.table.now) (Del c.args.key) kept c.loop-round.seat.view
+    → IsAt (shape_of g.W.WaitWords.WAY c.args.table.now) (Del c.args.key) kept
+    (at.TargetLock sighted.target 0) c.find_target.new.seat.view)) c.in-Some.is c.find_target.ensures.found) kept
+    (c.loop-round.invariant.tries.ready kept a))
+
+pub returns-in-Some-other_value-clause-begins : goal.returns-in-Some-other_value-clause-begins
+returns-in-Some-other_value-clause-begins g c = absent_begins c.loop-round.invariant.tries c.find_target.ensures.searched
+
+pub returns-in-Some-other_value-clause-wait : goal.returns-in-Some-other_value-clause-wait
+returns-in-Some-other_value-clause-wait g c = absent_wait c.loop-round.invariant.tries c.find_target.ensures.searched
+
+pub returns-in-Some-other_value-clause-unwaited : goal.returns-in-Some-other_value-clause-unwaited
+returns-in-Some-other_value-clause-unwaited g c = λ leaves. searched_waits c.loop-round.invariant.tries c.find_target.ensures.searched
+
+pub returns-in-Some-other_value-clause-slots : goal.returns-in-Some-other_value-clause-slots
+returns-in-Some-other_value-clause-slots g c =
+    searched_slots c.args.seat.now c.loop-round.seat c.find_target.new.seat c.args.key c.loop-round.invariant.slots
+    c.find_target.ensures.searched
+    c.find_target.ensures.seat.1
+
+pub returns-in-Some-other_value-clause-listed : goal.returns-in-Some-other_value-clause-listed
+returns-in-Some-other_value-clause-listed g c = listed_still c.loop-round.seat c.find_target.new.seat c.find_target.ensures.seat.1
+    c.find_target.ensures.searched.retired c.loop-round.invariant.listed
+
+pub returns-in-Some-other_value-clause-stays : goal.returns-in-Some-other_value-clause-stays
+returns-in-Some-other_value-clause-stays g c = none_back_on c.args.seat.now c.loop-round.seat c.find_target.new.seat c.loop-round.invariant.stays
+    (none_back_same c.loop-round.seat c.find_target.new.seat c.find_target.ensures.searched.stay c.find_target.ensures.seat.1)
+
+pub returns-in-Some-other_value-clause-few : goal.returns-in-Some-other_value-clause-few
+returns-in-Some-other_value-clause-few g c =
+    let same = ap length (c.find_target.ensures.seat.1 ∙ c.loop-round.invariant.same) in omega (arith, same)
+
+pub returns-in-Some-other_value-clause-other : goal.returns-in-Some-other_value-clause-other
+returns-in-Some-other_value-clause-other g c =
+    rests_way c.loop-round.invariant.tries c.find_target.ensures.searched (rest_none c.find_target.new.seat.view)
+
+pub returns-in-Some-other_value-clause-differs : goal.returns-in-Some-other_value-clause-differs
+returns-in-Some-other_value-clause-differs g c =
+    let w = c.find_target.new.seat.view in
+    let other = subst (λ (r : Option ℕ). IfSome r (λ found. (c.in-Some.sighted.value ≡ Some found) × IsOther c.args.manner.expected found))
+    c.in-Some-other_value.is c.other_value.ensures.other in
+    let said = subst (λ (r : Option Sighted). IfSome r (λ sighted. IfSome sighted.value
+    (λ value. WasAnswered c.loop-round.seat.view c.args.key (Some value) w))) c.in-Some.is c.find_target.ensures.said in (
+      answered_before c.loop-round.invariant.tries.advanced (subst (λ (r : Option ℕ). IfSome r
+          (λ value. WasAnswered c.loop-round.seat.view c.args.key (Some value) w)) other.0 said),
+      other.1,
+      c.find_target.ensures.informed,
+    )
+
+pub returns-in-Some-2-clause-wanted : goal.returns-in-Some-2-clause-wanted
+returns-in-Some-2-clause-wanted g c = subst (λ (r : Option Deleted). IfSome r
+    (λ taken. IfSome taken.value (λ value. IsExpected c.args.manner.expected value))) c.in-Some-2.is c.in_ok-taken.ensures.wanted

@@ -9,7 +9,7 @@ use Rattle.tree_points.specs.Points.{IsAt, IsDone}
 use Rattle.tree_points.proofs.Locks.{advanced_on}
 use Rattle.citrus_tree.specs.Deletes.{AreLivesSmall, Comes, HasDeleted, KeepsRest, RetiresIf, TakesValue}
 use Rattle.citrus_tree.specs.Going.{KeepsWait}
-use Rattle.citrus_tree.proofs.DeleteUpdates.{keeps_rest, rest_of, told_taken}
+use Rattle.citrus_tree.proofs.DeleteUpdates.{gives_up_node, keeps_rest, rest_of, told_taken}
 use Rattle.citrus_tree.proofs.DeleteMoves.{deleted_later, bypass_deletes, one_retired, retires_before}
 use Rattle.citrus_tree.proofs.Leavings.{none_back_on, none_back_same, rest_slots, slots_on, slots_rest, none_begun, wait_later}
 use Rattle.citrus_tree.proofs.DeleteTries.{listed_still, waits_on}
@@ -318,3 +318,16 @@ returns-in_default-2-clause-stays g c =
     (none_back_same c.validate.new.seat c.value_where-value.new.seat c.value_where-value.ensures.same.stay
     c.value_where-value.ensures.seat.1) in
     none_back_on c.args.seat.now c.value_where-value.new.seat c.shift.new.seat valued c.in_ok-number-in-Some-successor.ensures.stays
+
+pub unlock_target-requires-then-is_some-clause-at : goal.unlock_target-requires-then-is_some-clause-at
+unlock_target-requires-then-is_some-clause-at g c = let a = c.requires.at in (
+  Del c.args.key,
+  a.0,
+  gives_up_node c.in-Some.node c.args.target.now.successor (c.value_where-value.ensures.at (Del c.args.key) a.0
+      (c.in-Some.ensures.holds (Del c.args.key) a.0 (c.lock_target.ensures.got c.if-not-lock_target.false (Del c.args.key) a.0 a.1))),
+)
+
+pub returns-then-is_some-clause-again : goal.returns-then-is_some-clause-again
+returns-then-is_some-clause-again g c kept a = c.unlock_target-then-is_some.ensures.at (Del c.args.key) kept
+    (gives_up_node c.in-Some.node c.args.target.now.successor (c.value_where-value.ensures.at (Del c.args.key) kept
+    (c.in-Some.ensures.holds (Del c.args.key) kept (c.lock_target.ensures.got c.if-not-lock_target.false (Del c.args.key) kept a))))

@@ -4,6 +4,7 @@ use Rattle.citrus_tree.specs.Going.{taken_stage, leaf_stage}
 use Rattle.seat_table.specs.Seats.{shape_of, IsSlotOf}
 use Rattle.std.specs.declared.option.Option.{Option}
 use Rattle.citrus_tree.proofs.Linking.{leaf_taken, room_goes, takes_none}
+use Rattle.std.proofs.lemmas.Result.{IfErr-at_err, IfOk-at_ok}
 use Rattle.std.proofs.Common.{[], None, Some, inl, subst, ℕ}
 use Rattle.core_points.specs.declared.stage.Spot.{Spot}
 use Rattle.core_points.specs.declared.stage.Stage.TheVariants as at
@@ -43,32 +44,46 @@ take_slot-requires-clause-at g c = let a = c.requires.at in (
 )
 
 pub fill_leaf-requires-clause-slot : goal.fill_leaf-requires-clause-slot
-fill_leaf-requires-clause-slot g c = c.in_ok-slot.ensures.slot _ c.in-Some-2.is
+fill_leaf-requires-clause-slot g c = (IfOk-at_ok _ c.in-Ok.is c.in_ok-taken.ensures.slot) _ c.in-Some-taken.is
 
 pub fill_leaf-requires-clause-at : goal.fill_leaf-requires-clause-at
 fill_leaf-requires-clause-at g c = let a = c.requires.at in (
   a.0,
   a.1,
   subst (λ (r : Option ℕ). IsAt (shape_of g.W.WaitWords.WAY c.args.table.now) (Put c.args.key c.args.value) a.0
-      (taken_stage r a.1) c.take_slot.new.seat.view) c.in-Some-2.is
-      (c.in_ok-slot.ensures.at a.1 1 (Put c.args.key c.args.value) a.0
+      (taken_stage r a.1) c.take_slot.new.seat.view) c.in-Some-taken.is
+      ((IfOk-at_ok _ c.in-Ok.is c.in_ok-taken.ensures.at) a.1 1 (Put c.args.key c.args.value) a.0
       (leaf_taken c.args.seat.now.view.hands.hand c.in_default.ensures a.2)),
 )
 
-pub returns-in_default-2-clause-slots : goal.returns-in_default-2-clause-slots
-returns-in_default-2-clause-slots g c =
-    leaf_new c.args.reuse c.args.seat.now c.take_slot.new.seat c.args.seat.now.view.hands.hand c.in_default.ensures c.in_ok-slot.ensures.slots
+pub returns-in_default-taken-clause-slots : goal.returns-in_default-taken-clause-slots
+returns-in_default-taken-clause-slots g c =
+    leaf_new c.args.reuse c.args.seat.now c.take_slot.new.seat c.args.seat.now.view.hands.hand c.in_default.ensures c.in_ok-taken.ensures.slots
+
+pub returns-in_default-taken-clause-at : goal.returns-in_default-taken-clause-at
+returns-in_default-taken-clause-at g c kept spot a = subst (λ (r : Option ℕ). IsAt (shape_of g.W.WaitWords.WAY c.args.table.now)
+    (Put c.args.key c.args.value) kept (taken_stage r spot) c.take_slot.new.seat.view) c.in_default-taken.is
+    ((IfOk-at_ok _ c.in-Ok.is c.in_ok-taken.ensures.at) spot 1 (Put c.args.key c.args.value) kept
+    (leaf_taken c.args.seat.now.view.hands.hand c.in_default.ensures a))
+
+pub returns-in-Err-clause-slots : goal.returns-in-Err-clause-slots
+returns-in-Err-clause-slots g c =
+    leaf_new c.args.reuse c.args.seat.now c.take_slot.new.seat c.args.seat.now.view.hands.hand c.in_default.ensures c.in_ok-taken.ensures.slots
+
+pub returns-in-Err-clause-busy : goal.returns-in-Err-clause-busy
+returns-in-Err-clause-busy g c kept spot a = (IfErr-at_err _ c.in-Err.is c.in_ok-taken.ensures.busy) spot 1 (Put c.args.key c.args.value) kept
+    (leaf_taken c.args.seat.now.view.hands.hand c.in_default.ensures a)
 
 pub returns-clause-room : goal.returns-clause-room
-returns-clause-room g c = room_goes c.in_ok-slot.ensures.room c.fill_leaf.ensures.goes
+returns-clause-room g c = room_goes c.in_ok-taken.ensures.room c.fill_leaf.ensures.goes
 
 pub returns-clause-slots : goal.returns-clause-slots
 returns-clause-slots g c = leaf_new c.args.reuse c.args.seat.now c.fill_leaf.new.seat c.args.seat.now.view.hands.hand c.in_default.ensures
-    (takes_goes c.args.reuse c.args.seat.now.view.hands.spare c.args.seat.now c.take_slot.new.seat c.fill_leaf.new.seat [] c.in_ok-slot.ensures.slots c.fill_leaf.ensures.goes c.fill_leaf.ensures.seat.1)
+    (takes_goes c.args.reuse c.args.seat.now.view.hands.spare c.args.seat.now c.take_slot.new.seat c.fill_leaf.new.seat [] c.in_ok-taken.ensures.slots c.fill_leaf.ensures.goes c.fill_leaf.ensures.seat.1)
 
 pub returns-clause-at : goal.returns-clause-at
 returns-clause-at g c kept spot a =
     c.fill_leaf.ensures.at kept spot (subst (λ (r : Option ℕ). IsAt (shape_of g.W.WaitWords.WAY c.args.table.now)
-    (Put c.args.key c.args.value) kept (taken_stage r spot) c.take_slot.new.seat.view) c.in-Some-2.is
-    (c.in_ok-slot.ensures.at spot 1 (Put c.args.key c.args.value) kept
+    (Put c.args.key c.args.value) kept (taken_stage r spot) c.take_slot.new.seat.view) c.in-Some-taken.is
+    ((IfOk-at_ok _ c.in-Ok.is c.in_ok-taken.ensures.at) spot 1 (Put c.args.key c.args.value) kept
     (leaf_taken c.args.seat.now.view.hands.hand c.in_default.ensures a)))

@@ -107,6 +107,24 @@ returns-then-is_empty-clause-full g c e =
     let vain = tried _ _ _ _ _ c.in_default.is c.in_ok-slot.ensures.tries in
     is_full_now none vain nothing c.requires.at.2.2
 
+-- where it is busy nothing is in hand, as where nothing is free
+
+pub returns-in-Err-clause-listed : goal.returns-in-Err-clause-listed
+returns-in-Err-clause-listed g c = listed_on c.args.seat.now c.take.new.seat c.take.ensures.seat.1
+    (none_retired_now (took _ _ _ c.in_default.is c.in_ok-slot.ensures.view)) c.requires.listed
+
+pub returns-in-Err-clause-busy : goal.returns-in-Err-clause-busy
+returns-in-Err-clause-busy g c spot expected op kept a = none_ends (took _ _ _ c.in_default.is c.in_ok-slot.ensures.view) a
+
+pub returns-in-Err-clause-room : goal.returns-in-Err-clause-room
+returns-in-Err-clause-room g c = inl (takes_none (goes_none
+    (took _ _ _ c.in_default.is c.in_ok-slot.ensures.view) (tries_further _ _ _ _ _ _ c.in_ok-slot.ensures.tries)))
+
+pub returns-in-Err-clause-slots : goal.returns-in-Err-clause-slots
+returns-in-Err-clause-slots g c = slots_goes c.args.seat.now c.take.new.seat []
+    (goes_none (took _ _ _ c.in_default.is c.in_ok-slot.ensures.view) (tries_further _ _ _ _ _ _ c.in_ok-slot.ensures.tries))
+    c.take.ensures.seat.1
+
 pub returns-in-Empty-clause-full : goal.returns-in-Empty-clause-full
 returns-in-Empty-clause-full g c e =
     let first = took _ _ _ c.in_default.is c.in_ok-slot.ensures.view in

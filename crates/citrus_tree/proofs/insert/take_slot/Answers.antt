@@ -1,6 +1,6 @@
 use Rattle.std.proofs.Common.{◌∙◌, ℕ, Option, sym, subst, inl}
 use Rattle.std.proofs.lemmas.Result.{IfOk-weaker}
-use Rattle.std.specs.Prelude.{IfOk}
+use Rattle.std.specs.Prelude.{IfErr, IfOk}
 use Rattle.core_points.specs.declared.stage.Aim.TheVariants.{Leaf}
 use Rattle.core_points.specs.declared.stage.Spot.{Spot}
 use Rattle.core_points.specs.declared.stage.Stage.TheVariants as at
@@ -60,6 +60,11 @@ returns-clause-slots g c = IfOk-weaker c.take_free.result _ _ (λ _ kept. subst 
     (before (λ (z : SeatAt). KeepsSlots z c.take_free.new.seat) c.note_near.ensures kept)) c.take_free.ensures.slots
 
 pub returns-clause-at : goal.returns-clause-at
-returns-clause-at g c = before (λ (z : SeatAt). IfOk c.take_free.result (λ (answer : Option ℕ). (spot : Spot) (expected : ℕ)
-    → Comes (shape_of g.W.WaitWords.WAY c.args.table.now) (at.Reserve (Leaf spot) expected) z.view (taken_stage answer spot)
-    c.take_free.new.seat.view)) c.note_near.ensures c.take_free.ensures.at
+returns-clause-at g c = before (λ (z : SeatAt). IfOk c.take_free.result (λ answer. IfOk answer (λ (taken : Option ℕ). (spot : Spot) (expected : ℕ)
+    → Comes (shape_of g.W.WaitWords.WAY c.args.table.now) (at.Reserve (Leaf spot) expected) z.view (taken_stage taken spot)
+    c.take_free.new.seat.view))) c.note_near.ensures c.take_free.ensures.at
+
+pub returns-clause-busy : goal.returns-clause-busy
+returns-clause-busy g c = before (λ (z : SeatAt). IfOk c.take_free.result (λ answer. IfErr answer (λ _. (spot : Spot) (expected : ℕ)
+    → Comes (shape_of g.W.WaitWords.WAY c.args.table.now) (at.Reserve (Leaf spot) expected) z.view at.Finished
+    c.take_free.new.seat.view))) c.note_near.ensures c.take_free.ensures.busy

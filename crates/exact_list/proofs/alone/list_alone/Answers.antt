@@ -95,7 +95,7 @@ pub returns-clause-holds : goal.returns-clause-holds
 returns-clause-holds g c =
     let x = lists_holding c.requires.quiet.view.section (IfOk-at_ok _ c.in-Ok.is c.in_ok-front.ensures.taken) c.low.ensures.low c.enter.ensures.entered
     c.look_at_front.ensures.told c.in_ok-next.ensures.gathered.0 c.look_at_front-2.ensures.told c.leave.ensures.left in
-    alone_holds x c.front_of.ensures c.give_front_back.new.seat.view c.give_front_back.ensures.told c.args.keys.now c.in_ok-next.next
+    alone_holds x c.front_of.ensures c.give_front_back.new.seat.view c.give_front_back.ensures.told g.D.Direction.SIDE c.args.keys.now c.in_ok-next.next
     c.gather-gathered.new.page c.in_ok-next.ensures.page.1 c.in_ok-next.ensures.gathered.1
 
 pub returns-clause-recent : goal.returns-clause-recent

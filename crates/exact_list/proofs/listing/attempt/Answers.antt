@@ -11,15 +11,16 @@ pub returns-in-None-clause-holds : goal.returns-in-None-clause-holds
 returns-in-None-clause-holds g c =
     let z = looks_twice c.low.ensures.low c.enter.ensures.entered c.look_at_front-first.ensures.told c.in_ok-next.ensures.gathered.0
     c.look_at_front-last.ensures.told c.leave-2.ensures.left c.requires.outside in
-    holds_whole z (beside_none z c.if-last-first.false (sym c.linking.ensures ∙ c.if-linking.false)) c.front_of-front.ensures c.args.keys.now c.gather-gathered.new.page c.in_ok-next.ensures.page.1
-    (subst (Gathers z.loads.after c.args.keys.now c.gather-gathered.new.page) c.in-None.is c.in_ok-next.ensures.gathered.1)
+    holds_whole z (beside_none z c.if-last-first.false (sym c.linking.ensures ∙ c.if-linking.false)) c.front_of-front.ensures g.D.Direction.SIDE c.args.keys.now c.gather-gathered.new.page
+    c.in_ok-next.ensures.page.1
+    (subst (Gathers g.D.Direction.SIDE z.loads.after c.args.keys.now c.gather-gathered.new.page) c.in-None.is c.in_ok-next.ensures.gathered.1)
 
 pub returns-in-Some-clause-holds : goal.returns-in-Some-clause-holds
 returns-in-Some-clause-holds g c =
     let z = looks_twice c.low.ensures.low c.enter.ensures.entered c.look_at_front-first.ensures.told c.in_ok-next.ensures.gathered.0
     c.look_at_front-last.ensures.told c.leave-2.ensures.left c.requires.outside in
-    holds_part z (beside_none z c.if-last-first.false (sym c.linking.ensures ∙ c.if-linking.false)) c.front_of-front.ensures c.args.keys.now c.in-Some.next c.gather-gathered.new.page
-    (subst (Gathers z.loads.after c.args.keys.now c.gather-gathered.new.page) c.in-Some.is c.in_ok-next.ensures.gathered.1)
+    holds_part z (beside_none z c.if-last-first.false (sym c.linking.ensures ∙ c.if-linking.false)) c.front_of-front.ensures g.D.Direction.SIDE c.args.keys.now c.in-Some.next c.gather-gathered.new.page
+    (subst (Gathers g.D.Direction.SIDE z.loads.after c.args.keys.now c.gather-gathered.new.page) c.in-Some.is c.in_ok-next.ensures.gathered.1)
 
 pub returns-in-None-clause-recent : goal.returns-in-None-clause-recent
 returns-in-None-clause-recent g c =

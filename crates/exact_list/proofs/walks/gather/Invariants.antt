@@ -11,9 +11,7 @@ invariant-loop-round g l = record {
   listed : l.seat.listed ≡ l.fn.seat.listed;
   capacity : l.page.capacity ≡ l.fn.page.capacity;
   room : length l.page.pairs ≤ l.page.capacity;
-  low : l.keys.low ≤ l.from;
-  high : l.from ≤ l.keys.high;
-  walks : Walks (shape_of g.W.WaitWords.WAY l.table) l.fn.seat.view l.seat.view l.keys.low l.from l.link l.page.pairs l.way;
+  walks : Walks (shape_of g.W.WaitWords.WAY l.table) l.side l.fn.seat.view l.seat.view l.keys l.from l.link l.page.pairs l.way;
   counted : HasWalked l.fn.seat.view (HasCounted l.page.pairs l.way) l.seat.view;
   made : l.round ≤ length l.seat.view.trail.steps;
 }

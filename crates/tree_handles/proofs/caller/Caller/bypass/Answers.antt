@@ -1,20 +1,20 @@
 use Rattle.std.proofs.Common.{rules}
 use Rattle.seat_table.specs.Seats.{shape_of}
-use Rattle.citrus_tree.specs.Deletes.{DelGaveWay, DelTells}
-use Rattle.tree_handles.proofs.Callers.{nothing_behind}
+use Rattle.citrus_tree.specs.Deletes.{DelGaveWay, Removes}
+use Rattle.citrus_tree.specs.Going.{KeepsSeat}
+use Rattle.tree_handles.proofs.Callers.{removed_so}
 use Rattle.tree_handles.proofs.Cookies.{cookies_unless, keeper_told, keeps_keeper, same_waits}
 use Rattle.tree_handles.proofs.caller.Caller.bypass.Goals as goal
 
 pub returns-in-Ok-Ok-Some-clause-taken : goal.returns-in-Ok-Ok-Some-clause-taken
 returns-in-Ok-Ok-Some-clause-taken g c =
-    let told : DelTells (shape_of g.W.WaitWords.WAY c.table-table.result.now) c.self.inside.seat c.args.key c.in-Ok-Ok-Some.removed.told
-    c.remove_by_bypass-answer.new.seat = search rules in (
-      c.in-Ok-Ok-Some.removed.told,
-      nothing_behind (search rules) (keeps_keeper c.self.view_is (λ _. keeper_told c.self.inside.seat c.remove_by_bypass-answer.new.seat 4 told.keeps c.forget_if.ensures.gone
-          (λ same. c.forget_if.ensures.kept same) c.waits-waits.ensures c.waits.ensures))
-          (search rules) (search rules) (search rules) (search rules),
-      search rules,
-    )
+    let all : Removes (shape_of g.W.WaitWords.WAY c.table-table.result.now) c.self.inside.seat c.args.key c.args.expected
+    c.in-Ok-Ok-Some.removed c.remove_by_bypass-answer.new.seat = search rules in
+    let keeps : KeepsSeat 4 c.self.inside.seat c.remove_by_bypass-answer.new.seat = search rules in
+    removed_so c.args.key c.args.expected c.in-Ok-Ok-Some.removed (search rules)
+    (keeps_keeper c.self.view_is (λ _. keeper_told c.self.inside.seat c.remove_by_bypass-answer.new.seat 4 keeps c.forget_if.ensures.gone
+    (λ same. c.forget_if.ensures.kept same) c.waits-waits.ensures c.waits.ensures))
+    (search rules) (search rules) (search rules) (search rules) (search rules)
 
 pub returns-in-Ok-Ok-None-clause-two : goal.returns-in-Ok-Ok-None-clause-two
 returns-in-Ok-Ok-None-clause-two g c =
@@ -52,12 +52,11 @@ returns-in-Ok-Err-clause-cause g c =
 -- the cookies are good still, without the keeper where a wait was begun
 pub invariant_of-self : goal.invariant_of-self
 invariant_of-self g c =
-    let told : DelTells (shape_of g.W.WaitWords.WAY c.table-table.result.now) c.self.inside.seat c.args.key c.in-Ok-Ok-Some.removed.told
-    c.remove_by_bypass-answer.new.seat = search rules in (
+    let keeps : KeepsSeat 4 c.self.inside.seat c.remove_by_bypass-answer.new.seat = search rules in (
       search rules,
       search rules,
-      λ kept. cookies_unless told.keeps _ c.forget_if.ensures.gone (λ same. c.forget_if.ensures.kept same)
-          (λ same. told.keeps.slots.slots (same_waits same c.waits-waits.ensures c.waits.ensures)) (c.self.invariant.2 kept),
+      λ kept. cookies_unless keeps _ c.forget_if.ensures.gone (λ same. c.forget_if.ensures.kept same)
+          (λ same. keeps.slots.slots (same_waits same c.waits-waits.ensures c.waits.ensures)) (c.self.invariant.2 kept),
     )
 
 pub invariant_of-self-in-Ok-Ok-None : goal.invariant_of-self-in-Ok-Ok-None

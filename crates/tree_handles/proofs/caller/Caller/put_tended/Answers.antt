@@ -8,8 +8,15 @@ use Rattle.citrus_tree.specs.Going.{KeepsSeatBy, MayUse, TakesBy}
 use Rattle.tree_handles.specs.Callers.{CallerAt}
 use Rattle.tree_handles.specs.Keepers.{slot_for}
 use Rattle.tree_handles.proofs.Cookies.{later_by, same_waits}
+use Rattle.tree_handles.proofs.Keepers.{user_earlier}
 use Rattle.tree_handles.proofs.Serving.{cookies_put, keeper_put, keeps_or_serves, longer_by, may_serve, may_use, put_latest, served_behind, shorter_by}
 use Rattle.tree_handles.proofs.caller.Caller.put_tended.Goals as goal
+
+pub serves_next-again-requires : goal.serves_next-again-requires
+serves_next-again-requires g c = record {
+  begun = λ d is. user_earlier (shape_of g.W.WaitWords.WAY (arc_value c.self.inside.shared)) c.self.inside.cookie c.self.inside.seat.view d
+      (c.self.invariant.2 (ap (λ (z : CallerAt). z.lost) c.self.view_is ∙ c.requires.may.kept)).of_user is;
+}
 
 pub put_reusing-answer-requires-clause-ready : goal.put_reusing-answer-requires-clause-ready
 put_reusing-answer-requires-clause-ready g c =

@@ -1,21 +1,21 @@
 use Rattle.std.proofs.Common.{rules}
 use Rattle.seat_table.specs.Seats.{shape_of}
-use Rattle.citrus_tree.specs.Deletes.{DelGaveWay, DelTells}
-use Rattle.tree_handles.proofs.Callers.{nothing_behind}
+use Rattle.citrus_tree.specs.Deletes.{DelGaveWay, Removes}
+use Rattle.citrus_tree.specs.Going.{KeepsSeat}
+use Rattle.tree_handles.proofs.Callers.{removed_so}
 use Rattle.tree_handles.proofs.Cookies.{keeps_keeper}
-use Rattle.tree_handles.proofs.Serving.{cookies_removed, keeper_removed}
+use Rattle.tree_handles.proofs.Serving.{cookies_removed, keeper_removed, removed_slots}
 use Rattle.tree_handles.proofs.caller.Caller.remove_at_once.Goals as goal
 
 pub returns-in-Ok-Ok-clause-taken : goal.returns-in-Ok-Ok-clause-taken
 returns-in-Ok-Ok-clause-taken g c =
-    let told : DelTells (shape_of g.W.WaitWords.WAY c.table-table.result.now) c.self.inside.seat c.args.key c.in-Ok-Ok.removed.told
-    c.remove-answer.new.seat = search rules in (
-      c.in-Ok-Ok.removed.told,
-      nothing_behind (search rules) (keeps_keeper c.self.view_is (λ _. keeper_removed _ c.self.inside.keeper c.self.inside.seat c.remove-answer.new.seat _ c.waits-waits.ensures
-          told.keeps c.forget_unless_kept.ensures))
-          (search rules) (search rules) (search rules) (search rules),
-      search rules,
-    )
+    let all : Removes (shape_of g.W.WaitWords.WAY c.table-table.result.now) c.self.inside.seat c.args.key c.args.expected c.in-Ok-Ok.removed
+    c.remove-answer.new.seat = search rules in
+    let keeps : KeepsSeat 4 c.self.inside.seat c.remove-answer.new.seat = search rules in
+    removed_so c.args.key c.args.expected c.in-Ok-Ok.removed (search rules)
+    (keeps_keeper c.self.view_is (λ _. keeper_removed _ c.self.inside.keeper c.self.inside.seat c.remove-answer.new.seat _ c.waits-waits.ensures
+    keeps c.forget_unless_kept.ensures))
+    (search rules) (search rules) (search rules) (search rules) (search rules)
 
 pub returns-in-Ok-Err-clause-cause : goal.returns-in-Ok-Err-clause-cause
 returns-in-Ok-Err-clause-cause g c =
@@ -35,12 +35,15 @@ returns-in-Ok-Err-clause-cause g c =
 -- the cookies are good still, without the keeper where a wait was begun
 pub invariant_of-self : goal.invariant_of-self
 invariant_of-self g c =
-    let told : DelTells (shape_of g.W.WaitWords.WAY c.table-table.result.now) c.self.inside.seat c.args.key c.in-Ok-Ok.removed.told
-    c.remove-answer.new.seat = search rules in (
+    let all : Removes (shape_of g.W.WaitWords.WAY c.table-table.result.now) c.self.inside.seat c.args.key c.args.expected c.in-Ok-Ok.removed
+    c.remove-answer.new.seat = search rules in
+    let keeps : KeepsSeat 4 c.self.inside.seat c.remove-answer.new.seat = search rules in (
       search rules,
       search rules,
-      λ kept. cookies_removed _ c.self.inside.keeper c.self.inside.seat c.remove-answer.new.seat _ c.waits-waits.ensures told.keeps
-          told.slots c.forget_unless_kept.ensures (c.self.invariant.2 kept),
+      λ kept. cookies_removed _ c.self.inside.keeper c.self.inside.seat c.remove-answer.new.seat _ c.waits-waits.ensures keeps
+          (removed_slots (shape_of g.W.WaitWords.WAY c.table-table.result.now) c.self.inside.seat c.remove-answer.new.seat c.args.key c.args.expected
+          c.in-Ok-Ok.removed all)
+          c.forget_unless_kept.ensures (c.self.invariant.2 kept),
     )
 
 pub invariant_of-self-in-Ok-Err : goal.invariant_of-self-in-Ok-Err

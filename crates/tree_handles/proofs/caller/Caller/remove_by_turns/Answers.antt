@@ -40,14 +40,14 @@ returns-then-lacks_room-clause-cause g c = let before = c.loop-times.invariant i
   inr (c.if-lacks_room.ensures.holds refl),
 )
 
-pub returns-in_err-value-clause-cause : goal.returns-in_err-value-clause-cause
-returns-in_err-value-clause-cause g c =
+pub returns-in_err-removed-clause-cause : goal.returns-in_err-removed-clause-cause
+returns-in_err-removed-clause-cause g c =
     let before = c.loop-times.invariant in
     let p = err_from_is_err_and c.from_residual.result c.from_residual.ensures.1 in
     rw (p.1, p.2) (
       c.loop-times.self,
       turned_some c.args.key c.loop-times.times c.args.self.now c.loop-times.self c.requires.reader before.few before.turns,
-      caused_ready (Del c.args.key) c.in_err-value.field-0.0 c.loop-times.self c.bypass.new.self c.in_err-value.ensures.cause,
+      caused_ready (Del c.args.key) c.in_err-removed.field-0.0 c.loop-times.self c.bypass.new.self c.in_err-removed.ensures.cause,
     )
 
 pub returns-in-Some-clause-taken : goal.returns-in-Some-clause-taken
@@ -56,7 +56,7 @@ returns-in-Some-clause-taken g c = let before = c.loop-times.invariant in record
   turned = turned_some c.args.key c.loop-times.times c.args.self.now c.loop-times.self c.requires.reader before.few before.turns;
   removed = search rules;
   had_room = c.requires.room;
-  waits = λ _. inl c.in_ok-value.ensures.waits;
+  waits = λ _. inl c.in_ok-removed.ensures.waits;
 }
 
 pub returns-in_err-turn_down-clause-cause : goal.returns-in_err-turn_down-clause-cause

@@ -8,6 +8,6 @@ pub invariant_of-self : goal.invariant_of-self
 invariant_of-self g c = (
   search rules,
   search rules,
-  λ kept. subst (λ (t : TableAt). HasCookies (shape_of g.W.WaitWords.WAY t) c.self.inside.cookie c.begin_if_many.new.keeper
-      c.begin_if_many.new.seat) (c.table-table.ensures ∙ c.deref.ensures) c.begin_if_many.ensures.cookies,
+  λ kept. subst (λ (t : TableAt). HasCookies (shape_of g.W.WaitWords.WAY t) c.self.inside.cookie c.begin_if_needed.new.keeper
+      c.begin_if_needed.new.seat) (c.table-table.ensures ∙ c.deref.ensures) c.begin_if_needed.ensures.cookies,
 )

@@ -18,7 +18,7 @@ pub invariant_of-self : goal.invariant_of-self
 invariant_of-self g c = (
   search rules,
   search rules,
-  λ kept. subst (λ (t : TableAt). HasCookies (shape_of g.W.WaitWords.WAY t) c.self.inside.cookie c.tend-self-inside.result
-      c.tend-self-inside.new.seat) (c.table.ensures ∙ c.deref.ensures)
-      (c.tend-self-inside.ensures.cookies c.self.inside.cookie (search rules)),
+  λ kept. subst (λ (t : TableAt). HasCookies (shape_of g.W.WaitWords.WAY t) c.self.inside.cookie c.tend_in_place.new.keeper
+      c.tend_in_place.new.seat) (c.table.ensures ∙ c.deref.ensures)
+      (c.tend_in_place.ensures.cookies c.self.inside.cookie (search rules)),
 )

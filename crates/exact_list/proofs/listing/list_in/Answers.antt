@@ -2,7 +2,7 @@ use Rattle.std.proofs.Common.{rules, ◌++◌, ◌∷◌, [], ap, subst, ◌∙�
 use Rattle.core_state.specs.declared.view.View.{View}
 use Rattle.exact_list.specs.Tries.{EndAs}
 use Rattle.exact_list.proofs.Trying.{tried_both, quiet_tried, ends_later, recent_later}
-use Rattle.exact_list.proofs.listing.list.Goals as goal
+use Rattle.exact_list.proofs.listing.list_in.Goals as goal
 
 pub returns-in_err-listed-clause-quiet : goal.returns-in_err-listed-clause-quiet
 returns-in_err-listed-clause-quiet g c = let t = c.in_err-listed.ensures.left_off in
