@@ -3,8 +3,9 @@
 # `all.sh [--rounds N] [--operations N] [--seconds S] [--beside PROGRAM] [--commands] [--cookies] [--shapes] [--embed] [--size]`. The first four are
 # words of tree.sh. It takes some ten minutes. `--commands` measures whole commands too, by threads.sh and text.sh, some five minutes more,
 # `--cookies` by cookies.sh a writer beside a reader that stays for long, a minute and a half, `--shapes` by shapes.sh trees whose keys come
-# in some order, `--embed` by embed.sh, ratios.sh, latency.sh, sections.sh, writers.sh, crowd.sh, handles.sh, rust_map.sh and server.sh the C
-# library, the Rust crate and the index server, and `--size` by size.sh indexes of many pairs, some minutes more. It stands outside the gate.
+# in some order, `--embed` by embed.sh, ratios.sh, strings.sh, latency.sh, sections.sh, writers.sh, crowd.sh, handles.sh, rust_map.sh and
+# server.sh the C library, the Rust crate and the index server, and `--size` by size.sh indexes of many pairs, some minutes more. It stands
+# outside the gate.
 set -eu
 here=$(dirname "$0")
 words=() more=()
@@ -13,7 +14,7 @@ while [ $# -gt 0 ]; do
         --commands) more+=(threads.sh text.sh); shift ;;
         --cookies) more+=(cookies.sh); shift ;;
         --shapes) more+=(shapes.sh); shift ;;
-        --embed) more+=(embed.sh ratios.sh latency.sh sections.sh writers.sh crowd.sh handles.sh rust_map.sh server.sh); shift ;;
+        --embed) more+=(embed.sh ratios.sh strings.sh latency.sh sections.sh writers.sh crowd.sh handles.sh rust_map.sh server.sh); shift ;;
         --size) more+=(size.sh); shift ;;
         --rounds | --operations | --seconds | --beside) words+=("$1" "${2:?}"); shift 2 ;;
         *)

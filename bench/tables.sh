@@ -410,6 +410,49 @@ ratios() {
         printf "| %s | %s | %s | %s | %s | %s | %s | %s | %s of %s | %s |\n", $1, $2, $3, $4, $5, median, $6, $7, $8, $9, $10 }' "$1"
 }
 
+# The maps from strings, and what heads their columns.
+string_series='string_map;StringMap;std::map;TBB map;BTreeMap under RwLock;DashMap;std::unordered_map'
+string_heads=(string_map StringMap std::map "TBB's map" BTreeMap DashMap std::unordered_map)
+
+# Medians of an operation, with the leasts.
+strings() {
+    head_of set strings threads what "${string_heads[@]}" 'steal, %'
+    awk -F, -v series="$string_series" '/^#/ || /^set/ { next }
+        {
+            split($2, part, "/")
+            row = $1 " | " part[2] " | " $3 " | " (part[1] == "update" ? "remove, insert" : part[1])
+            if (!(row in steal)) { order[++rows] = row; steal[row] = $10 }
+            cell[$4, row] = sprintf("%.0f (%.0f)", $11, $5)
+        }
+        END {
+            columns = split(series, names, ";")
+            for (i = 1; i <= rows; i++) {
+                line = order[i]
+                for (n = 1; n <= columns; n++) line = line " | " ((names[n], order[i]) in cell ? cell[names[n], order[i]] : "-")
+                print "| " line " | " steal[order[i]] " |"
+            }
+        }' "$1"
+}
+
+# Bytes a string.
+strings_memory() {
+    head_of set strings "${string_heads[@]}"
+    awk -F, -v series="$string_series" '/^#/ || /^set/ { next }
+        {
+            row = $1 " | " $2
+            if (!seen[row]++) order[++rows] = row
+            cell[$3, row] = sprintf("%.0f", $4)
+        }
+        END {
+            columns = split(series, names, ";")
+            for (i = 1; i <= rows; i++) {
+                line = order[i]
+                for (n = 1; n <= columns; n++) line = line " | " ((names[n], order[i]) in cell ? cell[names[n], order[i]] : "-")
+                print "| " line " |"
+            }
+        }' "$1"
+}
+
 # How long single calls take: medians of the runs, with the least and the greatest.
 latency() {
     head_of 'gets of 100, keys' threads what call 'half take, ns' '99 of 100' '999 of 1,000' 'the longest, µs'
@@ -489,7 +532,7 @@ if [ $# -gt 0 ]; then
 fi
 out=$top/bench/out
 mkdir -p "$out"
-for name in tree waits sections writers shapes depth threads text limits cookies embed many ratios latency crowded crowded_updates size handles stays stays_idle stays_others rust_map server processors processors_waits; do
+for name in tree waits sections writers shapes depth threads text limits cookies embed many ratios strings strings_memory latency crowded crowded_updates size handles stays stays_idle stays_others rust_map server processors processors_waits; do
     [ -e "$results/$name.csv" ] || continue
     grep -qxF "<!-- $name -->" "$top/docs/BENCHMARKS.md" "$top/bench/TABLES.md" || continue
     { echo; table "$name"; echo; } >"$out/table"

@@ -49,11 +49,13 @@ PICTURES = {
         "core_points": "what a call knows at each point",
         "core_laws": "every act keeps the invariant",
         "core_examples": "runs on literal words",
+        "moved_laws": "tables whose pairs moved",
         "core_frames": "what a step leaves, what follows",
         "core_state": "words, views, steps, invariant",
         "prcu_marks": "marks, callers, chains",
         "key_interval": "intervals and classes",
         "list_laws": "lists of views and numbers",
+        "string_layers": "strings over one index are a map",
         "prcu_model": "operations, dictionary, replies",
     },
 }

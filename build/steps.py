@@ -11,6 +11,7 @@ BEGIN, END = "<!-- made by build/steps.py -->\n", "<!-- end of what build/steps.
 GROUPS = {
     "Sections": (3, 4, 5, 6, 28, 29, 30, 33, 34), "Waits": (7, 8, 31, 32, 35), "Slots": (9, 10, 11, 12, 15, 16),
     "Locks": (13, 14, 18, 19, 23, 24, 39), "Loads": (17, 37), "Links": (20, 21, 22, 36), "Moves": (25, 26, 27), "Rotations": (38,),
+    "Another table": (41, 42),
 }
 
 

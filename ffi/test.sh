@@ -61,7 +61,7 @@ link_objects() { g++ -pthread "${@:2}" -L"$prefix/lib" -lcitrus -o "$room/$1"; }
 
 compile_all() {
     compile_c answers && compile_c misuse && compile_c own_keys && compile_c moments && compile_c reopened && compile_c tidy && compile_c version && compile_c salts &&
-        compile_c backtraces && compile_cpp index && compile_cpp keyed && compile_c always && compile_c many_handles && compile_c counters && compile_c expired && compile_c lanes &&
+        compile_c backtraces && compile_cpp index && compile_cpp keyed && compile_cpp ranges && compile_c always && compile_c many_handles && compile_c counters && compile_c expired && compile_c lanes &&
         compile_c busy && compile_c crowd &&
         compile_c memory -Wl,--wrap=malloc,--wrap=realloc,--wrap=free && compile_cpp answers && compile_cpp order && compile_cpp whole &&
         compile_c holds && compile_c begun && compile_c keeps && compile_c turns && compile_c objects && compile_c prcu && compile_cpp map &&
@@ -69,7 +69,7 @@ compile_all() {
 }
 
 # The map of strings by drawn schedules, with the headers of a folder: `compile_drawn FOLDER PROGRAM`. Behind these calls another fiber may go on.
-gone_over=(citrus_get citrus_insert_once citrus_compare_once citrus_remove_once citrus_take_once citrus_list_once citrus_first_once citrus_enter
+gone_over=(citrus_get citrus_insert_once citrus_compare_once citrus_remove_once citrus_take_once citrus_list_once citrus_list_down_once citrus_first_once citrus_enter
     citrus_release citrus_begin citrus_poll sched_yield select)
 compile_drawn() {
     g++ -std=c++17 "-I$1" "${strict[@]}" "$here/tests/strings_drawn.cpp" "${gone_over[@]/#/-Wl,--wrap=}" -L"$prefix/lib" -lcitrus -o "$2"
@@ -88,7 +88,7 @@ keys_in_each_language() {
         hash "$compiler" 2>/dev/null || continue
         for language in c++17 c++20 c++2b; do
             "$compiler" "-std=$language" "${strict[@]}" "$here/tests/keys.cpp" -o "$room/keys_$compiler$language" && "$room/keys_$compiler$language" &&
-                "$compiler" "-std=$language" "${strict[@]}" -fsyntax-only "$here/tests/keyed.cpp" || return
+                "$compiler" "-std=$language" "${strict[@]}" -fsyntax-only "$here/tests/keyed.cpp" "$here/tests/ranges.cpp" || return
         done
     done
 }
@@ -198,6 +198,7 @@ threads_that_are_stopped() {
     stopped_cases_of "$room/turns"
     stopped_cases_of "$room/map_cpp" threads
     stopped_cases_of "$room/keyed_cpp" threads
+    stopped_cases_of "$room/ranges_cpp" threads
     stopped_cases_of "$room/strings_cpp" threads
     for waiter in 0 1 2; do
         [ ! -x "$checker" ] || case_is "one order explains all replies, 4 threads that are stopped, waiter $waiter" \
@@ -235,7 +236,7 @@ compile_unkept() {
         g++ -std=c++17 "-I$room/unkept" "${strict[@]}" "$here/tests/map.cpp" -L"$prefix/lib" -lcitrus -o "$room/unkept_planted"
 }
 
-# Words of the headers are other ones in a copy, and the tests of keys tell of it: `fault_of_keys_is_seen HEADER FROM TO TEST`.
+# Words of the headers are other ones in a copy, and the tests of keys, ranges or strings tell of it: `fault_of_keys_is_seen HEADER FROM TO TEST`.
 fault_of_keys_is_seen() {
     rm -rf "$room/faulty" && cp -r "$prefix/include" "$room/faulty" && grep -qF "$2" "$room/faulty/$1" && sed -i "s/$2/$3/" "$room/faulty/$1" &&
         g++ -std=c++17 "-I$room/faulty" "${strict[@]}" "$here/tests/$4.cpp" -L"$prefix/lib" -lcitrus -o "$room/faulty_$4" &&
@@ -297,6 +298,11 @@ planted_faults() {
     case_is 'a fault of the C++ map is told of: an address that comes back' is_seen none unkept_planted 'threads update'
     case_is 'a fault of the C++ keys is told of: negative numbers' fault_of_keys_is_seen citrus_key.hpp 'its & sign ? ~its : its | sign' 'its | sign' keys
     case_is 'a fault of the C++ handles by keys is told of: a page that ends' fault_of_keys_is_seen citrus_keyed.hpp 'key_of(found.next)' std::nullopt keyed
+    case_is 'a fault of the C++ ranges is told of: a pass that ends with its page' fault_of_keys_is_seen citrus.hpp 'next_ = page_.next;' 'next_.reset();' ranges
+    case_is 'a fault of the C++ ranges is told of: an object that is gone ends them' \
+        fault_of_keys_is_seen citrus_map.hpp 'while (at.step())' 'if (at.step())' ranges
+    case_is 'a fault of the C++ ranges is told of: a page down that begins with the last string again' \
+        fault_of_keys_is_seen citrus_string_map.hpp 'is_down ? last_ : last_' 'last_' strings
     faults_of_strings
     for fault in remove replace list; do
         case_is "a fault in a twin of the library is told of by one order of all calls: $fault" is_seen $fault whole_twin 3000 1 0 6
@@ -326,7 +332,7 @@ compile_sanitized() {
         gcc -std=gnu11 "${strict[@]}" "${sanitized[@]}" -DCITRUS_DEBUG "$here/tests/$name.c" -L"$prefix/lib" -lcitrus -o "$room/${name}_sanitized" || return
     done
     gcc -std=gnu11 "${strict[@]}" "${sanitized[@]}" "$here/tests/prcu.c" -L"$prefix/lib" -lcitrus -o "$room/prcu_sanitized" || return
-    for name in map strings; do
+    for name in map strings ranges; do
         g++ -std=c++17 "${strict[@]}" "${marked_cpp[@]}" "${sanitized[@]}" -DCITRUS_DEBUG "$here/tests/$name.cpp" -L"$prefix/lib" -lcitrus -o "$room/${name}_sanitized" || return
     done
 }
@@ -338,7 +344,7 @@ is_told_of() { ! under_a_sanitizer "$@" >"$room/report" 2>&1 && grep -q heap-use
 
 values_under_a_sanitizer() {
     case_is 'the tests compile with AddressSanitizer' compile_sanitized
-    [ -x "$room/strings_sanitized" ] || return
+    [ -x "$room/ranges_sanitized" ] || return
     case_is 'a hold, and a wait before the free: nothing freed is read' under_a_sanitizer freed hold wait
     case_is 'AddressSanitizer tells of a free without a wait' is_told_of freed hold none
     case_is 'AddressSanitizer tells of a get in place of a hold' is_told_of freed get wait
@@ -350,6 +356,7 @@ values_under_a_sanitizer() {
     case_is 'predicate RCU alone under AddressSanitizer' under_a_sanitizer prcu
     case_is 'the C++ map under AddressSanitizer' under_a_sanitizer map
     case_is 'the C++ strings under AddressSanitizer' under_a_sanitizer strings
+    case_is 'the C++ ranges under AddressSanitizer' under_a_sanitizer ranges
 }
 
 # What a thread hands over by the index is in order for ThreadSanitizer, since the header says so; without those words it tells of a race.
@@ -380,10 +387,10 @@ hand_overs() {
     case_is 'the C++ strings have no race for ThreadSanitizer' timeout 100 "${laid_out[@]}" "$room/strings_raced" threads
 }
 
-# The Rust crate's own tests, counted as cargo counts them. What compiles them has a time of its own.
+# The Rust crate's own tests, counted as cargo counts them. What compiles them has a time of its own, and so have those of its pages.
 rust_tests() {
     local status lost=$failed told='^test result: .* ([0-9]+) passed; ([0-9]+) failed'
-    (cd "$here/$1" && in_rust cargo test --offline --quiet --no-run && in_rust cargo test --offline --quiet) >"$room/told" 2>&1
+    (cd "$here/$1" && in_rust cargo test --offline --quiet --no-run && in_rust cargo test --offline --quiet --tests && in_rust cargo test --offline --quiet --doc) >"$room/told" 2>&1
     status=$?
     while read -r; do
         [[ $REPLY =~ $told ]] || continue
@@ -420,11 +427,11 @@ in_nightly() { (cd "$1" && RUSTUP_AUTO_INSTALL=0 in_rust cargo +nightly "${@:2}"
 # What mustn't compile is refused for the reason that stands there. A stable toolchain doesn't look at the codes.
 refusals_have_their_codes() { in_nightly "$here/citrus_map" test --offline --quiet --doc; }
 
-# The tests of Map under AddressSanitizer: no value is read after it was dropped, and none is left over. `sanitized FOLDER [TEST]`.
+# The tests of Map and its ranges under AddressSanitizer: no value is read after it was dropped, and none is left over. `sanitized FOLDER [TEST]`.
 sanitized() {
     local host
     host=$(rustc -vV | sed -n 's/^host: //p')
-    RUSTFLAGS=-Zsanitizer=address in_nightly "$1" test --offline --quiet --target "$host" --test map "${@:2}"
+    RUSTFLAGS=-Zsanitizer=address in_nightly "$1" test --offline --quiet --target "$host" --test map --test map_ranges "${@:2}"
 }
 
 # It does report a crate whose removals don't wait before they give a value back.
@@ -444,15 +451,53 @@ a_second_word_is_told_of() {
         ! (cd "$room/twice" && in_rust cargo test --offline --quiet --test map what_a_key_that_lies_put_in_is_waited_for) >"$room/report" 2>&1 && grep -q "taken out under a reader" "$room/report"
 }
 
+# The tests tell of a range whose ends go past each other: what is left of the upper page is told from above.
+ends_that_cross_are_told_of() {
+    local line='self.upper.next_back().map(Ok)'
+    cp -r "$here/citrus_map" "$room/crossed" && grep -qF "$line" "$room/crossed/src/ranges.rs" &&
+        sed -i "s/$line/self.upper.next().map(Ok)/" "$room/crossed/src/ranges.rs" &&
+        ! (cd "$room/crossed" && in_rust cargo test --offline --quiet --test ranges ranges_are_gone_through) >"$room/report" 2>&1 && grep -q 'assertion .*failed' "$room/report"
+}
+
+# Where strings are the keys too, by drawn schedules as well. Each part has a time of its own, and so has what compiles them.
+sanitized_strings() {
+    local host words
+    host=$(rustc -vV | sed -n 's/^host: //p')
+    for words in '--lib --test strings --test string_threads --no-run' --lib '--test strings' '--test string_threads'; do
+        # shellcheck disable=SC2086
+        RUSTFLAGS=-Zsanitizer=address DRAWN_ROUNDS=300 in_nightly "$here/citrus_map" test --offline --quiet --target "$host" $words || return
+    done
+}
+
+# A line of the map of strings is another one in a copy, and a drawn schedule tells of it: `fault_of_rust_strings_is_seen FILE FROM TO`.
+fault_of_rust_strings_is_seen() {
+    rm -rf "$room/faulty_crate" && cp -r "$here/citrus_map" "$room/faulty_crate" && grep -qF "$2" "$room/faulty_crate/src/strings/$1" &&
+        sed -i "s/$2/$3/" "$room/faulty_crate/src/strings/$1" && (cd "$room/faulty_crate" && in_rust cargo test --offline --quiet --lib --no-run) &&
+        ! (cd "$room/faulty_crate" && DRAWN_ROUNDS=4000 in_rust cargo test --offline --quiet --lib strings::drawn) >"$room/report" 2>&1 && grep -q 'the schedule of seed' "$room/report"
+}
+
+faults_of_rust_strings() {
+    case_is 'a fault of the Rust strings is told of: no wait for a value' \
+        fault_of_rust_strings_is_seen retired.rs 'self.domain.wait(key..=key).and_then(|()| self.domain.wait(SCANS..=SCANS))' 'self.domain.wait(SCANS..=SCANS)'
+    case_is 'a fault of the Rust strings is told of: a layer is left over' \
+        fault_of_rust_strings_is_seen ways.rs 'may_be_empty: above.map_or(false, Layer::lost)' 'may_be_empty: above.is_some() \&\& false'
+    case_is 'a fault of the Rust strings is told of: no look whether a layer is empty' \
+        fault_of_rust_strings_is_seen ways.rs 'key <= high_key(number)' 'key < 1 + 0 * high_key(number)'
+}
+
 rust_maps() {
     case_is 'the cache in Rust' rust_example cache '5 swept; 3 has Some(6) letters, 4 has None'
     case_is "README's program in Rust, an example" rust_example_of README.md first '5 has Some(50)'
     case_is "the page's map in Rust" rust_example_of docs/EMBEDDING.md names $'5 is five\nSome("five") is gone'
+    case_is "the page's map of strings in Rust" rust_example_of docs/EMBEDDING.md ages $'70\nuser:7 is 70\nSome(70) is gone'
+    faults_of_rust_strings
     case_is 'the Rust tests tell of a key that becomes a word twice' a_second_word_is_told_of
+    case_is 'the Rust tests tell of a range whose ends cross' ends_that_cross_are_told_of
     case_is 'the Rust crate is checked, and its pages are made, without the archive' rust_links_alone_take_the_archive
     if RUSTUP_AUTO_INSTALL=0 cargo +nightly --version >/dev/null 2>&1; then
         case_is "what mustn't compile in Rust is refused for its reason" refusals_have_their_codes
         case_is 'values of a Rust map under AddressSanitizer' sanitized "$here/citrus_map"
+        case_is 'strings of a Rust map under AddressSanitizer' sanitized_strings
         case_is 'AddressSanitizer reports a wait left out' sanitizer_reports_a_wait_left_out
     else
         echo 'left out: Rust under AddressSanitizer, since cargo has no nightly toolchain'
@@ -477,7 +522,7 @@ case_is 'words of C++ keys in each language' keys_in_each_language
 case_is 'the tests compile' compile_all
 [ -x "$room/order_cpp" ] || end
 for program in answers misuse memory moments own_keys always many_handles counters expired busy crowd reopened lanes tidy salts version backtraces answers_cpp index_cpp; do cases_of "$room/$program"; done
-for program in holds begun keeps turns objects prcu debug map_cpp keyed_cpp strings_cpp whole_cpp whole_floating; do cases_of "$room/$program"; done
+for program in holds begun keeps turns objects prcu debug map_cpp keyed_cpp ranges_cpp strings_cpp whole_cpp whole_floating; do cases_of "$room/$program"; done
 for program in strings_drawn strings_soon; do cases_of "$room/$program" 2000; done
 if has_debugger; then case_is 'gdb names the caller of a call that hangs' gdb_names_the_caller; else echo 'left out: gdb'; fi
 threads_that_are_stopped

@@ -65,16 +65,17 @@ template <class Dictionary> auto parts_of(Dictionary &dictionary, uint32_t threa
     return parts;
 }
 
-template <class Client, class Mix> double seconds_of(const Parts<Client> &parts, const Mix &mix, uint64_t operations) {
+// How long all parts take that make so many operations at once.
+template <class Each, class What> double seconds_of(const std::vector<std::unique_ptr<Each>> &parts, const What &what, uint64_t operations) {
     const auto begun = std::chrono::steady_clock::now();
     std::vector<std::thread> threads;
-    for (size_t i = 1; i < parts.size(); i++) threads.emplace_back([&, i] { parts[i]->make(mix, operations); });
-    parts[0]->make(mix, operations);
+    for (size_t i = 1; i < parts.size(); i++) threads.emplace_back([&, i] { parts[i]->make(what, operations); });
+    parts[0]->make(what, operations);
     for (auto &thread : threads) thread.join();
     return seconds_since(begun);
 }
 
-template <class Client> uint64_t sum_of(const Parts<Client> &parts) {
+template <class Each> uint64_t sum_of(const std::vector<std::unique_ptr<Each>> &parts) {
     uint64_t sum = 0;
     for (const auto &part : parts) sum += part->sum;
     return sum;

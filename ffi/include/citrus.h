@@ -310,8 +310,8 @@ CITRUS_STATUS_MATTERS int32_t citrus_get(citrus_handle *handle, uint64_t key, ui
  *     turned, for which there is no room. If it has no wait of its own, since its user's is the latest or tickets are short,
  *     such a remove waits for all readers inside the call, and so does such an insert before it turns nodes.
  *   - While no slot is free the handle's own wait begins with however few slots it keeps back, and an insert is CITRUS_BUSY until it is over. So is a
- *     remove that has no slot in reserve for a copy, if the handle knew that none is free; else it finds that out, and waits for all readers inside
- *     the call. So does an insert where the handle can't begin a wait of its own.
+ *     remove that has no slot in reserve for a copy. The first one finds out that none is free: it looks its key up, and is BUSY only where it would
+ *     take the pair out. Where the handle has no wait of its own and can begin none, such an update waits for all readers inside the call.
  *   - A remove of a node with two children puts the next pair in its place, and then waits, with up to five nodes locked, for the readers whose key is
  *     above its own and at most the next one; with CITRUS_DOMAIN and CITRUS_DEER also for those whose key has the class of one of these. But if
  *     the handle keeps back 48 slots, and its own wait is under way, a reader is known to stay: then turns bring the node down until it has one
@@ -322,8 +322,8 @@ CITRUS_STATUS_MATTERS int32_t citrus_get(citrus_handle *handle, uint64_t key, ui
 /* Adds the pair, if the key is absent. If no slot is free, and its handle keeps some back, it is BUSY until they went back (see above).
  * If it went deep to add the pair, and has 72 tickets left, it then turns nodes on the way, in 24 attempts at most, so that the tree stays
  * shallow in whatever order keys come. A turn locks three nodes, and is given up if one of them is locked. Where the handle keeps back `keep` - 1
- * slots or more it makes no further turn, unless the way is deeper by a third or more than it should be, and no wait of the handle's own is under
- * way: then it first waits for all readers.
+ * slots or more it makes no further turn, unless the way is deeper by a third or more than it should be, and the handle has no wait of its own and
+ * can begin none: then it first waits for all readers.
  * DONE, and after a loss at a turn too: then the next call is LOST; UNCHANGED where the key is there; FULL; CLOSED; HOLDS; SPENT;
  * LOST. */
 CITRUS_STATUS_MATTERS int32_t citrus_insert_once(citrus_handle *handle, uint64_t key, uint64_t value);
@@ -373,8 +373,7 @@ CITRUS_STATUS_MATTERS static inline int32_t citrus_upsert(citrus_handle *handle,
 }
 
 /* Takes the pair out, if the key is present. Above it is said when it waits for readers, lists too, and is BUSY for their sake: also if the key is
- * absent. A remove needs a slot at hand, for the copy of a successor: if the handle's was used, by such a remove or a turn, it takes another,
- * and if none is free it waits for all readers.
+ * absent. A remove needs a slot at hand, for the copy of a successor: if the handle's was used, by such a remove or a turn, it takes another.
  * DONE, and the value in *old; UNCHANGED where the key is absent; CLOSED; HOLDS; SPENT; LOST. */
 CITRUS_STATUS_MATTERS int32_t citrus_remove_once(citrus_handle *handle, uint64_t key, uint64_t *old);
 

@@ -145,8 +145,23 @@ private:
     uint64_t value_ = 0;
 };
 
-class pair_range;
+class handle;
 class lanes;
+
+namespace of_ranges {
+
+// Lists by a handle.
+struct by_handle {
+    handle *its;
+
+    page list(uint64_t low, uint64_t high, size_t room) const;
+    page list_down(uint64_t low, uint64_t high, size_t room) const;
+};
+
+} // namespace of_ranges
+
+template <class Source> class pages_of_range;
+using pair_range = pages_of_range<of_ranges::by_handle>;
 
 // What became of a wait that was begun: each of its readers has left, some are left, or another wait of the handle took its place.
 enum class progress { over, not_yet, displaced };
@@ -306,32 +321,34 @@ public:
     // The same from `high` down: keys descending, and the key after them is the greatest that isn't among them.
     page list_down(uint64_t low, uint64_t high, size_t room = page_room) { return listed(citrus_list_down, low, high, room); }
 
-    // The pair with the least key at or above `low`, if there is one.
-    std::optional<citrus_pair> first(uint64_t low = 0) {
+    // The pair with the least key, if there is one; and with the least key at or above `low`.
+    std::optional<citrus_pair> first() { return first_from(0); }
+    std::optional<citrus_pair> first_from(uint64_t low) {
         citrus_pair found{};
         if (!is_done(citrus_first(&at_, low, &found.key, &found.value))) return std::nullopt;
         return found;
     }
 
-    // The pair with the greatest key at or below `high`, if there is one.
-    std::optional<citrus_pair> last(uint64_t high = UINT64_MAX) { return last(0, high); }
-
-    // The same among the keys from low to high.
+    // The pair with the greatest key, if there is one; with the greatest key at or below `high`; and among the keys from low to high.
+    std::optional<citrus_pair> last() { return last_to(UINT64_MAX); }
+    std::optional<citrus_pair> last_to(uint64_t high) { return last(0, high); }
     std::optional<citrus_pair> last(uint64_t low, uint64_t high) {
         citrus_pair found{};
         if (!is_done(citrus_last(&at_, low, high, &found.key, &found.value))) return std::nullopt;
         return found;
     }
 
-    // Takes out the pair with the least key at or above `low`, if there is one, with the value that it had by then. It was the least one at
-    // a moment of the call; others may have put in a lesser one before it was taken out.
-    std::optional<citrus_pair> pop_first(uint64_t low = 0) {
-        return pop([this, low] { return first(low); });
+    // Takes out the pair with the least key, or with the least one at or above `low`, if there is one, with the value that it had by then. It
+    // was the least one at a moment of the call; others may have put in a lesser one before it was taken out.
+    std::optional<citrus_pair> pop_first() { return pop_first_from(0); }
+    std::optional<citrus_pair> pop_first_from(uint64_t low) {
+        return pop([this, low] { return first_from(low); });
     }
 
-    // The same with the greatest key at or below `high`.
-    std::optional<citrus_pair> pop_last(uint64_t high = UINT64_MAX) {
-        return pop([this, high] { return last(high); });
+    // The same with the greatest key, or the greatest one at or below `high`.
+    std::optional<citrus_pair> pop_last() { return pop_last_to(UINT64_MAX); }
+    std::optional<citrus_pair> pop_last_to(uint64_t high) {
+        return pop([this, high] { return last_to(high); });
     }
 
     // Whether there is no pair.
@@ -364,8 +381,8 @@ public:
         return retain(low, high, [](uint64_t, uint64_t) { return false; });
     }
 
-    // The pairs of the range, to be gone through once. The handle stays where it is meanwhile; it may make other calls. Its iterators throw
-    // what `list` throws.
+    // The pairs of the range, to be gone through up by `begin` and down by `rbegin`. The handle stays where it is meanwhile; it may make other
+    // calls. Its iterators throw what `list` throws.
     pair_range range(uint64_t low = 0, uint64_t high = UINT64_MAX, size_t room = page_room);
 
     // Makes the tree shallow on the ways to the first keys from low to high, by so many turns at most, and changes no pair. Throws
@@ -490,11 +507,53 @@ private:
     }
 };
 
-// The pairs of a key range as `handle::range` gives them, keys ascending: page by page, each of one moment, later than that of the page
-// before. The next page is listed when the one before is through.
-class pair_range {
+namespace of_ranges {
+
+// A pass over the pairs of a key range, up or down: page by page, each of one moment, later than that of the page before. The next page is
+// listed when the one before is through.
+template <bool is_down, class Source> class pass {
 public:
-    class iterator {
+    pass(Source from, uint64_t low, uint64_t high, size_t room) noexcept : from_(from), low_(low), high_(high), room_(room) {}
+
+    // Lists the first page. Whether there is a pair.
+    bool begin() {
+        next_ = is_down ? high_ : low_;
+        return turn();
+    }
+
+    const citrus_pair &now() const noexcept { return page_.pairs[at_]; }
+
+    // Whether there is another pair.
+    bool step() { return ++at_ < page_.size() || turn(); }
+
+private:
+    Source from_;
+    uint64_t low_, high_;
+    size_t room_, at_ = 0;
+    page page_;
+    std::optional<uint64_t> next_;
+
+    // Lists the next page that isn't empty, if there is one.
+    bool turn() {
+        while (next_) {
+            page_ = is_down ? from_.list_down(low_, *next_, room_) : from_.list(*next_, high_, room_);
+            next_ = page_.next;
+            at_ = 0;
+            if (!page_.empty()) return true;
+        }
+        return false;
+    }
+};
+
+} // namespace of_ranges
+
+// The pairs of a key range, as `handle::range` and `index::range` give them: keys ascend from `begin` on, and descend from `rbegin` on. Page by
+// page, each of one moment, later than that of the page before: so none comes twice or out of order, what is there all the time comes, and the
+// whole is of no one moment. One pass is made at a time in each direction: another `begin`, or `rbegin`, takes the place of the one before.
+template <class Source> class pages_of_range {
+    template <bool is_down> using pass = of_ranges::pass<is_down, Source>;
+
+    template <bool is_down> class stepper {
     public:
         using iterator_category = std::input_iterator_tag;
         using value_type = citrus_pair;
@@ -508,18 +567,18 @@ public:
             const citrus_pair &operator*() const noexcept { return pair_; }
 
         private:
-            friend class iterator;
+            friend class stepper;
             explicit stepped(citrus_pair pair) noexcept : pair_(pair) {}
 
             citrus_pair pair_;
         };
 
-        iterator() noexcept = default;
+        stepper() noexcept = default;
 
-        reference operator*() const noexcept { return of_->page_.pairs[of_->at_]; }
+        reference operator*() const noexcept { return of_->now(); }
         pointer operator->() const noexcept { return &**this; }
 
-        iterator &operator++() {
+        stepper &operator++() {
             if (!of_->step()) of_ = nullptr;
             return *this;
         }
@@ -531,47 +590,34 @@ public:
         }
 
         // Whether both are at the end, or both aren't.
-        friend bool operator==(const iterator &one, const iterator &other) noexcept { return one.of_ == other.of_; }
-        friend bool operator!=(const iterator &one, const iterator &other) noexcept { return one.of_ != other.of_; }
+        friend bool operator==(const stepper &one, const stepper &other) noexcept { return one.of_ == other.of_; }
+        friend bool operator!=(const stepper &one, const stepper &other) noexcept { return one.of_ != other.of_; }
 
     private:
-        friend class pair_range;
-        explicit iterator(pair_range *of) noexcept : of_(of) {}
+        friend class pages_of_range;
+        explicit stepper(pass<is_down> *of) noexcept : of_(of) {}
 
-        pair_range *of_ = nullptr;
+        pass<is_down> *of_ = nullptr;
     };
 
-    // Lists the first page. One pass is made at a time: another begin takes the first one's place.
-    iterator begin() {
-        next_ = low_;
-        return iterator(turn() ? this : nullptr);
-    }
+public:
+    using iterator = stepper<false>;
+    using reverse_iterator = stepper<true>;
 
+    // The keys from low to high, by pages with room for so many pairs.
+    pages_of_range(Source from, uint64_t low, uint64_t high, size_t room) noexcept : up_(from, low, high, room), down_(from, low, high, room) {}
+
+    // Lists the first page.
+    iterator begin() { return iterator(up_.begin() ? &up_ : nullptr); }
     iterator end() noexcept { return iterator(); }
 
+    // The same from the greatest key down.
+    reverse_iterator rbegin() { return reverse_iterator(down_.begin() ? &down_ : nullptr); }
+    reverse_iterator rend() noexcept { return reverse_iterator(); }
+
 private:
-    friend class handle;
-    pair_range(handle &from, uint64_t low, uint64_t high, size_t room) noexcept : from_(&from), low_(low), high_(high), room_(room) {}
-
-    handle *from_;
-    uint64_t low_, high_;
-    size_t room_, at_ = 0;
-    page page_;
-    std::optional<uint64_t> next_;
-
-    // Whether there is another pair.
-    bool step() { return ++at_ < page_.size() || turn(); }
-
-    // Lists the next page that isn't empty, if there is one.
-    bool turn() {
-        while (next_) {
-            page_ = from_->list(*next_, high_, room_);
-            next_ = page_.next;
-            at_ = 0;
-            if (!page_.empty()) return true;
-        }
-        return false;
-    }
+    pass<false> up_;
+    pass<true> down_;
 };
 
 // Up to 8 places of an index by which one thread looks up many keys beside each other, for one thread at a time: see citrus.h. The index lives
@@ -639,7 +685,10 @@ inline lanes handle::open_lanes(uint32_t count) {
     return opened;
 }
 
-inline pair_range handle::range(uint64_t low, uint64_t high, size_t room) { return pair_range(*this, low, high, room); }
+inline pair_range handle::range(uint64_t low, uint64_t high, size_t room) { return pair_range({this}, low, high, room); }
+
+inline page of_ranges::by_handle::list(uint64_t low, uint64_t high, size_t room) const { return its->list(low, high, room); }
+inline page of_ranges::by_handle::list_down(uint64_t low, uint64_t high, size_t room) const { return its->list_down(low, high, room); }
 
 } // namespace citrus
 

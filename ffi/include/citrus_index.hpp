@@ -3,8 +3,8 @@
 //     citrus::index index(100000, 4);                   // for 100,000 pairs and four calls at a time
 //     index.insert(5, 50);                              // from any thread
 //     std::optional<uint64_t> value = index.get(5);
+//     for (const auto &[key, value] : index.range(1, 9)) std::cout << key;
 //     auto mine = index.lend();                         // a handle for a few calls
-//     for (const citrus_pair &pair : mine->range()) std::cout << pair.key;
 //
 // Keys and values are 64-bit numbers where nothing is said. `citrus::index<K, V>` has those of types of yours, and what it lends is a
 // `citrus::keyed_handle<K, V>`:
@@ -67,6 +67,7 @@ public:
     using handle_type = std::conditional_t<std::is_same_v<K, uint64_t> && std::is_same_v<V, uint64_t>, handle, keyed_handle<K, V>>;
 
 private:
+    using words = of_keys::words<K, V>;
     using passed_key = of_keys::passed<K>;
 
     // A handle, and whether somebody has it. In lines of its own.
@@ -78,7 +79,18 @@ private:
         void put_back() noexcept { is_out.store(false, std::memory_order_release); }
     };
 
+    // Lists by a handle that is lent for the page.
+    struct by_lent {
+        index *its;
+
+        page list(uint64_t low, uint64_t high, size_t room) const { return by_words(*its->lend()).list(low, high, room); }
+        page list_down(uint64_t low, uint64_t high, size_t room) const { return by_words(*its->lend()).list_down(low, high, room); }
+    };
+
 public:
+    // What `range` gives: a `pages_of_range`, or a `keyed_range` of types of yours.
+    using range_type = std::conditional_t<std::is_same_v<handle_type, handle>, pages_of_range<by_lent>, keyed_range<K, V, by_lent>>;
+
     // A handle for a call or a few. It goes back when this ends: what `hold` or `range` of it gave ends before.
     class lent {
     public:
@@ -137,13 +149,25 @@ public:
     auto list(passed_key low, passed_key high, size_t room = handle::page_room) { return lend()->list(low, high, room); }
     auto list_down(passed_key low, passed_key high, size_t room = handle::page_room) { return lend()->list_down(low, high, room); }
     auto first() { return lend()->first(); }
-    auto first(passed_key low) { return lend()->first(low); }
+    auto first_from(passed_key low) { return lend()->first_from(low); }
     auto last() { return lend()->last(); }
-    auto last(passed_key high) { return lend()->last(high); }
+    auto last_to(passed_key high) { return lend()->last_to(high); }
+    auto pop_first() { return lend()->pop_first(); }
+    auto pop_first_from(passed_key low) { return lend()->pop_first_from(low); }
+    auto pop_last() { return lend()->pop_last(); }
+    auto pop_last_to(passed_key high) { return lend()->pop_last_to(high); }
     bool empty() { return lend()->empty(); }
     uint64_t size() { return lend()->size(); }
     uint64_t size(passed_key low) { return lend()->size(low); }
     uint64_t size(passed_key low, passed_key high) { return lend()->size(low, high); }
+
+    // The pairs of the range, up by `begin` and down by `rbegin`. A handle is lent for each page, and none is out between: so what is done
+    // with a pair may call by the index.
+    range_type range() { return range_of(0, UINT64_MAX, handle::page_room); }
+    range_type range(passed_key low) { return range_of(words::of_key(low), UINT64_MAX, handle::page_room); }
+    range_type range(passed_key low, passed_key high, size_t room = handle::page_room) {
+        return range_of(words::of_key(low), words::of_key(high), room);
+    }
 
 private:
     std::vector<place> places_;
@@ -154,6 +178,9 @@ private:
         places_[0].its = std::move(first);
     }
 
+    static handle &by_words(handle_type &its) noexcept { return its; }
+
+    range_type range_of(uint64_t low, uint64_t high, size_t room) { return range_type(pages_of_range<by_lent>({this}, low, high, room)); }
 };
 
 // Where nothing is said of keys and values they are numbers.

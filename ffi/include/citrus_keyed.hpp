@@ -109,10 +109,12 @@ private:
     section its_;
 };
 
-// The pairs of a key range, to be gone through once, as `pair_range`.
-template <class K, class V> class keyed_range {
-public:
-    class iterator {
+// The pairs of a key range, as `pair_range` has them: up from `begin` on, and down from `rbegin` on.
+template <class K, class V, class Source = of_ranges::by_handle> class keyed_range {
+    using words = of_keys::words<K, V>;
+    using range_of_words = pages_of_range<Source>;
+
+    template <class At> class stepper {
     public:
         using iterator_category = std::input_iterator_tag;
         using value_type = keyed_pair<K, V>;
@@ -120,35 +122,40 @@ public:
         using pointer = void;
         using reference = value_type;
 
-        iterator() noexcept = default;
+        stepper() noexcept = default;
 
-        value_type operator*() const noexcept { return of_keys::words<K, V>::pair_of(*at_); }
+        value_type operator*() const noexcept { return words::pair_of(*at_); }
 
-        iterator &operator++() {
+        stepper &operator++() {
             ++at_;
             return *this;
         }
 
         void operator++(int) { ++at_; }
 
-        friend bool operator==(const iterator &one, const iterator &other) noexcept { return one.at_ == other.at_; }
-        friend bool operator!=(const iterator &one, const iterator &other) noexcept { return one.at_ != other.at_; }
+        friend bool operator==(const stepper &one, const stepper &other) noexcept { return one.at_ == other.at_; }
+        friend bool operator!=(const stepper &one, const stepper &other) noexcept { return one.at_ != other.at_; }
 
     private:
         friend class keyed_range;
-        explicit iterator(pair_range::iterator at) noexcept : at_(at) {}
+        explicit stepper(At at) noexcept : at_(at) {}
 
-        pair_range::iterator at_;
+        At at_;
     };
+
+public:
+    using iterator = stepper<typename range_of_words::iterator>;
+    using reverse_iterator = stepper<typename range_of_words::reverse_iterator>;
+
+    explicit keyed_range(range_of_words &&all) noexcept : all_(std::move(all)) {}
 
     iterator begin() { return iterator(all_.begin()); }
     iterator end() noexcept { return iterator(all_.end()); }
+    reverse_iterator rbegin() { return reverse_iterator(all_.rbegin()); }
+    reverse_iterator rend() noexcept { return reverse_iterator(all_.rend()); }
 
 private:
-    template <class, class> friend class keyed_handle;
-    explicit keyed_range(pair_range &&all) noexcept : all_(std::move(all)) {}
-
-    pair_range all_;
+    range_of_words all_;
 };
 
 // Lanes, as `lanes`, with keys and values of types of yours.
@@ -196,6 +203,7 @@ private:
 
 // A handle, as `handle`, with keys and values of types of yours.
 template <class K, class V = uint64_t> class keyed_handle : private handle {
+    template <class, class> friend class index;
     static_assert(needs_key<K>() && of_keys::needs_value<V>());
     using words = of_keys::words<K, V>;
     using pair = keyed_pair<K, V>;
@@ -264,15 +272,15 @@ public:
     }
 
     std::optional<pair> first() { return words::pair_of(handle::first()); }
-    std::optional<pair> first(passed_key low) { return words::pair_of(handle::first(words::of_key(low))); }
+    std::optional<pair> first_from(passed_key low) { return words::pair_of(handle::first_from(words::of_key(low))); }
     std::optional<pair> last() { return words::pair_of(handle::last()); }
-    std::optional<pair> last(passed_key high) { return words::pair_of(handle::last(words::of_key(high))); }
+    std::optional<pair> last_to(passed_key high) { return words::pair_of(handle::last_to(words::of_key(high))); }
     std::optional<pair> last(passed_key low, passed_key high) { return words::pair_of(handle::last(words::of_key(low), words::of_key(high))); }
 
     std::optional<pair> pop_first() { return words::pair_of(handle::pop_first()); }
-    std::optional<pair> pop_first(passed_key low) { return words::pair_of(handle::pop_first(words::of_key(low))); }
+    std::optional<pair> pop_first_from(passed_key low) { return words::pair_of(handle::pop_first_from(words::of_key(low))); }
     std::optional<pair> pop_last() { return words::pair_of(handle::pop_last()); }
-    std::optional<pair> pop_last(passed_key high) { return words::pair_of(handle::pop_last(words::of_key(high))); }
+    std::optional<pair> pop_last_to(passed_key high) { return words::pair_of(handle::pop_last_to(words::of_key(high))); }
 
     using handle::empty;
     uint64_t size() { return handle::size(); }

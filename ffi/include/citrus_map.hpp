@@ -5,6 +5,7 @@
 //     citrus::map<std::string> other = mine.share();         // for the second thread
 //     mine.insert(5, std::make_unique<std::string>("five"));
 //     if (auto text = mine.get(5)) std::cout << *text;       // it stays until `text` ends
+//     for (const auto &[key, text] : mine.range(1, 9)) std::cout << *text;
 //     std::unique_ptr<std::string> gone = mine.remove(5);
 //
 // Keys are 64-bit numbers, and those of `citrus::map<K, T>` are of a type of yours, as citrus_key.hpp says:
@@ -13,7 +14,7 @@
 //     rows.insert({-1, 5}, std::make_unique<std::string>("minus one, five"));
 //
 // What is left to owe beside what citrus.hpp says:
-//   - a map object outlives the held values that it gave, and what a held value leads to isn't used when that has ended;
+//   - a map object outlives the held values and the ranges that it gave, and what a held value leads to isn't used when that has ended;
 //   - while a thread has a held value of one map object it makes no update by another one of the same map. By the same one it can't: holds is
 //     thrown;
 //   - the destructor of an object makes no call of the map that has it, nor does what `update`, `remove_if`, `retire_if` and
@@ -50,9 +51,101 @@ public:
 
 private:
     template <class, class> friend class map;
+    template <class, class> friend class held_range;
     explicit held(section &&within) noexcept : within_(std::move(within)) {}
 
     mutable section within_;
+};
+
+// A pair whose value is read.
+template <class K, class T> struct held_pair {
+    K key;
+    held<T> value;
+};
+
+// The pairs of a key range, as `map::range` gives them: keys ascend from `begin` on, and descend from `rbegin` on. The keys are listed page by
+// page, each of one moment, later than that of the page before, and the value of each is held when it comes to it, one at a time: so it is one
+// that the key had since its page was listed, and a pair that is gone by then is left out. No key comes twice or out of order, and what is there
+// all the time comes.
+//
+// While a value is held its map object makes no other call, as beside any held value; `release` of the value lets it, and the range goes on behind
+// it. One pass is made at a time: another `begin`, or `rbegin`, takes the place of the one before.
+template <class K, class T> class held_range {
+    template <bool is_down> using pass = of_ranges::pass<is_down, of_ranges::by_handle>;
+
+    template <bool is_down> class stepper {
+    public:
+        using iterator_category = std::input_iterator_tag;
+        using value_type = held_pair<K, T>;
+        using difference_type = std::ptrdiff_t;
+        using pointer = const value_type *;
+        using reference = const value_type &;
+
+        stepper() noexcept = default;
+
+        reference operator*() const noexcept { return *of_->now_; }
+        pointer operator->() const noexcept { return &**this; }
+
+        stepper &operator++() {
+            of_->now_.reset();
+            if (!of_->holds_next(of_->template pass_of<is_down>())) of_ = nullptr;
+            return *this;
+        }
+
+        void operator++(int) { ++*this; }
+
+        // Whether both are at the end, or both aren't.
+        friend bool operator==(const stepper &one, const stepper &other) noexcept { return one.of_ == other.of_; }
+        friend bool operator!=(const stepper &one, const stepper &other) noexcept { return one.of_ != other.of_; }
+
+    private:
+        friend class held_range;
+        explicit stepper(held_range *of) noexcept : of_(of) {}
+
+        held_range *of_ = nullptr;
+    };
+
+public:
+    using iterator = stepper<false>;
+    using reverse_iterator = stepper<true>;
+
+    iterator begin() { return iterator(begins(up_) ? this : nullptr); }
+    iterator end() noexcept { return iterator(); }
+    reverse_iterator rbegin() { return reverse_iterator(begins(down_) ? this : nullptr); }
+    reverse_iterator rend() noexcept { return reverse_iterator(); }
+
+private:
+    template <class, class> friend class map;
+    held_range(handle &by, uint64_t low, uint64_t high, size_t room) noexcept : by_(&by), up_({by_}, low, high, room), down_({by_}, low, high, room) {}
+
+    handle *by_;
+    pass<false> up_;
+    pass<true> down_;
+    std::optional<held_pair<K, T>> now_;
+
+    template <bool is_down> auto &pass_of() noexcept {
+        if constexpr (is_down) return down_;
+        else return up_;
+    }
+
+    template <class Pass> bool begins(Pass &at) {
+        now_.reset();
+        return at.begin() && (holds(at.now().key) || holds_next(at));
+    }
+
+    // Goes on to the next pair that is there still, if there is one.
+    template <class Pass> bool holds_next(Pass &at) {
+        while (at.step())
+            if (holds(at.now().key)) return true;
+        return false;
+    }
+
+    bool holds(uint64_t word) {
+        section within = by_->hold(word);
+        if (!within) return false;
+        now_.emplace(held_pair<K, T>{key_traits<K>::decode(word), held<T>(std::move(within))});
+        return true;
+    }
 };
 
 // `map<T>` has keys of 64 bits, and `map<K, T>` those of a type of yours.
@@ -103,9 +196,27 @@ public:
     // Whether the key is present.
     bool contains(uint64_t key) { return own_->at.contains(key); }
 
-    // The least key at or above `low`, and the greatest at or below `high`.
-    std::optional<uint64_t> next_key(uint64_t low = 0) { return key_of(own_->at.first(low)); }
-    std::optional<uint64_t> last_key(uint64_t high = UINT64_MAX) { return key_of(own_->at.last(high)); }
+    // The least key, if there is one, and the least at or above `low`; the greatest, and the greatest at or below `high`.
+    std::optional<uint64_t> first_key() { return first_key_from(0); }
+    std::optional<uint64_t> first_key_from(uint64_t low) { return key_of(own_->at.first_from(low)); }
+    std::optional<uint64_t> last_key() { return last_key_to(UINT64_MAX); }
+    std::optional<uint64_t> last_key_to(uint64_t high) { return key_of(own_->at.last_to(high)); }
+
+    // The same with its value, which is held as by `get`. The key was the first, or the last, at a moment of the call.
+    [[nodiscard]] std::optional<held_pair<uint64_t, T>> first() { return first_from(0); }
+    [[nodiscard]] std::optional<held_pair<uint64_t, T>> first_from(uint64_t low) {
+        return found_by([this, low] { return first_key_from(low); });
+    }
+    [[nodiscard]] std::optional<held_pair<uint64_t, T>> last() { return last_to(UINT64_MAX); }
+    [[nodiscard]] std::optional<held_pair<uint64_t, T>> last_to(uint64_t high) {
+        return found_by([this, high] { return last_key_to(high); });
+    }
+
+    // The pairs of the range with their values, one by one, up by `begin` and down by `rbegin`: see `held_range`. Keys are listed by pages with
+    // room for so many.
+    held_range<uint64_t, T> range(uint64_t low = 0, uint64_t high = UINT64_MAX, size_t room = handle::page_room) {
+        return range_of<uint64_t>(low, high, room);
+    }
 
     // Whether there is no pair; and how many there are, counted as `handle::size` counts.
     bool empty() { return own_->at.empty(); }
@@ -162,13 +273,15 @@ public:
         return outwait({key, *old});
     }
 
-    // Takes out the pair with the least key at or above `low`, or with the greatest at or below `high`, if there is one: as those of
-    // `handle`.
-    std::optional<popped> pop_first(uint64_t low = 0) {
-        return pop([this, low] { return next_key(low); });
+    // Takes out the pair with the least key, or the least at or above `low`, or with the greatest, or the greatest at or below `high`, if there is
+    // one: as those of `handle`.
+    std::optional<popped> pop_first() { return pop_first_from(0); }
+    std::optional<popped> pop_first_from(uint64_t low) {
+        return pop([this, low] { return first_key_from(low); });
     }
-    std::optional<popped> pop_last(uint64_t high = UINT64_MAX) {
-        return pop([this, high] { return last_key(high); });
+    std::optional<popped> pop_last() { return pop_last_to(UINT64_MAX); }
+    std::optional<popped> pop_last_to(uint64_t high) {
+        return pop([this, high] { return last_key_to(high); });
     }
 
     // Takes the pair out, and returns whether it was there. Its value is dropped by a later call of this map object, when its readers are gone;
@@ -289,9 +402,13 @@ private:
     // No wait has this cookie.
     static constexpr uint64_t no_cookie = UINT64_MAX;
 
+    template <class, class> friend class map;
+
     std::unique_ptr<own> own_;
 
     explicit map(std::unique_ptr<own> &&its) noexcept : own_(std::move(its)) {}
+
+    template <class K> held_range<K, T> range_of(uint64_t low, uint64_t high, size_t room) { return {own_->at, low, high, room}; }
 
     map(handle &&first, uint32_t objects, updates go) : own_(std::make_unique<own>(std::move(first), std::make_shared<common>(objects, go))) {}
 
@@ -352,7 +469,12 @@ private:
         }
     }
 
-    // Another map object may take the pair that was found first.
+    // Another map object may take the pair out whose key was found first.
+    template <class Find> std::optional<held_pair<uint64_t, T>> found_by(Find find) {
+        while (const std::optional<uint64_t> key = find())
+            if (held<T> value = get(*key)) return held_pair<uint64_t, T>{*key, std::move(value)};
+        return std::nullopt;
+    }
     template <class Find> std::optional<popped> pop(Find find) {
         while (const std::optional<uint64_t> key = find())
             if (std::unique_ptr<T> value = remove(*key)) return popped{*key, std::move(value)};
@@ -470,10 +592,21 @@ public:
     [[nodiscard]] held<T> get(passed_key key) { return its_.get(traits::encode(key)); }
     bool contains(passed_key key) { return its_.contains(traits::encode(key)); }
 
-    std::optional<K> next_key() { return key_of(its_.next_key()); }
-    std::optional<K> next_key(passed_key low) { return key_of(its_.next_key(traits::encode(low))); }
+    std::optional<K> first_key() { return key_of(its_.first_key()); }
+    std::optional<K> first_key_from(passed_key low) { return key_of(its_.first_key_from(traits::encode(low))); }
     std::optional<K> last_key() { return key_of(its_.last_key()); }
-    std::optional<K> last_key(passed_key high) { return key_of(its_.last_key(traits::encode(high))); }
+    std::optional<K> last_key_to(passed_key high) { return key_of(its_.last_key_to(traits::encode(high))); }
+
+    [[nodiscard]] std::optional<held_pair<K, T>> first() { return held_of(its_.first()); }
+    [[nodiscard]] std::optional<held_pair<K, T>> first_from(passed_key low) { return held_of(its_.first_from(traits::encode(low))); }
+    [[nodiscard]] std::optional<held_pair<K, T>> last() { return held_of(its_.last()); }
+    [[nodiscard]] std::optional<held_pair<K, T>> last_to(passed_key high) { return held_of(its_.last_to(traits::encode(high))); }
+
+    held_range<K, T> range() { return its_.template range_of<K>(0, UINT64_MAX, handle::page_room); }
+    held_range<K, T> range(passed_key low) { return its_.template range_of<K>(traits::encode(low), UINT64_MAX, handle::page_room); }
+    held_range<K, T> range(passed_key low, passed_key high, size_t room = handle::page_room) {
+        return its_.template range_of<K>(traits::encode(low), traits::encode(high), room);
+    }
 
     bool empty() { return its_.empty(); }
     uint64_t size() { return its_.size(); }
@@ -489,9 +622,9 @@ public:
     std::unique_ptr<T> remove(passed_key key) { return its_.remove(traits::encode(key)); }
 
     std::optional<popped> pop_first() { return popped_of(its_.pop_first()); }
-    std::optional<popped> pop_first(passed_key low) { return popped_of(its_.pop_first(traits::encode(low))); }
+    std::optional<popped> pop_first_from(passed_key low) { return popped_of(its_.pop_first_from(traits::encode(low))); }
     std::optional<popped> pop_last() { return popped_of(its_.pop_last()); }
-    std::optional<popped> pop_last(passed_key high) { return popped_of(its_.pop_last(traits::encode(high))); }
+    std::optional<popped> pop_last_to(passed_key high) { return popped_of(its_.pop_last_to(traits::encode(high))); }
 
     bool retire(passed_key key) { return its_.retire(traits::encode(key)); }
 
@@ -517,6 +650,11 @@ private:
     static std::optional<K> key_of(const std::optional<uint64_t> &word) noexcept {
         if (!word) return std::nullopt;
         return traits::decode(*word);
+    }
+
+    static std::optional<held_pair<K, T>> held_of(std::optional<held_pair<uint64_t, T>> &&one) noexcept {
+        if (!one) return std::nullopt;
+        return held_pair<K, T>{traits::decode(one->key), std::move(one->value)};
     }
 
     static std::optional<popped> popped_of(std::optional<typename by_word::popped> &&one) noexcept {

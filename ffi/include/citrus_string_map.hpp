@@ -48,6 +48,9 @@ namespace citrus {
 //   - a leaf that is taken out, while it is the one that was seen;
 //   - a layer without pairs by a mark. When all have left who may have seen it without, and it has no pair still, the mark is taken out. Whoever
 //     is to add below a mark puts the layer back first.
+// The crate `string_layers` proves of each history of such updates, sections and waits: at each moment the pairs stand for one map
+// (`fronts_are_tries`), an update changes it at one string or nowhere (`updates_change_one`), and what a lookup ends with it said at a moment
+// since its section was entered (`ways_end_with_what_was_said`).
 template <class T> class string_map {
     using leaf = of_strings::leaf<T>;
     using own_leaf = of_strings::own_leaf<T>;
@@ -81,6 +84,12 @@ public:
 
         mutable section within_;
         const leaf *found_ = nullptr;
+    };
+
+    // A pair that was taken out, when the readers of its value are gone.
+    struct popped {
+        std::string key;
+        T value;
     };
 
     // The first map object of a new map, in which so many pairs always fit: those of strings and of layers. Throws bad_argument or no_memory.
@@ -127,7 +136,10 @@ public:
     bool insert(std::string_view text, T value) { return put(text, value, false).is_added; }
 
     // Gives the string this value: the value before, when its readers are gone, or none where the pair was added. Throws full.
-    std::optional<T> upsert(std::string_view text, T value) { return outwait(put(text, value, true).before); }
+    std::optional<T> upsert(std::string_view text, T value) {
+        settle();
+        return outwait(put(text, value, true).before);
+    }
 
     // The same without a wait, and whether the pair was added. The value before is dropped by a later call of this map object.
     bool insert_or_assign(std::string_view text, T value) {
@@ -138,10 +150,13 @@ public:
 
     // Gives the string the T that `change` makes of its value, where it is present: the value before, when its readers are gone. It is one
     // update; where another thread gives the string another value meanwhile `change` is called once more, with that.
-    template <class Change> std::optional<T> update(std::string_view text, Change change) { return outwait(exchange(text, change)); }
+    template <class Change> std::optional<T> update(std::string_view text, Change change) {
+        settle();
+        return outwait(exchange(text, change));
+    }
 
     // Takes the pair out, where the string is present: its value, when its readers are gone. Where it throws then, the value is retired.
-    std::optional<T> remove(std::string_view text) { return outwait(take_while(text, any)); }
+    std::optional<T> remove(std::string_view text) { return remove_if(text, any); }
 
     // Takes the pair out, and returns whether it was there. Its value is dropped by a later call of this map object, when its readers are gone;
     // this one waits only where most_retired are kept.
@@ -149,7 +164,10 @@ public:
 
     // Takes the pair out, or retires it, where the string is present and `goes(value)` says yes. Where another thread gives the string another
     // value after that was asked, it is asked once more, with that one.
-    template <class Goes> std::optional<T> remove_if(std::string_view text, Goes goes) { return outwait(take_while(text, goes)); }
+    template <class Goes> std::optional<T> remove_if(std::string_view text, Goes goes) {
+        settle();
+        return outwait(take_while(text, goes));
+    }
 
     template <class Goes> bool retire_if(std::string_view text, Goes goes) {
         const bool was_there = take_while(text, goes) != nullptr;
@@ -159,11 +177,13 @@ public:
 
     // Calls `visit(text, value)` for each pair from `low` on and below `below`, in order, and returns how many there were. What it promises
     // stands above. The text is there as long as the value is.
-    template <class Visit> uint64_t each(std::string_view low, std::string_view below, Visit visit) { return pages(low, &below, UINT64_MAX, visit); }
+    template <class Visit> uint64_t each(std::string_view low, std::string_view below, Visit visit) {
+        return pages<false>(low, &below, UINT64_MAX, visit);
+    }
 
     // The same from `low` on, and of all.
-    template <class Visit> uint64_t each(std::string_view low, Visit visit) { return pages(low, nullptr, UINT64_MAX, visit); }
-    template <class Visit> uint64_t each(Visit visit) { return pages({}, nullptr, UINT64_MAX, visit); }
+    template <class Visit> uint64_t each(std::string_view low, Visit visit) { return pages<false>(low, nullptr, UINT64_MAX, visit); }
+    template <class Visit> uint64_t each(Visit visit) { return pages<false>({}, nullptr, UINT64_MAX, visit); }
 
     // The same of the strings that begin with this prefix.
     template <class Visit> uint64_t each_with(std::string_view prefix, Visit visit) {
@@ -175,17 +195,51 @@ public:
     }
 
     // The same of the first ones from `low` on, so many at most.
-    template <class Visit> uint64_t first(std::string_view low, uint64_t most, Visit visit) { return pages(low, nullptr, most, visit); }
+    template <class Visit> uint64_t first(std::string_view low, uint64_t most, Visit visit) { return pages<false>(low, nullptr, most, visit); }
 
-    // The least string at or above `low`.
-    std::optional<std::string> next_key(std::string_view low = {}) {
-        std::optional<std::string> told;
-        first(low, 1, [&told](std::string_view text, const T &) { told.emplace(text); });
-        return told;
+    // The same from the greatest string down: of all, and of those from `low` on and below `below`.
+    template <class Visit> uint64_t each_down(Visit visit) { return pages<true>({}, nullptr, UINT64_MAX, visit); }
+    template <class Visit> uint64_t each_down(std::string_view low, std::string_view below, Visit visit) {
+        return pages<true>(low, &below, UINT64_MAX, visit);
+    }
+
+    // The least string, if there is one, and the least at or above `low`; the greatest, and the greatest at or below `high`: of the strings that
+    // are there all the time, and perhaps a nearer one that came or went meanwhile.
+    std::optional<std::string> first_key() { return key_of<false>({}, nullptr); }
+    std::optional<std::string> first_key_from(std::string_view low) { return key_of<false>(low, nullptr); }
+    std::optional<std::string> last_key() { return key_of<true>({}, nullptr); }
+    std::optional<std::string> last_key_to(std::string_view high) {
+        const std::string behind = std::string(high) + '\0';
+        const std::string_view below(behind);
+        return key_of<true>({}, &below);
+    }
+
+    // The same with its value, which is held as by `get`.
+    [[nodiscard]] held first() { return first_from({}); }
+    [[nodiscard]] held first_from(std::string_view low) {
+        return found_by([this, low] { return first_key_from(low); });
+    }
+    [[nodiscard]] held last() {
+        return found_by([this] { return last_key(); });
+    }
+    [[nodiscard]] held last_to(std::string_view high) {
+        return found_by([this, high] { return last_key_to(high); });
+    }
+
+    // Takes out the pair with that string, if there is one, as `remove` does.
+    std::optional<popped> pop_first() { return pop_first_from({}); }
+    std::optional<popped> pop_first_from(std::string_view low) {
+        return pop([this, low] { return first_key_from(low); });
+    }
+    std::optional<popped> pop_last() {
+        return pop([this] { return last_key(); });
+    }
+    std::optional<popped> pop_last_to(std::string_view high) {
+        return pop([this, high] { return last_key_to(high); });
     }
 
     // Whether there is no string; and how many there are, by a visit to each.
-    bool empty() { return !next_key(); }
+    bool empty() { return !first_key(); }
     uint64_t size() {
         return each([](std::string_view, const T &) {});
     }
@@ -490,7 +544,7 @@ private:
     bool takes_layer(const mark &its) {
         const uint64_t of = of_strings::word_of(its.of, of_strings::is_layer);
         uint64_t word = of_strings::word_of(&its, of_strings::is_mark);
-        const std::optional<citrus_pair> next = own_->index.first(of_strings::low_key(its.number));
+        const std::optional<citrus_pair> next = own_->index.first_from(of_strings::low_key(its.number));
         // Whoever took the last pair out meanwhile found the mark, and left it at that.
         if (next && next->key <= of_strings::high_key(its.number)) return !change(its.at, word, of) || its.of->pairs <= 0;
         // It was put back, perhaps only for another layer to be put above it.
@@ -536,7 +590,8 @@ private:
         for (size_t left = marks.size() - place; left > 0; left--) finish(marks, place);
     }
 
-    // Sees to those whose readers are gone, and begins a wait for the next ones.
+    // Sees to those whose readers are gone, and begins a wait for the next ones. An update that waits does so first, since its own wait gives up the
+    // one that was begun: so what it leaves, a layer's mark say, is seen to by the next, or where most_retired are kept.
     void settle() {
         own &now = *own_;
         if (!now.leaving.is_empty()) {
@@ -556,6 +611,8 @@ private:
         while (!gone.marks.empty()) finish(gone.marks, gone.marks.size() - 1);
     }
 
+    // No section has it any more, nor comes to a layer by its number: so say `no_section_has_it` and `no_section_comes_to_it` of the crate
+    // `string_layers`, behind the waits for its section's key and for `scans`.
     void drop(uint64_t word) noexcept {
         if (of_strings::kind_of(word) == of_strings::is_leaf) leaf::drop(of_strings::object_of<leaf>(word));
         if (of_strings::kind_of(word) == of_strings::is_mark) delete of_strings::object_of<mark>(word);
@@ -566,21 +623,44 @@ private:
     }
 
     // One page after the other, each in a section. The next begins behind the last string that was visited.
-    template <class Visit> uint64_t pages(std::string_view low, const std::string_view *below, uint64_t most, Visit &visit) {
-        std::string from(low);
+    template <bool is_down, class Visit> uint64_t pages(std::string_view low, const std::string_view *below, uint64_t most, Visit &visit) {
+        std::string end;
+        std::string_view low_end = low, high_end = below ? *below : low;
         for (uint64_t count = 0;;) {
             const auto room = static_cast<size_t>(std::min<uint64_t>(page_room, most - count));
             if (room == 0) return count;
-            scan<Visit> part(*own_, visit, from, below, room);
+            scan<is_down, Visit> part(*own_, visit, low_end, below ? &high_end : nullptr, room);
             const size_t visited = part.go();
             count += visited;
             if (visited < room) return count;
-            from = part.next();
+            end = part.next();
+            (is_down ? high_end : low_end) = end;
+            if (is_down) below = &high_end;
         }
     }
 
-    // A page of a visit to the strings from `low` on, below `below` if there is one. It doesn't call itself, since ways may be long.
-    template <class Visit> class scan {
+    // The string to which a visit comes first, if there is one.
+    template <bool is_down> std::optional<std::string> key_of(std::string_view low, const std::string_view *below) {
+        std::optional<std::string> told;
+        const auto tell = [&told](std::string_view text, const T &) { told.emplace(text); };
+        pages<is_down>(low, below, 1, tell);
+        return told;
+    }
+
+    // Another map object may take the pair out whose string was found first.
+    template <class Find> held found_by(Find find) {
+        while (const std::optional<std::string> text = find())
+            if (held found = get(*text)) return found;
+        return {};
+    }
+    template <class Find> std::optional<popped> pop(Find find) {
+        while (std::optional<std::string> text = find())
+            if (std::optional<T> value = remove(*text)) return popped{std::move(*text), std::move(*value)};
+        return std::nullopt;
+    }
+
+    // A page of a visit to the strings from `low` on, below `below` if there is one, up or down. It doesn't call itself, since ways may be long.
+    template <bool is_down, class Visit> class scan {
     public:
         scan(own &its, Visit &visit, std::string_view low, const std::string_view *below, size_t room)
             : own_(its), visit_(visit), low_(low), below_(below), room_(room) {}
@@ -598,14 +678,14 @@ private:
             return count_;
         }
 
-        // The least string behind those that were visited.
-        std::string next() const { return last_ + '\0'; }
+        // Where the next page begins: the least string behind those that were visited, or the end above which they were.
+        std::string next() const { return is_down ? last_ : last_ + '\0'; }
 
     private:
         // A layer, or all, where it stands: which pairs are left, and whether the ends of the range are within.
         struct level {
             bool has_low, has_below;
-            uint64_t high;
+            uint64_t low, high;
             std::optional<uint64_t> next;
             size_t room = few;
             page found{};
@@ -630,29 +710,38 @@ private:
             uint64_t low = in ? of_strings::low_key(in->number) : 0, high = in ? of_strings::high_key(in->number) : of_strings::last_first_key;
             if (has_low) low = in ? in->key_of(low_) : of_strings::first_key(low_);
             if (has_below) high = in ? in->key_of(*below_) : of_strings::first_key(*below_);
-            if (low <= high) levels_.push_back({has_low, has_below, high, low});
+            if (low <= high) levels_.push_back({has_low, has_below, low, high, is_down ? high : low});
         }
 
         void list(level &now) {
-            now.found = own_.index.list(*now.next, now.high, std::min(now.room, room_));
+            const size_t room = std::min(now.room, room_);
+            now.found = is_down ? own_.index.list_down(now.low, *now.next, room) : own_.index.list(*now.next, now.high, room);
             now.next = now.found.next;
             now.room *= 4;
             now.at = 0;
         }
 
+        // It comes to strings below the range, or above it: on the way up before it, or behind it, and on the way down the other way round.
+        void passes_low() {
+            if (is_down) levels_.clear();
+        }
+        void passes_below() {
+            if (!is_down) levels_.clear();
+        }
+
         void pass(const level &now, const citrus_pair &pair) {
             if (of_strings::kind_of(pair.value) == of_strings::is_leaf) {
                 const leaf &one = *of_strings::object_of<leaf>(pair.value);
-                if (now.has_low && one.text() < low_) return;
-                if (now.has_below && one.text() >= *below_) return levels_.clear();
+                if (now.has_low && one.text() < low_) return passes_low();
+                if (now.has_below && one.text() >= *below_) return passes_below();
                 visit_(one.text(), one.value);
                 if (++count_ == room_) last_ = one.text();
                 return;
             }
             const layer &next = *of_strings::layer_of(pair.value);
             const bool has_low = now.has_low && begins(low_, next.prefix), has_below = now.has_below && begins(*below_, next.prefix);
-            if (now.has_low && !has_low && low_ > next.prefix) return;
-            if (now.has_below && !has_below && *below_ <= next.prefix) return levels_.clear();
+            if (now.has_low && !has_low && low_ > next.prefix) return passes_low();
+            if (now.has_below && !has_below && *below_ <= next.prefix) return passes_below();
             enter(&next, has_low, has_below);
         }
     };

@@ -34,10 +34,16 @@ has() { hash "$1" 2>/dev/null || { echo "left out: $1, which Debian's package $2
 # Whether words succeed within ten seconds.
 comes_to() { for _ in $(seq 100); do ! "$@" >/dev/null 2>&1 || return 0; sleep 0.1; done; return 1; }
 
-"$program" --port 0 --pairs 100000 --workers 2 >"$room/says" 2>&1 &
-started+=($!)
-comes_to grep -q 'listens at' "$room/says" || { echo "FAILED: the server doesn't start: $(cat "$room/says")"; exit 1; }
-port=$(sed -n 's/.*listens at [0-9.]*:\([0-9]*\):.*/\1/p' "$room/says")
+# Starts a server with these words too, and sets `port`.
+start() {
+    "$program" --port 0 --pairs 100000 --workers 2 "$@" >"$room/says" 2>&1 &
+    started+=($!)
+    comes_to grep -q 'listens at' "$room/says" || { echo "FAILED: the server doesn't start: $(cat "$room/says")"; exit 1; }
+    port=$(sed -n 's/.*listens at [0-9.]*:\([0-9]*\):.*/\1/p' "$room/says")
+}
+start --strings
+strings=$port
+start
 
 # A reply in one line, as redis-cli shows it to people.
 reply() { timeout 10 redis-cli --no-raw -p "$port" "$@" 2>&1 | tr -s '\n' ' ' | sed 's/ $//'; }
@@ -54,23 +60,32 @@ talks() {
         answers '*"server" => "citrus_server" *' -3 hello 3 && answers '# Keyspace*db0:keys=2,expires=1,avg_ttl=0*' info keyspace &&
         answers '*redis_version:7*' info server && answers '"5" "6"' --scan && answers OK flushall
 }
+# The server of strings; `--scan` goes by cursors.
+talks_of_strings() {
+    local port=$strings
+    answers OK set 'user: 7' $'a\n\xff' ex 100 && answers '"a?n?xff"' get 'user: 7' && answers OK mset user:1 1 user:2 2 other 3 && answers '"user:1" "user:2"' --scan --pattern 'user:?' &&
+        answers '"other" "user: 7" "user:1" "user:2"' --scan && answers '(integer) -5' decrby n 5 && answers '# Keyspace*db0:keys=5,expires=1,avg_ttl=0*' info keyspace &&
+        answers '1) "other" 2) 1) "n" 2) "-5"' range - + limit 1 && answers OK flushall
+}
 # What isn't one call of redis-cli: the lines of a transaction go by one connection.
 in_a_transaction() { [[ $(printf 'set 5 50\nmulti\nset 5 51\nexec\nget 5\n' | timeout 10 redis-cli -p "$port") == OK*OK*QUEUED*EXECABORT*50 ]]; }
 
 # Each of its tests that is named, for a moment.
 benchmark() {
-    timeout 30 redis-benchmark -p "$port" -c 4 -P 16 -n 20000 -r 1000 -q "$@" >"$room/rate" 2>&1 && grep -q 'requests per second' "$room/rate" &&
+    timeout 30 redis-benchmark -p "${of:-$port}" -c 4 -P 16 -n 20000 -r 1000 -q "$@" >"$room/rate" 2>&1 && grep -q 'requests per second' "$room/rate" &&
         ! grep -qi 'error' "$room/rate"
 }
 
 if has redis-cli redis-tools; then
     tries 'redis-cli is answered in both protocols' talks
+    tries 'redis-cli is answered by the server of strings' talks_of_strings
     tries 'nothing of a transaction that redis-cli sends is done' in_a_transaction
 fi
 if has redis-benchmark redis-tools; then
     tries 'redis-benchmark sets and gets' benchmark SET 1__rand_int__ 1__rand_int__
     tries 'redis-benchmark sets keys that go' benchmark SET 1__rand_int__ 1__rand_int__ PX 5
     tries 'redis-benchmark gets' benchmark GET 1__rand_int__
+    of=$strings tries 'redis-benchmark makes tests of its own with strings' benchmark -t set,get,incr,mset
 fi
 python=$(for one in python3 /usr/bin/python3; do "$one" -c 'import redis' 2>/dev/null && echo "$one" && break; done)
 if [ -n "$python" ]; then
@@ -83,6 +98,8 @@ if has redis-server redis-server; then
     redis-server --port "$of_redis" --bind 127.0.0.1 --save '' --appendonly no --dir "$room" >"$room/redis_says" 2>&1 &
     started+=($!)
     comes_to bash -c "exec 3<>/dev/tcp/127.0.0.1/$of_redis"
-    tries 'what Redis has too is answered as by redis-server' timeout 60 python3 "$here/tests/same_as_redis.py" "$port" "$of_redis"
+    same() { timeout 60 python3 "$here/tests/same_as_redis.py" "$1" "$of_redis" "${@:2}"; }
+    tries 'what Redis has too is answered as by redis-server' same "$port" "$here/tests/same_as_redis.txt"
+    tries 'strings are answered as by redis-server' same "$strings" "$here/tests/same_as_redis.txt" "$here/tests/same_as_redis_strings.txt"
 fi
 exit "$failed"

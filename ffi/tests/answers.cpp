@@ -33,8 +33,8 @@ static void answers(uint32_t waiter) {
     WANT(index.replace(1, 12).value_or(0), 10);
     WANT(index.upsert(1, 13).value_or(0), 12);
     WANT(index.upsert(2, 20).has_value(), false);
-    WANT(index.first(2).value_or(citrus_pair{}).key, 2);
-    WANT(index.first(2).value_or(citrus_pair{}).value, 20);
+    WANT(index.first_from(2).value_or(citrus_pair{}).key, 2);
+    WANT(index.first_from(2).value_or(citrus_pair{}).value, 20);
     WANT(index.remove(1).value_or(0), 13);
     WANT(index.get(1).has_value(), false);
     WANT(index.get(2).value_or(0), 20);
@@ -95,16 +95,16 @@ static void first_and_last_pairs(uint32_t waiter) {
     WANT(index.contains(5), true);
     WANT(index.contains(6), false);
     WANT(index.last().value_or(citrus_pair{}).key, 5);
-    WANT(index.last(3).value_or(citrus_pair{}).value, 30);
-    WANT(index.last(0).has_value(), false);
+    WANT(index.last_to(3).value_or(citrus_pair{}).value, 30);
+    WANT(index.last_to(0).has_value(), false);
     WANT(index.last(2, 4).value_or(citrus_pair{}).key, 4);
     WANT(index.last(6, 9).has_value(), false);
     WANT(index.pop_first().value_or(citrus_pair{}).value, 10);
-    WANT(index.pop_first(3).value_or(citrus_pair{}).value, 30);
-    WANT(index.pop_first(6).has_value(), false);
+    WANT(index.pop_first_from(3).value_or(citrus_pair{}).value, 30);
+    WANT(index.pop_first_from(6).has_value(), false);
     WANT(index.pop_last().value_or(citrus_pair{}).key, 5);
-    WANT(index.pop_last(3).value_or(citrus_pair{}).key, 2);
-    WANT(index.pop_last(3).has_value(), false);
+    WANT(index.pop_last_to(3).value_or(citrus_pair{}).key, 2);
+    WANT(index.pop_last_to(3).has_value(), false);
     WANT(index.size(), 1);
 }
 

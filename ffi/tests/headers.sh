@@ -50,6 +50,9 @@ template class citrus::map<std::pair<int, float>, int>;
 template class citrus::index<double, int *>;
 template class citrus::string_map<std::unique_ptr<int>>;
 template class citrus::keyed_lanes<bool, char>;
+template class citrus::keyed_range<short, float>;
+template class citrus::held_range<uint64_t, int>;
+template class citrus::held_range<std::pair<int, float>, int>;
 static citrus_handle kept = CITRUS_CLOSED_HANDLE;
 bool is_kept();
 bool is_kept() {
@@ -60,6 +63,9 @@ bool is_kept() {
     strings.each("five", "six", [](std::string_view, int) {});
     strings.update("five", [](int value) { return value + 1; });
     strings.remove_if("five", [](int value) { return value > 5; });
+    strings.each_down("five", "six", [](std::string_view, int) {});
+    for (const auto &[key, value] : index.range(1, 5)) index.upsert(key, value + 1);
+    for (auto all = mine.range(), *at = &all; at->rbegin() != at->rend();) mine.pop_last();
     return mine.insert(5, 50) && fixed.insert(5, 50) && mine.hold(5) && kept.at && index.insert(5, 50);
 }
 END

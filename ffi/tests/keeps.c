@@ -1,6 +1,6 @@
 /* Readers that stay, in an index whose handles may keep back many slots of removed pairs: removes go on beside a reader until their handle keeps
- * back all that it may, and are BUSY then; so are inserts that need turns, or find no slot free. What is kept outlives a close, takes no room from the pairs that always
- * fit, and goes back once the reader has left, or is used again, also where its handle waits behind each remove. */
+ * back all that it may, and are BUSY then; so are inserts that need turns, and updates that find no slot free. What is kept outlives a close, takes
+ * no room from the pairs that always fit, and goes back once the reader has left, or is used again, also where its handle waits behind each remove. */
 #include "stays.h"
 
 /* The reader's key is the least, so it lies between no key that goes and the next one. Where waits go by classes of 64 keys, the keys of its
@@ -483,6 +483,68 @@ static void an_insert_without_a_free_slot_is_busy(uint32_t waiter) {
     end_scene(&scene);
 }
 
+enum { ABOVE_TWO = 5, FIRST_CHILD = 3, LAST_CHILD = 7, KEPT_BY_COPY = 2 };
+
+/* Its first remove copied a successor, which took its spare, and another handle has the last free slot since: it doesn't know that none is left. */
+static void lose_spare_and_slots(struct scene *scene, uint32_t waiter, citrus_handle *other) {
+    uint64_t old = UNTOUCHED, pairs = 0;
+    int32_t status = CITRUS_DONE;
+    begin_scene(scene, 1, 3, waiter, FEWEST);
+    WANT(citrus_share(&scene->mine, 1, 1000000, other), CITRUS_DONE);
+    WANT(citrus_insert(&scene->mine, ABOVE_TWO, 50), CITRUS_DONE);
+    WANT(citrus_insert(&scene->mine, FIRST_CHILD, 30), CITRUS_DONE);
+    WANT(citrus_insert(&scene->mine, LAST_CHILD, 70), CITRUS_DONE);
+    WANT(citrus_remove(&scene->mine, ABOVE_TWO, &old), CITRUS_DONE);
+    while ((status = citrus_insert_once(other, in_halves(pairs), pairs)) == CITRUS_DONE && pairs < TALLEST) pairs++;
+    WANT(status, CITRUS_FULL);
+    const citrus_numbers numbers = numbers_of(&scene->mine);
+    WANT(numbers.kept, KEPT_BY_COPY);
+    WANT(numbers.free > 0, 1);
+}
+
+static int32_t remove_absent(citrus_handle *by, uint64_t *found) { return citrus_remove_once(by, ABOVE_TWO, found); }
+static int32_t take_another(citrus_handle *by, uint64_t *found) { return citrus_take_once(by, FIRST_CHILD, 31, found); }
+static int32_t take_expected(citrus_handle *by, uint64_t *found) { return citrus_take_once(by, FIRST_CHILD, 30, found); }
+static int32_t remove_present(citrus_handle *by, uint64_t *found) { return citrus_remove_once(by, FIRST_CHILD, found); }
+
+static const struct {
+    int32_t (*call)(citrus_handle *by, uint64_t *found);
+    int32_t status;
+    uint64_t found;
+} without_slots[] = {
+    {remove_absent, CITRUS_UNCHANGED, UNTOUCHED},
+    {take_another, CITRUS_DIFFERENT, 30},
+    {take_expected, CITRUS_BUSY, UNTOUCHED},
+    {remove_present, CITRUS_BUSY, UNTOUCHED},
+};
+
+/* Such a remove waits for nobody in its call. It tells what needs no slot, that the key is absent or has another value, and else it is busy; the next
+ * one begins a wait for what its handle keeps. */
+static void a_remove_that_finds_no_slot_free_is_busy(uint32_t waiter) {
+    for (size_t i = 0; i < COUNT_OF(without_slots); i++) {
+        citrus_handle other = CITRUS_CLOSED_HANDLE;
+        struct scene scene;
+        uint64_t found = UNTOUCHED;
+        lose_spare_and_slots(&scene, waiter, &other);
+        const citrus_numbers before = numbers_of(&scene.mine);
+        WANT(without_slots[i].call(&scene.mine, &found), without_slots[i].status);
+        WANT(found, without_slots[i].found);
+        const citrus_numbers after = numbers_of(&scene.mine);
+        WANT(after.free, 0);
+        WANT(after.kept, KEPT_BY_COPY);
+        WANT(after.tickets, before.tickets);
+        WANT(after.waits, before.waits);
+        WANT(citrus_remove_once(&scene.mine, FIRST_CHILD, &found), CITRUS_BUSY);
+        WANT(numbers_of(&scene.mine).waits, before.waits + 1);
+        is_busy_and_changes_nothing(&scene.mine, FIRST_CHILD);
+        leave(&scene);
+        WANT(citrus_remove(&scene.mine, FIRST_CHILD, &found), CITRUS_DONE);
+        WANT(found, 30);
+        citrus_close(&other);
+        end_scene(&scene);
+    }
+}
+
 /* Those that are shared, and those whose places lanes had. */
 static void each_handle_may_keep_back_as_many(uint32_t waiter) {
     const citrus_options options = citrus_options_for(10, 4, waiter);
@@ -515,6 +577,7 @@ static const struct waiter_case cases[] = {
     {"kept slots outlive a close", kept_slots_outlive_a_close},
     {"all pairs fit beside kept slots", all_pairs_fit_beside_kept_slots},
     {"an insert without a free slot is busy", an_insert_without_a_free_slot_is_busy},
+    {"a remove that finds no slot free is busy", a_remove_that_finds_no_slot_free_is_busy},
     {"each handle may keep back as many", each_handle_may_keep_back_as_many},
 };
 

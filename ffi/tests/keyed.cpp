@@ -160,9 +160,9 @@ template <class K> struct model {
 
     void ends() {
         WANT(is_pair(mine.first(), all, all.begin()), true);
-        WANT(is_pair(mine.first(least()), all, all.lower_bound(low)), true);
+        WANT(is_pair(mine.first_from(least()), all, all.lower_bound(low)), true);
         WANT(is_pair(mine.last(), all, last_of(all, NUMBERS)), true);
-        WANT(is_pair(mine.last(most()), all, last_of(all, high)), true);
+        WANT(is_pair(mine.last_to(most()), all, last_of(all, high)), true);
         const auto last = last_of(all, high);
         WANT(is_pair(mine.last(least(), most()), all, last != all.end() && last->first >= low ? last : all.end()), true);
     }
@@ -172,8 +172,8 @@ template <class K> struct model {
             WANT(is_pair(found, all, wanted), true);
             if (wanted != all.end()) all.erase(wanted);
         };
-        goes(mine.pop_first(least()), all.lower_bound(low));
-        goes(mine.pop_last(most()), last_of(all, high));
+        goes(mine.pop_first_from(least()), all.lower_bound(low));
+        goes(mine.pop_last_to(most()), last_of(all, high));
         if (high % 4) return;
         goes(mine.pop_first(), all.begin());
         goes(mine.pop_last(), last_of(all, NUMBERS));
@@ -391,7 +391,7 @@ static void keys_become_words_once() {
     WANT(words_of([&] { return index.size({-5}); }), 1);
     auto handle = index.lend();
     WANT(words_of([&] { return handle->retain({-5}, {5}, [](counted_key, uint64_t) { return true; }); }), 2);
-    WANT(words_of([&] { return handle->pop_last({5}).value().value; }), 1);
+    WANT(words_of([&] { return handle->pop_last_to({5}).value().value; }), 1);
     citrus::map<counted_key, int> map(10, 1);
     const auto one = [] { return std::make_unique<int>(1); };
     WANT(words_of([&] { return map.insert({-5}, one()); }), 1);
@@ -404,14 +404,14 @@ static void keys_become_words_once() {
     WANT(words_of([&] { return map.retire_if({-5}, [](int) { return false; }); }), 1);
     WANT(words_of([&] { return map.retire({-5}); }), 1);
     WANT(words_of([&] { return map.insert({-5}, one()); }), 1);
-    WANT(words_of([&] { return map.pop_first({-5}).value().key.number; }), 1);
+    WANT(words_of([&] { return map.pop_first_from({-5}).value().key.number; }), 1);
 }
 
 static void ranges_of_an_index() {
     citrus::index<int, double> index(10, 1);
     for (const int key : {-5, 5, 9}) WANT(index.insert(key, key / 2.0), true);
-    WANT(index.first()->key == -5 && index.first(0)->key == 5 && !index.first(10), true);
-    WANT(index.last()->key == 9 && index.last(8)->key == 5 && !index.last(-6), true);
+    WANT(index.first()->key == -5 && index.first_from(0)->key == 5 && !index.first_from(10), true);
+    WANT(index.last()->key == 9 && index.last_to(8)->key == 5 && !index.last_to(-6), true);
     WANT(index.size() == 3 && index.size(0) == 2 && index.size(-5, 5) == 2, true);
     const auto page = index.list(-9, 8, 1);
     WANT(page.size() == 1 && page.pairs[0].value == -2.5 && page.next == 5, true);
@@ -438,14 +438,14 @@ static void maps_in_order() {
     WANT(*other.get({-1, 5}) == "one", true);
     WANT(bool(other.get({5, 1})), false);
     WANT(mine.contains({4, 0}), true);
-    WANT(mine.next_key() == std::pair(-1, 3u) && mine.next_key({0, 0}) == std::pair(4, 0u) && !mine.next_key({4, 1}), true);
-    WANT(mine.last_key() == std::pair(4, 0u) && mine.last_key({3, 9}) == std::pair(-1, 5u), true);
+    WANT(mine.first_key() == std::pair(-1, 3u) && mine.first_key_from({0, 0}) == std::pair(4, 0u) && !mine.first_key_from({4, 1}), true);
+    WANT(mine.last_key() == std::pair(4, 0u) && mine.last_key_to({3, 9}) == std::pair(-1, 5u), true);
     WANT(mine.size(), 3);
     WANT(mine.size({0, 0}), 1);
     WANT(mine.size({-1, 0}, {-1, UINT32_MAX}), 2);
     WANT(mine.retain({-1, 0}, {0, 0}, [](const std::pair<int, unsigned> &key, const std::string &) { return key.second == 3; }), 1);
-    WANT(mine.pop_last({3, 0})->key == std::pair(-1, 3u), true);
-    WANT(mine.pop_first({5, 0}).has_value(), false);
+    WANT(mine.pop_last_to({3, 0})->key == std::pair(-1, 3u), true);
+    WANT(mine.pop_first_from({5, 0}).has_value(), false);
     WANT(mine.insert({5, 0}, std::make_unique<std::string>("one")), true);
     WANT(mine.clear({4, 0}, {4, 0}), 1);
     WANT(mine.clear({5, 1}), 0);

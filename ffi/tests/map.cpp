@@ -65,12 +65,12 @@ static void answers(uint32_t waiter) {
     WANT(mine.replace(5, make(5))->is_of(5), true);
     WANT(mine.upsert(5, make(5))->is_of(5), true);
     WANT(mine.upsert(6, make(6)) == nullptr, true);
-    WANT(mine.next_key().value_or(0), 5);
-    WANT(mine.next_key(6).value_or(0), 6);
-    WANT(mine.next_key(7).has_value(), false);
+    WANT(mine.first_key().value_or(0), 5);
+    WANT(mine.first_key_from(6).value_or(0), 6);
+    WANT(mine.first_key_from(7).has_value(), false);
     WANT(mine.last_key().value_or(0), 6);
-    WANT(mine.last_key(5).value_or(0), 5);
-    WANT(mine.last_key(4).has_value(), false);
+    WANT(mine.last_key_to(5).value_or(0), 5);
+    WANT(mine.last_key_to(4).has_value(), false);
     WANT(mine.contains(6), true);
     WANT(mine.contains(7), false);
     WANT(mine.size(), 2);
@@ -89,7 +89,7 @@ static void ranges(uint32_t waiter) {
     WANT(mine.empty(), true);
     WANT(mine.pop_first().has_value(), false);
     for (uint64_t key = 0; key < 3000; key++) mine.insert(key, make(key));
-    const auto first = mine.pop_first(), second = mine.pop_first(10), last = mine.pop_last(), before = mine.pop_last(2000);
+    const auto first = mine.pop_first(), second = mine.pop_first_from(10), last = mine.pop_last(), before = mine.pop_last_to(2000);
     WANT(first && first->key == 0 && first->value->is_of(0), true);
     WANT(second && second->key == 10 && second->value->is_of(10), true);
     WANT(last && last->key == 2999 && last->value->is_of(2999), true);
@@ -238,7 +238,7 @@ static void a_held_value_refuses(uint32_t waiter, citrus::updates go) {
     WANT(is_refused(citrus::fault::holds, [&] { mine.pop_last(); }), true);
     WANT(is_refused(citrus::fault::holds, [&] { mine.clear(); }), true);
     WANT(is_refused(citrus::fault::holds, [&] { mine.retire(5); }), true);
-    WANT(is_refused(citrus::fault::holds, [&] { mine.next_key(); }), true);
+    WANT(is_refused(citrus::fault::holds, [&] { mine.first_key(); }), true);
     WANT(is_refused(citrus::fault::holds, [&] { mine.share(); }), true);
     WANT(value->is_of(6), true);
     citrus::held<object> moved = std::move(held);

@@ -104,7 +104,7 @@ public:
         return told;
     }
 
-    std::optional<citrus_pair> first(uint64_t low) { return by_number(its_.first(key_at<K>(low))); }
+    std::optional<citrus_pair> first_from(uint64_t low) { return by_number(its_.first_from(key_at<K>(low))); }
     std::optional<citrus_pair> last(uint64_t low, uint64_t high) { return by_number(its_.last(key_at<K>(low), key_at<K>(high))); }
 
     citrus::tidied tidy(uint64_t low, uint64_t high, uint32_t turns) {

@@ -63,10 +63,10 @@ static void answers(uint32_t waiter) {
     WANT(mine.update("seven", next).has_value(), false);
     WANT(mine.get("six")->number, 9);
     WANT(mine.size(), 3);
-    WANT(mine.next_key().value_or("-").empty(), true);
-    WANT(mine.next_key("five").value_or("") == "five", true);
-    WANT(mine.next_key("five!").value_or("") == "six", true);
-    WANT(mine.next_key("six!").has_value(), false);
+    WANT(mine.first_key().value_or("-").empty(), true);
+    WANT(mine.first_key_from("five").value_or("") == "five", true);
+    WANT(mine.first_key_from("five!").value_or("") == "six", true);
+    WANT(mine.first_key_from("six!").has_value(), false);
     WANT(number_of(mine.remove("five")).value_or(0), 6);
     WANT(mine.remove("five").has_value(), false);
     WANT(mine.retire("six"), true);
@@ -128,13 +128,61 @@ static void ranges(uint32_t waiter) {
         const auto between = std::distance(next, end);
         WANT(mine.each(low, other, is_next), between);
         WANT(next == end, true);
+        const auto is_before = [&](std::string_view text, const object &value) { not_right += (--next)->first != text || next->second != value.number; };
+        WANT(mine.each_down(low, other, is_before), between);
+        WANT(next == all.lower_bound(low) || between == 0, true);
+        const auto behind = all.upper_bound(low);
+        WANT(mine.last_key_to(low).value_or("-") == (behind == all.begin() ? "-" : std::prev(behind)->first), true);
         next = all.lower_bound(prefix);
         const auto begun = std::count_if(all.begin(), all.end(), [&](const auto &pair) { return pair.first.compare(0, prefix.size(), prefix) == 0; });
         WANT(mine.each_with(prefix, is_next), begun);
     }
     auto first = all.begin();
+    auto last = all.end();
+    WANT(mine.each_down([&](std::string_view text, const object &value) { not_right += text != (--last)->first || value.number != last->second; }), all.size());
     WANT(mine.each([&](std::string_view text, const object &) { not_right += text != first++->first; }), all.size());
     WANT(mine.size(), all.size());
+    WANT(not_right, 0);
+}
+
+// The strings at the ends, beside those of a std::map, until all are taken out.
+static void ends(uint32_t waiter) {
+    strings mine = opened(waiter, 5000, 1);
+    std::map<std::string, uint64_t> all;
+    uint64_t state = 7;
+    WANT(mine.first() || mine.last() || mine.first_from("a") || mine.last_to("a") || mine.first_key() || mine.last_key(), false);
+    WANT(mine.pop_first() || mine.pop_last() || mine.pop_first_from("a") || mine.pop_last_to("a"), false);
+    for (uint64_t i = 0; i < 1000; i++) {
+        const std::string text = drawn_text(state);
+        if (all.emplace(text, i).second) mine.insert(text, object(i));
+    }
+    const auto is = [&](const auto &found, std::map<std::string, uint64_t>::const_iterator wanted) {
+        return wanted == all.end() ? !found : found && found.key() == wanted->first && number_of(*found) == wanted->second;
+    };
+    const auto goes = [&](const auto &popped, std::map<std::string, uint64_t>::const_iterator wanted) {
+        WANT(wanted == all.end() ? !popped : popped && popped->key == wanted->first && number_of(popped->value) == wanted->second, true);
+        if (wanted != all.end()) all.erase(wanted);
+    };
+    const auto last_to = [&](const std::string &high) {
+        const auto behind = all.upper_bound(high);
+        return behind == all.begin() ? all.end() : std::prev(behind);
+    };
+    while (!all.empty()) {
+        const std::string text = drawn_text(state);
+        WANT(is(mine.first(), all.begin()), true);
+        WANT(is(mine.last(), std::prev(all.end())), true);
+        WANT(is(mine.first_from(text), all.lower_bound(text)), true);
+        WANT(is(mine.last_to(text), last_to(text)), true);
+        WANT(mine.first_key() == all.begin()->first && mine.last_key() == std::prev(all.end())->first, true);
+        goes(mine.pop_first_from(text), all.lower_bound(text));
+        goes(mine.pop_last_to(text), last_to(text));
+        goes(mine.pop_first(), all.begin());
+        goes(mine.pop_last(), all.empty() ? all.end() : std::prev(all.end()));
+    }
+    WANT(mine.empty(), true);
+    mine.flush();
+    WANT(mine.layers(), 0);
+    WANT(there, 0);
     WANT(not_right, 0);
 }
 
@@ -396,10 +444,36 @@ static void threads_share_strings(uint32_t waiter) {
     WANT(not_right, 0);
 }
 
+// Four threads pop, two at each end, until nothing is left: each string comes to one of them.
+static void threads_pop_strings(uint32_t waiter) {
+    enum { STRINGS = 600, THREADS = 4 };
+    strings first = opened(waiter, 4 * STRINGS, THREADS + 1);
+    std::vector<std::string> texts;
+    uint64_t state = 5;
+    while (texts.size() < STRINGS) {
+        texts.push_back(drawn_text(state));
+        if (!first.insert(texts.back(), object(texts.size() - 1))) texts.pop_back();
+    }
+    std::vector<std::atomic<int>> popped(STRINGS);
+    std::vector<std::thread> threads;
+    for (int who = 0; who < THREADS; who++)
+        threads.emplace_back([&, who, mine = first.share()]() mutable {
+            while (const auto told = who % 2 ? mine.pop_last() : mine.pop_first()) {
+                const uint64_t number = number_of(told->value).value_or(0);
+                not_right += told->key != texts[number] || popped[number]++;
+            }
+        });
+    for (std::thread &thread : threads) thread.join();
+    WANT(std::all_of(popped.begin(), popped.end(), [](const std::atomic<int> &times) { return times == 1; }), true);
+    WANT(first.empty(), true);
+    WANT(not_right, 0);
+}
+
 static const waiter_case waiter_cases[] = {
     {"C++ strings: answers", answers},
     {"C++ strings: takes", takes},
     {"C++ strings: ranges", ranges},
+    {"C++ strings: ends", ends},
     {"C++ strings: beside a std::map", beside_a_map},
     {"C++ strings: a full map", a_full_map},
     {"C++ strings: long ways", long_ways},
@@ -407,6 +481,7 @@ static const waiter_case waiter_cases[] = {
     {"C++ strings: beside a held value", beside_a_held_value},
     {"C++ strings: threads with strings of their own", threads_with_strings_of_their_own},
     {"C++ strings: threads that share strings", threads_share_strings},
+    {"C++ strings: threads that pop", threads_pop_strings},
 };
 
 static const plain_case plain_cases[] = {{"C++ strings: map objects are shared and moved", map_objects_are_shared_and_moved}};

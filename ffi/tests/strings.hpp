@@ -36,19 +36,20 @@ enum StringCall : uint64_t { GET_TEXT, INSERT_TEXT, ASSIGN_TEXT, UPSERT_TEXT, UP
 // What the replies of a thread tell of each string.
 using Told = std::vector<std::vector<Call>>;
 
-// A visit to all is a get of each string, and the strings ascend.
-static inline void scan(strings &map, const std::vector<std::string> &texts, uint64_t begin, Told &told) {
+// A visit to all is a get of each string, and the strings ascend, or descend.
+static inline void scan(strings &map, const std::vector<std::string> &texts, bool is_down, uint64_t begin, Told &told) {
     std::vector<Value> found(texts.size());
     std::string before;
     bool is_first = true;
-    map.each([&](std::string_view text, const object &value) {
-        not_right += !is_first && text <= before;
+    const auto visit = [&](std::string_view text, const object &value) {
+        not_right += !is_first && (is_down ? text >= before : text <= before);
         is_first = false;
         before = text;
         const auto at = std::lower_bound(texts.begin(), texts.end(), text);
         if (at == texts.end() || *at != text) not_right++;
         else found[size_t(at - texts.begin())] = number_of(value);
-    });
+    };
+    is_down ? map.each_down(visit) : map.each(visit);
     const uint64_t end = ++stamps;
     for (size_t i = 0; i < texts.size(); i++) told[i].push_back({Kind::Get, i, 0, found[i], found[i].has_value(), begin, end, 0});
 }
@@ -73,7 +74,7 @@ template <class Held> void call_for(strings &map, uint64_t which, const std::vec
     const std::string &text = texts[at];
     Call call{Kind::Set, at, number, {}, false, ++stamps, 0, 0};
     switch (which) {
-    case SCAN: return scan(map, texts, call.begin, told);
+    case SCAN: return scan(map, texts, number % 2, call.begin, told);
     case GET_TEXT: {
         call.kind = Kind::Get;
         const auto held = map.get(text);

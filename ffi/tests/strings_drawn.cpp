@@ -68,6 +68,8 @@ WRAPPED(citrus_remove_once, (citrus_handle * handle, uint64_t key, uint64_t *old
 WRAPPED(citrus_take_once, (citrus_handle * handle, uint64_t key, uint64_t expected, uint64_t *found), (handle, key, expected, found))
 WRAPPED(citrus_list_once, (citrus_handle * handle, uint64_t low, uint64_t high, citrus_pair *pairs, size_t room, size_t *count, uint64_t *next),
         (handle, low, high, pairs, room, count, next))
+WRAPPED(citrus_list_down_once, (citrus_handle * handle, uint64_t low, uint64_t high, citrus_pair *pairs, size_t room, size_t *count, uint64_t *next),
+        (handle, low, high, pairs, room, count, next))
 WRAPPED(citrus_first_once, (citrus_handle * handle, uint64_t low, uint64_t *key, uint64_t *value), (handle, low, key, value))
 WRAPPED(citrus_enter, (citrus_handle * handle, uint64_t key), (handle, key))
 WRAPPED(citrus_release, (citrus_handle * handle), (handle))

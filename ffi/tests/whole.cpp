@@ -66,7 +66,7 @@ static void list(Index &index, WholeCall &look, size_t room) {
 
 // A first tells nothing of the keys above the one that it found.
 static void find_first(Index &index, WholeCall &look) {
-    const std::optional<citrus_pair> found = index.first(look.low);
+    const std::optional<citrus_pair> found = index.first_from(look.low);
     if (!found) return;
     look.take(*found, look.low);
     if (look.is_in_order) look.high = found->key;

@@ -9,12 +9,13 @@ use Rattle.prcu_model.specs.Dictionary.{map_of}
 use Rattle.prcu_model.proofs.ListFacts.{prefix_self, prefix_trans, all_append}
 use Rattle.prcu_model.specs.declared.operation.Op.TheVariants.{Del}
 use Rattle.core_state.specs.declared.shape.Shape.{Shape}
+use Rattle.core_state.specs.declared.view.Allowance.{Allowance}
 use Rattle.core_state.specs.declared.view.Held.{Held}
 use Rattle.core_state.specs.declared.view.Retired.{Retired}
 use Rattle.core_state.specs.declared.view.View.{View}
 use Rattle.core_state.specs.Views.{IsQuiet}
 use Rattle.core_points.specs.declared.stage.Aim.TheVariants.{Spare}
-use Rattle.seat_table.specs.Seats.{TableAt, AreListed, IsSlotOf, SeatAt}
+use Rattle.seat_table.specs.Seats.{TableAt, AreListed, IsQuietSeat, IsSlotOf, SeatAt}
 use Rattle.seat_table.specs.Gains.{IsAsked, Told as StepTold, IsInformed}
 use Rattle.node_slots.specs.Reclaiming.{HasReclaimed}
 use Rattle.node_slots.specs.Taking.{FoundNone, HasTaken}
@@ -23,11 +24,11 @@ use Rattle.tree_points.specs.Points.{IsAt, HasAdvanced, IsDone, KeepsAllowance}
 use Rattle.tree_points.proofs.Passing.{begins_delete, begins_room, begins_spare, none_raised, has_kept, is_quiet, needs, passes}
 use Rattle.tree_points.proofs.Locks.{advanced_on, advanced_same, advanced_stays, stays}
 use Rattle.tree_points.proofs.Waits.{reclaims_room, reclaims_spare}
-use Rattle.citrus_tree.specs.Going.{GivesNoneBack, IsExpected, IsSeated, NeededRoom, NeededSlots, MayBegin, AreTries, IsOfTry, KeepsWait, waits_in}
+use Rattle.citrus_tree.specs.Going.{GivesNoneBack, IsExpected, IsSeated, NeededRoom, NeededSlots, MayBegin, AreTries, IsOfTry, KeepsSeat, KeepsWait, waits_in}
 use Rattle.citrus_tree.specs.Deletes.{DelTells, Removes, removed_of, FoundExpected, GaveWayAtOnce, GivesNoneOrAll, HasMadeRoom, HasWaitedForRoom, IsReadyToDelete, KeepsWaits, BeginsByLookup, DelsAtOnce, HasDeleted, HasSearched, KeepsRest, retired_slots, TellsTaken}
-use Rattle.citrus_tree.proofs.Linking.{at_least_one, needed_on}
+use Rattle.citrus_tree.proofs.Linking.{at_least_one, goes_none, needed_on}
 use Rattle.citrus_tree.proofs.Replacing.{may_begin, waits_in-append}
-use Rattle.citrus_tree.proofs.Leavings.{none_back_on, none_begun, none_yet, reclaimed_first, wait_later, MayHaveBegun, begins_later, begins_searched, wait_on, KeepsView}
+use Rattle.citrus_tree.proofs.Leavings.{keeps_goes, none_back_on, none_begun, none_yet, reclaimed_first, wait_later, MayHaveBegun, begins_later, begins_searched, wait_on, KeepsView}
 use Rattle.std.specs.List.{AllByRecursion}
 use Rattle.prcu_marks.specs.declared.mark.Mark.{Mark}
 use Rattle.prcu_marks.specs.Callers.{entered_for}
@@ -114,6 +115,37 @@ room_later {k} {v} {w} {x} g same retired spare r = record {
   waits = subst (λ n. n ≤ x.counts.waits) same.count r.waits;
   latest = wait_later (none_begun g same.count same.wait) r.latest;
 }
+
+-- Nothing was free, and the retired slots aren't given back.
+pub found_none_room : {k : Shape} {v w : View} → FoundNone k v w → IsPrefix v.trail.steps w.trail.steps → HasMadeRoom k v w
+found_none_room {k} {v} {w} empty steps = record {
+  marks = [];
+  advanced = none_advanced empty steps;
+  waited = inl refl;
+  waits = (let same : w.counts.waits ≡ v.counts.waits = ap (λ (z : View). z.counts.waits) empty.rest in omega arith);
+  latest = inl (none_begun (none_advanced empty steps) (ap (λ (z : View). z.counts.waits) empty.rest) (ap (λ (z : View). z.wait) empty.rest));
+}
+
+pub found_none_keeps : {k : Shape} {s t : SeatAt} → IsQuietSeat s → FoundNone k s.view t.view → IsPrefix s.view.trail.steps t.view.trail.steps
+    → t.listed ≡ s.listed → KeepsSeat 0 s t
+found_none_keeps {k} {s} {t} q empty steps listed =
+    let goes = goes_none empty steps in
+    let same : t.view.allowance ≡ s.view.allowance = ap (λ (z : View). z.allowance) empty.rest in
+    keeps_goes (record {
+      quiet = subst IsQuiet (sym empty.rest) (record {
+        section = q.view.section;
+        locks = q.view.locks;
+        reserved = q.view.reserved;
+        hand = q.view.hand;
+        moving = q.view.moving;
+        owes = q.view.owes;
+        commit = q.view.commit;
+        raised = q.view.raised;
+      });
+      wait = inl (none_begun goes.advanced goes.waits goes.wait);
+      tickets = (let e = ap (λ (a : Allowance). a.tickets) same in omega arith);
+      allowance = goes.advanced.allowance;
+    }) goes listed q.listed
 
 module _ {k : Shape} {v : View} (quiet : IsQuiet v) where
   pub ready_at_once : length v.hands.retired + 1 < k.room → v.hands.spare ≢ None → IsReadyToDelete k v v

@@ -7,5 +7,6 @@ pub mod DeleteSearches
 pub mod DeleteUpdates
 pub mod DeleteMoves
 pub mod DeleteTries
+pub mod DeleteLooks
 pub mod Clients
 pub mod Reusing

@@ -1,6 +1,6 @@
 //! A pair is taken out.
 
-ghost use Rattle.std.specs.Prelude.{◌≡◌, ◌≢◌, ◌⊎◌, ◌+◌, ◌<◌, ◌≤◌, ℕ, [], length, None, IfSome, IfNone, IfOk, true, false, is_some, Some, IfErr};
+ghost use Rattle.std.specs.Prelude.{◌≡◌, ◌≢◌, ◌⊎◌, ◌+◌, ◌<◌, ◌≤◌, ℕ, [], length, Option, None, IfSome, IfNone, IfOk, true, false, is_some, Some, IfErr};
 ghost use Rattle.prcu_model.specs.declared.operation.Op.TheVariants.{Del};
 ghost use Rattle.core_points.specs.declared.stage.Stage.TheVariants as at;
 ghost use Rattle.core_points.specs.Programs.{deleting};
@@ -12,6 +12,7 @@ ghost use Rattle.seat_table.specs.Seats.{AreListed, IsQuietSeat, shape_of};
 ghost use Rattle.tree_points.specs.Points.{IsAt, IsDone};
 ghost use Rattle.citrus_tree.specs.Deletes.{BeginsByLookup, KeepsRest, HasDeleted, HasMadeRoom, IsReadyToDelete, DelsAtOnce, DelGaveWay, FoundExpected, FoundOther, GaveWayAtOnce, RetiresBy, StandsAt, Comes, IfDiffers, IfTold, IfTwo, KeepsAll, Removes, TellsTaken, DelTells, KeepsWaits, HasTwo, FoundTwoChildren, WaitsOnceAtMost, removed_of};
 ghost use Rattle.citrus_tree.specs.Going.{GivesNoneBack, IsExpected, IsOther, MayBegin, KeepsSeat, KeepsSlots, KeepsWait};
+ghost use Rattle.citrus_tree.specs.Lookups.{Looked, told_of};
 ghost use Rattle.citrus_tree.specs.Replies.{RetiresInOrder, TellsValue};
 
 mod bypass;
@@ -19,6 +20,8 @@ mod locks;
 mod shift;
 mod target;
 
+use crate::answer::answered;
+use crate::lookup::look_up;
 use crate::replace::is_other;
 use bypass::bypass;
 use core_points::stage::{Node, Successor, Target};
@@ -77,7 +80,8 @@ struct Manner {
 /// nodes that it touches, and for other updates. Where the node has two children it waits too, after its update, for the open sections
 /// whose keys lie above the key and up to the next one. Before its first search it may wait for all open sections, but only where its place
 /// has room for one more retired slot at most at the call, or has no spare then and no slot is free for one. It answers busy where a lock is
-/// taken, or a node isn't as the search left it, and its patience would rather be called again: then it made no update.
+/// taken, or a node isn't as the search left it, or where it would wait for all open sections, and its patience would rather be called again:
+/// then it made no update.
 pub fn del<P: Patience, W: WaitPart, G: Gate>(
     patience: &P,
     table: &CitrusTable<W>,
@@ -252,7 +256,9 @@ fn delete_so<P: Patience, W: WaitPart, G: Gate>(
     ensures tired { IfErr result (λ _. HasMade (P.least patience.now) seat.new.view) }
 {
     // Before the first search: inside a section of its own a wait for everybody would wait for itself.
-    make_room(patience, table, seat)?;
+    if let Err(busy) = make_room(patience, table, seat)? {
+        return Ok(look_instead(table, seat, gate, key, manner.expected, busy));
+    }
     match delete(patience, table, seat, gate, key, manner)? {
         Ok(Outcome::Told { told, value }) => {
             gate.pass(Point::Answered, seat.place());
@@ -267,18 +273,56 @@ fn delete_so<P: Patience, W: WaitPart, G: Gate>(
     }
 }
 
+// What a delete comes to that isn't to wait for the slots that it lacks: who takes nothing out needs none. So a lookup tells where the key is
+// absent, or has another value than the expected one; else the delete is busy.
+// Few deletes come here.
+#[inline(never)]
+fn look_instead<W: WaitPart, G: Gate, B: Drop>(
+    table: &CitrusTable<W>,
+    seat: &mut Seat<W>,
+    gate: &G,
+    key: u64,
+    expected: Option<u64>,
+    busy: B,
+) -> Result<Outcome, B>
+    requires table { seat.old.table ≡ table.now }
+    requires quiet { IsQuietSeat seat.old }
+    ensures seat { (seat.new.table ≡ seat.old.table) × (seat.new.listed ≡ seat.old.listed) }
+    ensures looked { (answer : Option ℕ) × Looked seat.old.view key answer seat.new.view }
+    ensures absent { IfOk result (λ outcome. IfTold outcome
+        (λ told value. (told ≡ told_of None) × (value ≡ None) × Looked seat.old.view key None seat.new.view)) }
+    ensures differs { IfOk result (λ outcome. IfDiffers outcome
+        (λ found. Looked seat.old.view key (Some found) seat.new.view × IsOther expected found)) }
+    ensures takes { IfOk result (λ outcome. IfTwo outcome ⊥) }
+    ensures present { IfErr result (λ _. (found : ℕ) × Looked seat.old.view key (Some found) seat.new.view × IsExpected expected found) }
+    ensures keeps { KeepsSeat 0 seat.old seat.new }
+{
+    let Some(value) = look_up(table, seat, gate, key) else {
+        return Ok(Outcome::Told {
+            told: answered(gate, seat, Reply::Absent, 0),
+            value: None,
+        });
+    };
+    if is_other(expected, value) {
+        gate.pass(Point::Answered, seat.place());
+        return Ok(Outcome::Differs { found: value });
+    }
+    Err(busy)
+}
+
 // Sees to it that the place has a spare, for a copy, and that two more slots can be retired. Where all retired slots were given back, the
-// place has a spare too.
+// place has a spare too. That takes a wait for all readers: there it may be busy.
 fn make_room<P: Patience, W: WaitPart>(
     patience: &P,
     table: &CitrusTable<W>,
     seat: &mut Seat<W>,
-) -> Result<(), P::Tired>
+) -> Result<Result<(), P::Busy>, P::Tired>
     requires table { seat.old.table ≡ table.now }
     requires quiet { IsQuietSeat seat.old }
     requires tickets { 4 ≤ seat.old.view.allowance.tickets }
     ensures table { seat.new.table ≡ seat.old.table }
-    ensures at { IfOk result (λ _. IsReadyToDelete (shape_of W.WAY table.now) seat.old.view seat.new.view) }
+    ensures at { IfOk result (λ answer. IfOk answer (λ _. IsReadyToDelete (shape_of W.WAY table.now) seat.old.view seat.new.view)) }
+    ensures busy { IfOk result (λ answer. IfErr answer (λ _. KeepsSeat 0 seat.old seat.new)) }
     ensures room { IfOk result (λ _. HasMadeRoom (shape_of W.WAY table.now) seat.old.view seat.new.view) }
     ensures at_once { IfOk result (λ _. length seat.old.view.hands.retired + 1 < table.now.room → seat.old.view.hands.spare ≢ None
         → seat.new.view ≡ seat.old.view) }
@@ -290,14 +334,16 @@ fn make_room<P: Patience, W: WaitPart>(
 {
     // A move retires two slots, and a place holds back no more than its room. docs/TREE_INVARIANT.md#the-invariant-of-the-tree
     if seat.retired().len() + 1 >= seat.room() {
+        if let Err(busy) = patience.before_readers() {
+            return Ok(Err(busy));
+        }
         reclaim(patience, table, seat)?;
-        return Ok(());
+        return Ok(Ok(()));
     }
     if seat.spare().is_some() {
-        return Ok(());
+        return Ok(Ok(()));
     }
-    take_spare(patience, table, seat)?;
-    Ok(())
+    take_spare(patience, table, seat)
 }
 
 // The same, where the place has no spare, and room for two more retired slots.
@@ -305,14 +351,15 @@ fn take_spare<P: Patience, W: WaitPart>(
     patience: &P,
     table: &CitrusTable<W>,
     seat: &mut Seat<W>,
-) -> Result<(), P::Tired>
+) -> Result<Result<(), P::Busy>, P::Tired>
     requires table { seat.old.table ≡ table.now }
     requires quiet { IsQuietSeat seat.old }
     requires tickets { 4 ≤ seat.old.view.allowance.tickets }
     requires few { length seat.old.view.hands.retired + 1 < table.now.room }
     requires none { seat.old.view.hands.spare ≡ None }
     ensures table { seat.new.table ≡ seat.old.table }
-    ensures at { IfOk result (λ _. IsReadyToDelete (shape_of W.WAY table.now) seat.old.view seat.new.view) }
+    ensures at { IfOk result (λ answer. IfOk answer (λ _. IsReadyToDelete (shape_of W.WAY table.now) seat.old.view seat.new.view)) }
+    ensures busy { IfOk result (λ answer. IfErr answer (λ _. KeepsSeat 0 seat.old seat.new)) }
     ensures room { IfOk result (λ _. HasMadeRoom (shape_of W.WAY table.now) seat.old.view seat.new.view) }
     ensures slots { IfOk result (λ _. KeepsSlots seat.old seat.new) }
     ensures kept { IfOk result (λ _. (seat.new.listed ≡ seat.old.listed) ⊎ (seat.new.listed ≡ [])) }
@@ -323,11 +370,14 @@ fn take_spare<P: Patience, W: WaitPart>(
     match take(patience, table, seat)? {
         Taken::Slot { slot, .. } => {
             steps::keep_as_spare(table, seat, slot);
-            Ok(())
+            Ok(Ok(()))
         }
         Taken::Empty => {
+            if let Err(busy) = patience.before_readers() {
+                return Ok(Err(busy));
+            }
             reclaim(patience, table, seat)?;
-            Ok(())
+            Ok(Ok(()))
         }
     }
 }

@@ -16,7 +16,7 @@ use seat_table::{CitrusTable, Seat, WaitPart};
 // What a hold finds, with its section left.
 // A call would hand its answer through memory.
 #[inline(always)]
-fn look_up<W: WaitPart, G: Gate>(
+pub(crate) fn look_up<W: WaitPart, G: Gate>(
     table: &CitrusTable<W>,
     seat: &mut Seat<W>,
     gate: &G,

@@ -19,7 +19,7 @@ use Rattle.core_state.specs.Memory.{is_field}
 use Rattle.core_state.specs.declared.act.Part.{Part}
 use Rattle.core_state.specs.declared.act.Part.TheVariants as part
 use Rattle.core_state.specs.declared.act.Act.{Act}
-use Rattle.core_state.specs.declared.act.Act.TheVariants.{LoadClock, AnnounceKey, EnterByStamp, LeaveByStamp, BeginWait, LookKey, LookStamp, LoadOwnLife, Reserve, Seize, Fill, Lock, Unlock, SearchLoad, ListLoad, LockedLoad, OpenCommit, RaiseTag, CloseCommit, LookAtFront, GiveFrontBack}
+use Rattle.core_state.specs.declared.act.Act.TheVariants.{LoadClock, AnnounceKey, EnterByStamp, LeaveByStamp, BeginWait, LookKey, LookStamp, LoadOwnLife, Reserve, Seize, Fill, Lock, Unlock, SearchLoad, ListLoad, LockedLoad, OpenCommit, RaiseTag, CloseCommit, LookAtFront, GiveFrontBack, StoreMoved, LoadMoved}
 use Rattle.core_state.specs.Acts.{clocked_of, field_of, Asks, MayLook, Needs, section_of, listing_of, wait_of}
 use Rattle.core_laws.proofs.Acting.{part_loadable}
 use Rattle.core_examples.proofs.Tests.{all_spots, lock_now, all_of, passed, test_at, is_some, some_is, none_is, false_is, not_same, is_empty, empty_is, is_number, number_is, has, has_in, has_been, been_at, is_word, is_holder, holder_is, is_no_end, no_end_is, is_closing, closing_is, is_unmade, unmade_is, is_content, content_is, State, AllAsked, after, reached, over, ◌⟫◌}
@@ -224,6 +224,17 @@ give_front_back front = record {
   tests = λ v. is_unmade v.commit front ∷ [];
   met = λ v t. unmade_is v.commit front (t 0);
 }
+
+-- a move to another table
+abbrev pub store_moved : ℕ → Step
+store_moved front = record {
+  act = StoreMoved;
+  tests = λ v. is_unmade v.commit front ∷ [];
+  met = λ v t. record { found = front; commit = unmade_is v.commit front (t 0) };
+}
+
+abbrev pub load_moved : Step
+load_moved = record { act = LoadMoved; tests = λ v. []; met = λ v t. tt }
 
 abbrev pub raise_tag : ℕ → Side → ℕ → Step
 raise_tag slot side tag = record {

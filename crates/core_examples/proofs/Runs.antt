@@ -7,7 +7,7 @@ use Rattle.core_state.specs.declared.act.Part.TheVariants.{Key, Value, Life, Lin
 use Rattle.core_state.specs.Invariant.{first_view}
 use Rattle.core_state.specs.Memory.{place_room, idle, class_room, classes, row_room}
 use Rattle.core_examples.proofs.Tests.{State, many, words_with, reached, AllAsked, over, ◌⟫◌, all_spots}
-use Rattle.core_examples.proofs.Acts.{small, Step, Run, run, end_of, enter_at, enter_for, search_by, leave, take_slot, fill, lock, look_at, look_front, list_root, list_part, open_commit, close_commit, give_front_back, unlock, own_life, lock_all, look, begin, look_key, raise_emptied, unlock_all, look_stamp, reserve, seize}
+use Rattle.core_examples.proofs.Acts.{small, Step, Run, run, end_of, enter_at, enter_for, search_by, leave, take_slot, fill, lock, look_at, look_front, list_root, list_part, open_commit, close_commit, give_front_back, store_moved, load_moved, unlock, own_life, lock_all, look, begin, look_key, raise_emptied, unlock_all, look_stamp, reserve, seize}
 use Rattle.core_examples.proofs.Stretches.{link_leaf, replace, Node, mark_both, mark_old, link_copy, bypass, mark_few, unlink_right, unlink_left, mark_recorded, rotate, keep, raise_hand, free_hand, count_free, load_retired, raise_to_spare, raise_to_hand, raise_retired, free_retired}
 use Rattle.core_state.specs.Links.{Rotation}
 use Rattle.std.proofs.lemmas.Bool.{leb-true, ltb-true}
@@ -146,6 +146,17 @@ hold_front =
     (open_commit 10 ∷ enter_for 0
     ++ (look_front ∷ list_root ∷ list_part 2 Key ∷ list_part 2 (Link Left) ∷ list_part 3 Key ∷ list_part 3 Value ∷ look_front ∷ leave
     ∷ give_front_back 10 ∷ open_commit 10 ∷ []))
+    refl
+
+-- the front is made odd, and 20 is listed; it is stored that the pairs moved. Then the front is sought for an update, and is odd still; and that
+-- they moved is found outside a section and in one, whose search finds 20
+abbrev pub move_away : Run (end_of set_twenty)
+move_away =
+    run
+    (load_moved ∷ open_commit 10 ∷ enter_for 0
+    ++ (look_front ∷ list_root ∷ list_part 2 Key ∷ list_part 2 (Link Left) ∷ list_part 3 Key ∷ list_part 3 Value ∷ look_front ∷ leave
+    ∷ store_moved 10 ∷ open_commit 10 ∷ load_moved ∷ enter_for 20
+    ++ (load_moved ∷ search_by ((0, Link Right) ∷ (2, Key) ∷ (2, Link Left) ∷ (3, Key) ∷ (3, Value) ∷ []) ++ (leave ∷ []))))
     refl
 
 -- A delete of 50, which stands in slot 2 below the root and has two children: what it does alike, whatever slot its successor has.

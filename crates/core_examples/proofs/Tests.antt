@@ -90,10 +90,11 @@ abbrev pub many : ℕ → ℕ → List ℕ → List ℕ
 many x zero more = more
 many x (suc n) more = x ∷ many x n more
 
--- the room in front, the clock, the front, a free count, so many slots' lines, their states, and what the waiter has behind some room
+-- the room in front, the clock, the front, a free count, the word of a move and so many slots' lines, their states, and what the waiter has
+-- behind some room
 abbrev pub words_with : ℕ → List ℕ → ℕ → List ℕ → List ℕ
 words_with free waiter slots states =
-    many 0 (lead + 2 * apart) (free ∷ many 0 (apart - 1) (many 0 (line * slots) (states ++ many 0 (room_behind slots) waiter)))
+    many 0 (lead + 2 * apart) (free ∷ many 0 (apart - 1) (many 0 (apart + line * slots) (states ++ many 0 (room_behind slots) waiter)))
 
 -- The spots of a wait on a literal table: a wait looks at stamps, at counts or at rows, and at no other word.
 
@@ -217,6 +218,7 @@ pub is_word : (k : Shape) (field : Field) → is_field k field ≡ true → IsWo
 is_word k word.Clock e = tt
 is_word k word.Front e = tt
 is_word k word.Free e = tt
+is_word k word.Moved e = tt
 is_word k (word.Announced p) e = let a = and_parts (same_waiter k.waiter Eer) (nat_lt p k.places) e in
     (waiter_is k.waiter Eer a.0, ltb-true p k.places a.1)
 is_word k (word.Stamp p) e = let a = and_parts (same_waiter k.waiter Eer) (nat_lt p k.places) e in

@@ -292,9 +292,10 @@ module _ (k : Shape) (m : Memory) (table : IsShape k) (fresh : IsFresh k m) wher
       ages = λ s at c b gone. absurd (cc);
     };
     front = record {
-      turned = inl ((let a = fresh.front in omega arith), each_one (λ (u : View). u.commit ≡ None) (first_view k) refl);
+      turned = inl ((let a = fresh.front in let b = fresh.moved in omega arith), each_one (λ (u : View). u.commit ≡ None) (first_view k) refl);
       settled = each_one (λ (u : View). (commit : Commit) → u.commit ≡ Some commit → commit.stored ≡ false → u.moving ≡ None) (first_view k)
           (λ commit none unmade. refl);
+      last = record { word = fresh.moved; once = omega arith; none = refl };
       legal = tt;
     };
     listings = record {

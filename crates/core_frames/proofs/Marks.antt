@@ -4,10 +4,10 @@ use mathlib.Core.Option.{some, some-injective}
 use lib.ListN.{get_elem?}
 use Rattle.atomic_table.proofs.Lists.{at_longer, at_last}
 use Rattle.prcu_marks.specs.declared.mark.Mark.{Mark}
-use Rattle.prcu_marks.specs.declared.mark.Mark.TheVariants.{Entered, Left, Began, Ended, Done, Given, Unlinked, Freed}
+use Rattle.prcu_marks.specs.declared.mark.Mark.TheVariants.{Entered, Left, Began, Ended, Done, Given, Unlinked, Freed, Moved}
 use Rattle.prcu_model.specs.declared.operation.Update.{Update}
-use Rattle.prcu_marks.specs.Marks.{updates_of, next_gone, gone_at, is_of, own_of, last_unlinked, entered_at, Open, open_at, next_open, open_from}
-use Rattle.prcu_marks.proofs.Marks.{updates_of-append, gone_at-snoc, own_of-append, UnlinksNone, last_unlinked-same, open_at-snoc, entered_at-append, last_unlinked-other}
+use Rattle.prcu_marks.specs.Marks.{updates_of, next_gone, gone_at, is_of, own_of, last_unlinked, entered_at, Open, open_at, next_open, open_from, moves_in, updates_behind}
+use Rattle.prcu_marks.proofs.Marks.{updates_of-append, gone_at-snoc, own_of-append, UnlinksNone, last_unlinked-same, open_at-snoc, entered_at-append, last_unlinked-other, moves_in-append, updates_behind-fresh, updates_behind-silent}
 use Rattle.core_state.specs.Marks.{begun, begun_at, IsReused, Reuse, AreMarks, IsNextSection, IsNextWait}
 use Rattle.list_laws.proofs.Lists.{at_end, past_snoc, at_below}
 use Rattle.std.proofs.lemmas.List.{take-append-le}
@@ -26,6 +26,7 @@ IsOutside (Done u) = ⊥
 IsOutside (Given s) = ⊥
 IsOutside (Unlinked s) = ⊥
 IsOutside (Freed s) = ⊥
+IsOutside Moved = ⊥
 IsOutside _ = Unit {0}
 
 -- a mark that neither begins nor ends a wait
@@ -70,6 +71,53 @@ silent_snoc h m o = record {
   last = λ s. last_unlinked-same h m (unlinks_none m o) s;
   longer = λ j a e. at_longer h (m ∷ []) j a e;
   done = λ j u e. ⊎_elim (λ (t : get_elem? h j ≡ some (Done u)). t) (λ t. absurd (not_done m u o t.1)) (at_end h m (Done u) j e);
+}
+
+-- The marks that came say nothing of a move to another table, and add no update behind one.
+pub record SameEnd (h h' : List Mark) : Type 0 where
+  pub moves : moves_in h' ≡ moves_in h
+  pub behind : updates_behind h' ≡ updates_behind h
+
+pub end_same : (h : List Mark) → SameEnd h h
+end_same h = record { moves = refl; behind = refl }
+
+pub end_more : (h ms : List Mark) → updates_of ms ≡ [] → moves_in ms ≡ 0 → updates_behind ms ≡ [] → SameEnd h (h ++ ms)
+end_more h ms silent moves none = record {
+  moves = (let e = moves_in-append h ms in omega arith);
+  behind = updates_behind-silent h ms silent none;
+}
+
+moves_none : (m : Mark) → IsOutside m → moves_in (m ∷ []) ≡ 0
+moves_none Moved o = absurd o
+moves_none _ o = refl
+
+behind_none : (m : Mark) → updates_behind (m ∷ []) ≡ []
+behind_none Moved = refl
+behind_none _ = refl
+
+pub end_snoc : (h : List Mark) (m : Mark) → IsOutside m → SameEnd h (h ++ m ∷ [])
+end_snoc h m o = end_more h (m ∷ []) (updates_same m o) (moves_none m o) (behind_none m)
+
+-- The marks that came say nothing of a move. So where none was said before, no update stands behind one.
+pub record StaysHere (h h' : List Mark) : Type 0 where
+  pub moves : moves_in h' ≡ moves_in h
+  pub behind : moves_in h ≡ 0 → updates_behind h' ≡ []
+
+pub here_more : (h ms : List Mark) → moves_in ms ≡ 0 → updates_behind ms ≡ [] → StaysHere h (h ++ ms)
+here_more h ms moves none = record {
+  moves = (let e = moves_in-append h ms in omega arith);
+  behind = λ fresh. updates_behind-fresh h ms fresh ∙ none;
+}
+
+-- the mark of a move says nothing of updates and slots
+pub silent_moved : (h : List Mark) → SilentMarks h (h ++ Moved ∷ [])
+silent_moved h = record {
+  updates = updates_of-append h (Moved ∷ []) ∙ append-nil (updates_of h);
+  gone = λ s. gone_at-snoc s h Moved;
+  last = λ s. last_unlinked-same h Moved tt s;
+  longer = λ j a e. at_longer h (Moved ∷ []) j a e;
+  done = λ j u e. ⊎_elim (λ (t : get_elem? h j ≡ some (Done u)). t) (λ (t : (j ≡ length h) × (Moved ≡ Done u)). absurd (let q = t.1 in cc))
+      (at_end h Moved (Done u) j e);
 }
 
 -- how many waits were begun, after one more mark
@@ -188,14 +236,15 @@ reuse_more h m none reuse j s i p a o at used last there =
     past_snoc (λ (past : List Mark) (b : Mark). IsReused b s → last_unlinked s past ≡ Some i → open_at p past ≡ Some o → i < o.at) h m a
     (λ again _ _. absurd (none s again)) (λ n old. reuse n s i p a o old) j at used last there
 
--- Marks of updates and slots: they open and leave no section, and begin and end no wait.
+-- Marks of updates, slots and a move: they open and leave no section, and begin and end no wait.
 
--- a mark of a slot, or of an update by this place
+-- a mark of a slot or of a move, or of an update by this place
 abbrev pub IsPlain : ℕ → Mark → Type 0
 IsPlain place (Done u) = u.caller ≡ place
 IsPlain place (Given s) = Unit {0}
 IsPlain place (Unlinked s) = Unit {0}
 IsPlain place (Freed s) = Unit {0}
+IsPlain place Moved = Unit {0}
 IsPlain place _ = ⊥
 
 -- The second list is the first with such marks at its end.
@@ -247,6 +296,7 @@ module _ (place : ℕ) (h : List Mark) where
   own_none (Given s) is p ne = refl
   own_none (Unlinked s) is p ne = refl
   own_none (Freed s) is p ne = refl
+  own_none Moved is p ne = refl
   own_none _ is p ne = absurd is
 
   pub plain_one : (m : Mark) → IsPlain place m → PlainMarks place h (h ++ m ∷ [])
@@ -440,6 +490,8 @@ open_stands p i a (Done u ∷ h) o e = ⊎_elim (λ w. inl w) (λ w. inr (furthe
 open_stands p i a (Given t ∷ h) o e = ⊎_elim (λ w. inl w) (λ w. inr (further i (Given t) h o.at (Entered p o.count o.key) w))
     (open_stands p (i + 1) a h o e)
 open_stands p i a (Freed t ∷ h) o e = ⊎_elim (λ w. inl w) (λ w. inr (further i (Freed t) h o.at (Entered p o.count o.key) w))
+    (open_stands p (i + 1) a h o e)
+open_stands p i a (Moved ∷ h) o e = ⊎_elim (λ w. inl w) (λ w. inr (further i Moved h o.at (Entered p o.count o.key) w))
     (open_stands p (i + 1) a h o e)
 open_stands p i a (Unlinked t ∷ h) o e = ⊎_elim (λ w. inl w) (λ w. inr (further i (Unlinked t) h o.at (Entered p o.count o.key) w))
     (open_stands p (i + 1) a h o e)

@@ -4,7 +4,7 @@ use mathlib.Core.Option.{some}
 use mathlib.Core.Logic.{dite}
 use lib.ListN.{get_elem?}
 use Rattle.prcu_marks.specs.declared.mark.Mark.{Mark}
-use Rattle.core_state.specs.declared.words.Field.TheVariants.{State, Life, Lock, Tag, Clock, Free, Front}
+use Rattle.core_state.specs.declared.words.Field.TheVariants.{State, Life, Lock, Tag, Clock, Free, Front, Moved}
 use Rattle.core_state.specs.declared.view.Held.{Held}
 use Rattle.core_state.specs.declared.view.Retired.{Retired}
 use Rattle.core_state.specs.declared.view.View.{View}
@@ -12,9 +12,9 @@ use Rattle.list_laws.specs.Counts.{times, total, IsIn, Each}
 use Rattle.core_state.specs.Memory.{flag, IsEven, IsOdd, Memory, sum_below, count_below, has}
 use Rattle.core_state.specs.Views.{retired_of, slots_of, known_in, lock_of, LoadedGeneration, readings_of, unraised_of, emptied_among, Works, places_of, open_of, IsUnused}
 use Rattle.core_state.specs.Tree.{Chart}
-use Rattle.core_state.specs.Parts.{HasFewSpent, HasFewSlots, IsRetired, IsRetiredOf, IsHeldKnown, AreHandsKnown, SlotParts, IsHolderOf, HasFewLocks, IsUnraised, IsLockKept, IsLockKnown, IsReadingKept, LockParts, turns_to_come, CountParts, linked_count, young_count, old_count, IsTurned, IsOddBy, FrontParts, HasMet, IsOwned, SectionStands, IsCounted, SeatParts, HasRetired, HasOpen, MakesOdd, HasUnraised, IsHandKnown}
+use Rattle.core_state.specs.Parts.{HasFewSpent, HasFewSlots, IsRetired, IsRetiredOf, IsHeldKnown, AreHandsKnown, SlotParts, IsHolderOf, HasFewLocks, IsUnraised, IsLockKept, IsLockKnown, IsReadingKept, LockParts, turns_to_come, CountParts, linked_count, young_count, old_count, IsTurned, IsOddHere, IsLast, FrontParts, HasMet, IsOwned, SectionStands, IsCounted, SeatParts, HasRetired, HasOpen, MakesOdd, HasUnraised, IsHandKnown}
 use Rattle.list_laws.proofs.Lists.{each_change, total_same, total_set, each_set, somewhere_at, somewhere_here, somewhere_still, only_at, only_change}
-use Rattle.core_frames.proofs.Marks.{SilentMarks, begun_at-same, OtherMarks, cut_at, others_same, others_snoc}
+use Rattle.core_frames.proofs.Marks.{SilentMarks, SameEnd, begun_at-same, OtherMarks, cut_at, others_same, others_snoc}
 use Rattle.core_frames.proofs.Views.{SameSlots, own_same, content_same, retired_same, spares_same, slots_same, OwnSlots, SameNodes, own_slots, SamePlaces, places_same}
 use native.Mathlib.Decide.{ℕ_discrete}
 use Rattle.core_state.specs.declared.words.Field.{Field}
@@ -418,25 +418,44 @@ count_frame tickets m m' n g vs id v w h h' there slots clock free same quiet t 
     counts_still tickets m m' n g vs id v w h h' there (sums_same m m' n slots.nodes slots.state) quiet.updates
     (numbers_stay m m' (numbers_of v) (numbers_of w) clock free same) t
 
--- The parts on the front read the front, the commits of views, whether they have a move, and the updates. A step that leaves these
--- keeps them. What they say of the front by itself, and to the view whose commit is open.
+-- The parts on the front read the front, the word of a move, the commits of views, whether they have a move, the updates and where these
+-- end. A step that leaves these keeps them. What they say of the front by itself, and to the view whose commit is open.
+
+-- the front and the word of a move are the same
+pub record SameFront (m m' : Memory) : Type 0 where
+  pub front : m' Front ≡ m Front
+  pub moved : m' Moved ≡ m Moved
+
+pub front_stays : (m m' : Memory) → m' Front ≡ m Front → m' Moved ≡ m Moved → SameFront m m'
+front_stays m m' front moved = record { front = front; moved = moved }
+
+pub last_by : (m m' : Memory) (h h' : List Mark) → m' Moved ≡ m Moved → SameEnd h h' → IsLast m h → IsLast m' h'
+last_by m m' h h' moved same t = record {
+  word = moved ∙ t.word ∙ sym same.moves;
+  once = (let e = same.moves in let o = t.once in omega arith);
+  none = same.behind ∙ t.none;
+}
 
 pub front_by : (m m' : Memory) (vs : List View) (id : ℕ) (v w : View) (h h' : List Mark)
-    → get_elem? vs id ≡ some v → m' Front ≡ m Front → w.commit ≡ v.commit → (v.moving ≡ None → w.moving ≡ None)
-    → updates_of h' ≡ updates_of h → FrontParts m vs h → FrontParts m' (set vs id w) h'
-front_by m m' vs id v w h h' there front commit settled updates t =
-    let odd : IsOddBy m vs (length (updates_of h)) → IsTurned m' (set vs id w) (length (updates_of h)) = λ i.
-    inr (only_change vs id v w there
-    (λ (x : MakesOdd m (length (updates_of h)) v). record { commit = x.commit; has = commit ∙ x.has; word = front ∙ x.word; updates = x.updates })
-    (λ u (x : MakesOdd m (length (updates_of h)) u). record { commit = x.commit; has = x.has; word = front ∙ x.word; updates = x.updates })
-    (λ (none : v.commit ≡ None). commit ∙ none) i) in
+    → get_elem? vs id ≡ some v → SameFront m m' → w.commit ≡ v.commit → (v.moving ≡ None → w.moving ≡ None)
+    → updates_of h' ≡ updates_of h → SameEnd h h' → FrontParts m vs h → FrontParts m' (set vs id w) h'
+front_by m m' vs id v w h h' there words commit settled updates same t =
+    let front = words.front in
+    let odd : IsOddHere m vs (length (updates_of h)) → IsTurned m' (set vs id w) (length (updates_of h)) = λ i. inr (record {
+      here = words.moved ∙ i.here;
+      odd = only_change vs id v w there
+          (λ (x : MakesOdd m (length (updates_of h)) v). record { commit = x.commit; has = commit ∙ x.has; word = front ∙ x.word; updates = x.updates })
+          (λ u (x : MakesOdd m (length (updates_of h)) u). record { commit = x.commit; has = x.has; word = front ∙ x.word; updates = x.updates })
+          (λ (none : v.commit ≡ None). commit ∙ none) i.odd;
+    }) in
     record {
       turned = subst (λ us. IsTurned m' (set vs id w) (length us)) (sym updates) (⊎_elim
-          (λ (i : (m Front ≡ 2 * length (updates_of h)) × Each vs (λ (u : View). u.commit ≡ None)). inl (
-            front ∙ i.0,
+          (λ (i : (m Front ≡ 2 * length (updates_of h) + m Moved) × Each vs (λ (u : View). u.commit ≡ None)). inl (
+            front ∙ i.0 ∙ ap (λ n. 2 * length (updates_of h) + n) (sym words.moved),
             each_change (λ (u : View). u.commit ≡ None) (λ (u : View). u.commit ≡ None) vs id v w there (λ e. commit ∙ e)
                 (λ u e. e) i.1,
           )) odd t.turned);
+      last = last_by m m' h h' words.moved same t.last;
       settled = each_change (λ (u : View). (x : Commit) → u.commit ≡ Some x → x.stored ≡ false → u.moving ≡ None)
           (λ (u : View). (x : Commit) → u.commit ≡ Some x → x.stored ≡ false → u.moving ≡ None) vs id v w there
           (λ i x is unmade. settled (i x (sym commit ∙ is) unmade)) (λ u i. i) t.settled;
@@ -444,17 +463,25 @@ front_by m m' vs id v w h h' there front commit settled updates t =
     }
 
 pub front_frame : (m m' : Memory) (vs : List View) (id : ℕ) (v w : View) (h h' : List Mark)
-    → get_elem? vs id ≡ some v → m' Front ≡ m Front → w.commit ≡ v.commit → (v.moving ≡ None → w.moving ≡ None) → SilentMarks h h'
-    → FrontParts m vs h → FrontParts m' (set vs id w) h'
-front_frame m m' vs id v w h h' there front commit settled quiet t = front_by m m' vs id v w h h' there front commit settled quiet.updates t
+    → get_elem? vs id ≡ some v → SameFront m m' → w.commit ≡ v.commit → (v.moving ≡ None → w.moving ≡ None) → SilentMarks h h'
+    → SameEnd h h' → FrontParts m vs h → FrontParts m' (set vs id w) h'
+front_frame m m' vs id v w h h' there words commit settled quiet same t =
+    front_by m m' vs id v w h h' there words commit settled quiet.updates same t
+
+-- the word of a move is 0 or 1
+pub moved_small : (m : Memory) (vs : List View) (h : List Mark) → FrontParts m vs h → m Moved ≤ 1
+moved_small m vs h t = let w = t.last.word in let o = t.last.once in omega arith
 
 -- The front is at most one more than twice the number of updates, and where it is even just that.
 pub front_counts : (m : Memory) (vs : List View) (h : List Mark) → FrontParts m vs h
     → (m Front ≤ 2 * length (updates_of h) + 1) × (IsEven (m Front) → m Front ≡ 2 * length (updates_of h))
-front_counts m vs h t = ⊎_elim
-    (λ (even : (m Front ≡ 2 * length (updates_of h)) × Each vs (λ (u : View). u.commit ≡ None)).
-    (let word = even.0 in omega arith, λ _. even.0))
-    (λ (odd : IsOddBy m vs (length (updates_of h))). let o = odd.has in by_stored o.commit.stored o.commit.found o.updates o.word) t.turned
+front_counts m vs h t =
+    let small = moved_small m vs h t in
+    ⊎_elim
+    (λ (free : (m Front ≡ 2 * length (updates_of h) + m Moved) × Each vs (λ (u : View). u.commit ≡ None)).
+    (let word = free.0 in omega arith, λ even. (let word = free.0 in omega arith)))
+    (λ (made : IsOddHere m vs (length (updates_of h))). let o = made.odd.has in
+    by_stored o.commit.stored o.commit.found o.updates o.word) t.turned
   where
     by_stored : (stored : Bool) (found : ℕ) → found + cond stored 2 0 ≡ 2 * length (updates_of h) → m Front ≡ found + 1
         → (m Front ≤ 2 * length (updates_of h) + 1) × (IsEven (m Front) → m Front ≡ 2 * length (updates_of h))
@@ -467,14 +494,22 @@ pub odd_by : (m : Memory) (vs : List View) (h : List Mark) (id : ℕ) (v : View)
     → (m Front ≡ commit.found + 1) × (updates_by commit ≡ 2 * length (updates_of h))
     × ((j : ℕ) (u : View) → j ≢ id → get_elem? vs j ≡ some u → u.commit ≡ None)
 odd_by m vs h id v there t commit mine = ⊎_elim
-    (λ (even : (m Front ≡ 2 * length (updates_of h)) × Each vs (λ (u : View). u.commit ≡ None)). absurd
-    (let q : None ≡ Some commit = sym (even.1 id v there) ∙ mine in cc))
-    (λ (odd : IsOddBy m vs (length (updates_of h))). elim (only_at vs id v there odd) [
+    (λ (free : (m Front ≡ 2 * length (updates_of h) + m Moved) × Each vs (λ (u : View). u.commit ≡ None)). absurd
+    (let q : None ≡ Some commit = sym (free.1 id v there) ∙ mine in cc))
+    (λ (made : IsOddHere m vs (length (updates_of h))). elim (only_at vs id v there made.odd) [
       | inl o ↦ let same : Some o.0.commit ≡ Some commit = sym o.0.has ∙ mine in let is : o.0.commit ≡ commit = cc in
           (o.0.word ∙ ap (λ (x : Commit). x.found + 1) is, sym (ap updates_by is) ∙ o.0.updates, o.1)
       | inr none ↦ absurd (let q : None ≡ Some commit = sym none ∙ mine in cc)
     ])
     t.turned
+
+-- and the pairs haven't moved
+pub not_moved : (m : Memory) (vs : List View) (h : List Mark) (id : ℕ) (v : View) → get_elem? vs id ≡ some v → FrontParts m vs h
+    → (commit : Commit) → v.commit ≡ Some commit → m Moved ≡ 0
+not_moved m vs h id v there t commit mine = ⊎_elim
+    (λ (free : (m Front ≡ 2 * length (updates_of h) + m Moved) × Each vs (λ (u : View). u.commit ≡ None)). absurd
+    (let q : None ≡ Some commit = sym (free.1 id v there) ∙ mine in cc))
+    (λ (made : IsOddHere m vs (length (updates_of h))). made.here) t.turned
 
 -- The parts on seats read places, sections and how many there were, what views have seen, and the marks. A step leaves places alone; a
 -- section it may leave as it is, or enter or leave one.

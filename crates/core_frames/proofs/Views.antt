@@ -7,7 +7,7 @@ use lib.ListN.{get_elem?}
 use Rattle.atomic_table.proofs.Lists.{at_set, set_here, set_else}
 use Rattle.prcu_marks.specs.declared.mark.Side.{Side}
 use Rattle.core_state.specs.declared.words.Field.{Field}
-use Rattle.core_state.specs.declared.words.Field.TheVariants.{Clock, Front, Free, Announced, Stamp, Gate, Count, Row, State, Lock, Life, Key, Value, Link, Tag}
+use Rattle.core_state.specs.declared.words.Field.TheVariants.{Clock, Front, Free, Moved, Announced, Stamp, Gate, Count, Row, State, Lock, Life, Key, Value, Link, Tag}
 use Rattle.core_state.specs.declared.view.Retired.{Retired}
 use Rattle.core_state.specs.declared.view.Spent.{Spent}
 use Rattle.core_state.specs.declared.view.View.{View}
@@ -99,9 +99,10 @@ pub record WriterWords : Type 0 where
   pub clock : ℕ
   pub front : ℕ
   pub free : ℕ
+  pub moved : ℕ
 
 abbrev pub writer_words : Memory → WriterWords
-writer_words m = record { slots = slot_words m; clock = m Clock; front = m Front; free = m Free }
+writer_words m = record { slots = slot_words m; clock = m Clock; front = m Front; free = m Free; moved = m Moved }
 
 pub slots_stay : (m m' : Memory) → slot_words m' ≡ slot_words m → SameSlots m m'
 slots_stay m m' e = record {
@@ -188,6 +189,7 @@ pub same_is : (field other : Field) → same_field field other ≡ true → fiel
 same_is Clock Clock e = refl
 same_is Front Front e = refl
 same_is Free Free e = refl
+same_is Moved Moved e = refl
 same_is (Announced p) (Announced q) e = ap Announced (eqb-true p q e)
 same_is (Stamp p) (Stamp q) e = ap Stamp (eqb-true p q e)
 same_is (Gate c) (Gate d) e = ap Gate (eqb-true c d e)
@@ -206,6 +208,7 @@ pub same_self : (field : Field) → same_field field field ≡ true
 same_self Clock = refl
 same_self Front = refl
 same_self Free = refl
+same_self Moved = refl
 same_self (Count c a) = and_from (c == c) (a == a) (eq-eqb c c refl) (eq-eqb a a refl)
 same_self (Row p c) = and_from (p == p) (c == c) (eq-eqb p p refl) (eq-eqb c c refl)
 same_self (Link s a) = and_from (s == s) (same_side a a) (eq-eqb s s refl) (side_self a)

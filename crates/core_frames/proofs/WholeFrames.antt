@@ -4,7 +4,7 @@ use mathlib.Core.Option.{some}
 use lib.ListN.{get_elem?}
 use Rattle.prcu_marks.specs.declared.mark.Mark.{Mark}
 use Rattle.core_state.specs.declared.shape.Shape.{Shape}
-use Rattle.core_state.specs.declared.words.Field.TheVariants.{Clock, Front}
+use Rattle.core_state.specs.declared.words.Field.TheVariants.{Clock}
 use Rattle.core_state.specs.declared.view.Latest.{Latest}
 use Rattle.core_state.specs.declared.view.Look.{Look}
 use Rattle.core_state.specs.declared.view.Move.{Move}
@@ -20,10 +20,10 @@ use Rattle.core_state.specs.Views.{Works, open_reading}
 use Rattle.core_state.specs.Steps.{spent_view, stepped}
 use Rattle.core_state.specs.Parts.{ReaderParts, WaiterParts, CountParts, FrontParts, GraceParts, ListingParts, LockParts, IsUnraisedOf, MarkParts, WaitStands, SeatParts, SlotParts, TreeParts, IsClear, IsWaitedRetired}
 use Rattle.core_state.specs.Invariant.{HoldsNow, IsShape}
-use Rattle.core_frames.proofs.Marks.{SilentMarks, silent_same, others_same, waits_same, IsUnlinkedNow, PlainMarks, others_plain, waits_plain, OtherMarks}
+use Rattle.core_frames.proofs.Marks.{SilentMarks, silent_same, end_same, others_same, waits_same, IsUnlinkedNow, PlainMarks, others_plain, waits_plain, OtherMarks}
 use Rattle.core_frames.proofs.Views.{SameSlots, OwnSlots, own_slots, reader_words, slots_stay, same_slots, writer_words, SamePlaces, content_same, stored_same}
 use Rattle.core_frames.proofs.WaitFrames.{Sees, mark_frame_by, wait_same, waiter_frame, grace_frame, excused_same, turned_same, AreLoaded, clocked_same, waiters_by, grace_frame_by, grace_longer, retired_still, waited_before, waited_longer, mark_frame_still}
-use Rattle.core_frames.proofs.PlaceFrames.{counted_still, seat_frame_still, slot_frame, lock_frame, count_frame, numbers_of, front_frame}
+use Rattle.core_frames.proofs.PlaceFrames.{counted_still, seat_frame_still, slot_frame, lock_frame, count_frame, numbers_of, front_frame, front_stays}
 use Rattle.core_frames.proofs.TreeFrames.{tree_frame, see_same, readers_stay, listing_frame_still}
 use Rattle.core_state.specs.declared.view.HeldLock.{HeldLock}
 use Rattle.core_state.specs.declared.view.Retired.{Retired}
@@ -178,7 +178,7 @@ pub waiter_law : (k : Shape) (m m' : Memory) (vs : List View) (h : List Mark) (i
     → HoldsNow k m' (set vs id w) h
 waiter_law k m m' vs h id v w i there works words same waiters =
     let slots = slots_stay m m' (λ n. (words n).slots) in
-    let front : m' Front ≡ m Front = (λ n. (words n).front) in
+    let front = front_stays m m' (λ n. (words n).front) (λ n. (words n).moved) in
     whole k m' i.chart (set vs id w) h i.table
     (slot_half k m vs h id v w i there m' h slots (silent_same h) (λ n. slot_side (same n))
     (λ one reserved. (λ n. (same n).hands.hand) ∙ one ((λ n. (sym same n).hands.reserved) ∙ reserved)))
@@ -186,7 +186,7 @@ waiter_law k m m' vs h id v w i there works words same waiters =
     (wait_still k m vs h id v w i there (λ n. seat_side (same n)) (λ n. (same n).wait))) waiters
     (count_frame k.tickets m m' (slot_count k) i.chart vs id v w h h there slots (λ n. (words n).clock) (λ n. (words n).free)
     (λ n. numbers_of (same n)) (silent_same h) i.counts)
-    (front_frame m m' vs id v w h h there front (λ n. (same n).commit) (λ e. (λ n. (same n).moving) ∙ e) (silent_same h) i.front)
+    (front_frame m m' vs id v w h h there front (λ n. (same n).commit) (λ e. (λ n. (same n).moving) ∙ e) (silent_same h) (end_same h) i.front)
     (listing_frame_still m m' slots.nodes i.chart h h (silent_same h) vs id v w there (λ n. (same n).section) i.listings)
 
 -- what a view has to do with the words of its waiter: its place, its section, its wait, and what it loaded and announced for its next
@@ -227,7 +227,7 @@ all_seen k m vs h id v i there works latest looks =
     (seat_half k m vs h id v w i there works refl (inl refl) (wait_still k m vs h id v w i there refl refl))
     (waiters_stay k m m vs h id v w i there refl refl refl)
     (count_frame k.tickets m m (slot_count k) i.chart vs id v w h h there slots refl refl refl (silent_same h) i.counts)
-    (front_frame m m vs id v w h h there refl refl (λ e. e) (silent_same h) i.front)
+    (front_frame m m vs id v w h h there (front_stays m m refl refl) refl (λ e. e) (silent_same h) (end_same h) i.front)
     (listing_frame_still m m slots.nodes i.chart h h (silent_same h) vs id v w there refl i.listings)
 
 -- What marks of updates and slots leave: such a step keeps the parts on marks, seats, waiters and grace by the frames of each group.

@@ -24,7 +24,7 @@ use Rattle.core_state.specs.Steps.{stepped, unknown_slot, NeedsLeaveByStamp, gat
 use Rattle.core_state.specs.declared.act.Part.{Part}
 use Rattle.core_state.specs.declared.act.Part.TheVariants as part
 use Rattle.core_state.specs.declared.act.Act.{Act}
-use Rattle.core_state.specs.declared.act.Act.TheVariants.{EnterByStamp, LeaveByStamp, BeginWait, LookKey, LookStamp, Reserve, Seize, Lock, SearchLoad, ListLoad, OpenCommit, LinkLeaf, Bypass, LinkCopy, LoadGate, EnterByCount, LeaveByCount, LookCount, EnterByRow, LeaveByRow, LookRow, ReplaceValue, LookAtFront}
+use Rattle.core_state.specs.declared.act.Act.TheVariants.{EnterByStamp, LeaveByStamp, BeginWait, LookKey, LookStamp, Reserve, Seize, Lock, SearchLoad, ListLoad, OpenCommit, LinkLeaf, Bypass, LinkCopy, LoadGate, EnterByCount, LeaveByCount, LookCount, EnterByRow, LeaveByRow, LookRow, ReplaceValue, LookAtFront, LoadMoved}
 use Rattle.core_state.specs.Acts.{in_slot, IsWord, clocked_of, some_section, section_of, some_wait, wait_of, commit_of, spare_of, after, marks_of, MayLook, listing_of}
 use Rattle.core_state.specs.Links.{after_reserve, reserving, with_free, after_seize, HasCommit}
 use Rattle.core_state.specs.Views.{IsLoadable}
@@ -37,6 +37,7 @@ pub has_word : (k : Shape) (field : Field) → IsWord k field → is_field k fie
 has_word k word.Clock is = refl
 has_word k word.Front is = refl
 has_word k word.Free is = refl
+has_word k word.Moved is = refl
 has_word k (word.Announced p) is = and_from _ _ (ap (λ w. same_waiter w Eer) is.0) (lt-ltb p k.places is.1)
 has_word k (word.Stamp p) is = and_from _ _ (ap (λ w. same_waiter w Eer) is.0) (lt-ltb p k.places is.1)
 has_word k (word.Gate c) is = and_from _ _ (ap (λ w. same_waiter w Domain) is.0) (lt-ltb c 64 is.1)
@@ -267,6 +268,7 @@ module _ (v : View) (h : List Mark) (n : ℕ) where
   has_seen (Lock slot) = either_seen (n == 0) _ _ [] unmarked unmarked
   has_seen (OpenCommit expected) = either_seen (n == expected) _ _ [] unmarked unmarked
   has_seen (LoadGate class) = inl (refl, gate_seen class v.section)
+  has_seen LoadMoved = either_seen (n == 0) _ _ [] unmarked all_seen
   has_seen (LookCount class side last) = look_seen (wait_of v) (word.Count class side) last
   has_seen (LookRow p class last) = look_seen (wait_of v) (word.Row p class) last
   has_seen LookAtFront = all_seen
@@ -296,6 +298,7 @@ module _ (v : View) (h : List Mark) (n : ℕ) where
   section_stays (Lock slot) quiet = either_is (n == 0) _ _ v.section refl refl
   section_stays (OpenCommit expected) quiet = either_is (n == expected) _ _ v.section refl refl
   section_stays (LoadGate class) quiet = gate_stays class v.section
+  section_stays LoadMoved quiet = either_is (n == 0) _ _ v.section refl refl
   section_stays (LookCount class side last) quiet = look_stays (wait_of v) (word.Count class side) last
   section_stays (LookRow p class last) quiet = look_stays (wait_of v) (word.Row p class) last
   -- the others leave the section, or move the search
@@ -311,6 +314,7 @@ module _ (v : View) (h : List Mark) (n : ℕ) where
   stays_at_work (Lock slot) = either_works (n == 0) _ _ (works_on refl refl) (works_on refl refl)
   stays_at_work (OpenCommit expected) = either_works (n == expected) _ _ (works_on refl refl) (works_on refl refl)
   stays_at_work (LoadGate class) = gate_works class v.section
+  stays_at_work LoadMoved = either_works (n == 0) _ _ (works_on refl refl) (works_on refl refl)
   stays_at_work (LookCount class side last) = look_works (wait_of v) (word.Count class side) last
   stays_at_work (LookRow p class last) = look_works (wait_of v) (word.Row p class) last
   stays_at_work _ = works_on refl refl
@@ -365,6 +369,7 @@ module _ (v : View) (kind : Kind) (on : Field) (number : ℕ) where
     noted_after (OpenCommit expected) = either_noted (n == expected)
         (record (with_front v (expected + 1)) { commit = Some (record { found = expected; stored = false }) }) (with_front v n)
     noted_after (LoadGate class) = gate_noted class n v.section
+    noted_after LoadMoved = either_noted (n == 0) v (record v { seen = h })
     noted_after (LookCount class side last) = look_noted (wait_of v) (word.Count class side) last
     noted_after (LookRow p class last) = look_noted (wait_of v) (word.Row p class) last
     noted_after _ = refl

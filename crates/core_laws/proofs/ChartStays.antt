@@ -10,7 +10,7 @@ use Rattle.prcu_marks.specs.declared.mark.Mark.TheVariants.{Done}
 use Rattle.prcu_marks.specs.declared.mark.Side.{Side}
 use Rattle.prcu_marks.specs.Marks.{updates_of, gone_at, last_unlinked, greatest_key}
 use Rattle.core_state.specs.declared.words.Field.{Field}
-use Rattle.core_state.specs.declared.words.Field.TheVariants.{Life, Link, Tag, Clock, Front, Announced, Stamp, Count, Row}
+use Rattle.core_state.specs.declared.words.Field.TheVariants.{Life, Link, Tag, Clock, Front, Moved, Announced, Stamp, Count, Row}
 use Rattle.core_state.specs.declared.view.HeldLock.{HeldLock}
 use Rattle.core_state.specs.declared.view.Move.{Move}
 use Rattle.core_state.specs.declared.view.Reading.{Reading}
@@ -35,9 +35,9 @@ use Rattle.core_frames.proofs.Charts.{carry_going, bool_cases}
 use Rattle.core_state.specs.declared.shape.Shape.{Shape}
 use Rattle.core_state.specs.Invariant.{HoldsNow}
 use Rattle.core_frames.proofs.PlainLaws.{clocked_before}
-use Rattle.core_frames.proofs.Marks.{IsPlain, plain_one, silent_same}
+use Rattle.core_frames.proofs.Marks.{SameEnd, end_same, IsPlain, plain_one, silent_same}
 use Rattle.core_frames.proofs.WaitFrames.{NewMark, marks_snoc, mark_frame, waiter_frame, grace_frame_by, retired_still, move_still}
-use Rattle.core_frames.proofs.PlaceFrames.{seat_frame, front_by, lock_frame, counts_kept, retired_of_still, slots_by}
+use Rattle.core_frames.proofs.PlaceFrames.{front_stays, seat_frame, front_by, lock_frame, counts_kept, retired_of_still, slots_by}
 use Rattle.core_state.specs.declared.view.Retired.{Retired}
 use Rattle.core_state.specs.Marks.{Grace, Reuse, HasWaited}
 use Rattle.core_state.specs.declared.view.Held.{Held}
@@ -101,6 +101,7 @@ pub record ChartStep (P : ℕ → Type 0) : Type 0 where
   -- the rest of the view, and the marks
   pub view : SameOutside who.v w
   pub updates : updates_of hs ≡ updates_of who.h
+  pub ends : SameEnd who.h hs
   pub longer : (j : ℕ) (a : Mark) → get_elem? who.h j ≡ some a → get_elem? hs j ≡ some a
   pub done : (j : ℕ) (u : Update) → get_elem? hs j ≡ some (Done u) → get_elem? who.h j ≡ some (Done u)
 
@@ -399,7 +400,8 @@ module _ (P : ℕ → Type 0) (z : ChartStep P) where
     counts = counts;
     tree = tree_stays P z;
     readers = readers_stay P z;
-    front = front_by m m' vs id v w h hs there (z.beside Front tt) z.view.commit (λ e. z.view.moving ∙ e) z.updates inv.front;
+    front = front_by m m' vs id v w h hs there (front_stays m m' (z.beside Front tt) (z.beside Moved tt)) z.view.commit
+        (λ e. z.view.moving ∙ e) z.updates z.ends inv.front;
     listings = listings_stay P z;
     grace = grace;
   }
@@ -430,6 +432,7 @@ module _ (k : Shape) (m : Memory) (vs : List View) (h : List Mark) (id : ℕ) (v
     copies = λ j u move e is. refl;
     view = view;
     updates = refl;
+    ends = end_same h;
     longer = λ j a e. e;
     done = λ j u e. e;
   }

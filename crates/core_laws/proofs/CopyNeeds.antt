@@ -24,7 +24,7 @@ use Rattle.core_state.specs.Tree.{OnRightLeft, Chart}
 use Rattle.core_state.specs.Parts.{IsRecord, IsStillLinked, IsHeldKnown, HasFewSlots, linked_count, young_count, old_count, CountParts, FrontParts, map_now, IsHandKnown}
 use Rattle.core_frames.proofs.WholeFrames.{same_for_more, Stepper}
 use Rattle.core_frames.proofs.Roles.{right_left_low, spare_own, spare_among, own_below, own_off, not_gone, spares_count, unraised_append}
-use Rattle.core_laws.proofs.Updates.{delete_update, both_marks, delete_said, Deletion, settled, kept, reading, parent_alive, link_is, node_marked, node_life, left_is, right_is, some_node, node_young, single, node_lock, node_field, delete_longer, delete_count, delete_legal, has_key, node_key, there_of}
+use Rattle.core_laws.proofs.Updates.{delete_update, both_marks, delete_said, Deletion, settled, kept, reading, parent_alive, link_is, node_marked, node_life, left_is, right_is, some_node, node_young, single, node_lock, node_field, delete_longer, delete_here, delete_count, delete_legal, has_key, node_key, there_of}
 use Rattle.core_laws.proofs.Locks.{lock_outside, loaded_known, no_end_of, young_locked, IsAlive, alive, alive_field, emptied_change_same}
 use Rattle.core_laws.proofs.CopyShape.{CopyLink, after_copy, lower, upper, changes, not_c, c_linked, c_young, next_not, none_between, next_keyed}
 use Rattle.core_laws.proofs.LinkParts.{Relinks, forth, SlotsGo, hand_noted, spare_stays, retired_times, retired_or_gone, retired_grows, gone_among, gone_in_retired, slots_become}
@@ -37,7 +37,7 @@ use Rattle.core_laws.proofs.LockSteps.{note_option-slots, note_option-unraised}
 use Rattle.prcu_model.specs.Dictionary.{map_of, Dictionary}
 use Rattle.core_laws.proofs.Stores.{front_made}
 use Rattle.core_frames.proofs.Views.{flag_false, young_flags, old_flags, sum_equal, sum_add, in_one, not_one, one_sum, sum_swapped, sum_one_more, flag_root, flag_node, young_root, young_node}
-use Rattle.core_frames.proofs.PlaceFrames.{counts_by}
+use Rattle.core_frames.proofs.PlaceFrames.{front_stays, counts_by}
 use Rattle.std.specs.Prelude.{is_some}
 use mathlib.Core.Logic.{dite}
 use native.Mathlib.Decide.{dec_le}
@@ -520,7 +520,8 @@ module _ (z : CopyStep) where
       }) inv.counts
 
   pub copy_front : FrontParts new us hs
-  copy_front = front_made m new vs id v w there h hs refl inv.front z.commit z.needs.has_commit refl updates_longer
+  copy_front = front_made m new vs id v w there h hs (front_stays m new refl refl) inv.front z.commit z.needs.has_commit refl updates_longer
+      (delete_here h v.allowance.place z.needs.reading.key z.d)
       (delete_legal h v.allowance.place z.needs.reading.key z.d (has_key (deletion z)) inv.front.legal)
 
 -- The link of a copy: the key of the copy is the next one in the dictionary above the key that is deleted.

@@ -20,12 +20,12 @@ use Rattle.core_state.specs.Invariant.{HoldsNow}
 use Rattle.list_laws.proofs.Lists.{at_below, at_one, from_times, times_append, times_in, total_part, at_most_one, in_second}
 use Rattle.core_frames.proofs.Roles.{works_there, places_apart, place_within, record_of}
 use Rattle.core_state.specs.declared.shape.Waiter.TheVariants.{Deer, Domain, Eer}
-use Rattle.core_frames.proofs.Marks.{IsOutside, SilentMarks, TurnsNoWait, silent_snoc, prefix_snoc, waits_snoc}
+use Rattle.core_frames.proofs.Marks.{IsOutside, SilentMarks, TurnsNoWait, silent_snoc, end_snoc, prefix_snoc, waits_snoc}
 use Rattle.core_state.specs.Parts.{ListingParts, LockParts, ReaderParts, SeatParts, TreeParts, WaiterParts, IsReading, IsServed, HasStood, EerWords, DomainWords, DeerWords, IsRecord}
 use Rattle.core_frames.proofs.WaitFrames.{NewMark, mark_frame_still, marks_snoc, OnlyOlder, grace_frame, grace_snoc, reuse_snoc, waiters_section}
 use Rattle.core_frames.proofs.Views.{SameSlots, own_slots, slots_stay, writer_words}
 use Rattle.core_state.specs.declared.shape.Waiter.{Waiter}
-use Rattle.core_frames.proofs.PlaceFrames.{count_frame, numbers_of, front_frame, slot_frame, open_none, seats_enter, lock_frame, seats_left}
+use Rattle.core_frames.proofs.PlaceFrames.{count_frame, numbers_of, front_frame, front_stays, slot_frame, open_none, seats_enter, lock_frame, seats_left}
 use Rattle.core_state.specs.Steps.{spent_view, NeedsEntry, entering, new_section, fresh_reading, leaving}
 use Rattle.core_frames.proofs.WholeFrames.{whole}
 use Rattle.std.proofs.lemmas.List.{take-append-le}
@@ -155,8 +155,8 @@ module _ (k : Shape) (m m' : Memory) (vs : List View) (h : List Mark) (id : ℕ)
       })
       waiters (count_frame k.tickets m m' (slot_count k) i.chart vs id v w h (h ++ mark ∷ []) there slots (λ n. (words n).clock)
       (λ n. (words n).free) (λ n. numbers_of (same n)) quiet i.counts)
-      (front_frame m m' vs id v w h (h ++ mark ∷ []) there (λ n. (words n).front) (λ n. (same n).commit)
-      (λ e. (λ n. (same n).moving) ∙ e) quiet i.front) listings
+      (front_frame m m' vs id v w h (h ++ mark ∷ []) there (front_stays m m' (λ n. (words n).front) (λ n. (words n).moved))
+      (λ n. (same n).commit) (λ e. (λ n. (same n).moving) ∙ e) quiet (end_snoc h mark outside) i.front) listings
 
 -- A section is entered: what keeps the invariant whatever the waiter, where the waiter's words show it.
 

@@ -1,26 +1,32 @@
--- Steps on the free count and on the front: what they keep, where they change no more of a view than its tickets, what it has reserved
--- or owes, its commit, its latest numbers, or what it has seen.
-use Rattle.std.proofs.Common.{◌≡◌, ℕ, ◌⊎◌, Bool, true, List, set, Option, None, refl, ⊎_elim, inl, inr, ◌+◌, ◌*◌, ◌==◌, false, cond, length, Some, sym, ◌∙◌, arith, eqb-true, ◌-◌, ap, []}
+-- Steps on the free count, on the front and on the word of a move: what they keep, where they change no more of a view than its tickets, what
+-- it has reserved or owes, its commit, its latest numbers, or what it has seen.
+use Rattle.std.proofs.Common.{◌≡◌, ℕ, ◌⊎◌, Bool, true, List, ◌∷◌, ◌++◌, set, Option, None, refl, subst, ⊎_elim, inl, inr, ◌+◌, ◌*◌, ◌==◌, false, cond, length, Some, sym, ◌∙◌, arith, eqb-true, ◌-◌, ap, []}
 use mathlib.Core.Option.{some}
 use lib.ListN.{get_elem?}
 use Rattle.prcu_marks.specs.declared.mark.Mark.{Mark}
+use Rattle.prcu_marks.specs.declared.mark.Mark.TheVariants.{Given, Freed, Moved as MovedMark}
 use Rattle.core_state.specs.declared.shape.Shape.{Shape}
-use Rattle.core_state.specs.declared.words.Field.TheVariants.{Clock, Front, Free}
+use Rattle.core_state.specs.declared.words.Field.TheVariants.{Clock, Front, Free, Moved}
 use Rattle.core_state.specs.declared.view.Latest.{Latest}
 use Rattle.prcu_marks.specs.declared.commit.Commit.{Commit}
 use Rattle.core_state.specs.declared.view.View.{View}
 use Rattle.core_state.specs.Memory.{Memory, slot_count, stored, flag}
 use Rattle.core_state.specs.Views.{Works}
-use Rattle.core_state.specs.Parts.{FrontParts, IsOddBy}
+use Rattle.core_state.specs.Parts.{FrontParts, IsOddHere}
 use Rattle.core_state.specs.Invariant.{HoldsNow}
-use Rattle.core_frames.proofs.Marks.{silent_same}
+use Rattle.core_frames.proofs.Marks.{SilentMarks, PlainMarks, end_same, plain_one, reuse_more, silent_moved, silent_same, waits_snoc}
 use Rattle.core_frames.proofs.Views.{SameSlots, same_slots, reader_words, slots_stay}
-use Rattle.core_frames.proofs.PlaceFrames.{NumbersStep, numbers_of, counts_still, sums_same, numbers_stay, front_frame, odd_by}
+use Rattle.core_frames.proofs.PlaceFrames.{NumbersStep, numbers_of, counts_still, sums_same, numbers_stay, count_frame, front_frame, front_stays, last_by, not_moved, odd_by}
 use Rattle.core_frames.proofs.TreeFrames.{listing_frame_still}
-use Rattle.core_frames.proofs.WholeFrames.{whole, slot_half, seat_half, wait_still, waiters_stay, Stepper, StepKeeps, by_waiter_store, only_loaded, no_mark, kept}
-use Rattle.prcu_marks.specs.Marks.{updates_of, updates_by}
+use Rattle.core_frames.proofs.WholeFrames.{SeatHalf, SameForMore, same_for_more, mark_frame_plain, seat_frame_plain, waiter_frame_plain, whole, slot_half, seat_half, wait_still, waiters_stay, Stepper, StepKeeps, by_store, by_waiter_store, only_loaded, no_mark, kept}
+use Rattle.core_frames.proofs.WaitFrames.{grace_frame, grace_snoc, marks_snoc}
+use Rattle.core_frames.proofs.PlainLaws.{clocked_before}
+use Rattle.prcu_marks.specs.Marks.{updates_of, updates_by, moves_in}
+use Rattle.prcu_marks.proofs.Marks.{moves_in-append, updates_behind-fresh}
+use Rattle.core_state.specs.Marks.{IsReused}
+use Rattle.prcu_model.specs.Dictionary.{IsLegal}
 use Rattle.list_laws.specs.Counts.{Each}
-use Rattle.core_state.specs.Steps.{NeedsOpenCommit, with_front, NeedsCloseCommit, after_close_commit, after_open_commit, NeedsGiveFrontBack}
+use Rattle.core_state.specs.Steps.{NeedsOpenCommit, with_front, NeedsCloseCommit, after_close_commit, after_open_commit, NeedsGiveFrontBack, NeedsStoreMoved, after_store_moved, after_load_moved}
 use Rattle.list_laws.proofs.Lists.{each_set, only_here}
 use Rattle.core_frames.specs.Laws.{IsKept}
 use Rattle.core_state.specs.Links.{NeedsReserve, NeedsCountFree, after_count_free, after_reserve, reserving, with_free}
@@ -51,11 +57,13 @@ module _ (k : Shape) (m m' : Memory) (vs : List View) (h : List Mark) (id : ℕ)
       (listing_frame_still m m' slots.nodes i.chart h h (silent_same h) vs id v w there refl i.listings)
 
   -- Where the front and the commit are as they were, only the counts have to be right.
-  pub free_law : SameSlots m m' → m' Clock ≡ m Clock → m' Front ≡ m Front → reader_words m' ≡ reader_words m → commit ≡ v.commit
+  pub free_law : SameSlots m m' → m' Clock ≡ m Clock → m' Front ≡ m Front → m' Moved ≡ m Moved → reader_words m' ≡ reader_words m
+      → commit ≡ v.commit
       → (seen ≡ h) ⊎ (seen ≡ v.seen) → (reserved ≡ true → v.hands.hand ≡ None) → NumbersStep m m' (numbers_of v) (numbers_of w)
       → HoldsNow k m' (set vs id w) h
-  free_law slots clock front words same known one numbers =
-      number_law slots clock words known one numbers (front_frame m m' vs id v w h h there front same (λ e. e) (silent_same h) i.front)
+  free_law slots clock front moved words same known one numbers =
+      number_law slots clock words known one numbers
+      (front_frame m m' vs id v w h h there (front_stays m m' front moved) same (λ e. e) (silent_same h) (end_same h) i.front)
 
 -- only the latest numbers and what was seen change, and no word
 pub seen_law : (k : Shape) (m : Memory) (vs : List View) (h : List Mark) (id : ℕ) (v : View) (i : HoldsNow k m vs h)
@@ -63,7 +71,7 @@ pub seen_law : (k : Shape) (m : Memory) (vs : List View) (h : List Mark) (id : �
     → HoldsNow k m (set vs id (record v { latest = latest; seen = seen })) h
 seen_law k m vs h id v i there works latest seen known =
     free_law k m m vs h id v i there works v.allowance.tickets v.hands.reserved v.hands.owes v.commit latest seen
-    (same_slots m) refl refl refl refl known (i.slots.few id v there).one
+    (same_slots m) refl refl refl refl refl known (i.slots.few id v there).one
     (numbers_stay m m (numbers_of v) (numbers_of v) refl refl refl)
 
 -- The steps on the front keep the invariant: K19, K24 and K39.
@@ -80,14 +88,22 @@ module _ (k : Shape) (m : Memory) (vs : List View) (h : List Mark) (id : ℕ) (v
       let w : View = odd_view expected in
       record {
         turned = ⊎_elim
-            (λ (t : (m Front ≡ 2 * length (updates_of h)) × Each vs (λ (u : View). u.commit ≡ None)).
-            let even = t.0 in
-            inr (only_here vs id v w there
-            (record { commit = record { found = expected; stored = false }; has = refl; word = refl; updates = omega arith })
-            (λ j u _ e. t.1 j u e)))
-            (λ (t : IsOddBy m vs (length (updates_of h))). absurd
-            (let a = t.has.word in let b = t.has.updates in let e = needs.even in let c = made_even t.has.commit in omega arith))
+            (λ (t : (m Front ≡ 2 * length (updates_of h) + m Moved) × Each vs (λ (u : View). u.commit ≡ None)).
+            let front = t.0 in
+            let even = needs.even in
+            let word = i.front.last.word in
+            let once = i.front.last.once in
+            let here : m Moved ≡ 0 = omega arith in
+            inr (record {
+              here = here;
+              odd = only_here vs id v w there
+                  (record { commit = record { found = expected; stored = false }; has = refl; word = refl; updates = omega arith })
+                  (λ j u _ e. t.1 j u e);
+            }))
+            (λ (t : IsOddHere m vs (length (updates_of h))). absurd
+            (let a = t.odd.has.word in let b = t.odd.has.updates in let e = needs.even in let c = made_even t.odd.has.commit in omega arith))
             i.front.turned;
+        last = last_by m (stored m Front (expected + 1)) h h refl (end_same h) i.front.last;
         settled = each_set (λ j u. (x : Commit) → u.commit ≡ Some x → x.stored ≡ false → u.moving ≡ None) vs id w
             (λ x is unmade. needs.settled) (λ j u ne e. i.front.settled j u e);
         legal = i.front.legal;
@@ -118,7 +134,11 @@ module _ (k : Shape) (m : Memory) (vs : List View) (h : List Mark) (id : ℕ) (v
       (slots_stay m m' refl) refl refl (inr refl) (i.slots.few id v there).one
       (numbers_stay m m' (numbers_of v) (numbers_of v) refl refl refl)
       (record {
-        turned = inl (sym is ∙ odd.1, each_set (λ j u. u.commit ≡ None) vs id w refl (λ j u ne e. odd.2 j u ne e));
+        turned = inl (
+          (let here = not_moved m vs h id v there i.front commit mine in let count = odd.1 in omega arith),
+          each_set (λ j u. u.commit ≡ None) vs id w refl (λ j u ne e. odd.2 j u ne e),
+        );
+        last = last_by m m' h h refl (end_same h) i.front.last;
         settled = each_set (λ j u. (x : Commit) → u.commit ≡ Some x → x.stored ≡ false → u.moving ≡ None) vs id w
             (λ x none unmade. absurd (let q : None ≡ Some x = none in cc)) (λ j u ne e. i.front.settled j u e);
         legal = i.front.legal;
@@ -159,6 +179,91 @@ module _ (z : Stepper) where
   keeps_give_front_back front needs = by_waiter_store z Front front (after_close_commit v front) (slots_stay m (stored m Front front) refl)
       (given_back_law k m vs h id v inv there works front needs)
 
+-- The steps on the word of a move keep the invariant: K41 and K42.
+
+module _ (k : Shape) (m : Memory) (vs : List View) (h : List Mark) (id : ℕ) (v : View) (i : HoldsNow k m vs h)
+    (there : get_elem? vs id ≡ some v) (works : Works v) where
+  -- K41: from now on the front is odd by no view
+  module _ (needs : NeedsStoreMoved v) where
+    abbrev new : Memory
+    new = stored m Moved 1
+
+    abbrev moved_view : View
+    moved_view = after_store_moved v h
+
+    abbrev hs : List Mark
+    hs = h ++ MovedMark ∷ []
+
+    quiet : SilentMarks h hs
+    quiet = silent_moved h
+
+    plain : PlainMarks v.allowance.place h hs
+    plain = plain_one v.allowance.place h MovedMark tt
+
+    same : SameForMore v moved_view hs
+    same = same_for_more refl
+
+    here : m Moved ≡ 0
+    here = not_moved m vs h id v there i.front (record { found = needs.found; stored = false }) needs.commit
+
+    fresh : moves_in h ≡ 0
+    fresh = sym i.front.last.word ∙ here
+
+    moves : moves_in hs ≡ 1
+    moves = let e = moves_in-append h (MovedMark ∷ []) in let none = fresh in let one : moves_in (MovedMark ∷ []) ≡ 1 = refl in omega arith
+
+    unused : (s : ℕ) → IsReused MovedMark s → ⊥
+    unused s = ⊎_elim (λ (e : MovedMark ≡ Given s). absurd (cc)) (λ (e : MovedMark ≡ Freed s). absurd (cc))
+
+    places : SeatHalf k (set vs id moved_view) hs
+    places = record {
+      marks = mark_frame_plain h hs v.allowance.place plain k.places vs id v moved_view there same (marks_snoc k.places h MovedMark tt i.marks.marks)
+          i.marks;
+      seats = seat_frame_plain h hs v.allowance.place plain k.places vs id v moved_view there works refl same i.seats;
+      grace = grace_frame vs id v moved_view h hs there (λ s is. inr (s, is, refl, refl)) quiet (waits_snoc h MovedMark tt) refl refl refl refl
+          (grace_snoc h MovedMark tt i.grace.grace) (reuse_more h MovedMark unused i.grace.reuse) i.grace;
+    }
+
+    front : FrontParts new (set vs id moved_view) hs
+    front =
+        let commit : Commit = record { found = needs.found; stored = false } in
+        let odd = odd_by m vs h id v there i.front commit needs.commit in
+        let word = odd.0 in
+        let count = odd.1 in
+        let updates = ap length quiet.updates in
+        let now : m Front ≡ 2 * length (updates_of hs) + 1 = omega arith in
+        record {
+          turned = inl (now, each_set (λ j u. u.commit ≡ None) vs id moved_view refl (λ j u ne e. odd.2 j u ne e));
+          last = record { word = sym moves; once = (let one = moves in omega arith); none = updates_behind-fresh h (MovedMark ∷ []) fresh };
+          settled = each_set (λ j u. (x : Commit) → u.commit ≡ Some x → x.stored ≡ false → u.moving ≡ None) vs id moved_view
+              (λ x none unmade. absurd (let q : None ≡ Some x = none in cc)) (λ j u ne e. i.front.settled j u e);
+          legal = subst IsLegal (sym quiet.updates) i.front.legal;
+        }
+
+    moved_law : HoldsNow k new (set vs id moved_view) hs
+    moved_law =
+        let slots = slots_stay m new refl in
+        whole k new i.chart (set vs id moved_view) hs i.table (slot_half k m vs h id v moved_view i there new hs slots quiet refl (λ one. one)) places
+        (waiter_frame_plain h hs v.allowance.place plain k m new vs id v moved_view there same refl refl (clocked_before k m vs h i) i.waiters)
+        (count_frame k.tickets m new (slot_count k) i.chart vs id v moved_view h hs there slots refl refl refl quiet i.counts) front
+        (listing_frame_still m new slots.nodes i.chart h hs quiet vs id v moved_view there refl i.listings)
+
+  -- K42, by its test
+  loads_moved : (none : Bool) → IsKept k m h (stored m Moved (m Moved)) (set vs id (cond none v (record v { seen = h }))) h
+  loads_moved true = only_loaded k m h Moved (set vs id v) h (seen_law k m vs h id v i there works v.latest v.seen (inr refl))
+  loads_moved false = only_loaded k m h Moved (set vs id (record v { seen = h })) h (seen_law k m vs h id v i there works v.latest h (inl refl))
+
+module _ (z : Stepper) where
+  open z use {k, m, vs, h, id, v, inv, there, works}
+
+  pub keeps_store_moved : NeedsStoreMoved v → StepKeeps z Moved 1 (after_store_moved v h) (MovedMark ∷ [])
+  keeps_store_moved needs = by_store z Moved 1 (after_store_moved v h) (MovedMark ∷ []) (slots_stay m (stored m Moved 1) refl)
+      (moved_law k m vs h id v inv there works needs)
+
+  pub keeps_load_moved : StepKeeps z Moved (m Moved) (after_load_moved v (m Moved) h) []
+  keeps_load_moved = no_mark k m (stored m Moved (m Moved)) h (set vs id (after_load_moved v (m Moved) h))
+      (loads_moved k m vs h id v inv there works (m Moved == 0))
+
 -- The steps on the free count keep the invariant: K10 and K16.
 
 module _ (k : Shape) (m : Memory) (vs : List View) (h : List Mark) (id : ℕ) (v : View) (i : HoldsNow k m vs h)
@@ -177,7 +282,7 @@ module _ (k : Shape) (m : Memory) (vs : List View) (h : List Mark) (id : ℕ) (v
       let ticket = needs.ticket in
       let was_not = ap flag needs.unreserved in
       free_law k m m' vs h id v i there works (v.allowance.tickets - 1) true v.hands.owes v.commit latest v.seen
-      (slots_stay m m' refl) refl refl refl refl (inr refl) (λ x. needs.empty)
+      (slots_stay m m' refl) refl refl refl refl refl (inr refl) (λ x. needs.empty)
       (record {
         free = omega arith;
         clock = omega arith;
@@ -193,7 +298,7 @@ module _ (k : Shape) (m : Memory) (vs : List View) (h : List Mark) (id : ℕ) (v
       let m' : Memory = stored m Free (n + 1) in
       let owed = ap flag needs in
       free_law k m m' vs h id v i there works v.allowance.tickets v.hands.reserved false v.commit (after_count_free v n).latest v.seen
-      (slots_stay m m' refl) refl refl refl refl (inr refl) (i.slots.few id v there).one
+      (slots_stay m m' refl) refl refl refl refl refl (inr refl) (i.slots.few id v there).one
       (record {
         free = omega arith;
         clock = omega arith;

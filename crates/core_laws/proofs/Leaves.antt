@@ -20,7 +20,7 @@ use Rattle.prcu_model.proofs.Dictionaries.{map_of-push, updated-put_absent, get-
 use Rattle.core_state.specs.Marks.{AreMarks}
 use Rattle.core_state.specs.Parts.{map_now, IsLockKnown, GoesTo, StandsWell, IsRecord, IsLockKept, IsReadingKept, LockParts, linked_count, young_count, old_count, CountParts, IsMoving, AreMoving}
 use Rattle.prcu_marks.proofs.Callers.{said_longer, legal_more}
-use Rattle.core_frames.proofs.Marks.{PlainMarks, plain_one, marks_done, updates_done, gone_done, last_done, reuse_done}
+use Rattle.core_frames.proofs.Marks.{here_more, PlainMarks, plain_one, marks_done, updates_done, gone_done, last_done, reuse_done}
 use Rattle.core_state.specs.declared.view.Known.{Known}
 use mathlib.Core.Option.{some, some-injective}
 use lib.ListN.{get_elem?}
@@ -45,7 +45,7 @@ use Rattle.core_laws.proofs.LockSteps.{OneLock, lock_step, lock_noted, emptied_a
 use Rattle.core_frames.proofs.Views.{stored_else, was}
 use Rattle.core_laws.proofs.LinkParts.{SlotsGo, slots_after}
 use Rattle.atomic_table.proofs.Lists.{at_longer}
-use Rattle.core_frames.proofs.PlaceFrames.{counts_by}
+use Rattle.core_frames.proofs.PlaceFrames.{front_stays, counts_by}
 use Rattle.core_state.specs.Steps.{done_by}
 use Rattle.core_frames.specs.Laws.{IsKept}
 use Rattle.std.specs.FinMap as finite
@@ -705,8 +705,10 @@ module _ (z : LeafLink) where
     map = leaf_map_after z;
     moves = leaf_moves z;
     reads = reads;
-    front = front_made m new vs id v w there h hs refl i.front commit z.needs.has_commit refl
-        (put_count h v.allowance.place r.key value (key_absent z)) (put_legal h v.allowance.place r.key value (key_absent z) i.front.legal);
+    front = front_made m new vs id v w there h hs (front_stays m new refl refl) i.front commit z.needs.has_commit refl
+        (put_count h v.allowance.place r.key value (key_absent z))
+        (here_more h (Done (put_update h v.allowance.place r.key value) ∷ []) refl refl)
+        (put_legal h v.allowance.place r.key value (key_absent z) i.front.legal);
     listings = listings_past step (put_count h v.allowance.place r.key value (key_absent z));
     grace = grace_same v.allowance.place h hs step.plain vs id v w there refl step.same.places (settled z)
         (reuse_done h (put_update h v.allowance.place r.key value) i.grace.reuse)

@@ -27,11 +27,11 @@ use Rattle.core_laws.proofs.ChartStays.{ChartStep, same_but, outer_same, chart_s
 use Rattle.core_frames.proofs.Views.{stored_else, same_slots, loadable_own}
 use Rattle.core_laws.proofs.LockSteps.{OneLock, known_still, emptied_after, one_changed, lock_stays, note_held-form, lock_noted, note_held-slot, note_option-slots, held_noted, hands_noted, note_option-unraised, note_option-none, note_option-still_none}
 use native.Mathlib.Decide.{ℕ_discrete}
-use Rattle.core_frames.proofs.PlaceFrames.{free_slots, generations_in, tags_raised, counts_by, retired_of_by, seat_frame, lock_frame, counts_kept, retired_of_still, slots_by, front_frame, retired_by}
+use Rattle.core_frames.proofs.PlaceFrames.{front_stays, free_slots, generations_in, tags_raised, counts_by, retired_of_by, seat_frame, lock_frame, counts_kept, retired_of_still, slots_by, front_frame, retired_by}
 use Rattle.atomic_table.proofs.Lists.{set_here, set_again}
 use Rattle.core_state.specs.declared.view.Known.{Known}
 use Rattle.core_state.specs.declared.view.Section.{Section}
-use Rattle.core_frames.proofs.Marks.{silent_same}
+use Rattle.core_frames.proofs.Marks.{end_same, silent_same}
 use Rattle.core_frames.proofs.WaitFrames.{mark_frame, waiter_frame, grace_frame_by, retired_still, move_still}
 use Rattle.core_frames.proofs.TreeFrames.{emptied_still, readers_stay, see_by, same_form, HadMove, IsForm, tree_by, moving_by, SameMoves, listing_frame, listing_same}
 use Rattle.std.proofs.lemmas.Bool.{cases_eq}
@@ -179,6 +179,7 @@ module _ (k : Shape) (m m' : Memory) (vs : List View) (h : List Mark) (id : ℕ)
       copies = c.copies;
       view = same_but v locks v.hands v.seen;
       updates = refl;
+      ends = end_same h;
       longer = λ j a e. e;
       done = λ j u e. e;
     }
@@ -322,8 +323,8 @@ module _ (k : Shape) (m : Memory) (vs : List View) (h : List Mark) (id : ℕ) (v
     counts = counts;
     tree = tree;
     readers = readers;
-    front = front_frame m m vs id v copy_view h h there refl refl
-        (λ e. absurd (let q : None ≡ Some move = sym e ∙ moving in cc)) quiet i.front;
+    front = front_frame m m vs id v copy_view h h there (front_stays m m refl refl) refl
+        (λ e. absurd (let q : None ≡ Some move = sym e ∙ moving in cc)) quiet (end_same h) i.front;
     listings = listing_frame m m nodes i.chart h h quiet vs id copy_view
         (λ s l is lists. listing_same m m nodes i.chart h h quiet s l (i.listings.listings id v there s l is lists)) i.listings;
     grace = grace;

@@ -20,9 +20,9 @@ use Rattle.core_state.specs.declared.view.View.{View}
 use Rattle.core_state.specs.Tree.{Chart, IsEmptied, HasEmptied}
 use Rattle.core_state.specs.Parts.{IsHolderOf, HasFewLocks, IsUnraised, IsLockKept, IsLockKnown, IsReadingKept, LockParts, ReaderParts, IsMoving, TreeParts}
 use Rattle.core_frames.proofs.TreeFrames.{moves_same, tree_by, moving_by, moving_same, may_still, old_still, readers_stay, listing_frame_still}
-use Rattle.core_frames.proofs.Marks.{silent_same}
+use Rattle.core_frames.proofs.Marks.{end_same, silent_same}
 use Rattle.core_state.specs.declared.view.Reading.{Reading}
-use Rattle.core_frames.proofs.PlaceFrames.{kept_same, known_same, reading_same, counts_still, sums_same, slot_frame, slots_elsewhere, front_frame}
+use Rattle.core_frames.proofs.PlaceFrames.{front_stays, kept_same, known_same, reading_same, counts_still, sums_same, slot_frame, slots_elsewhere, front_frame}
 use Rattle.prcu_marks.specs.declared.mark.Side.TheVariants.{Left, Right}
 use Rattle.core_state.specs.declared.shape.Shape.{Shape}
 use Rattle.core_state.specs.Steps.{new_lock, IsNoEnd, NeedsLock, NeedsUnlock, after_lock, after_unlock}
@@ -236,7 +236,7 @@ module _ (k : Shape) (m : Memory) (vs : List View) (h : List Mark) (id : ℕ) (v
         turns = omega arith;
         pending = refl;
       }) i.counts)
-      (front_frame m to vs id v w' h h there refl refl (λ e. e) quiet i.front)
+      (front_frame m to vs id v w' h h there (front_stays m to refl refl) refl (λ e. e) quiet (end_same h) i.front)
       (listing_frame_still m to nodes i.chart h h quiet vs id v w' there refl i.listings)
 
 module _ (k : Shape) (m : Memory) (vs : List View) (h : List Mark) (id : ℕ) (v : View) (i : HoldsNow k m vs h)

@@ -31,10 +31,10 @@ use Rattle.core_state.specs.declared.view.Retired.{Retired}
 use Rattle.core_state.specs.declared.view.Spent.{Spent}
 use Rattle.core_state.specs.Marks.{begun, begun_at, Grace, HasWaited, WasLeft}
 use Rattle.core_state.specs.Views.{Works}
-use Rattle.core_frames.proofs.Marks.{SilentMarks, silent_snoc, begun-append, begun_at-append, others_snoc, prefix_snoc}
+use Rattle.core_frames.proofs.Marks.{end_snoc, SilentMarks, silent_snoc, begun-append, begun_at-append, others_snoc, prefix_snoc}
 use Rattle.core_frames.proofs.Views.{same_slots}
 use Rattle.core_frames.proofs.WaitFrames.{marks_snoc, mark_frame_by, reuse_snoc, StaysNoted, clear_same, move_stays, retired_stays, waited_longer, waited_by}
-use Rattle.core_frames.proofs.PlaceFrames.{counts_still, sums_same, front_frame, counted_still, seat_frame_still}
+use Rattle.core_frames.proofs.PlaceFrames.{front_stays, counts_still, sums_same, front_frame, counted_still, seat_frame_still}
 use Rattle.core_laws.proofs.Waits.{entered_open, left_or_open, began_same, moves_noted, noted_half, unraised_noted, of_wait, waiters_own, wait_law, same_stands}
 use Rattle.core_frames.proofs.TreeFrames.{listing_frame_still}
 use Rattle.core_frames.proofs.WholeFrames.{SlotHalf, slot_half, whole, Stepper, StepKeeps, only_loaded}
@@ -445,7 +445,7 @@ module _ (k : Shape) (m : Memory) (vs : List View) (h : List Mark) (id : ℕ) (v
   end_law =
       whole k m i.chart (set vs id w) h' i.table slots_end
       (record { marks = marks_end; seats = seats_end; grace = graces_end }) waiters_end counts_end
-      (front_frame m m vs id v w h h' there refl refl (λ e. ap (waited_move last) e) quiet i.front)
+      (front_frame m m vs id v w h h' there (front_stays m m refl refl) refl (λ e. ap (waited_move last) e) quiet (end_snoc h mark tt) i.front)
       (listing_frame_still m m (same_slots m).nodes i.chart h h' quiet vs id v w there refl i.listings)
 
 -- A waiter's look keeps the invariant: K8, K31 and K35.

@@ -5,7 +5,7 @@ use mathlib.Core.Option.{some, some-injective}
 use lib.ListN.{get_elem?}
 use Rattle.prcu_model.specs.declared.operation.Update.{Update}
 use Rattle.prcu_marks.specs.declared.mark.Mark.{Mark}
-use Rattle.prcu_marks.specs.declared.mark.Mark.TheVariants.{Done, Entered, Left, Began, Ended, Given, Unlinked, Freed}
+use Rattle.prcu_marks.specs.declared.mark.Mark.TheVariants.{Done, Entered, Left, Began, Ended, Given, Unlinked, Freed, Moved}
 use Rattle.prcu_marks.specs.declared.mark.Side.{Side}
 use Rattle.prcu_marks.specs.Marks.{updates_of, gone_at, Open, open_at, next_gone, unlinked_from, last_unlinked, greatest_key}
 use Rattle.core_state.specs.declared.words.Field.{Field}
@@ -35,7 +35,7 @@ use Rattle.core_state.specs.Invariant.{HoldsNow}
 use Rattle.atomic_table.proofs.Lists.{at_longer}
 use Rattle.prcu_marks.proofs.Marks.{updates_of-append, gone_at-snoc}
 use Rattle.core_state.specs.Marks.{IsReused, Reuse}
-use Rattle.core_frames.proofs.Marks.{open_mark, IsPlain, plain_one}
+use Rattle.core_frames.proofs.Marks.{SameEnd, end_same, end_more, open_mark, IsPlain, plain_one}
 use Rattle.core_frames.proofs.WaitFrames.{NewMark}
 use Rattle.core_state.specs.declared.shape.Shape.{Shape}
 use Rattle.core_frames.proofs.PlaceFrames.{retired_by}
@@ -54,13 +54,14 @@ same_lock m' s t l = record { marked = refl; emptied = λ a. refl; knew = λ f n
 -- The marks afterwards say the same of the dictionary and of the other slots.
 pub record SameElse (s : ℕ) (h hs : List Mark) : Type 0 where
   pub updates : updates_of hs ≡ updates_of h
+  pub ends : SameEnd h hs
   pub longer : (j : ℕ) (a : Mark) → get_elem? h j ≡ some a → get_elem? hs j ≡ some a
   pub done : (j : ℕ) (u : Update) → get_elem? hs j ≡ some (Done u) → get_elem? h j ≡ some (Done u)
   pub else : (t : ℕ) → t ≢ s → gone_at t hs ≡ gone_at t h
   pub back : (t p : ℕ) → gone_at t hs ≡ Some p → gone_at t h ≡ Some p
 
 pub no_marks : (s : ℕ) (h : List Mark) → SameElse s h h
-no_marks s h = record { updates = refl; longer = λ j a e. e; done = λ j u e. e; else = λ t _. refl; back = λ t p e. e }
+no_marks s h = record { updates = refl; ends = end_same h; longer = λ j a e. e; done = λ j u e. e; else = λ t _. refl; back = λ t p e. e }
 
 -- a slot that is among those of one view is no other view's
 pub no_others : {room : ℕ} (m : Memory) (n : ℕ) (g : Chart) (vs : List View) (h : List Mark) → SlotParts room m n g vs h → (id : ℕ) (v : View)
@@ -169,6 +170,7 @@ module _ (z : OffStep) where
     copies = λ j u move e is. life_away move.copy.slot (on_apart move.copy.slot (z.who.inv.tree.moves.each j u e move is).copy_linked);
     view = z.view;
     updates = z.marks.updates;
+    ends = z.marks.ends;
     longer = z.marks.longer;
     done = z.marks.done;
   }
@@ -379,6 +381,7 @@ last_is s i g (Ended q c ∷ h) p e = last_more s i g (Ended q c) h p (last_is s
 last_is s i g (Done u ∷ h) p e = last_more s i g (Done u) h p (last_is s (i + 1) g h p e)
 last_is s i g (Given t ∷ h) p e = last_more s i g (Given t) h p (last_is s (i + 1) g h p e)
 last_is s i g (Freed t ∷ h) p e = last_more s i g (Freed t) h p (last_is s (i + 1) g h p e)
+last_is s i g (Moved ∷ h) p e = last_more s i g Moved h p (last_is s (i + 1) g h p e)
 last_is s i g (Unlinked t ∷ h) p e =
     ⊎_elim
     (λ (now : cond (t == s) (Some i) g ≡ Some p). here (t == s) refl now)
@@ -428,6 +431,12 @@ module _ (given : Bool) (s : ℕ) (h : List Mark) where
         | true ↦ append-nil (updates_of h)
         | false ↦ append-nil (updates_of h)
       ]
+
+  pub used_ends : SameEnd h more_marks
+  used_ends = elim given as (λ b. SameEnd h (h ++ used_mark b s ∷ [])) [
+    | true ↦ end_more h (Given s ∷ []) refl refl refl
+    | false ↦ end_more h (Freed s ∷ []) refl refl refl
+  ]
 
   pub used_longer : (j : ℕ) (a : Mark) → get_elem? h j ≡ some a → get_elem? more_marks j ≡ some a
   used_longer j a e = at_longer h (used_mark given s ∷ []) j a e
@@ -493,6 +502,7 @@ entered_later k m vs h i s a p o clear last now =
 pub used_marks : (given : Bool) (s : ℕ) (h : List Mark) → SameElse s h (h ++ used_mark given s ∷ [])
 used_marks given s h = record {
   updates = used_updates given s h;
+  ends = used_ends given s h;
   longer = used_longer given s h;
   done = used_done given s h;
   else = used_else given s h;

@@ -10,7 +10,7 @@ use Rattle.core_state.specs.declared.shape.Shape.{Shape}
 use Rattle.core_state.specs.declared.shape.Waiter.{Waiter}
 use Rattle.core_state.specs.declared.shape.Waiter.TheVariants.{Eer, Domain, Deer}
 use Rattle.core_state.specs.declared.words.Field.{Field}
-use Rattle.core_state.specs.declared.words.Field.TheVariants.{Clock, Front, Free, Announced, Stamp, Gate, Count, Row, State, Lock, Life, Key, Value, Link, Tag}
+use Rattle.core_state.specs.declared.words.Field.TheVariants.{Clock, Front, Free, Moved, Announced, Stamp, Gate, Count, Row, State, Lock, Life, Key, Value, Link, Tag}
 use Rattle.core_state.specs.Memory.{side_number, apart, place_room, class_room, row_room, classes, slot_base, slot_count, same_waiter, waiter_base, waiter_room, word_count, word_of, is_field, same_side, same_field}
 use Rattle.core_state.specs.declared.act.Act.TheVariants as act
 use Rattle.core_state.specs.declared.act.Part.TheVariants as part
@@ -42,6 +42,7 @@ abbrev pub Lies : Shape → Field → Type 0
 Lies k Clock = Unit {0}
 Lies k Front = Unit {0}
 Lies k Free = Unit {0}
+Lies k Moved = Unit {0}
 Lies k (Announced p) = (number_of k.waiter ≡ 0) × (waiter_room k.waiter k.places ≡ place_room * k.places) × (p < k.places)
 Lies k (Stamp p) = (number_of k.waiter ≡ 0) × (waiter_room k.waiter k.places ≡ place_room * k.places) × (p < k.places)
 Lies k (Gate c) = (number_of k.waiter ≡ 1) × (waiter_room k.waiter k.places ≡ class_room * classes) × (c < classes)
@@ -59,6 +60,7 @@ pub lies : (k : Shape) (field : Field) → is_field k field ≡ true → Lies k 
 lies k Clock e = tt
 lies k Front e = tt
 lies k Free e = tt
+lies k Moved e = tt
 lies k (Announced p) e = let both = and_parts _ _ e in let w = at_eer k.waiter k.places both.0 in (w.0, w.1, ltb-true p k.places both.1)
 lies k (Stamp p) e = let both = and_parts _ _ e in let w = at_eer k.waiter k.places both.0 in (w.0, w.1, ltb-true p k.places both.1)
 lies k (Gate c) e = let both = and_parts _ _ e in let w = at_domain k.waiter k.places both.0 in (w.0, w.1, ltb-true c classes both.1)
@@ -84,6 +86,7 @@ pub one_field : (k : Shape) (f g : Field) → Lies k f → Lies k g → word_of 
 one_field k Clock Clock p q e = refl
 one_field k Front Front p q e = refl
 one_field k Free Free p q e = refl
+one_field k Moved Moved p q e = refl
 one_field k (Announced a) (Announced b) p q e = eq-eqb a b (omega arith)
 one_field k (Stamp a) (Stamp b) p q e = eq-eqb a b (omega arith)
 one_field k (Gate a) (Gate b) p q e = eq-eqb a b (omega arith)
@@ -121,6 +124,7 @@ stands : (k : Shape) (f : Field) → Lies k f → Stands k f
 stands k Clock p = inl (omega arith)
 stands k Front p = inl (omega arith)
 stands k Free p = inl (omega arith)
+stands k Moved p = inl (omega arith)
 stands k (Announced a) p = inr (inr (omega arith))
 stands k (Stamp a) p = inr (inr (omega arith))
 stands k (Gate c) p = inr (inr (omega arith))
@@ -134,6 +138,7 @@ before_slots : (k : Shape) (f g : Field) → Lies k f → Lies k g → word_of k
 before_slots k Clock Clock p q below u v = absurd (omega arith)
 before_slots k Front Front p q below u v = absurd (omega arith)
 before_slots k Free Free p q below u v = absurd (omega arith)
+before_slots k Moved Moved p q below u v = absurd (omega arith)
 before_slots k f g p q below u v = omega arith
 
 -- two words behind the slots'

@@ -7,7 +7,7 @@ use Rattle.prcu_marks.specs.declared.mark.Mark.{Mark}
 use Rattle.prcu_marks.specs.declared.mark.Side.{Side}
 use Rattle.prcu_marks.specs.Marks.{updates_of, greatest_key}
 use Rattle.core_state.specs.declared.shape.Shape.{Shape}
-use Rattle.core_state.specs.declared.words.Field.TheVariants.{Front, Announced, State, Lock}
+use Rattle.core_state.specs.declared.words.Field.TheVariants.{Front, Moved, Announced, State, Lock}
 use Rattle.core_state.specs.declared.view.HeldLock.{HeldLock}
 use Rattle.core_state.specs.declared.view.Listing.{Listing}
 use Rattle.core_state.specs.declared.view.Enter.{Enter}
@@ -24,7 +24,7 @@ use Rattle.core_state.specs.Memory.{flag, has, Memory, slot_count}
 use Rattle.core_state.specs.Views.{lock_of, Works, places_of, slots_of, open_reading, readings_of, retired_of, unraised_of, emptied_among, IsQuiet, joined_retired}
 use Rattle.core_state.specs.Tree.{Chart, IsPending, IsEmptied, HasEmptied}
 use Rattle.core_state.specs.Steps.{spent_view}
-use Rattle.core_state.specs.Parts.{WaitStands, MarkParts, HasSeenAll, IsOwned, IsCounted, SeatParts, IsClocked, inside_count, WaiterParts, HasFewSlots, IsRetired, IsRetiredOf, AreHandsKnown, SlotParts, IsHolderOf, HasFewLocks, IsLockKept, IsLockKnown, IsReadingKept, LockParts, turns_to_come, CountParts, IsReading, IsServed, IsRecord, ReaderParts, IsMoving, TreeParts, IsTurned, IsOddBy, FrontParts, IsListing, ListingParts, IsClear, IsWaitedRetired, IsWaitedMove, GraceParts, HasOpen}
+use Rattle.core_state.specs.Parts.{WaitStands, MarkParts, HasSeenAll, IsOwned, IsCounted, SeatParts, IsClocked, inside_count, WaiterParts, HasFewSlots, IsRetired, IsRetiredOf, AreHandsKnown, SlotParts, IsHolderOf, HasFewLocks, IsLockKept, IsLockKnown, IsReadingKept, LockParts, turns_to_come, CountParts, IsReading, IsServed, IsRecord, ReaderParts, IsMoving, TreeParts, IsOddHere, IsOddBy, FrontParts, IsListing, ListingParts, IsClear, IsWaitedRetired, IsWaitedMove, GraceParts, HasOpen}
 use Rattle.core_frames.proofs.Views.{same_slots}
 use Rattle.core_frames.proofs.TreeFrames.{ReadersSee, record_by, see_by, served_by, SameMoves, same_form, tree_by}
 use Rattle.core_state.specs.Invariant.{HoldsNow}
@@ -232,25 +232,27 @@ module _ (vs us : List View) (id : ℕ) (v a b : View) (r : Regroups vs us id v 
       }) link ne;
     }
 
-    odd_regroup : (n : ℕ) → IsOddBy m vs n → IsTurned m us n
-    odd_regroup n i = inr (record {
+    odd_regroup : (n : ℕ) → IsOddBy m vs n → IsOddBy m us n
+    odd_regroup n i = record {
       id = i.id;
       view = i.view;
       there = busy_forth i.id i.view i.there (idle_turn i.view i.has.commit i.has.has);
       has = i.has;
       alone = λ j u other e. ⊎_elim (λ (at : get_elem? vs j ≡ some u). i.alone j u other at)
           (λ (x : (u ≡ a) ⊎ (u ≡ b)). (λ n. (idle_new u x n).commit)) (r.back j u e);
-    })
+    }
 
     front_regroup : FrontParts m vs h → FrontParts m us h
     front_regroup t = record {
       turned = ⊎_elim
-          (λ (i : (m Front ≡ 2 * length (updates_of h)) × Each vs (λ (u : View). u.commit ≡ None)). inl (
+          (λ (i : (m Front ≡ 2 * length (updates_of h) + m Moved) × Each vs (λ (u : View). u.commit ≡ None)). inl (
             i.0,
             each_regroup (λ (u : View). u.commit ≡ None) (λ (u : View). u.commit ≡ None) (λ u e. e)
                 (λ e. (λ n. (r.idle_a n).commit)) (λ n. (idle_b n).commit) i.1,
           ))
-          (odd_regroup (length (updates_of h))) t.turned;
+          (λ (i : IsOddHere m vs (length (updates_of h))). inr (record { here = i.here; odd = odd_regroup (length (updates_of h)) i.odd }))
+          t.turned;
+      last = t.last;
       settled = each_regroup (λ (u : View). (x : Commit) → u.commit ≡ Some x → x.stored ≡ false → u.moving ≡ None)
           (λ (u : View). (x : Commit) → u.commit ≡ Some x → x.stored ≡ false → u.moving ≡ None)
           (λ u i. i) (λ i x is unmade. (λ n. (r.idle_a n).moving)) (λ x is unmade. (λ n. (idle_b n).moving)) t.settled;

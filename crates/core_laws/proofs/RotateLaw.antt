@@ -20,7 +20,7 @@ use Rattle.core_frames.proofs.First.{each_one, each_append}
 use Rattle.core_frames.proofs.Charts.{bool_cases}
 use Rattle.core_frames.proofs.Roles.{retired_own, linked_none, map_append, slots_count, spares_count, retired_count, unraised_append}
 use Rattle.core_frames.proofs.Views.{in_one, not_one, flag_false, flag_true, young_flags, old_flags, sum_equal, sum_add, one_sum, flag_root, flag_node, young_root, young_node}
-use Rattle.core_frames.proofs.PlaceFrames.{retired_of_by, counts_by, front_by, retired_by}
+use Rattle.core_frames.proofs.PlaceFrames.{front_stays, retired_of_by, counts_by, front_by, retired_by}
 use Rattle.core_laws.proofs.Locks.{one_holder, emptied_change_same}
 use Rattle.core_laws.proofs.Stores.{link_stores, moving_left, hands_beside}
 use Rattle.core_laws.proofs.Turns.{shape_after, linked_as, top_on, sub_on, x_off, y_off, x_not_p, y_not_p, which, not_top, not_sub, old_else, place_else, top_young, sub_young, map_after}
@@ -31,7 +31,7 @@ use Rattle.core_frames.specs.Laws.{KeepsPast, IsKept}
 use Rattle.core_frames.proofs.PlainLaws.{clocked_before}
 use Rattle.core_frames.proofs.WaitFrames.{retired_still, grace_frame_by}
 use Rattle.core_frames.proofs.WholeFrames.{mark_frame_plain, seat_frame_plain, waiter_frame_plain, waited_early, waited_more, waited_back, grace_plain, Stepper, StepKeeps}
-use Rattle.core_frames.proofs.Marks.{PlainMarks}
+use Rattle.core_frames.proofs.Marks.{end_more, PlainMarks}
 use Rattle.core_state.specs.Tree.{HoldsMap, IsPending}
 use Rattle.prcu_marks.specs.declared.mark.Side.{Side}
 use Rattle.std.specs.FinMap as finite
@@ -265,8 +265,8 @@ module _ (z : RotateStep) where
 
   -- the front
   pub rotate_front : FrontParts later (us z) (hs z)
-  rotate_front = front_by m later vs id v (w z) h (hs z) there refl refl (λ e. moving_same z ∙ e)
-      (two_updates v.allowance.place h x y (not_same z)) i.front
+  rotate_front = front_by m later vs id v (w z) h (hs z) there (front_stays m later refl refl) refl (λ e. moving_same z ∙ e)
+      (two_updates v.allowance.place h x y (not_same z)) (end_more h (rotate_marks x y) refl refl refl) i.front
 
   -- no life and no tag falls, and unlinked slots stay as they are
   pub rotate_past : KeepsPast m h later

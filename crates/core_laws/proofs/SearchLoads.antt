@@ -24,10 +24,10 @@ use Rattle.core_state.specs.Steps.{spent_view, keys_of, spot_of, no_bounds, narr
 use Rattle.core_state.specs.Parts.{IsHolderOf, HasFewLocks, IsLockKept, IsLockKnown, IsReadingKept, LockParts, IsOwned, SectionStands, IsCounted, IsOpenOf, SeatParts, IsClocked, IsTurnedOnce, inside_count, WaiterParts, IsReading, IsServed, IsListing, IsClear, map_now, IsBetween, GoesOn, here, past, StandsNow, IsVisit, HasOpen, IsGoneSince}
 use Rattle.core_state.specs.Invariant.{HoldsNow}
 use Rattle.list_laws.proofs.Lists.{at_below, each_set, each_change, total_same, in_second, in_append, set_twice, somewhere_still}
-use Rattle.core_frames.proofs.Marks.{silent_same, waits_same}
+use Rattle.core_frames.proofs.Marks.{end_same, silent_same, waits_same}
 use Rattle.core_frames.proofs.Views.{same_slots, was}
 use Rattle.core_frames.proofs.WaitFrames.{mark_frame, grace_frame}
-use Rattle.core_frames.proofs.PlaceFrames.{slot_frame, count_frame, front_frame, front_counts}
+use Rattle.core_frames.proofs.PlaceFrames.{front_stays, slot_frame, count_frame, front_frame, front_counts}
 use Rattle.core_frames.proofs.TreeFrames.{tree_frame, served_same, record_same, reader_frame, listing_frame}
 use Rattle.prcu_marks.specs.declared.mark.Side.{Side}
 use Rattle.core_state.specs.declared.view.Retired.{Retired}
@@ -217,7 +217,7 @@ module _ (k : Shape) (m : Memory) (vs : List View) (h : List Mark) (id : ℕ) (v
             records = λ j r e. record_same m m nodes i.chart vs id v w h h there refl refl quiet r (i.readers.records id v there j r e);
             older = λ s is. inr (section, inside, sym same.entered ∙ ap (λ (z : Section). z.entered) (is_new s is));
           }) i.readers;
-          front = front_frame m m vs id v w h h there refl refl (λ e. e) quiet i.front;
+          front = front_frame m m vs id v w h h there (front_stays m m refl refl) refl (λ e. e) quiet (end_same h) i.front;
           listings = listing_frame m m nodes i.chart h h quiet vs id w
               (λ s l is lists. subst (λ (z : Section). IsListing m i.chart h z l) (is_new s is)
               (listing l (ap (λ (z : Section). z.listing) (is_new s is) ∙ lists))) i.listings;

@@ -5,7 +5,7 @@ use Rattle.std.proofs.lemmas.Bool.{cases_eq}
 use Rattle.prcu_marks.specs.declared.mark.Side.{Side}
 use Rattle.prcu_marks.specs.declared.mark.Side.TheVariants.{Left, Right}
 use Rattle.core_state.specs.declared.words.Field.{Field}
-use Rattle.core_state.specs.declared.words.Field.TheVariants.{Clock, Front, Free, Announced, Stamp, Gate, Count, Row, State, Lock, Life, Key, Value, Link, Tag}
+use Rattle.core_state.specs.declared.words.Field.TheVariants.{Clock, Front, Free, Moved, Announced, Stamp, Gate, Count, Row, State, Lock, Life, Key, Value, Link, Tag}
 use Rattle.core_state.specs.Memory.{Memory, stored, same_side, IsEven, IsOdd, sum_below, flag, count_below, has, slot_count}
 use Rattle.core_state.specs.Views.{IsOwnField, readings_of, open_reading, unraised_of, emptied_among, lock_of, HasLock, held_list, spares_of}
 use Rattle.core_state.specs.Links.{IsContent, HasCommit}
@@ -20,7 +20,7 @@ use Rattle.prcu_marks.specs.Marks.{updates_of}
 use Rattle.prcu_model.specs.Dictionary.{IsLegal, WasSaid, map_of}
 use Rattle.prcu_marks.specs.declared.commit.Commit.{Commit}
 use Rattle.core_state.specs.declared.view.View.{View}
-use Rattle.core_frames.proofs.PlaceFrames.{odd_by, free_slots, counts_by}
+use Rattle.core_frames.proofs.PlaceFrames.{SameFront, not_moved, odd_by, free_slots, counts_by}
 use Rattle.list_laws.proofs.Lists.{each_set, in_second, somewhere_set, only_here}
 use Rattle.core_state.specs.declared.view.Listing.{Listing}
 use Rattle.core_state.specs.declared.view.Section.{Section}
@@ -34,7 +34,7 @@ use Rattle.prcu_model.specs.declared.operation.Op.TheVariants.{Del}
 use Rattle.core_state.specs.declared.view.HeldLock.{HeldLock}
 use Rattle.core_state.specs.declared.view.Move.{Move}
 use Rattle.core_laws.proofs.Locks.{one_holder}
-use Rattle.core_frames.proofs.Marks.{PlainMarks}
+use Rattle.core_frames.proofs.Marks.{StaysHere, PlainMarks}
 use Rattle.std.specs.FinMap as finite
 use Rattle.core_frames.proofs.Roles.{held_there, spare_among}
 
@@ -61,6 +61,7 @@ abbrev pub IsBesideSlots : Field → Type 0
 IsBesideSlots Clock = Unit {0}
 IsBesideSlots Front = Unit {0}
 IsBesideSlots Free = Unit {0}
+IsBesideSlots Moved = Unit {0}
 IsBesideSlots (Announced p) = Unit {0}
 IsBesideSlots (Stamp p) = Unit {0}
 IsBesideSlots (Gate c) = Unit {0}
@@ -212,7 +213,7 @@ module _ (m : Memory) (p : ℕ) (b : Side) (v : ℕ) where
 -- The parts on the front, after a step that stores in no front and makes an update.
 
 module _ (m m' : Memory) (vs : List View) (id : ℕ) (v w : View) (there : get_elem? vs id ≡ some v) (h h' : List Mark)
-    (front : m' Front ≡ m Front) (t : FrontParts m vs h) where
+    (words : SameFront m m') (t : FrontParts m vs h) where
   -- the view whose commit it is
   pub turned_by : (commit : Commit) → HasCommit v commit
       → (m Front ≡ commit.found + 1) × (commit.found ≡ 2 * length (updates_of h))
@@ -225,16 +226,25 @@ module _ (m m' : Memory) (vs : List View) (id : ℕ) (v w : View) (there : get_e
 
   -- the update was made
   pub front_made : (commit : Commit) → HasCommit v commit → w.commit ≡ Some (record commit { stored = true })
-      → length (updates_of h') ≡ length (updates_of h) + 1 → IsLegal (updates_of h') → FrontParts m' (set vs id w) h'
-  front_made commit has turned longer legal =
+      → length (updates_of h') ≡ length (updates_of h) + 1 → StaysHere h h' → IsLegal (updates_of h') → FrontParts m' (set vs id w) h'
+  front_made commit has turned longer stays legal =
       let r = turned_by commit has in
+      let here = not_moved m vs h id v there t commit has.commit_is in
       record {
-        turned = inr (only_here vs id v w there (record {
-          commit = record commit { stored = true };
-          has = turned;
-          word = front ∙ r.0;
-          updates = (let b = r.1 in omega arith);
-        }) r.2);
+        turned = inr (record {
+          here = words.moved ∙ here;
+          odd = only_here vs id v w there (record {
+            commit = record commit { stored = true };
+            has = turned;
+            word = words.front ∙ r.0;
+            updates = (let b = r.1 in omega arith);
+          }) r.2;
+        });
+        last = record {
+          word = words.moved ∙ t.last.word ∙ sym stays.moves;
+          once = (let e = stays.moves in let o = t.last.once in omega arith);
+          none = stays.behind (sym t.last.word ∙ here);
+        };
         settled = each_set (λ j u. (x : Commit) → u.commit ≡ Some x → x.stored ≡ false → u.moving ≡ None) vs id w
             (λ x is unmade. absurd (let q : Some (record commit { stored = true }) ≡ Some x = sym turned ∙ is in
             let e : ◌≡◌ {A = Commit} (record commit { stored = true }) x = cc in

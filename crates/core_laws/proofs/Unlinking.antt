@@ -36,8 +36,8 @@ use Rattle.list_laws.proofs.Lists.{in_second}
 use Rattle.core_laws.proofs.Stores.{link_at, stores_link}
 use Rattle.core_laws.proofs.Locks.{move_holder, under_lock}
 use Rattle.core_laws.proofs.LinkSteps.{listings_by, held, held_gone}
-use Rattle.core_frames.proofs.PlaceFrames.{front_by}
-use Rattle.core_frames.proofs.Marks.{plain_one, reuse_unlinked, marks_unlinked, unlinked_snoc}
+use Rattle.core_frames.proofs.PlaceFrames.{front_stays, front_by}
+use Rattle.core_frames.proofs.Marks.{end_more, plain_one, reuse_unlinked, marks_unlinked, unlinked_snoc}
 use Rattle.std.specs.FinMap as finite
 
 -- An old successor is unlinked: the chart without it is a shape, and holds the same map.
@@ -285,7 +285,8 @@ module _ (who : Stepper) (move : Move) (lock : HeldLock) (child : ℕ) (b : Side
       }) is_moving.old_old move moving refl same_updates)
       (subst (λ us. HoldsMap new (unlinked g q b u child) (λ y. finite.get (map_of us) y)) (sym same_updates)
       (unlinked_map m new n g q b u child i.tree.shape unlinks (map_now h) i.tree.map))
-      (front_by m new vs id v w h hs there refl refl (λ e. refl) same_updates i.front)
+      (front_by m new vs id v w h hs there (front_stays m new refl refl) refl (λ e. refl) same_updates
+      (end_more h (Unlinked u ∷ []) refl refl refl) i.front)
       (listings_by (cut_step cut) same_updates
       (λ entered early listing lists. lists_unlinked m new n g q b u child i.tree.shape unlinks h i.tree.map copied entered
       (held (cut_step cut) entered) (held_gone (cut_step cut) entered early unlinks.replaces.node) listing lists))

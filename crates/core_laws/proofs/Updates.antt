@@ -12,7 +12,8 @@ use Rattle.prcu_marks.specs.declared.mark.Mark.{Mark}
 use Rattle.prcu_marks.specs.declared.mark.Mark.TheVariants.{Done, Unlinked}
 use Rattle.prcu_marks.specs.Marks.{updates_of}
 use Rattle.core_state.specs.Parts.{map_now, IsReadingKept, StandsWell, IsReading}
-use Rattle.core_frames.proofs.Marks.{delete_updates, delete_plain, delete_now, delete_reuse, delete_marks, plain_one, PlainMarks, marks_done, gone_done, last_done, reuse_done}
+use Rattle.core_frames.proofs.PlaceFrames.{front_stays}
+use Rattle.core_frames.proofs.Marks.{StaysHere, here_more, delete_updates, delete_plain, delete_now, delete_reuse, delete_marks, plain_one, PlainMarks, marks_done, gone_done, last_done, reuse_done}
 use Rattle.core_laws.proofs.ChartChanges.{put, put-same, put-other}
 use Rattle.prcu_marks.proofs.Callers.{said_longer, legal_more}
 use Rattle.prcu_marks.specs.declared.mark.Side.{Side}
@@ -21,7 +22,7 @@ use Rattle.prcu_marks.specs.declared.commit.Commit.{Commit}
 use Rattle.core_state.specs.declared.view.Reading.{Reading}
 use Rattle.core_state.specs.declared.view.SearchState.TheVariants.{Found}
 use Rattle.core_state.specs.declared.words.Field.{Field}
-use Rattle.core_state.specs.declared.words.Field.TheVariants.{Life, Key, Value, Link, Front}
+use Rattle.core_state.specs.declared.words.Field.TheVariants.{Life, Key, Value, Link, Front, Moved}
 use Rattle.list_laws.specs.Counts.{IsIn}
 use Rattle.core_state.specs.Memory.{IsOdd, slot_count, Memory, stored, has}
 use Rattle.core_state.specs.Links.{HasCommit, NodeRecords, IsMarkedNode, NeedsBypass, after_bypass, NeedsReplace, after_replace}
@@ -83,6 +84,9 @@ module _ (h : List Mark) (caller key d : ℕ) where
 
   pub delete_longer : length (updates_of both_marks) ≡ length (updates_of h) + 1
   delete_longer = ap length (delete_updates h delete_update d) ∙ length-append (updates_of h) (delete_update ∷ [])
+
+  pub delete_here : StaysHere h both_marks
+  delete_here = here_more h (Done delete_update ∷ Unlinked d ∷ []) refl refl
 
   pub delete_said : (x from : ℕ) (o : Option ℕ) → WasSaid (updates_of h) x from o → WasSaid (updates_of both_marks) x from o
   delete_said x from o said = subst (λ us. WasSaid us x from o) (sym (delete_updates h delete_update d))
@@ -312,8 +316,8 @@ module _ (who : Stepper) (commit : Commit) (p : ℕ) (b : Side) (d c key : ℕ) 
       (delete_count h v.allowance.place r.key d (has_key deletion)))
       (subst (HoldsMap new (bypassed m g p b d c)) (sym (delete_map h v.allowance.place r.key d (m (Key d)) (node_key deletion)))
       (bypass_map m new (slot_count k) g p b d c i.tree.shape bypass (map_now h) i.tree.map))
-      (front_made m new vs id v bypassed_view there h hs refl i.front commit needs.has_commit refl
-      (delete_longer h v.allowance.place r.key d)
+      (front_made m new vs id v bypassed_view there h hs (front_stays m new refl refl) i.front commit needs.has_commit refl
+      (delete_longer h v.allowance.place r.key d) (delete_here h v.allowance.place r.key d)
       (delete_legal h v.allowance.place r.key d (has_key deletion) i.front.legal))
       (listings_past (cut_step cut) (delete_longer h v.allowance.place r.key d))
 
@@ -575,7 +579,8 @@ module _ (k : Shape) (m : Memory) (vs : List View) (h : List Mark) (i : HoldsNow
     readers = readers_after m m' g g vs id v w there h h' read
         (aged_by m m' g vs (set vs id w) h h' (gone_done h update) (λ s a. refl) (λ at small. met_outside vs id v w there outside at)
         i.readers.ages) i.locks.readings i.readers;
-    front = front_made m m' vs id v w there h h' (stores.within.beside Front tt) i.front commit needs.has_commit refl one_longer
+    front = front_made m m' vs id v w there h h' (front_stays m m' (stores.within.beside Front tt) (stores.within.beside Moved tt)) i.front commit
+        needs.has_commit refl one_longer (here_more h (Done update ∷ []) refl refl)
         (subst IsLegal (sym more_updates) (legal_more (updates_of h) update i.front.legal there_now));
     listings = listings_behind m m' g g vs id w h h' outside stores.key
         (λ j z section s e is y. ⊎_elim (λ (l : g.linked s ≡ true). inl l) (λ q. inr (held section.entered s q)) y) i.listings one_longer;

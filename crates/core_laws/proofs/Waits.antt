@@ -5,7 +5,7 @@ use mathlib.Core.List.{IsPrefix}
 use lib.ListN.{get_elem?}
 use Rattle.prcu_marks.specs.declared.mark.Mark.{Mark}
 use Rattle.core_state.specs.declared.shape.Shape.{Shape}
-use Rattle.core_state.specs.declared.words.Field.TheVariants.{Clock, Front, Free, Gate}
+use Rattle.core_state.specs.declared.words.Field.TheVariants.{Clock, Free, Gate}
 use Rattle.core_state.specs.declared.view.Section.{Section}
 use Rattle.core_state.specs.declared.view.Waiting.{Waiting}
 use Rattle.core_state.specs.declared.view.View.{View}
@@ -13,9 +13,9 @@ use Rattle.core_state.specs.Memory.{has, Memory, slot_count, stored}
 use Rattle.core_state.specs.Views.{Works, slots_of, spares_of, held_list, joined_retired, unraised_hand, unraised_among, unraised_of}
 use Rattle.core_state.specs.Parts.{WaitStands, IsTurnedOnce, WaiterParts, turns_to_come, HasEnded, HasFewSlots, IsRetired, IsRetiredOf, AreHandsKnown, IsMoving, HasRetired, IsHandKnown}
 use Rattle.core_state.specs.Invariant.{HoldsNow}
-use Rattle.core_frames.proofs.Marks.{silent_same, SilentMarks, silent_snoc, begun-append, begun_at-append, NoWaitEnded, others_snoc, prefix_snoc, at_some}
+use Rattle.core_frames.proofs.Marks.{end_same, end_snoc, silent_same, SilentMarks, silent_snoc, begun-append, begun_at-append, NoWaitEnded, others_snoc, prefix_snoc, at_some}
 use Rattle.core_frames.proofs.Views.{reader_words, slots_stay, writer_words, same_slots, in_times, few_below}
-use Rattle.core_frames.proofs.PlaceFrames.{front_frame, counts_still, sums_same, seat_frame_still, lock_frame, slots_by}
+use Rattle.core_frames.proofs.PlaceFrames.{front_stays, front_frame, counts_still, sums_same, seat_frame_still, lock_frame, slots_by}
 use Rattle.core_frames.proofs.TreeFrames.{listing_frame_still, emptied_still, readers_stay, see_by, IsForm, tree_by, moving_by, SameMoves, HadMove, same_form}
 use Rattle.core_frames.proofs.WaitFrames.{AreLoaded, StandsExcused, clocked_same, excused_wait, turned_frame, waiters_by, wait_same, marks_snoc, mark_frame_by, reuse_snoc, grace_frame, grace_longer}
 use Rattle.core_state.specs.declared.words.Field.{Field}
@@ -84,7 +84,7 @@ module _ (k : Shape) (m m' : Memory) (vs : List View) (h : List Mark) (id : ℕ)
   wait_law stands none turned fewer =
       let slots = slots_stay m m' (λ n. (quiet n).slots) in
       let clock : m' Clock ≡ m Clock = (λ n. (quiet n).clock) in
-      let front : m' Front ≡ m Front = (λ n. (quiet n).front) in
+      let front = front_stays m m' (λ n. (quiet n).front) (λ n. (quiet n).moved) in
       let free : m' Free ≡ m Free = (λ n. (quiet n).free) in
       whole k m' i.chart (set vs id with_wait) h i.table
       (slot_half k m vs h id v with_wait i there m' h slots (silent_same h) refl (λ one. one))
@@ -102,7 +102,7 @@ module _ (k : Shape) (m m' : Memory) (vs : List View) (h : List Mark) (id : ℕ)
         turns = omega arith;
         pending = refl;
       }) i.counts)
-      (front_frame m m' vs id v with_wait h h there front refl (λ e. e) (silent_same h) i.front)
+      (front_frame m m' vs id v with_wait h h there front refl (λ e. e) (silent_same h) (end_same h) i.front)
       (listing_frame_still m m' slots.nodes i.chart h h (silent_same h) vs id v with_wait there refl i.listings)
 
 -- K7, the beginning of a wait, keeps the invariant.
@@ -225,7 +225,7 @@ module _ (k : Shape) (m : Memory) (vs : List View) (h : List Mark) (id : ℕ) (v
         turns = omega arith;
         pending = refl;
       }) i.counts)
-      (front_frame m new vs id v w h hs there refl refl (λ e. e) quiet i.front)
+      (front_frame m new vs id v w h hs there (front_stays m new refl refl) refl (λ e. e) quiet (end_snoc h mark tt) i.front)
       (listing_frame_still m new slots.nodes i.chart h hs quiet vs id v w there refl i.listings)
 
 module _ (z : Stepper) where

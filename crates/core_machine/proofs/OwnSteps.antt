@@ -4,6 +4,7 @@ use Rattle.std.proofs.lemmas.List.{length-set}
 use Rattle.prcu_marks.specs.declared.commit.Commit.{Commit}
 use Rattle.prcu_marks.specs.declared.mark.Side.{Side}
 use Rattle.core_state.specs.declared.view.Section.{Section}
+use Rattle.core_state.specs.declared.words.Field.TheVariants.{Moved}
 use Rattle.core_state.specs.declared.view.View.{View}
 use Rattle.core_points.specs.declared.stage.Last.{Last}
 use Rattle.core_points.specs.declared.stage.Node.{Node}
@@ -32,7 +33,8 @@ use Rattle.core_machine.specs.Runs.{Core, core, made_owns, moved, new_core, shap
 use Rattle.core_machine.proofs.Running.{IsRun, step_by, step_runs, core_runs, step_is}
 use mathlib.Core.Logic.{dite}
 use native.Mathlib.Decide.{ℕ_discrete}
-use Rattle.core_state.specs.Parts.{IsOddBy}
+use Rattle.core_state.specs.Parts.{IsOddHere}
+use Rattle.core_frames.proofs.PlaceFrames.{not_moved}
 use Rattle.core_points.specs.declared.stage.Last.TheVariants as last
 use Rattle.core_points.specs.declared.stage.Stage.TheVariants as at
 use Rattle.core_points.specs.declared.stage.Update.TheVariants as update
@@ -342,7 +344,7 @@ module _ (k : Shape) (count i : ℕ) where
     alone : (commit : Commit) → v.commit ≡ Some commit → (j : ℕ) (w : View) → j ≢ i → get_elem? c.views j ≡ some w → w.commit ≡ None
     alone commit has j w ne there = ⊎_elim
         (λ even. absurd (let e : None ≡ Some commit = sym (even.1 i v a.view) ∙ has in cc))
-        (λ (odd : IsOddBy c.memory c.views (length (updates_of c.marks))). elim (only_at c.views i v a.view odd) [
+        (λ (made : IsOddHere c.memory c.views (length (updates_of c.marks))). elim (only_at c.views i v a.view made.odd) [
           | inl o ↦ o.1 j w ne there
           | inr none ↦ absurd (let e : None ≡ Some commit = sym none ∙ has in cc)
         ])
@@ -352,12 +354,23 @@ module _ (k : Shape) (count i : ℕ) where
     else_same j ne = step_by (λ (d : Core). get_elem? d.views j ≡ get_elem? c.views j) c i refl
         (λ p w eo ew g. set_else c.views i j _ ne)
 
+    -- nor have the pairs moved
+    here : (commit : Commit) → v.commit ≡ Some commit → (step c i).memory Moved ≡ 0
+    here commit has =
+        subst (λ (d : Core). d.memory Moved ≡ c.memory Moved) (sym (moves k count i c o (at.Even u front) v a refl))
+        (subst (λ (z : Stage). (moved c i (record o { stage = z }) v).memory Moved ≡ c.memory Moved) (sym a.stage_is) refl)
+        ∙ not_moved c.memory c.views c.marks i v a.view a.going.run.holds.now.front commit has
+
     free : (commit : Commit) → v.commit ≡ Some commit → IsFrontFree (step c i)
-    free commit has = ⊎_elim (λ even. record { even = (length (updates_of (step c i).marks), even.0); nobody = even.1 }) odd_no
+    free commit has = ⊎_elim
+        (λ nobody. record {
+          even = (length (updates_of (step c i).marks), (let word = nobody.0 in let none = here commit has in omega arith));
+          nobody = nobody.1;
+        }) odd_no
         (goes k count c i a.going).run.holds.now.front.turned
       where
-        odd_no : IsOddBy (step c i).memory (step c i).views (length (updates_of (step c i).marks)) → IsFrontFree (step c i)
-        odd_no odd = dite (ℕ_discrete odd.id i)
+        odd_no : IsOddHere (step c i).memory (step c i).views (length (updates_of (step c i).marks)) → IsFrontFree (step c i)
+        odd_no made = let odd = made.odd in dite (ℕ_discrete odd.id i)
             (λ same.
             (let is : now ≡ odd.view =
             some-injective now odd.view (sym there_now ∙ subst (λ z. get_elem? (step c i).views z ≡ some odd.view) same odd.there) in

@@ -50,7 +50,7 @@ use Rattle.prcu_model.specs.Dictionary.{WasSaid, map_of}
 use Rattle.core_state.specs.declared.view.HeldLock.{HeldLock}
 use Rattle.core_state.specs.declared.view.Reading.{Reading}
 use Rattle.core_state.specs.declared.view.SearchState.TheVariants.{Found, Missed}
-use Rattle.core_state.specs.Parts.{StandsWell, IsOddBy}
+use Rattle.core_state.specs.Parts.{StandsWell, IsOddHere}
 use Rattle.core_state.specs.Invariant.{HoldsNow, Invariant}
 use Rattle.list_laws.specs.Counts.{IsIn}
 use Rattle.core_frames.proofs.PlainLaws.{follow_here, searches_are_answered}
@@ -524,7 +524,7 @@ is_numbered : (k : Shape) (m : Memory) (vs : List View) (h : List Mark) (id : �
 is_numbered k m vs h id v front inv there made_odd = ⊎_elim
     (λ even. absurd (let none = even.1 id v there in let q : None ≡ Some (record { found = front; stored = false }) = sym none ∙ made_odd in
     cc))
-    (λ (odd : IsOddBy m vs (length (updates_of h))). elim (only_at vs id v there odd) [
+    (λ (made : IsOddHere m vs (length (updates_of h))). elim (only_at vs id v there made.odd) [
       | inl o ↦ let t : Some o.0.commit ≡ Some (record { found = front; stored = false }) = sym o.0.has ∙ made_odd in
           let e : o.0.commit ≡ record { found = front; stored = false } = cc in
           let count : front + 0 ≡ 2 * length (updates_of h) = ap updates_by (sym e) ∙ o.0.updates in omega arith

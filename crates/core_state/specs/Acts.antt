@@ -2,7 +2,7 @@
 -- Source: docs/TREE_INVARIANT.md, "The steps of the tree".
 use Rattle.std.specs.Prelude.{◌≡◌, ◌≢◌, ℕ, ◌+◌, ◌-◌, ◌<◌, ◌==◌, if◌then◌else◌, Bool, true, false, List, [], ◌∷◌, Some, None, unwrap_or, ◌^◌, ◌≤◌, ◌⊎◌}
 use Rattle.prcu_marks.specs.declared.mark.Mark.{Mark}
-use Rattle.prcu_marks.specs.declared.mark.Mark.TheVariants.{Entered, Left as LeftMark, Began, Given, Unlinked, Freed}
+use Rattle.prcu_marks.specs.declared.mark.Mark.TheVariants.{Entered, Left as LeftMark, Began, Given, Unlinked, Freed, Moved as MovedMark}
 use Rattle.prcu_marks.specs.declared.mark.Side.TheVariants.{Left, Right}
 use Rattle.prcu_marks.specs.declared.commit.Commit.{Commit}
 use Rattle.prcu_model.specs.declared.operation.Op.TheVariants.{Put, Del, Set}
@@ -12,7 +12,7 @@ use Rattle.core_state.specs.declared.shape.Shape.{Shape}
 use Rattle.core_state.specs.declared.shape.Waiter.TheVariants.{Eer, Domain, Deer}
 use Rattle.core_state.specs.declared.words.Field.{Field}
 use Rattle.core_state.specs.declared.words.Kind.{Kind}
-use Rattle.core_state.specs.declared.words.Kind.TheVariants.{K3, K4, K5, K6, K7, K8, K9, K10, K11, K12, K13, K14, K15, K16, K17, K18, K19, K20, K21, K22, K23, K24, K25, K26, K27, K28, K29, K30, K31, K32, K33, K34, K35, K36, K37, K38, K39}
+use Rattle.core_state.specs.declared.words.Kind.TheVariants.{K3, K4, K5, K6, K7, K8, K9, K10, K11, K12, K13, K14, K15, K16, K17, K18, K19, K20, K21, K22, K23, K24, K25, K26, K27, K28, K29, K30, K31, K32, K33, K34, K35, K36, K37, K38, K39, K41, K42}
 use Rattle.core_state.specs.declared.view.Clocked.{Clocked}
 use Rattle.core_state.specs.declared.view.Held.{Held}
 use Rattle.core_state.specs.declared.view.Listing.{Listing}
@@ -21,15 +21,15 @@ use Rattle.core_state.specs.declared.view.Section.{Section}
 use Rattle.core_state.specs.declared.view.View.{View}
 use Rattle.core_state.specs.declared.view.Waiting.{Waiting}
 use Rattle.core_state.specs.Memory.{slot_count, idle, apart, is_field, lock_base, state_base, waiter_base, word_of, word_count}
-use Rattle.core_state.specs.Steps.{stepped, unknown_slot, after_clock_load, NeedsAnnounce, after_announce, fresh_reading, entering, NeedsEnterByStamp, NeedsLeaveByStamp, NeedsGateLoad, after_gate_load, NeedsEnterByCount, after_enter_by_count, NeedsLeaveByCount, NeedsEnterByRow, NeedsLeaveByRow, leaving, NeedsBegin, after_begin, NeedsGateTurn, after_gate_turn, IsSpot, spot_seen, after_look, look_marks, NeedsLock, after_lock, NeedsUnlock, after_unlock, NeedsLockedLoad, after_locked_load, NeedsOpenCommit, after_open_commit, NeedsRaiseTag, after_raise_tag, NeedsCloseCommit, after_close_commit, NeedsGiveFrontBack, new_listing, NeedsSearchLoad, after_search_load, NeedsFrontLook, after_front_look, NeedsListLoad, after_list_load, done_by}
+use Rattle.core_state.specs.Steps.{stepped, unknown_slot, after_clock_load, NeedsAnnounce, after_announce, fresh_reading, entering, NeedsEnterByStamp, NeedsLeaveByStamp, NeedsGateLoad, after_gate_load, NeedsEnterByCount, after_enter_by_count, NeedsLeaveByCount, NeedsEnterByRow, NeedsLeaveByRow, leaving, NeedsBegin, after_begin, NeedsGateTurn, after_gate_turn, IsSpot, spot_seen, after_look, look_marks, NeedsLock, after_lock, NeedsUnlock, after_unlock, NeedsLockedLoad, after_locked_load, NeedsOpenCommit, after_open_commit, NeedsRaiseTag, after_raise_tag, NeedsCloseCommit, after_close_commit, NeedsGiveFrontBack, NeedsStoreMoved, after_store_moved, after_load_moved, new_listing, NeedsSearchLoad, after_search_load, NeedsFrontLook, after_front_look, NeedsListLoad, after_list_load, done_by}
 use Rattle.core_state.specs.Links.{IsRetiredAt, after_retired_life, NeedsRaiseRetired, after_raise_to_spare, NeedsRaiseToHand, after_raise_to_hand, after_raise_retired, NeedsFreeRetired, after_free_retired, NeedsOwnLife, after_own_life, NeedsKeptAsSpare, after_kept_as_spare, NeedsReserve, after_reserve, NeedsSeize, after_seize, NeedsFill, after_fill, NeedsRaiseInHand, after_raise_in_hand, NeedsFreeInHand, after_free_in_hand, NeedsCountFree, after_count_free, NeedsLeafLink, after_leaf_link, NeedsBypass, after_bypass, NeedsMark, after_mark, NeedsReplace, after_replace, NeedsCopyLink, after_copy_link, NeedsUnlinkOld, after_unlink_old, NeedsRotate, after_rotate, rotate_marks}
 use Rattle.prcu_marks.specs.declared.access.Access.{Access}
 use Rattle.prcu_marks.specs.Marks.{left_by, said_by}
 use Rattle.prcu_marks.specs.declared.access.Access.TheVariants.{Load, Store, Exchange, Add, Subtract, Flip}
 use Rattle.core_state.specs.declared.act.Part.{Part}
 use Rattle.core_state.specs.declared.act.Act.{Act}
-use Rattle.core_state.specs.declared.act.Act.TheVariants.{LoadClock, AnnounceKey, EnterByStamp, LeaveByStamp, BeginWait, LookKey, LookStamp, LoadOwnLife, KeepAsSpare, LoadRetiredLife, Reserve, Seize, Fill, RaiseInHand, RaiseToSpare, RaiseToHand, RaiseRetired, Lock, Unlock, FreeInHand, FreeRetired, CountFree, SearchLoad, ListLoad, LockedLoad, OpenCommit, LinkLeaf, Bypass, Mark as MarkNode, RaiseTag, CloseCommit, LinkCopy, UnlinkLeft, UnlinkRight, LoadGate, EnterByCount, LeaveByCount, LookCount, TurnGate, EnterByRow, LeaveByRow, LookRow, ReplaceValue, LookAtFront, Rotate, GiveFrontBack}
-use Rattle.core_state.specs.declared.words.Field.TheVariants.{Clock, Front, Free, Announced, Stamp, Gate, Count, Row}
+use Rattle.core_state.specs.declared.act.Act.TheVariants.{LoadClock, AnnounceKey, EnterByStamp, LeaveByStamp, BeginWait, LookKey, LookStamp, LoadOwnLife, KeepAsSpare, LoadRetiredLife, Reserve, Seize, Fill, RaiseInHand, RaiseToSpare, RaiseToHand, RaiseRetired, Lock, Unlock, FreeInHand, FreeRetired, CountFree, SearchLoad, ListLoad, LockedLoad, OpenCommit, LinkLeaf, Bypass, Mark as MarkNode, RaiseTag, CloseCommit, LinkCopy, UnlinkLeft, UnlinkRight, LoadGate, EnterByCount, LeaveByCount, LookCount, TurnGate, EnterByRow, LeaveByRow, LookRow, ReplaceValue, LookAtFront, Rotate, GiveFrontBack, StoreMoved, LoadMoved}
+use Rattle.core_state.specs.declared.words.Field.TheVariants.{Clock, Front, Free, Moved, Announced, Stamp, Gate, Count, Row}
 use Rattle.core_state.specs.declared.layout.Rows.{Rows}
 use Rattle.core_state.specs.declared.words.Field.TheVariants as word
 use Rattle.core_state.specs.declared.act.Part.TheVariants as part
@@ -90,6 +90,8 @@ kind_of (ReplaceValue slot key value) = K36
 kind_of LookAtFront = K37
 kind_of (Rotate parent b node child top) = K38
 kind_of (GiveFrontBack front) = K39
+kind_of StoreMoved = K41
+kind_of LoadMoved = K42
 
 -- the word that it is on, for the place of who makes it
 abbrev pub field_of : ℕ → Act → Field
@@ -139,6 +141,8 @@ field_of place (ReplaceValue slot key value) = word.Value slot
 field_of place LookAtFront = word.Front
 field_of place (Rotate parent b node child top) = word.Link parent b
 field_of place (GiveFrontBack front) = word.Front
+field_of place StoreMoved = word.Moved
+field_of place LoadMoved = word.Moved
 
 -- what it does to that word
 abbrev pub access_of : ℕ → Act → Access
@@ -175,6 +179,7 @@ access_of place (LeaveByRow class) = Store idle
 access_of place (ReplaceValue slot key value) = Store value
 access_of place (Rotate parent b node child top) = Store top
 access_of place (GiveFrontBack front) = Store front
+access_of place StoreMoved = Store 1
 access_of place _ = Load
 
 -- the view with the step in its trail
@@ -186,6 +191,7 @@ abbrev pub IsWord : Shape → Field → Type 0
 IsWord k word.Clock = Unit {0}
 IsWord k word.Front = Unit {0}
 IsWord k word.Free = Unit {0}
+IsWord k word.Moved = Unit {0}
 IsWord k (word.Announced p) = (k.waiter ≡ Eer) × (p < k.places)
 IsWord k (word.Stamp p) = (k.waiter ≡ Eer) × (p < k.places)
 IsWord k (word.Gate c) = (k.waiter ≡ Domain) × (c < 64)
@@ -283,6 +289,8 @@ Needs k v (ReplaceValue slot key value) = NeedsReplace v (commit_of v) slot key
 Needs k v LookAtFront = NeedsFrontLook v (section_of v)
 Needs k v (Rotate parent b node child top) = NeedsRotate k.room v (spare_of v) parent b node child top
 Needs k v (GiveFrontBack front) = NeedsGiveFrontBack v front
+Needs k v StoreMoved = NeedsStoreMoved v
+Needs k v LoadMoved = Unit {0}
 
 -- What the act asks of the table and of the view.
 abbrev pub Asks : Shape → View → Act → Type 0
@@ -337,6 +345,8 @@ after v (ReplaceValue slot key value) h n = after_replace v (commit_of v) slot k
 after v LookAtFront h n = after_front_look v (section_of v) n h
 after v (Rotate parent b node child top) h n = after_rotate v parent b node child top h
 after v (GiveFrontBack front) h n = after_close_commit v front
+after v StoreMoved h n = after_store_moved v h
+after v LoadMoved h n = after_load_moved v n h
 
 -- the marks that it leaves
 abbrev pub marks_of : View → Act → ℕ → List Mark
@@ -363,6 +373,7 @@ marks_of v (LeaveByRow class) n = LeftMark v.allowance.place (section_of v).coun
 marks_of v (LookRow p class last) n = look_marks v (wait_of v) (word.Row p class) last n
 marks_of v (ReplaceValue slot key value) n = done_by v (Set key value) ∷ []
 marks_of v (Rotate parent b node child top) n = rotate_marks node child
+marks_of v StoreMoved n = MovedMark ∷ []
 marks_of v _ n = []
 
 -- the number that it tells, and leaves, where it finds one
@@ -401,12 +412,13 @@ NoPlaceIsShared = (k : Shape) (f g : Field) → is_field k f ≡ true → is_fie
 abbrev pub FieldsAreWithin : Type 0
 FieldsAreWithin = (k : Shape) (f : Field) → is_field k f ≡ true → word_of k f < word_count k
 
--- The words that stand apart from others: the clock, the front, the free count, a place's words of the first or third waiter, a class's of
--- the second, and the words of all slots.
+-- The words that stand apart from others: the clock, the front, the free count, the word of a move, a place's words of the first or third
+-- waiter, a class's of the second, and the words of all slots.
 pub data Group : Type 0 where
   clock_word : Group
   front_word : Group
   free_word : Group
+  moved_word : Group
   place_words : ℕ → Group
   class_words : ℕ → Group
   slot_words : Group
@@ -415,6 +427,7 @@ abbrev pub group_of : Field → Group
 group_of Clock = clock_word
 group_of Front = front_word
 group_of Free = free_word
+group_of Moved = moved_word
 group_of (Announced p) = place_words p
 group_of (Stamp p) = place_words p
 group_of (Gate c) = class_words c

@@ -6,7 +6,7 @@ use mathlib.Core.Option.{some}
 use lib.ListN.{get_elem?}
 use Rattle.prcu_marks.specs.declared.mark.Side.{Side}
 use Rattle.core_state.specs.declared.words.Field.{Field}
-use Rattle.core_state.specs.declared.words.Field.TheVariants.{Lock, Life, Key, Link, Tag, Value, State, Front, Clock, Free, Announced, Stamp, Count, Row}
+use Rattle.core_state.specs.declared.words.Field.TheVariants.{Lock, Life, Key, Link, Tag, Value, State, Front, Clock, Free, Moved, Announced, Stamp, Count, Row}
 use Rattle.core_state.specs.declared.view.HeldLock.{HeldLock}
 use Rattle.core_state.specs.declared.view.Reading.{Reading}
 use Rattle.core_state.specs.declared.view.Retired.{Retired}
@@ -21,7 +21,7 @@ use Rattle.prcu_marks.specs.declared.mark.Mark.TheVariants.{Done, Began, Ended}
 use Rattle.prcu_marks.specs.declared.mark.Side.TheVariants.{Left, Right}
 use Rattle.prcu_model.specs.declared.operation.Op.TheVariants.{Del}
 use Rattle.prcu_model.specs.Dictionary.{map_of, WasSaid, IsLegal}
-use Rattle.prcu_marks.specs.Marks.{updates_of, gone_at, last_unlinked, Open, open_at, own_of, entered_at, updates_by, greatest_key}
+use Rattle.prcu_marks.specs.Marks.{updates_of, gone_at, last_unlinked, Open, open_at, own_of, entered_at, moves_in, updates_behind, updates_by, greatest_key}
 use Rattle.core_state.specs.declared.view.Move.{Move}
 use Rattle.prcu_model.specs.declared.operation.Update.{Update}
 use Rattle.core_state.specs.declared.view.Listing.{Listing}
@@ -437,13 +437,27 @@ pub record MakesOdd (m : Memory) (count : ℕ) (v : View) : Type 0 where
 abbrev pub IsOddBy : Memory → List View → ℕ → Type 0
 IsOddBy m vs count = OnlyOne vs (MakesOdd m count) (λ v. v.commit ≡ None)
 
--- An even front is twice the number of updates, and is no view's commit; an odd one is one view's.
-abbrev pub IsTurned : Memory → List View → ℕ → Type 0
-IsTurned m vs count = ((m Front ≡ 2 * count) × Each vs (λ v. v.commit ≡ None)) ⊎ IsOddBy m vs count
+-- the pairs haven't moved, and the front is odd by one view
+pub record IsOddHere (m : Memory) (vs : List View) (count : ℕ) : Type 0 where
+  pub here : m Moved ≡ 0
+  pub odd : IsOddBy m vs count
 
--- The front counts the updates, which are legal; no view has a pending move while the front is odd by it and its update unmade.
+-- A front that is no view's commit is twice the number of updates, and one more where the pairs moved: so it is even before, and odd for good
+-- from then on. Before that an odd one may be one view's commit.
+abbrev pub IsTurned : Memory → List View → ℕ → Type 0
+IsTurned m vs count = ((m Front ≡ 2 * count + m Moved) × Each vs (λ v. v.commit ≡ None)) ⊎ IsOddHere m vs count
+
+-- The word of a move says whether the pairs moved, which they do once at most. No update stands behind that mark.
+pub record IsLast (m : Memory) (h : List Mark) : Type 0 where
+  pub word : m Moved ≡ moves_in h
+  pub once : moves_in h ≤ 1
+  pub none : updates_behind h ≡ []
+
+-- The front counts the updates, which are legal, and end where the pairs move; no view has a pending move while the front is odd by it and
+-- its update unmade.
 pub record FrontParts (m : Memory) (vs : List View) (h : List Mark) : Type 0 where
   pub turned : IsTurned m vs (length (updates_of h))
+  pub last : IsLast m h
   pub settled : Each vs (λ v. (commit : Commit) → v.commit ≡ Some commit → commit.stored ≡ false → v.moving ≡ None)
   pub legal : IsLegal (updates_of h)
 

@@ -243,4 +243,8 @@ pub enum Act {
     GiveFrontBack {
         front: u64,
     },
+    /// K41. It is stored that the pairs moved to another table. The front, held for it, stays odd for good.
+    StoreMoved,
+    /// K42. Whether the pairs moved is loaded.
+    LoadMoved,
 }

@@ -1,12 +1,12 @@
 //! Where a word stands in the row of a table's words.
 //!
 //! Callers on different processors wait for each other where they write words of one line of memory, which is 64 bytes, and lines are
-//! fetched two at a time. So the clock, the front and the free count stand 128 bytes or more from all other words. So do a place's key and
-//! stamp, a class's gate and counts, and a place's row of stamps (`words_stand_apart`): wherever the row begins they share no line, and no
-//! pair of lines, with other words. A slot has two halves of a line. What a search loads on its way stands in one, so that it waits for one
-//! line a node and as many nodes as can be are kept near the processor: the key, the value and the two links. What is loaded at its end and
-//! by those who store stands in the other: the lock, the life and the two tags. The halves of one kind are a row, and so two slots share a
-//! line. The states, at which only those look who take a slot, stand in a row of their own behind.
+//! fetched two at a time. So the clock, the front, the free count and the word of a move stand 128 bytes or more from all other words. So do
+//! a place's key and stamp, a class's gate and counts, and a place's row of stamps (`words_stand_apart`): wherever the row begins they share
+//! no line, and no pair of lines, with other words. A slot has two halves of a line. What a search loads on its way stands in one, so that it
+//! waits for one line a node and as many nodes as can be are kept near the processor: the key, the value and the two links. What is loaded at
+//! its end and by those who store stands in the other: the lock, the life and the two tags. The halves of one kind are a row, and so two
+//! slots share a line. The states, at which only those look who take a slot, stand in a row of their own behind.
 //!
 //! The first of these rows begins at the same word in each table, and the words of places and classes stand behind all three: so the index
 //! of a word that a search loads is its slot's number times four and a constant, which the processor adds as it loads.
@@ -52,7 +52,7 @@ pub const CLASS_ROOM: usize = LINE + APART;
 pub const ROW_ROOM: usize = CLASSES + APART;
 
 // Where the halves with the keys, values and links of the slots begin.
-const NODES: usize = LEAD + 3 * APART;
+const NODES: usize = LEAD + 4 * APART;
 
 /// Where the rows of a table's words begin that don't begin at the same word in each table.
 #[derive(Clone, Copy)]
@@ -102,6 +102,7 @@ pub fn index_of(rows: &Rows, field: Field) -> usize
         Field::Clock => LEAD,
         Field::Front => LEAD + APART,
         Field::Free => LEAD + 2 * APART,
+        Field::Moved => LEAD + 3 * APART,
         Field::Announced { place } => rows.waiter + PLACE_ROOM * place as usize,
         Field::Stamp { place } => rows.waiter + PLACE_ROOM * place as usize + 1,
         Field::Gate { class } => rows.waiter + CLASS_ROOM * class as usize,

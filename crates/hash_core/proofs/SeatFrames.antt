@@ -6,7 +6,7 @@ use mathlib.Core.List.{IsPrefix}
 use lib.ListN.{get_elem?}
 use Rattle.atomic_table.proofs.Lists.{at_longer}
 use Rattle.prcu_marks.specs.declared.mark.Mark.{Mark}
-use Rattle.prcu_marks.specs.declared.mark.Mark.TheVariants.{Entered, Left, Began, Ended, Given, Unlinked, Freed}
+use Rattle.prcu_marks.specs.declared.mark.Mark.TheVariants.{Entered, Left, Began, Ended, Given, Unlinked, Freed, Moved}
 use Rattle.prcu_marks.specs.Marks.{Open, open_at, entered_at, last_unlinked, next_open, next_gone, gone_at, own_of, is_of, updates_of}
 use Rattle.hash_core.specs.Memory.{IsLeftHere, AreMarks, ReuseByClass, Memory}
 use Rattle.list_laws.proofs.Lists.{at_end, before_at, past_snoc, each_set, total_set, somewhere_here, somewhere_still, only_change}
@@ -39,6 +39,7 @@ left_here : (places : ℕ) (h : List Mark) (m : Mark) → NewMark places h m →
 left_here places h (Began p c a b) n = n
 left_here places h (Ended p c) n = n
 left_here places h (Freed s) n = n
+left_here places h Moved n = n
 left_here places h _ n = tt
 
 pub marks_snoc : (places : ℕ) (h : List Mark) (m : Mark) → NewMark places h m → AreMarks places h → AreMarks places (h ++ m ∷ [])

@@ -8,7 +8,7 @@ use Rattle.hash_core.specs.declared.words.Field.TheVariants.{Front, Lock, Reader
 use mathlib.Core.Option.{some}
 use lib.ListN.{get_elem?}
 use Rattle.prcu_marks.specs.declared.mark.Mark.{Mark}
-use Rattle.prcu_marks.specs.declared.mark.Mark.TheVariants.{Entered, Left, Began, Ended, Given, Freed}
+use Rattle.prcu_marks.specs.declared.mark.Mark.TheVariants.{Entered, Left, Began, Ended, Given, Freed, Moved}
 use Rattle.prcu_marks.specs.Marks.{Open, open_at, entered_at, last_unlinked}
 
 -- where a field stands in the row
@@ -136,6 +136,7 @@ abbrev pub IsLeftHere : Mark → Type 0
 IsLeftHere (Began p n low high) = ⊥
 IsLeftHere (Ended p n) = ⊥
 IsLeftHere (Freed s) = ⊥
+IsLeftHere Moved = ⊥
 IsLeftHere _ = Unit {0}
 
 -- Sections stand in order: a place has one section open at a time, each with the number of those before it, and one that is

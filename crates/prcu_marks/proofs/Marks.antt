@@ -2,8 +2,8 @@
 use Rattle.std.proofs.Common.{◌≡◌, ℕ, suc, ◌+◌, ◌≤◌, true, false, cond, List, [], ◌∷◌, ◌++◌, length, Option, None, refl, sym, ap, ◌∙◌, arith, append-nil, length-append, ◌<◌, ◌==◌, Some, zero, Bool, eqb, eq-eqb, ◌≢◌, ne_eqb, subst}
 use mathlib.Core.List.{IsPrefix}
 use Rattle.prcu_marks.specs.declared.mark.Mark.{Mark}
-use Rattle.prcu_marks.specs.declared.mark.Mark.TheVariants.{Entered, Left, Began, Ended, Done, Given, Unlinked, Freed}
-use Rattle.prcu_marks.specs.Marks.{updates_of, Open, next_open, open_from, open_at, next_gone, gone_from, gone_at, is_of, own_of, entered_at, unlinked_from, last_unlinked, longer}
+use Rattle.prcu_marks.specs.declared.mark.Mark.TheVariants.{Entered, Left, Began, Ended, Done, Given, Unlinked, Freed, Moved}
+use Rattle.prcu_marks.specs.Marks.{updates_of, Open, next_open, open_from, open_at, next_gone, gone_from, gone_at, is_of, own_of, entered_at, unlinked_from, last_unlinked, longer, moves_in, updates_behind}
 use Rattle.std.specs.List.{AllByRecursion, slice_get}
 use Rattle.prcu_model.specs.declared.operation.Update.{Update}
 use Rattle.prcu_model.specs.Fronts.{own_updates_from}
@@ -79,6 +79,34 @@ pub entered_at-append : (p : ℕ) (h ms : List Mark) → entered_at p (h ++ ms) 
 entered_at-append p [] ms = omega arith
 entered_at-append p (Entered q c x ∷ h) ms = let e = entered_at-append p h ms in omega arith
 entered_at-append p (_ ∷ h) ms = entered_at-append p h ms
+
+-- whether the pairs moved elsewhere, and the updates behind that
+pub moves_in-append : (h ms : List Mark) → moves_in (h ++ ms) ≡ moves_in h + moves_in ms
+moves_in-append [] ms = omega arith
+moves_in-append (Moved ∷ h) ms = let e = moves_in-append h ms in omega arith
+moves_in-append (_ ∷ h) ms = moves_in-append h ms
+
+-- where it wasn't said before
+pub updates_behind-fresh : (h ms : List Mark) → moves_in h ≡ 0 → updates_behind (h ++ ms) ≡ updates_behind ms
+updates_behind-fresh [] ms none = refl
+updates_behind-fresh (Moved ∷ h) ms none = absurd (omega arith)
+updates_behind-fresh (_ ∷ h) ms none = updates_behind-fresh h ms none
+
+-- a beginning of marks that end there has none behind either
+pub behind_front : (h ms : List Mark) → updates_behind (h ++ ms) ≡ [] → updates_behind h ≡ []
+behind_front [] ms none = refl
+behind_front (Moved ∷ h) ms none = no_update (updates_of h) (updates_of ms) (sym (updates_of-append h ms) ∙ none)
+  where
+    no_update : (us ws : List Update) → us ++ ws ≡ [] → us ≡ []
+    no_update [] ws e = refl
+    no_update (u ∷ us) ws e = absurd (cc)
+behind_front (_ ∷ h) ms none = behind_front h ms none
+
+-- where no update comes
+pub updates_behind-silent : (h ms : List Mark) → updates_of ms ≡ [] → updates_behind ms ≡ [] → updates_behind (h ++ ms) ≡ updates_behind h
+updates_behind-silent [] ms silent none = none
+updates_behind-silent (Moved ∷ h) ms silent none = updates_of-append h ms ∙ ap (λ us. updates_of h ++ us) silent ∙ append-nil (updates_of h)
+updates_behind-silent (_ ∷ h) ms silent none = updates_behind-silent h ms silent none
 
 -- Where in a list of marks the things stand that it says.
 

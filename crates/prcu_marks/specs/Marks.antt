@@ -2,7 +2,7 @@
 -- Source: docs/ACCOUNTS.md, "Marks".
 use Rattle.std.specs.Prelude.{ℕ, ◌+◌, ◌==◌, nat_lt, length, Bool, false, if◌then◌else◌, List, [], ◌∷◌, ◌≡◌, Option, Some, None, ◌-◌, ◌%◌, ◌^◌, ◌<◌, ◌≤◌}
 use Rattle.prcu_marks.specs.declared.mark.Mark.{Mark}
-use Rattle.prcu_marks.specs.declared.mark.Mark.TheVariants.{Entered, Left, Began, Ended, Done, Given, Unlinked, Freed}
+use Rattle.prcu_marks.specs.declared.mark.Mark.TheVariants.{Entered, Left, Began, Ended, Done, Given, Unlinked, Freed, Moved}
 use Rattle.prcu_model.specs.declared.operation.Update.{Update}
 use Rattle.prcu_marks.specs.declared.access.Access.{Access}
 use Rattle.prcu_marks.specs.declared.access.Access.TheVariants.{Load, Store, Exchange, Add, Subtract, Flip}
@@ -79,6 +79,18 @@ abbrev pub entered_at : ℕ → List Mark → ℕ
 entered_at p [] = 0
 entered_at p (Entered q c x ∷ ms) = (if q == p then 1 else 0) + entered_at p ms
 entered_at p (_ ∷ ms) = entered_at p ms
+
+-- how often it was said that the pairs moved elsewhere
+abbrev pub moves_in : List Mark → ℕ
+moves_in [] = 0
+moves_in (Moved ∷ ms) = 1 + moves_in ms
+moves_in (_ ∷ ms) = moves_in ms
+
+-- the updates behind the first such mark
+abbrev pub updates_behind : List Mark → List Update
+updates_behind [] = []
+updates_behind (Moved ∷ ms) = updates_of ms
+updates_behind (_ ∷ ms) = updates_behind ms
 
 -- the longer of two lists
 abbrev pub longer : List Mark → List Mark → List Mark

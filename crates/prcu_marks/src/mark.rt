@@ -43,6 +43,8 @@ pub enum Mark {
     Freed {
         slot: u32,
     },
+    /// The structure's pairs moved elsewhere: no update of it comes behind this.
+    Moved,
 }
 
 /// Why a wait or a step can't go on yet.

@@ -12,16 +12,17 @@ use Rattle.prcu_marks.specs.declared.mark.Mark.{Mark}
 use Rattle.prcu_marks.specs.declared.mark.Mark.TheVariants.{Began}
 use Rattle.prcu_marks.specs.declared.mark.Side.{Side}
 use Rattle.prcu_marks.specs.declared.mark.Side.TheVariants.{Left, Right}
-use Rattle.prcu_marks.specs.Marks.{updates_of, open_at, last_unlinked, own_of, most_front, most_life, most_tickets, most_turns, left_by, said_by, StaysWord}
+use Rattle.prcu_marks.specs.Marks.{updates_of, updates_behind, open_at, last_unlinked, own_of, most_front, most_life, most_tickets, most_turns, left_by, said_by, StaysWord}
 use Rattle.prcu_model.specs.Dictionary.{IsLegal, map_of}
 use Rattle.prcu_model.specs.declared.operation.Update.{Update}
 use Rattle.prcu_model.specs.Fronts.{StaysWithin}
-use Rattle.prcu_marks.proofs.Marks.{updates_of-append, own_of-append}
+use Rattle.prcu_marks.proofs.Marks.{behind_front, updates_of-append, own_of-append}
+use Rattle.core_frames.proofs.PlaceFrames.{moved_small}
 use Rattle.prcu_model.proofs.Dictionaries.{AreUpdatesFrom-front}
 use Rattle.core_state.specs.declared.shape.Shape.{Shape}
 use Rattle.core_state.specs.declared.shape.Waiter.TheVariants.{Domain, Eer, Deer}
 use Rattle.core_state.specs.declared.words.Field.{Field}
-use Rattle.core_state.specs.declared.words.Field.TheVariants.{Clock, Front, Free, Count, State as StateWord, Lock, Life, Tag, Announced, Stamp, Gate, Row, Key, Value, Link}
+use Rattle.core_state.specs.declared.words.Field.TheVariants.{Clock, Front, Free, Moved, Count, State as StateWord, Lock, Life, Tag, Announced, Stamp, Gate, Row, Key, Value, Link}
 use Rattle.core_state.specs.declared.view.Retired.{Retired}
 use Rattle.core_state.specs.declared.view.Section.{Section}
 use Rattle.core_state.specs.declared.view.View.{View}
@@ -29,7 +30,7 @@ use Rattle.core_state.specs.Memory.{most_free, most_places, Memory, slot_count, 
 use Rattle.core_state.specs.Views.{lock_of, Works, places_of, held_list, joined_retired, retired_of, slots_of}
 use Rattle.core_state.specs.Marks.{begun, begun_at, Grace, Reuse}
 use Rattle.core_state.specs.Links.{IsInHand, IsSpare}
-use Rattle.core_state.specs.Parts.{ArePlaced, turns_to_come, inside_count, IsOddBy}
+use Rattle.core_state.specs.Parts.{ArePlaced, turns_to_come, inside_count, IsOddHere}
 use Rattle.core_state.specs.Steps.{spent_view}
 use Rattle.core_state.specs.Invariant.{HoldsNow, first_view, IsFresh, IsShape, Rule}
 use Rattle.core_frames.proofs.Roles.{works_there, place_within, slots_count, spares_count, held_there, own_below, own_once, retired_count}
@@ -170,6 +171,7 @@ module _ (k : Shape) (m : Memory) (vs : List View) (h : List Mark) (i : HoldsNow
         reuse = reuse_front v.seen more.0 (subst Reuse (sym more.1) i.grace.reuse);
         few_waits = few_waits;
         few_turns = few_turns;
+        last = behind_front v.seen more.0 (ap updates_behind more.1 ∙ i.front.last.none);
       }
 
   small_clock : m Clock ≤ most_tickets
@@ -183,8 +185,9 @@ module _ (k : Shape) (m : Memory) (vs : List View) (h : List Mark) (i : HoldsNow
   small_front =
       let paid = i.counts.clock in
       let few = i.table.few_tickets in
-      ⊎_elim (λ even. let is = even.0 in omega arith)
-      (λ (odd : IsOddBy m vs (length (updates_of h))). let o = odd.has in let is = o.word in let updates = o.updates in
+      let moved = moved_small m vs h i.front in
+      ⊎_elim (λ free. let is = free.0 in omega arith)
+      (λ (made : IsOddHere m vs (length (updates_of h))). let o = made.odd.has in let is = o.word in let updates = o.updates in
       odd_case o.commit.stored o.commit.found refl updates is) i.front.turned
     where
       odd_case : (stored : Bool) (found : ℕ) → stored ≡ stored → found + cond stored 2 0 ≡ 2 * length (updates_of h) → m Front ≡ found + 1
@@ -262,6 +265,7 @@ module _ (k : Shape) (m : Memory) (vs : List View) (h : List Mark) (i : HoldsNow
   word_fits Clock has = small_clock
   word_fits Front has = small_front
   word_fits Free has = small_free
+  word_fits Moved has = moved_small m vs h i.front
   word_fits (Lock s) has = lock_small s (ltb-true s (slot_count k) has)
   word_fits (Life s) has = life_small s (ltb-true s (slot_count k) has)
   word_fits (Tag s b) has = tag_small s b (ltb-true s (slot_count k) has)
@@ -383,7 +387,7 @@ module _ (k : Shape) where
   before = replicate (lead + 2 * apart) 0
 
   abbrev lines : List ℕ
-  lines = replicate (2 * half * slot_count k) 0
+  lines = replicate (apart + 2 * half * slot_count k) 0
 
   abbrev used : List ℕ
   used = replicate (k.places + 1) 1
@@ -404,8 +408,8 @@ module _ (k : Shape) where
       let c = length-append used unused in
       omega arith
 
-  length_lines : length lines ≡ 2 * half * slot_count k
-  length_lines = length-replicate {A = ℕ} (2 * half * slot_count k) 0
+  length_lines : length lines ≡ apart + 2 * half * slot_count k
+  length_lines = length-replicate {A = ℕ} (apart + 2 * half * slot_count k) 0
 
   length_room : state_base k + slot_count k + length room ≡ waiter_base k
   length_room = let a = length-replicate {A = ℕ} (room_behind (slot_count k)) 0 in omega arith
@@ -425,23 +429,27 @@ module _ (k : Shape) where
       let l = length_room in
       omega arith
 
-  -- what stands from the slots' words on
-  from_base : (j : ℕ) → get_or ws (slot_base + j) 0 ≡ get_or (lines ++ (first_states k ++ (room ++ part))) j 0
-  from_base j = ap (λ z. get_or ws z 0) (let e : slot_base + j ≡ (lead + 2 * apart) + (apart + j) = omega arith in e)
+  -- what stands from the word of a move on
+  from_moved : (j : ℕ) → get_or ws (lead + 3 * apart + j) 0 ≡ get_or (lines ++ (first_states k ++ (room ++ part))) j 0
+  from_moved j = ap (λ z. get_or ws z 0) (let e : lead + 3 * apart + j ≡ (lead + 2 * apart) + (apart + j) = omega arith in e)
       ∙ get_or-append-add before (alone k.slots ++ (lines ++ (first_states k ++ (room ++ part)))) (apart + j) 0
       ∙ get_or-append-add (alone k.slots) (lines ++ (first_states k ++ (room ++ part))) j 0
 
-  -- the words of the slots but their states
+  -- the word of a move, and the words of the slots but their states
+  zero_at : (j : ℕ) → j < apart + 2 * half * slot_count k → get_or ws (lead + 3 * apart + j) 0 ≡ 0
+  zero_at j small = from_moved j ∙ get_or_append_left lines (first_states k ++ (room ++ part)) 0 j (let b = length_lines in omega arith)
+      ∙ get_or-replicate (apart + 2 * half * slot_count k) j 0 0 small
+
   line_at : (i : ℕ) → i < 2 * half * slot_count k → get_or ws (slot_base + i) 0 ≡ 0
-  line_at i small = from_base i ∙ get_or_append_left lines (first_states k ++ (room ++ part)) 0 i (let b = length_lines in omega arith)
-      ∙ get_or-replicate (2 * half * slot_count k) i 0 0 small
+  line_at i small = ap (λ z. get_or ws z 0) (let e : slot_base + i ≡ lead + 3 * apart + (apart + i) = omega arith in e)
+      ∙ zero_at (apart + i) (omega arith)
 
   -- what stands from the states on
   from_states : (j : ℕ) → get_or ws (state_base k + j) 0 ≡ get_or (first_states k ++ (room ++ part)) j 0
   from_states j =
       let b = length_lines in
-      let e : state_base k + j ≡ slot_base + (length lines + j) = omega arith in
-      ap (λ z. get_or ws z 0) e ∙ from_base (length lines + j) ∙ get_or-append-add lines (first_states k ++ (room ++ part)) j 0
+      let e : state_base k + j ≡ lead + 3 * apart + (length lines + j) = omega arith in
+      ap (λ z. get_or ws z 0) e ∙ from_moved (length lines + j) ∙ get_or-append-add lines (first_states k ++ (room ++ part)) j 0
 
   -- the states
   state_at : (s : ℕ) → s < slot_count k → get_or ws (state_base k + s) 0 ≡ cond (nat_le s k.places) 1 0
@@ -528,6 +536,7 @@ module _ (k : Shape) where
     clock = refl;
     front = refl;
     free = refl;
+    moved = ap (λ z. get_or ws z 0) (let e : lead + 3 * apart ≡ lead + 3 * apart + 0 = omega arith in e) ∙ zero_at 0 (omega arith);
     announced = λ p. or_none (is_field k (Announced p)) (get_or ws (word_of k (Announced p)) 0)
         (λ has. let l = lies k (Announced p) has in part_at (place_room * p) ∙ key_at k.waiter k.places p (first _ _ has) l.2);
     stamps = λ p eer small.

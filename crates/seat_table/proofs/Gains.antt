@@ -19,7 +19,7 @@ use Rattle.core_state.specs.Parts.{StandsWell, map_now}
 use Rattle.core_state.specs.Invariant.{HoldsNow, Invariant, Rule}
 use Rattle.core_laws.proofs.Locks.{young_locked}
 use Rattle.core_laws.proofs.Updates.{Deletion, node_field, node_key, node_marked, node_young, some_node}
-use Rattle.seat_table.specs.Gains.{KnowsValue, GivesAnswer, LeavesAnswer, FindsAnswer, AreGone, FindsFull, WasNoOwn, IsOthers, IsCounted, IsListedNow, LooksAgain, Gains, Touches, tells, WordFits}
+use Rattle.seat_table.specs.Gains.{KnowsValue, GivesAnswer, LeavesAnswer, FindsAnswer, AreGone, FindsFull, WasNoOwn, IsOthers, IsCounted, IsListedNow, LooksAgain, MovesAll, Gains, Touches, tells, WordFits}
 use mathlib.Core.Logic.{dite}
 use native.Mathlib.Decide.{ℕ_discrete}
 use Rattle.prcu_marks.specs.declared.mark.Mark.TheVariants.{Left as LeftMark, Began}
@@ -34,11 +34,12 @@ use Rattle.prcu_marks.specs.declared.commit.Commit.{Commit}
 use Rattle.core_state.specs.Links.{NeedsReserve, with_free, reserving, after_reserve}
 use Rattle.core_frames.specs.Laws.{answer_of}
 use Rattle.core_frames.proofs.PlainLaws.{searches_are_answered, gone_within, updates_before, follow_here}
-use Rattle.core_frames.proofs.PlaceFrames.{front_counts, odd_by}
+use Rattle.core_frames.proofs.PlaceFrames.{front_counts, not_moved, odd_by}
+use Rattle.core_state.specs.Steps.{NeedsStoreMoved}
 use Rattle.core_frames.proofs.Roles.{works_there, places_apart}
 use Rattle.core_frames.proofs.Counting.{empty_is_full}
 use Rattle.core_state.specs.declared.act.Act.{Act}
-use Rattle.core_state.specs.declared.act.Act.TheVariants.{LoadClock, LeaveByStamp, BeginWait, LoadRetiredLife, Reserve, Seize, Lock as TakeLock, SearchLoad, LinkLeaf, Bypass, LinkCopy, LeaveByCount, LeaveByRow, ReplaceValue, LookAtFront}
+use Rattle.core_state.specs.declared.act.Act.TheVariants.{LoadClock, LeaveByStamp, BeginWait, LoadRetiredLife, Reserve, Seize, Lock as TakeLock, SearchLoad, LinkLeaf, Bypass, LinkCopy, LeaveByCount, LeaveByRow, ReplaceValue, LookAtFront, StoreMoved, LoadMoved}
 use Rattle.core_state.specs.Acts.{field_of, noted, Asks, access_of, said, done, marks, section_of, commit_of, spare_of}
 use Rattle.core_laws.proofs.Acting.{has_word}
 use Rattle.core_laws.proofs.Whole.{acts_keep}
@@ -229,6 +230,16 @@ module _ (k : Shape) (m : Memory) (vs : List View) (h : List Mark) (i : HoldsNow
           let before = updates_before h section.entered in
           record { front = omega arith; since = omega arith; facts = now.facts; gaps = now.gaps }
 
+  -- who moves the pairs knows all updates
+  moves_all : NeedsStoreMoved v → MovesAll v h
+  moves_all needs =
+      let unmade : Commit = record { found = needs.found; stored = false } in
+      record {
+        first = sym i.front.last.word ∙ not_moved m vs h id v at i.front unmade needs.commit;
+        found = λ commit mine. (let q : Some unmade ≡ Some commit = sym needs.commit ∙ mine in let e : unmade ≡ commit = cc in
+            commit_counts commit mine (sym (ap (λ (c : Commit). c.stored) e)));
+      }
+
   -- the retired slots are the table's, and were unlinked before
   are_gone : (w : View) (low high : ℕ) → w.seen ≡ h ++ Began v.allowance.place v.counts.waits low high ∷ [] → AreGone k v w
   are_gone w low high seen = record {
@@ -339,6 +350,8 @@ module _ (k : Shape) (m : Memory) (vs : List View) (h : List Mark) (i : HoldsNow
       left_gives _ (section_of v) needs.section_is refl
   gains (LeaveByRow class) works (has, needs) by = left_gives _ (section_of v) needs.section_is refl
   gains LookAtFront works asks by = looks_again
+  gains StoreMoved works (has, needs) by = moves_all needs
+  gains LoadMoved works asks by = i.front.last.word
   gains _ works asks by = tt
 
 -- A store in a word of the table is a store in its field.

@@ -3,13 +3,13 @@ use Rattle.std.specs.Prelude.{◌≡◌, ◌≢◌, ℕ, ◌+◌, ◌-◌, ◌*�
 use mathlib.Core.List.{IsPrefix}
 use Rattle.prcu_marks.specs.declared.mark.Mark.{Mark}
 use Rattle.prcu_marks.specs.declared.mark.Side.{Side}
-use Rattle.prcu_marks.specs.Marks.{updates_of, own_of, most_front, most_life, most_tickets, most_turns, said_by}
+use Rattle.prcu_marks.specs.Marks.{updates_of, updates_behind, moves_in, own_of, most_front, most_life, most_tickets, most_turns, said_by}
 use Rattle.prcu_marks.specs.Callers.{IsNextKey}
 use Rattle.prcu_model.specs.Dictionary.{IsLegal, map_of, WasSaid}
 use Rattle.core_state.specs.declared.shape.Shape.{Shape}
 use Rattle.core_state.specs.declared.shape.Waiter.TheVariants.{Domain}
 use Rattle.core_state.specs.declared.words.Field.{Field}
-use Rattle.core_state.specs.declared.words.Field.TheVariants.{Clock, Front, Free, Lock, Life, Value, Tag}
+use Rattle.core_state.specs.declared.words.Field.TheVariants.{Clock, Front, Free, Moved, Lock, Life, Value, Tag}
 use Rattle.prcu_marks.specs.declared.commit.Commit.{Commit}
 use Rattle.core_state.specs.declared.view.Fact.{Fact}
 use Rattle.core_state.specs.declared.view.Gap.{Gap}
@@ -27,7 +27,7 @@ use Rattle.core_state.specs.Parts.{IsBetween, HasMet, map_now}
 use Rattle.core_state.specs.Links.{IsInHand, IsSpare, IsRetiredAt}
 use Rattle.core_state.specs.Views.{known_in, known_under, lock_of, Works, places_of, slots_of}
 use Rattle.core_state.specs.declared.act.Act.{Act}
-use Rattle.core_state.specs.declared.act.Act.TheVariants.{LoadClock, LeaveByStamp, BeginWait, LoadRetiredLife, Reserve, Seize, Lock as TakeLock, SearchLoad, LinkLeaf, Bypass, LinkCopy, LeaveByCount, LeaveByRow, ReplaceValue, LookAtFront}
+use Rattle.core_state.specs.declared.act.Act.TheVariants.{LoadClock, LeaveByStamp, BeginWait, LoadRetiredLife, Reserve, Seize, Lock as TakeLock, SearchLoad, LinkLeaf, Bypass, LinkCopy, LeaveByCount, LeaveByRow, ReplaceValue, LookAtFront, StoreMoved, LoadMoved}
 use Rattle.core_state.specs.Acts.{field_of, access_of, noted, Asks, after}
 use Rattle.core_frames.specs.Telling.{IsToldOf}
 use Rattle.prcu_model.specs.Fronts.{StaysWithin}
@@ -46,10 +46,11 @@ pub record Sees (v : View) (h : List Mark) : Type 0 where
   pub begins : IsPrefix v.seen h
   pub own : (p : ℕ) → 1 ≤ times p (places_of v) → own_of p v.seen ≡ own_of p h
 
--- What a seat has seen: its updates are a history, waits outlast the readers they are for, and no slot is used again that an open
--- reader may meet. Its waits with its tickets are few, and so are the gates that it turned.
+-- What a seat has seen: its updates are a history, which ends where the pairs move, waits outlast the readers they are for, and no slot is
+-- used again that an open reader may meet. Its waits with its tickets are few, and so are the gates that it turned.
 pub record IsInformed (w : View) : Type 0 where
   pub legal : IsLegal (updates_of w.seen)
+  pub last : updates_behind w.seen ≡ []
   pub grace : Grace w.seen
   pub reuse : Reuse w.seen
   pub few_waits : w.counts.waits + w.allowance.tickets ≤ most_tickets
@@ -60,6 +61,7 @@ abbrev pub WordFits : Shape → Field → ℕ → Type 0
 WordFits k Clock n = n ≤ most_tickets
 WordFits k Front n = n ≤ most_front
 WordFits k Free n = n ≤ most_free
+WordFits k Moved n = n ≤ 1
 WordFits k (Lock s) n = n ≤ k.places
 WordFits k (Life s) n = n ≤ most_life
 WordFits k (Tag s b) n = n ≤ most_tickets
@@ -190,6 +192,15 @@ pub record LooksAgain (v : View) (h : List Mark) (found : ℕ) : Type 0 where
   pub held : (section : Section) (listing : Listing) (commit : Commit) → v.section ≡ Some section → section.listing ≡ Some listing
       → v.commit ≡ Some commit → commit.stored ≡ false → found ≡ listing.front → IsListedNow h section listing
 
+-- After it was stored that the pairs moved: they hadn't before, and the front that was found shows how many updates there are, for good.
+pub record MovesAll (v : View) (h : List Mark) : Type 0 where
+  pub first : moves_in h ≡ 0
+  pub found : (commit : Commit) → v.commit ≡ Some commit → commit.found ≡ 2 * length (updates_of h)
+
+-- After a look whether they moved: the number found says it of all marks that there were.
+abbrev pub FindsMoved : List Mark → ℕ → Type 0
+FindsMoved h found = found ≡ moves_in h
+
 -- When the seat was last joined with another, the marks of each one's places were those that it had seen itself.
 pub record HaveMet (v : View) (h : List Mark) : Type 0 where
   pub each : Each v.allowance.met (HasMet h)
@@ -211,6 +222,8 @@ Gains k v (LeaveByCount class side) h found w = LeavesAnswer v w
 Gains k v (LeaveByRow class) h found w = LeavesAnswer v w
 Gains k v (ReplaceValue slot key value) h found w = Changes v w h slot key
 Gains k v LookAtFront h found w = LooksAgain v h found
+Gains k v StoreMoved h found w = MovesAll v h
+Gains k v LoadMoved h found w = FindsMoved h found
 Gains k v _ h found w = Unit {0}
 
 -- What is so of a seat between two steps.

@@ -165,10 +165,11 @@ waiter_part Deer places = replicate (row_room * places) idle
 abbrev pub first_states : Shape → List ℕ
 first_states k = replicate (k.places + 1) 1 ++ replicate k.slots 0
 
--- the room before them, the clock, the front, the free count, the slots' other words, the states, and the waiter's words behind some room
+-- the room before them, the clock, the front, the free count, the word of a move and the slots' other words, the states, and the waiter's
+-- words behind some room
 abbrev pub first_words : Shape → List ℕ
 first_words k = replicate (lead + 2 * apart) 0
-    ++ (alone k.slots ++ (replicate (2 * half * slot_count k) 0
+    ++ (alone k.slots ++ (replicate (apart + 2 * half * slot_count k) 0
     ++ (first_states k ++ (replicate (room_behind (slot_count k)) 0 ++ waiter_part k.waiter k.places))))
 
 -- These words are those of a fresh table, as many as its shape has, and with the first seat's view they have the rule.

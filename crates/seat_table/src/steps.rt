@@ -464,6 +464,29 @@ pub fn give_front_back<W: WaitWords>(table: &CitrusTable<W>, seat: &mut Seat<W>,
     touch(table, &mut seat.seat, act, Field::Front, access);
 }
 
+/// Stores that the pairs moved to another table, by who has the front, which stays odd for good (K41). No update comes behind it.
+pub fn store_moved<W: WaitWords>(table: &CitrusTable<W>, seat: &mut Seat<W>)
+    requires table { seat.old.table ≡ table.now }
+    requires asks { IsAsked (shape_of W.WAY table.now) seat.old.view acts.StoreMoved }
+    ensures seat { (seat.new.table ≡ seat.old.table) × (seat.new.listed ≡ seat.old.listed) × (seat.new.looked ≡ seat.old.looked) }
+    ensures told { Told (shape_of W.WAY table.now) seat.old.view acts.StoreMoved 1 seat.new.view }
+{
+    let access = Access::Store { number: 1 };
+    touch(table, &mut seat.seat, Act::StoreMoved, Field::Moved, access);
+}
+
+/// Loads whether the pairs moved to another table (K42): 0 before, 1 from then on. At 1 the seat has seen all updates of this table.
+#[inline(always)]
+pub fn load_moved<W: WaitWords>(table: &CitrusTable<W>, seat: &mut Seat<W>) -> u64
+    requires table { seat.old.table ≡ table.now }
+    requires asks { IsAsked (shape_of W.WAY table.now) seat.old.view acts.LoadMoved }
+    ensures seat { (seat.new.table ≡ seat.old.table) × (seat.new.listed ≡ seat.old.listed) × (seat.new.looked ≡ seat.old.looked) }
+    ensures told { Told (shape_of W.WAY table.now) seat.old.view acts.LoadMoved result seat.new.view }
+{
+    let word = Field::Moved;
+    touch(table, &mut seat.seat, Act::LoadMoved, word, Access::Load)
+}
+
 /// Links a copy of the successor, which is the spare, in a node's place (K25).
 pub fn link_copy<W: WaitWords>(
     table: &CitrusTable<W>,

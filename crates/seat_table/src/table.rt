@@ -111,7 +111,7 @@ pub fn words_of(alloc: Global, shape: &Shape) -> Result<Vec<u64>, AllocError>
     let mut words = Vec::with_capacity(alloc, row_length(shape.waiter, shape.slots, shape.places))?;
     add_many(&mut words, LEAD + 2 * APART, 0)?;
     add_alone(&mut words, shape.slots as u64)?;
-    add_many(&mut words, 2 * HALF * (slots + places + 1), 0)?;
+    add_many(&mut words, APART + 2 * HALF * (slots + places + 1), 0)?;
     add_many(&mut words, places + 1, 1)?;
     add_many(&mut words, slots, 0)?;
     add_many(&mut words, room_behind(slots + places + 1), 0)?;

@@ -7,7 +7,7 @@ use mathlib.Core.Option.{some, some-injective, some-ne-none}
 use native.Mathlib.Decide.{dec_le, ℕ_discrete}
 use lib.ListN.{get_elem?}
 use Rattle.prcu_marks.specs.declared.mark.Mark.{Mark}
-use Rattle.prcu_marks.specs.declared.mark.Mark.TheVariants.{Entered, Left, Began, Ended, Done, Given, Unlinked, Freed}
+use Rattle.prcu_marks.specs.declared.mark.Mark.TheVariants.{Entered, Left, Began, Ended, Done, Given, Unlinked, Freed, Moved}
 use Rattle.prcu_marks.specs.Marks.{updates_of, own_of}
 use Rattle.prcu_marks.proofs.Marks.{updates_of-append, updates_below, own_of-append}
 use Rattle.prcu_model.specs.declared.operation.Update.{Update}
@@ -133,6 +133,7 @@ mark_of (Ended q c ∷ h) us u p = behind (Ended q c) h us u (λ a. refl) (mark_
 mark_of (Given s ∷ h) us u p = behind (Given s) h us u (λ a. refl) (mark_of h us u p)
 mark_of (Unlinked s ∷ h) us u p = behind (Unlinked s) h us u (λ a. refl) (mark_of h us u p)
 mark_of (Freed s ∷ h) us u p = behind (Freed s) h us u (λ a. refl) (mark_of h us u p)
+mark_of (Moved ∷ h) us u p = behind Moved h us u (λ a. refl) (mark_of h us u p)
 
 -- Where sections, updates and waits stand among marks.
 

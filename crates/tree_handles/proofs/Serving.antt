@@ -1,8 +1,9 @@
 -- The slots of a keeper that is over: they stay for inserts, and an insert uses one again.
-use Rattle.std.proofs.Common.{◌≡◌, ◌≢◌, ◌==◌, ℕ, zero, suc, ◌+◌, ◌-◌, ◌<◌, ◌≤◌, ◌⊎◌, true, false, Bool, min, if◌then◌else◌, List, [], ◌∷◌, ◌++◌, length, map, Option, Some, None, inl, inr, refl, sym, ap, subst, ◌∙◌, ⊎_elim, arith, append-nil, eq-eqb, ne_eqb, length-append}
+use Rattle.std.proofs.Common.{◌≡◌, ◌≢◌, ◌==◌, ℕ, zero, suc, ◌+◌, ◌-◌, ◌<◌, ◌≤◌, ◌⊎◌, true, false, Bool, not, min, if◌then◌else◌, List, [], ◌∷◌, ◌++◌, length, map, Option, Some, None, inl, inr, refl, sym, ap, subst, ◌∙◌, ⊎_elim, arith, append-nil, eq-eqb, ne_eqb, length-append}
 use mathlib.Core.List.{IsPrefix}
 use mathlib.Core.Option.{some, some-injective}
 use lib.ListN.{get_elem?}
+use Rattle.std.specs.Option.{is_some}
 use Rattle.std.proofs.Math.Dec.{ltb}
 use Rattle.std.proofs.lemmas.Bool.{cases_eq, eqb-false, ltb-true, ltb-false}
 use Rattle.atomic_table.proofs.Lists.{at_map}
@@ -27,7 +28,7 @@ use Rattle.grace_cookie.proofs.Keeping.{mark_of, marked_at, waits_stay}
 use Rattle.grace_cookie.proofs.Using.{first, first_ready, is_first, used_stay}
 use Rattle.tree_handles.specs.Callers.{if_over, CallerAt, KeepsKeeper, MayGoOn, StaysUnlessGone}
 use Rattle.tree_handles.specs.Calls.{ComesBehind, MayServe}
-use Rattle.tree_handles.specs.Keepers.{GoBackNow, HasCookie, HasCookies, HasKeeper, ServesInsert, StaysBehind, StaysFor, Tends, TendsTo, one_as_spare, slot_for}
+use Rattle.tree_handles.specs.Keepers.{CanBegin, GoBackNow, HasCookie, HasCookies, HasKeeper, MakesWay, ServesInsert, StartsKeeper, StaysBehind, StaysFor, Tends, TendsTo, one_as_spare, slot_for}
 use Rattle.tree_handles.proofs.Cookies.{called_latest, forgotten, gone_first, none_listed, seen_on, stayed_first, stays_good, without}
 use Rattle.tree_handles.proofs.Keepers.{left_apart, left_keeper, same_left}
 use Rattle.citrus_tree.specs.declared.delete.Removed.TheVariants as removal
@@ -82,6 +83,23 @@ rests_some k keeper c s is has over least now = subst (λ (o : Option CookieAt).
 
 pub rests_none : (k : Shape) (keeper : Option CookieAt) (s : SeatAt) → keeper ≡ None → TendsTo k keeper s keeper s
 rests_none k keeper s none = subst (λ (o : Option CookieAt). TendsTo k o s o s) (sym none) (refl, refl)
+
+pub no_keeper : (keeper : Option CookieAt) (none : Bool) → is_some keeper ≡ not none → none ≡ true → keeper ≡ None
+no_keeper None none there is = refl
+no_keeper (Some c) none there is = absurd (let e : true ≡ false = there ∙ ap not is in cc)
+
+-- one whose slots stay makes no way for a later one
+pub stays_in_place : (keeper : Option CookieAt) (c : CookieAt) (s : SeatAt) → keeper ≡ Some c → length s.listed + 1 < s.table.room
+    → MakesWay keeper s → ⊥
+stays_in_place None c s is few makes = cc
+stays_in_place (Some other) c s is few makes = let full = makes.full in absurd (omega (arith, few, full))
+
+pub starts_none : (c : CallerAt) → MayGoOn c → (MakesWay c.keeper c.seat → ⊥) → StartsKeeper c c
+starts_none c may stays = record {
+  index = record { way = refl; table = refl; salt = refl; cookie = refl };
+  begins = inl (λ (can : CanBegin c.keeper c.cookie c.seat). stays can.place, refl, refl);
+  may = may;
+}
 
 pub tends_rest : (c : CallerAt) → MayGoOn c → TendsTo (shape_of c.way c.table) c.keeper c.seat c.keeper c.seat → Tends c c
 tends_rest c may tends = record {

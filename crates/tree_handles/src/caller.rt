@@ -9,7 +9,7 @@ ghost use Rattle.tree_handles.specs.Holds.{HasStarted, Polls, EndsOutside, HasHe
 ghost use Rattle.tree_handles.specs.Callers.{KeepsCookie, KeepsKeeper, MayGoOn, IsFresh, slots_for};
 ghost use Rattle.tree_handles.specs.Opening.{HasStats};
 ghost use Rattle.tree_handles.specs.Calls.{ComesBehind, IsCalled, IsCalledTended, IsCompared, IsLost, IsWaitFree, CausedBy, CausedTended, IsHinderedBy, IsStoppedBy, LacksRoom};
-ghost use Rattle.tree_handles.specs.Keepers.{SeesToKeeper, StartsKeeper, Tends};
+ghost use Rattle.tree_handles.specs.Keepers.{SeesToKeeper, StartsKeeper, Tends, slot_for};
 ghost use Rattle.tree_handles.specs.Lists.{IsPreventedBy, ListsTo, Seeks};
 ghost use Rattle.tree_handles.specs.Tidying.{GivesBack, HasNoneBack, LiftsWay};
 
@@ -17,8 +17,8 @@ mod dividing;
 mod removing;
 
 use crate::keeper::{
-    begin_if_needed, count_reused, forget_if, give_up_unless_over, is_at_rest, is_under_way,
-    lacks_slots, serves_next, slot_for_insert, tend_in_place,
+    begin_if_needed, count_reused, forget_if, give_up_unless_over, is_under_way, lacks_slots,
+    serves_next, slot_at_rest, slot_for_insert, tend_in_place,
 };
 use crate::shared::Shared;
 use crate::spinning::{GaveUp, InTheWay, Spinning};
@@ -26,7 +26,7 @@ use crate::stats::Stats;
 use crate::status::Status;
 use crate::tidying::attempts_for;
 use citrus_tree::patient::{compare, put_reusing, set};
-use citrus_tree::{Called, Compared, get, hold, release};
+use citrus_tree::{Called, Compared, Reuse, get, hold, release};
 use exact_list::patient::{list_always_to, nearest_always};
 use exact_list::{Exact, Nearest, Page};
 use grace_cookie::{Ask, Cookie, ask, start};
@@ -68,13 +68,14 @@ pub(crate) struct Caller<W: WaitPart> {
     lost: bool,
     // By which the nodes of the index rise. All callers of an index have the same.
     salt: u64,
-    cookie: Option<Cookie<W>>,
     // By which it gives its own retired slots back.
     keeper: Option<Cookie<W>>,
     // Whether the way of the last pair that it added was far too deep.
     too_deep: bool,
     // How it waits for others.
     spinning: Spinning,
+    // The last, since updates write none of it: what they write shares no line of memory with what another handle reads in each call.
+    cookie: Option<Cookie<W>>,
 }
 
 impl<W: WaitPart> Model for Caller<W> {
@@ -256,7 +257,7 @@ impl<W: WaitPart> Caller<W> {
         requires may { MayGoOn self.old }
         ensures { Tends self.old self.new }
     {
-        if is_at_rest(&self.seat, &self.keeper) {
+        if self.keeper.is_none() {
             return;
         }
         tend_in_place(self.shared.table(), &mut self.seat, &mut self.keeper);
@@ -272,17 +273,22 @@ impl<W: WaitPart> Caller<W> {
         begin_if_needed(table, &mut self.seat, &mut self.keeper, &self.cookie);
     }
 
-    // What comes before an update that retires slots, or takes one. Begun here, and not behind the update, a keeper is asked about before the
-    // user begins a wait, which would give it up.
+    // What comes before an update that retires slots, or takes one, and which slot an insert is to take then. Begun here, and not behind the
+    // update, a keeper is asked about before the user begins a wait, which would give it up.
     #[inline(always)]
-    fn see_to_keeper(&mut self)
+    fn see_to_keeper(&mut self) -> Reuse
         requires may { MayGoOn self.old }
         requires tickets { 4 ≤ self.old.seat.view.allowance.tickets }
         ensures sees { SeesToKeeper self.old self.new }
+        ensures slot { result ≡ slot_for self.new.keeper self.new.seat.listed }
         ensures tickets { 4 ≤ self.new.seat.view.allowance.tickets }
     {
+        if let Some(slot) = slot_at_rest(&self.seat, &self.keeper) {
+            return Reuse::Retired { slot };
+        }
         self.start_keeper();
         self.tend();
+        slot_for_insert(&self.seat, &self.keeper)
     }
 
     // Whether an insert waits for its keeper: the last one left a way that is far too deep, and there is no room for the turns that it needs.
@@ -307,23 +313,23 @@ impl<W: WaitPart> Caller<W> {
         if let Some(status) = self.hindrance(TICKETS) {
             return Err(status);
         }
-        self.see_to_keeper();
+        let reuse = self.see_to_keeper();
         if self.owes_turns() {
             return Err(Status::Busy);
         }
-        self.put_tended(key, value)
+        self.put_tended(key, value, reuse)
     }
 
-    // The same, but for what is done about the keeper.
+    // The same, but for what is done about the keeper, with the slot that it is to take.
     #[inline(always)]
-    fn put_tended(&mut self, key: u64, value: u64) -> Result<Told, Status>
+    fn put_tended(&mut self, key: u64, value: u64, reuse: Reuse) -> Result<Told, Status>
         requires may { MayGoOn self.old }
+        requires slot { reuse ≡ slot_for self.old.keeper self.old.seat.listed }
         requires tickets { 4 ≤ self.old.seat.view.allowance.tickets }
         ensures called { IfOk result (λ told. IsCalled self.old (Put key value) told self.new) }
         ensures cause { IfErr result (λ status. CausedBy (Put key value) status self.old self.new) }
     {
         let table = self.shared.table();
-        let reuse = slot_for_insert(&self.seat, &self.keeper);
         let waits = self.seat.waits();
         let kept = self.seat.retired().len();
         let again = serves_next(&self.seat, &self.keeper, &self.cookie);
@@ -425,7 +431,7 @@ impl<W: WaitPart> Caller<W> {
             key,
             salt: self.salt,
             attempts,
-            hard: self.too_deep && !is_under_way(&self.keeper),
+            hard: self.too_deep && !serves_next(&self.seat, &self.keeper, &self.cookie),
         };
         let waits = self.seat.waits();
         let patience = self.spinning.for_call(self.shared.queue());

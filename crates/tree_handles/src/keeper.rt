@@ -1,9 +1,10 @@
 //! The keeper: the cookie by which a caller gives its retired slots back, and never stands still for readers meanwhile.
-ghost use Rattle.std.specs.Prelude.{◌≡◌, ◌<◌, ◌≤◌, true, false, Option, Some, None};
+ghost use Rattle.std.specs.Prelude.{◌≡◌, ◌+◌, ◌<◌, ◌≤◌, true, false, length, IfSome, Option, Some, None};
 ghost use Rattle.core_state.specs.declared.shape.Shape.{Shape};
 ghost use Rattle.grace_cookie.specs.Cookies.{CookieAt, less_one};
 ghost use Rattle.seat_table.specs.Seats.{IsQuietSeat, shape_of};
 ghost use Rattle.grace_cookie.specs.declared.answers.Ask.TheVariants.{Over};
+ghost use Rattle.citrus_tree.specs.declared.insert.Reuse.TheVariants as reuse;
 ghost use Rattle.tree_handles.specs.Callers.{if_over};
 ghost use Rattle.tree_handles.specs.Keepers.{AreEnough, BeginsKeeper, CanBegin, GivesBy, GoBackNow, HasCookies, HasKeeper, HasLatest, IsUnderWay, LacksSlots, LeavesEnd, MakesWay, MayStay, StaysBehind, StaysFor, TendsTo, slot_for};
 
@@ -80,15 +81,24 @@ pub(crate) fn tend_in_place<W: WaitPart>(
     *keeper = tend(table, seat, held);
 }
 
-/// Whether there is nothing to be done about the keeper before an update: there is none, or it is over, and its slots stay for inserts.
+/// The slot that an insert is to take, where there is nothing to be done about the keeper before an update: it is over, its slots stay for inserts,
+/// and no later one may take its place. Most updates find it so, and ask no more than this.
 #[inline(always)]
-pub(crate) fn is_at_rest<W: WaitPart>(seat: &Seat<W>, keeper: &Option<Cookie<W>>) -> bool
-    ensures { (k : Shape) → HasKeeper k keeper.now seat.now → result ≡ true → TendsTo k keeper.now seat.now keeper.now seat.now }
+pub(crate) fn slot_at_rest<W: WaitPart>(seat: &Seat<W>, keeper: &Option<Cookie<W>>) -> Option<u32>
+    ensures rests { IfSome result (λ slot. (k : Shape) → HasKeeper k keeper.now seat.now → TendsTo k keeper.now seat.now keeper.now seat.now) }
+    ensures stays { IfSome result (λ slot. MakesWay keeper.now seat.now → ⊥) }
+    ensures first { IfSome result (λ slot. slot_for keeper.now seat.now.listed ≡ reuse.Retired slot) }
 {
     let Some(keeper) = keeper else {
-        return true;
+        return None;
     };
-    keeper.is_over() && keeper.slots() > 0 && most_to_give(seat) == 0
+    if !keeper.is_over() || keeper.slots() == 0 || most_to_give(seat) > 0 {
+        return None;
+    }
+    match seat.retired().first() {
+        Some(slot) => Some(*slot),
+        None => None,
+    }
 }
 
 // Whether the slots of a keeper that is over may stay for inserts. A remove that finds no room would stand still, or be busy, and a place with many
@@ -97,6 +107,7 @@ pub(crate) fn is_at_rest<W: WaitPart>(seat: &Seat<W>, keeper: &Option<Cookie<W>>
 fn may_stay<W: WaitPart>(seat: &Seat<W>) -> bool
     ensures holds { result ≡ true → MayStay seat.now }
     ensures fails { result ≡ false → MayStay seat.now → ⊥ }
+    ensures room { result ≡ true → length seat.now.listed + 1 < seat.now.table.room }
 {
     let room = seat.room();
     seat.retired().len() < MANY_TO_STAY.min(room - room / 4) && seat.free_seen() >= FEW_FREE
@@ -106,7 +117,8 @@ fn may_stay<W: WaitPart>(seat: &Seat<W>) -> bool
 // exchange.
 #[inline(always)]
 fn most_to_give<W: WaitPart>(seat: &Seat<W>) -> u32
-    ensures { GoBackNow seat.now result }
+    ensures most { GoBackNow seat.now result }
+    ensures room { result ≡ 0 → length seat.now.listed + 1 < seat.now.table.room }
 {
     if !may_stay(seat) {
         return MOST_GIVEN;
@@ -193,10 +205,11 @@ fn can_begin<W: WaitPart>(
     ensures holds { result ≡ true → CanBegin keeper.now cookie.now seat.now }
     ensures fails { result ≡ false → CanBegin keeper.now cookie.now seat.now → ⊥ }
 {
-    if !are_enough(seat) {
+    // First what is false as a rule.
+    if !makes_way(seat, keeper) {
         return false;
     }
-    if !makes_way(seat, keeper) {
+    if !are_enough(seat) {
         return false;
     }
     if seat.tickets() < PAID {

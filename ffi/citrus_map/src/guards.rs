@@ -95,10 +95,28 @@ impl<K: Key> KeyedHandle<K> {
     /// drop(held);
     /// ```
     pub fn hold(&mut self, key: K) -> Result<Option<Held<'_, K>>, Error> {
-        let (word, mut value) = (key.encode(), 0);
+        match self.enter_at(key.encode())? {
+            Some(value) => Ok(Some(Held { section: self.entered(key), value })),
+            None => Ok(None),
+        }
+    }
+
+    /// The same of the first of the keys that `next` tells that is present when it comes to it.
+    pub(crate) fn hold_first_of(&mut self, mut next: impl FnMut(&Self) -> Result<Option<K>, Error>) -> Result<Option<Held<'_, K>>, Error> {
+        while let Some(key) = next(self)? {
+            if let Some(value) = self.enter_at(key.encode())? {
+                return Ok(Some(Held { section: self.entered(key), value }));
+            }
+        }
+        Ok(None)
+    }
+
+    /// Looks the key up in a section of it, which is open behind this where it is present.
+    fn enter_at(&mut self, word: u64) -> Result<Option<u64>, Error> {
+        let mut value = 0;
         // SAFETY: as in `get`.
         match self.call(|raw| unsafe { citrus_hold(raw, word, &mut value) }) {
-            status::DONE => Ok(Some(Held { section: self.entered(key), value })),
+            status::DONE => Ok(Some(value)),
             status::UNCHANGED => Ok(None),
             status => Err(self.error(status)),
         }

@@ -135,6 +135,11 @@ impl Builder {
         self.build_with(ALL_TICKETS)
     }
 
+    /// An index of sections alone, with as many handles, which wait in the same way.
+    pub(crate) fn for_sections(self) -> Builder {
+        Builder { waiter: self.waiter, ..Index::builder(1, self.handles) }
+    }
+
     /// The same with so many tickets in all, which its handles share.
     pub(crate) fn build_with<K: Key>(self, tickets: u64) -> Result<KeyedIndex<K>, Error> {
         let _ = Words::<K>::GREATEST;

@@ -4,7 +4,7 @@ use crate::{Error, Key, KeyedHandle, KeyedIndex};
 use std::fmt;
 use std::marker::PhantomData;
 use std::mem::ManuallyDrop;
-use std::ops::Deref;
+use std::ops::{Deref, RangeBounds};
 
 /// A handle that a [`KeyedIndex`] lends for a call or a few: see [`KeyedIndex::lend`]. It goes back when this is dropped.
 pub struct Lent<'i, K = u64> {
@@ -59,7 +59,7 @@ impl<K: Key> KeyedIndex<K> {
     /// let index = citrus_map::Index::new(100, 4)?;
     /// index.insert(5, 50)?;
     /// assert_eq!(index.get(5)?, Some(50));
-    /// assert_eq!(index.lend()?.list(..)?, [(5, 50)]);
+    /// assert_eq!(index.list(..)?, [(5, 50)]);
     /// # Ok::<(), citrus_map::Error>(())
     /// ```
     ///
@@ -147,7 +147,7 @@ impl<K: Key> KeyedIndex<K> {
         self.lend()?.remove(key)
     }
 
-    /// As [`Handle::take`].
+    /// As [`KeyedHandle::take`].
     ///
     /// # Errors
     /// As that, and [`Error::NoHandle`].
@@ -155,11 +155,107 @@ impl<K: Key> KeyedIndex<K> {
         self.lend()?.take(key, current)
     }
 
-    /// As [`Handle::remove_if`].
+    /// As [`KeyedHandle::remove_if`].
     ///
     /// # Errors
     /// As that, and [`Error::NoHandle`].
     pub fn remove_if(&self, key: K, goes: impl FnMut(u64) -> bool) -> Result<Option<u64>, Error> {
         self.lend()?.remove_if(key, goes)
+    }
+
+    /// As [`KeyedHandle::list`].
+    ///
+    /// # Errors
+    /// As that, and [`Error::NoHandle`].
+    pub fn list(&self, keys: impl RangeBounds<K>) -> Result<Vec<(K, u64)>, Error> {
+        self.lend()?.list(keys)
+    }
+
+    /// As [`KeyedHandle::first`].
+    ///
+    /// # Errors
+    /// As that, and [`Error::NoHandle`].
+    pub fn first(&self) -> Result<Option<(K, u64)>, Error> {
+        self.lend()?.first()
+    }
+
+    /// As [`KeyedHandle::first_from`].
+    ///
+    /// # Errors
+    /// As that, and [`Error::NoHandle`].
+    pub fn first_from(&self, low: K) -> Result<Option<(K, u64)>, Error> {
+        self.lend()?.first_from(low)
+    }
+
+    /// As [`KeyedHandle::last`].
+    ///
+    /// # Errors
+    /// As that, and [`Error::NoHandle`].
+    pub fn last(&self) -> Result<Option<(K, u64)>, Error> {
+        self.lend()?.last()
+    }
+
+    /// As [`KeyedHandle::last_to`].
+    ///
+    /// # Errors
+    /// As that, and [`Error::NoHandle`].
+    pub fn last_to(&self, high: K) -> Result<Option<(K, u64)>, Error> {
+        self.lend()?.last_to(high)
+    }
+
+    /// As [`KeyedHandle::pop_first`].
+    ///
+    /// # Errors
+    /// As that, and [`Error::NoHandle`].
+    pub fn pop_first(&self) -> Result<Option<(K, u64)>, Error> {
+        self.lend()?.pop_first()
+    }
+
+    /// As [`KeyedHandle::pop_first_from`].
+    ///
+    /// # Errors
+    /// As that, and [`Error::NoHandle`].
+    pub fn pop_first_from(&self, low: K) -> Result<Option<(K, u64)>, Error> {
+        self.lend()?.pop_first_from(low)
+    }
+
+    /// As [`KeyedHandle::pop_last`].
+    ///
+    /// # Errors
+    /// As that, and [`Error::NoHandle`].
+    pub fn pop_last(&self) -> Result<Option<(K, u64)>, Error> {
+        self.lend()?.pop_last()
+    }
+
+    /// As [`KeyedHandle::pop_last_to`].
+    ///
+    /// # Errors
+    /// As that, and [`Error::NoHandle`].
+    pub fn pop_last_to(&self, high: K) -> Result<Option<(K, u64)>, Error> {
+        self.lend()?.pop_last_to(high)
+    }
+
+    /// As [`KeyedHandle::is_empty`].
+    ///
+    /// # Errors
+    /// As that, and [`Error::NoHandle`].
+    pub fn is_empty(&self) -> Result<bool, Error> {
+        self.lend()?.is_empty()
+    }
+
+    /// As [`KeyedHandle::len`].
+    ///
+    /// # Errors
+    /// As that, and [`Error::NoHandle`].
+    pub fn len(&self) -> Result<usize, Error> {
+        self.lend()?.len()
+    }
+
+    /// As [`KeyedHandle::len_in`].
+    ///
+    /// # Errors
+    /// As that, and [`Error::NoHandle`].
+    pub fn len_in(&self, keys: impl RangeBounds<K>) -> Result<usize, Error> {
+        self.lend()?.len_in(keys)
     }
 }

@@ -49,6 +49,18 @@
 //! # Ok::<(), citrus_map::Error>(())
 //! ```
 //!
+//! A [`StringMap`] has strings, or any bytes, as keys, in their order:
+//!
+//! ```
+//! use citrus_map::{Prefix, StringMap};
+//!
+//! let map = StringMap::new(10_000, 4)?;
+//! let mut handle = map.handle()?;
+//! handle.insert("user:7", 70)?;
+//! assert_eq!(handle.for_each(Prefix("user:"), |_, age| assert_eq!(*age, 70))?, 1);
+//! # Ok::<(), citrus_map::Error>(())
+//! ```
+//!
 //! Each has a pool of up to 1,024 handles. Each thread takes a [`Handle`] or a [`MapHandle`] and makes its calls with that; the handle goes back
 //! to the pool when it is dropped. Or it calls by the index itself, which lends it a handle for the call: see [`Index::lend`].
 //!
@@ -103,12 +115,17 @@ mod library;
 mod lists;
 mod map;
 mod map_lists;
+mod map_ranges;
 mod node;
 mod pool;
+mod ranges;
 mod rest;
+#[cfg(test)]
+mod schedule;
 mod sections;
 #[cfg(test)]
 mod spent;
+mod strings;
 mod turns;
 mod waits;
 
@@ -119,8 +136,11 @@ pub use index::{Builder, Index, KeyedIndex, Waiter};
 pub use key::Key;
 pub use lanes::{Lanes, LANES};
 pub use lent::Lent;
-pub use lists::{Page, Range};
+pub use lists::Page;
 pub use map::{Guard, KeyedMap, KeyedMapHandle, Map, MapHandle, Refused, MOST_RETIRED};
+pub use map_ranges::MapRange;
+pub use ranges::Range;
+pub use strings::{Change, Prefix, StringGuard, StringMap, StringMapHandle, StringRange};
 pub use waits::{Cookie, GracePeriod, Tidied};
 
 /// The greatest number of pairs that an index can be made for.

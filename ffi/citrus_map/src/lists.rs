@@ -1,13 +1,8 @@
 use crate::handle::{ends, KeyedHandle};
 use crate::library::*;
+use crate::ranges::PAGE_ROOM;
 use crate::{Error, Key, MAX_ROOM};
-use std::fmt;
-use std::iter::FusedIterator;
 use std::ops::RangeBounds;
-use std::vec::IntoIter;
-
-/// So many pairs a page of a [`Range`] has room for.
-pub(crate) const PAGE_ROOM: usize = 1_000;
 
 /// Pairs of a key range as they were at one moment, and where to go on.
 #[derive(Clone, Debug, PartialEq, Eq)]
@@ -19,13 +14,13 @@ pub struct Page<K = u64> {
 }
 
 /// A page as the library tells it, by words.
-struct RawPage {
-    pairs: Vec<RawPair>,
-    next: Option<u64>,
+pub(crate) struct RawPage {
+    pub(crate) pairs: Vec<RawPair>,
+    pub(crate) next: Option<u64>,
 }
 
 /// A pair by its key.
-fn decoded<K: Key>(RawPair { key, value }: RawPair) -> (K, u64) {
+pub(crate) fn decoded<K: Key>(RawPair { key, value }: RawPair) -> (K, u64) {
     (K::decode(key), value)
 }
 
@@ -35,51 +30,7 @@ fn page_of<K: Key>(RawPage { pairs, next }: RawPage) -> Page<K> {
 }
 
 /// A list of the library, up or down.
-type RawList = unsafe extern "C" fn(*mut RawHandle, u64, u64, *mut RawPair, usize, *mut usize, *mut u64) -> i32;
-
-/// The pairs of a key range, page by page: see [`KeyedHandle::range`].
-#[must_use = "it lists nothing before it is asked for a pair"]
-pub struct Range<'h, K = u64> {
-    handle: &'h KeyedHandle<K>,
-    /// The rest of the page.
-    pairs: IntoIter<RawPair>,
-    /// The first key of the next page, where there is one.
-    low: Option<u64>,
-    high: u64,
-}
-
-impl<K: Key> Iterator for Range<'_, K> {
-    type Item = Result<(K, u64), Error>;
-
-    fn next(&mut self) -> Option<Self::Item> {
-        loop {
-            if let Some(pair) = self.pairs.next() {
-                return Some(Ok(decoded(pair)));
-            }
-            match self.handle.list_words(self.low.take()?, self.high, PAGE_ROOM) {
-                Ok(page) => (self.pairs, self.low) = (page.pairs.into_iter(), page.next),
-                Err(error) => return Some(Err(error)),
-            }
-        }
-    }
-}
-
-impl<K> fmt::Debug for Range<'_, K> {
-    fn fmt(&self, text: &mut fmt::Formatter<'_>) -> fmt::Result {
-        text.debug_struct("Range").finish_non_exhaustive()
-    }
-}
-
-impl<K: Key> FusedIterator for Range<'_, K> {}
-
-impl<'h, K: Key> IntoIterator for &'h KeyedHandle<K> {
-    type Item = Result<(K, u64), Error>;
-    type IntoIter = Range<'h, K>;
-
-    fn into_iter(self) -> Range<'h, K> {
-        self.iter()
-    }
-}
+pub(crate) type RawList = unsafe extern "C" fn(*mut RawHandle, u64, u64, *mut RawPair, usize, *mut usize, *mut u64) -> i32;
 
 /// Lists of key ranges, and the first and the last pair. They take no lock of a node and need no tickets.
 ///
@@ -269,12 +220,30 @@ impl<K: Key> KeyedHandle<K> {
         self.pop(|| self.first_at(0))
     }
 
+    /// Takes out the pair with the least key at or above this one, as [`pop_first`](KeyedHandle::pop_first).
+    ///
+    /// # Errors
+    /// As [`remove`](KeyedHandle::remove).
+    pub fn pop_first_from(&self, low: K) -> Result<Option<(K, u64)>, Error> {
+        let low = low.encode();
+        self.pop(|| self.first_at(low))
+    }
+
     /// Takes out the pair with the greatest key, as [`pop_first`](KeyedHandle::pop_first) that with the least.
     ///
     /// # Errors
     /// As [`remove`](KeyedHandle::remove).
     pub fn pop_last(&self) -> Result<Option<(K, u64)>, Error> {
         self.pop(|| self.last_at(u64::MAX))
+    }
+
+    /// Takes out the pair with the greatest key at or below this one, as [`pop_first`](KeyedHandle::pop_first).
+    ///
+    /// # Errors
+    /// As [`remove`](KeyedHandle::remove).
+    pub fn pop_last_to(&self, high: K) -> Result<Option<(K, u64)>, Error> {
+        let high = high.encode();
+        self.pop(|| self.last_at(high))
     }
 
     /// Another thread may take the pair that was found first.
@@ -301,14 +270,13 @@ impl<K: Key> KeyedHandle<K> {
     /// # Errors
     /// [`Error::NoMemory`].
     pub fn len(&self) -> Result<usize, Error> {
-        self.iter().try_fold(0, |count, pair| pair.map(|_| count + 1))
+        self.len_in(..)
     }
 
-    /// The pairs with keys in the range, keys ascending, page by page: it lists up to 1,000 pairs, as they were at one moment, and goes on
-    /// at the next key when they are through. So what other threads change behind the page isn't seen, and what they change before it is.
-    /// The handle may make other calls meanwhile. An error is the last item.
+    /// How many pairs have keys in the range, counted as by [`len`](KeyedHandle::len).
     ///
-    /// [`list`](KeyedHandle::list) tells the pairs of one moment.
+    /// # Errors
+    /// [`Error::NoMemory`].
     ///
     /// ```
     /// let index = citrus_map::Index::new(100, 1)?;
@@ -316,25 +284,11 @@ impl<K: Key> KeyedHandle<K> {
     /// for key in 0..10 {
     ///     handle.insert(key, key * key)?;
     /// }
-    /// let mut sum = 0;
-    /// for pair in handle.range(3..) {
-    ///     let (_, value) = pair?;
-    ///     sum += value;
-    /// }
-    /// assert_eq!(sum, 280);
+    /// assert_eq!((handle.len()?, handle.len_in(3..7)?), (10, 4));
     /// # Ok::<(), citrus_map::Error>(())
     /// ```
-    pub fn range(&self, keys: impl RangeBounds<K>) -> Range<'_, K> {
-        let (low, high) = match ends(&keys) {
-            Some((low, high)) => (Some(low), high),
-            None => (None, 0),
-        };
-        Range { handle: self, pairs: Vec::new().into_iter(), low, high }
-    }
-
-    /// All pairs, as [`range`](KeyedHandle::range).
-    pub fn iter(&self) -> Range<'_, K> {
-        self.range(..)
+    pub fn len_in(&self, keys: impl RangeBounds<K>) -> Result<usize, Error> {
+        self.range(keys).try_fold(0, |count, pair| pair.map(|_| count + 1))
     }
 
     /// Takes out each pair with a key in the range that `stays(key, value)` says no to, and tells how many. It goes page by page, as
@@ -386,7 +340,7 @@ impl<K: Key> KeyedHandle<K> {
     }
 
     /// What this list of the library tells.
-    fn listed(&self, list: RawList, low: u64, high: u64, room: usize) -> Result<RawPage, Error> {
+    pub(crate) fn listed(&self, list: RawList, low: u64, high: u64, room: usize) -> Result<RawPage, Error> {
         let mut pairs: Vec<RawPair> = Vec::new();
         pairs.try_reserve_exact(room).map_err(|_| Error::NoMemory)?;
         let (mut count, mut next) = (0, 0);

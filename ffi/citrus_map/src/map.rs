@@ -341,8 +341,17 @@ impl<K: Key, V: Send + Sync> KeyedMapHandle<K, V> {
     }
 
     /// The same of a key by its word.
-    pub(crate) fn get_word(&mut self, key: u64) -> Result<Option<Guard<'_, V, K>>, Error> {
-        let section = match self.handle.hold(key)? {
+    fn get_word(&mut self, key: u64) -> Result<Option<Guard<'_, V, K>>, Error> {
+        let mut asked = Some(key);
+        self.get_first_of(|_| Ok(asked.take()))
+    }
+
+    /// The same of the first of the words that `next` tells that is present when it comes to it.
+    pub(crate) fn get_first_of(
+        &mut self,
+        next: impl FnMut(&Handle) -> Result<Option<u64>, Error>,
+    ) -> Result<Option<Guard<'_, V, K>>, Error> {
+        let section = match self.handle.hold_first_of(next)? {
             Some(section) => section,
             None => return Ok(None),
         };

@@ -1,7 +1,7 @@
 //! Calls of a [`KeyedMapHandle`] for ranges of keys, and for the first and the last one.
 
 use crate::handle::{ends, Handle};
-use crate::lists::PAGE_ROOM;
+use crate::ranges::PAGE_ROOM;
 use crate::{Error, Key, KeyedMapHandle};
 use std::ops::RangeBounds;
 
@@ -24,6 +24,22 @@ impl<K: Key, V: Send + Sync> KeyedMapHandle<K, V> {
             Some((low, high)) => Ok(self.handle.list(low..=high)?.into_iter().map(|(word, _)| K::decode(word)).collect()),
             None => Ok(Vec::new()),
         }
+    }
+
+    /// The least key of all.
+    ///
+    /// # Errors
+    /// [`Error::Lost`] alone.
+    pub fn first_key(&self) -> Result<Option<K>, Error> {
+        Ok(self.handle.first()?.map(|(word, _)| K::decode(word)))
+    }
+
+    /// The greatest key of all.
+    ///
+    /// # Errors
+    /// [`Error::Lost`] alone.
+    pub fn last_key(&self) -> Result<Option<K>, Error> {
+        Ok(self.handle.last()?.map(|(word, _)| K::decode(word)))
     }
 
     /// The least key at or above this one.
@@ -62,12 +78,30 @@ impl<K: Key, V: Send + Sync> KeyedMapHandle<K, V> {
         self.pop(Handle::first)
     }
 
+    /// Takes out the pair with the least key at or above this one, as [`pop_first`](KeyedMapHandle::pop_first).
+    ///
+    /// # Errors
+    /// As [`remove`](KeyedMapHandle::remove).
+    pub fn pop_first_from(&mut self, low: K) -> Result<Option<(K, V)>, Error> {
+        let low = low.encode();
+        self.pop(|handle| handle.first_from(low))
+    }
+
     /// Takes out the pair with the greatest key, as [`pop_first`](KeyedMapHandle::pop_first) that with the least.
     ///
     /// # Errors
     /// As [`remove`](KeyedMapHandle::remove).
     pub fn pop_last(&mut self) -> Result<Option<(K, V)>, Error> {
         self.pop(Handle::last)
+    }
+
+    /// Takes out the pair with the greatest key at or below this one, as [`pop_first`](KeyedMapHandle::pop_first).
+    ///
+    /// # Errors
+    /// As [`remove`](KeyedMapHandle::remove).
+    pub fn pop_last_to(&mut self, high: K) -> Result<Option<(K, V)>, Error> {
+        let high = high.encode();
+        self.pop(|handle| handle.last_to(high))
     }
 
     /// Another thread may take the pair that was found first.
@@ -94,6 +128,17 @@ impl<K: Key, V: Send + Sync> KeyedMapHandle<K, V> {
     /// [`Error::NoMemory`].
     pub fn len(&self) -> Result<usize, Error> {
         self.handle.len()
+    }
+
+    /// How many pairs have keys in the range, counted as by [`len`](KeyedMapHandle::len).
+    ///
+    /// # Errors
+    /// [`Error::NoMemory`].
+    pub fn len_in(&self, keys: impl RangeBounds<K>) -> Result<usize, Error> {
+        match ends(&keys) {
+            Some((low, high)) => self.handle.len_in(low..=high),
+            None => Ok(0),
+        }
     }
 
     /// [Retires](KeyedMapHandle::retire) each pair with a key in the range that `stays(key, value)` says no to, and tells how many. It goes page

@@ -1,5 +1,5 @@
 //! What the values of a [`Map`](crate::Map) stand in, and who has them: [`NewNode`] before the index has it, [`Found`] while it is read in a
-//! section, [`TakenOut`] once the index doesn't have it any more. All raw pointers of the crate to values are here.
+//! section, [`TakenOut`] once the index doesn't have it any more. All raw pointers of the crate to these are here.
 
 use std::ptr::NonNull;
 

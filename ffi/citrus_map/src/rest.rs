@@ -16,6 +16,8 @@ pub(crate) struct Rests(u32);
 impl Rests {
     /// Lets others go on.
     pub(crate) fn rest(&mut self) {
+        #[cfg(test)]
+        crate::schedule::go_over();
         if self.0 < YIELDS {
             self.0 += 1;
             thread::yield_now();

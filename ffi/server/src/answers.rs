@@ -5,142 +5,100 @@ use crate::commands::{Command, Range, Scan};
 use crate::deadlines::{Case, Only, Options, Stay, Unit};
 use crate::entries::Content;
 use crate::glob::matches;
-use crate::replies::Replies;
-use crate::store::{Step, Store, Uncounted};
+use crate::keys::Key;
+use crate::pairs::{Pairs, Scanned};
+use crate::replies::{Replies, Tells};
+use crate::store::{Step, Uncounted};
 use citrus_map::Error;
 
-/// A `FLUSHALL` that isn't through. It goes in pieces, so that the worker's other connections have their turns.
-#[derive(Debug)]
-pub struct Clearing {
-    /// The pairs below this key have been taken out.
-    from: u64,
-}
-
-impl Clearing {
-    /// Takes out some more pairs. Where none are left it adds the reply, and else it tells what to go on with.
-    pub fn go_on(self, store: &Store, replies: &mut Replies) -> Option<Clearing> {
-        match store.clear_some(self.from) {
-            Ok(Some(from)) => return Some(Clearing { from }),
-            Ok(None) => replies.status("OK"),
-            Err(error) => replies.error(&words_of(error)),
-        }
-        None
-    }
-}
-
-/// Does what the command says, and adds one reply; or, where it takes longer, tells what to go on with, which adds the reply at its end. What
-/// is about the connection, or about the server as a whole, has its answer elsewhere, and none here.
-pub fn answer(command: &Command, store: &Store, replies: &mut Replies) -> Option<Clearing> {
-    if matches!(command, Command::Clear) {
-        return Some(Clearing { from: 0 });
-    }
-    if let Err(error) = try_answer(command, store, replies) {
-        replies.error(&words_of(error));
-    }
-    None
-}
-
-/// What the index says where it has no answer, as clients tell errors apart.
-fn words_of(error: Error) -> String {
-    let kind = match error {
-        Error::Full => "FULL",
-        Error::Moved => "TRYAGAIN",
-        Error::NoMemory => "OOM",
-        Error::Spent => "SPENT",
-        Error::Lost => "LOST",
-        _ => "ERR",
-    };
-    format!("{kind} {error}")
-}
-
 /// Adds one reply, or where it fails none.
-fn try_answer(command: &Command, store: &Store, replies: &mut Replies) -> Result<(), Error> {
+pub(crate) fn try_answer<'k, K: Key<'k>>(command: &Command<'k, K>, store: &impl Pairs<'k, K>, replies: &mut Replies) -> Result<(), Error> {
     match command {
-        Command::Get(key) => replies.number_or_nil(store.get(*key)?),
-        Command::GetMany(keys) => tell_many(&store.get_many(keys)?, replies),
-        Command::GetAndExpire { key, stay } => replies.number_or_nil(get_and_expire(*key, *stay, store)?),
+        Command::Get(key) => replies.or_nil(store.get(*key)?),
+        Command::GetMany(keys) => tell_many(store.get_many(keys)?, replies),
+        Command::GetAndExpire { key, stay } => replies.or_nil(get_and_expire(*key, *stay, store)?),
         Command::Set { key, value } => {
-            store.set(*key, Content::staying(*value))?;
+            store.set(*key, Content::staying(value.clone()))?;
             replies.status("OK");
         }
-        Command::SetAs { key, value, options } => set_as(*key, *value, *options, store, replies)?,
+        Command::SetAs { key, value, options } => set_as(*key, value, *options, store, replies)?,
         Command::SetMany(pairs) => {
-            pairs.iter().try_for_each(|(key, value)| store.set(*key, Content::staying(*value)).map(|_| ()))?;
+            pairs.iter().try_for_each(|(key, value)| store.set(*key, Content::staying(value.clone())).map(|_| ()))?;
             replies.status("OK");
         }
-        Command::SetIfAbsent { key, value } => replies.count(store.set_if_absent(*key, *value)?.into()),
-        Command::Exchange { key, value } => replies.number_or_nil(store.set(*key, Content::staying(*value))?),
+        Command::SetIfAbsent { key, value } => replies.count(store.set_if_absent(*key, value.clone())?.into()),
+        Command::Exchange { key, value } => replies.or_nil(store.set(*key, Content::staying(value.clone()))?),
         Command::Add { key, amount } => add(*key, *amount, store, replies)?,
         Command::Expire { key, deadline, only } => replies.count(expire(*key, *deadline, *only, store)?.into()),
         Command::Persist(key) => replies.count(persist(*key, store)?.into()),
         Command::Deadline { key, unit, is_from_now } => replies.signed(time_of(store.content(*key)?, *unit, *is_from_now)),
         Command::Delete(keys) => replies.count(how_many(keys, |key| Ok(store.remove(key)?.is_some()))?),
-        Command::Take(key) => replies.number_or_nil(store.remove(*key)?),
+        Command::Take(key) => replies.or_nil(store.remove(*key)?),
         Command::Exist(keys) => replies.count(store.get_many(keys)?.into_iter().flatten().count() as u64),
         Command::Type(key) => replies.status(if store.get(*key)?.is_some() { "string" } else { "none" }),
         Command::Range(range) => tell(*range, store, replies)?,
         Command::Scan(scan) => tell_keys(*scan, store, replies)?,
-        Command::Size => replies.count(store.size()),
+        Command::Size => replies.count(store.facts().size),
         others => answer_without_store(others, replies),
     }
     Ok(())
 }
 
 /// Adds one reply to a command that asks for no pair.
-fn answer_without_store(command: &Command, replies: &mut Replies) {
+fn answer_without_store<'k, K: Key<'k>>(command: &Command<'k, K>, replies: &mut Replies) {
     match command {
         Command::Ping(None) => replies.status("PONG"),
         Command::Ping(Some(word)) | Command::Echo(word) => replies.bulk(word),
         Command::Commands => replies.array(0),
         Command::Setting(name) => setting(name, replies),
-        Command::Quit => replies.status("OK"),
         _ => {}
     }
 }
 
-fn tell_many(values: &[Option<u64>], replies: &mut Replies) {
+fn tell_many(values: Vec<Option<impl Tells>>, replies: &mut Replies) {
     replies.array(values.len());
-    values.iter().for_each(|value| replies.number_or_nil(*value));
+    values.into_iter().for_each(|value| replies.or_nil(value));
 }
 
 /// Where the value isn't put in that is told by a nil, in whose place the value before is told if that was asked for.
-fn set_as(key: u64, value: u64, options: Options, store: &Store, replies: &mut Replies) -> Result<(), Error> {
+fn set_as<'k, K: Key<'k>>(
+    key: K,
+    value: &K::Value,
+    options: Options,
+    store: &impl Pairs<'k, K>,
+    replies: &mut Replies,
+) -> Result<(), Error> {
+    let new = |deadline| Content { value: value.clone(), deadline };
     let (before, is_put) = match options {
-        Options { case: Case::Any, stay: Stay::Until(deadline), .. } => {
-            (store.set(key, Content { value, deadline: Some(deadline) })?, true)
-        }
-        Options { case: Case::Any, stay: Stay::ForGood, .. } => (store.set(key, Content::staying(value))?, true),
-        Options { case, stay, .. } => store.change(key, |found| {
-            let before = found.map(|content| content.value);
-            match (case, found) {
-                (Case::Absent, Some(_)) | (Case::Present, None) => (Step::Leave, (before, false)),
-                _ => {
-                    let deadline = stay.deadline(found.and_then(|content| content.deadline));
-                    (Step::Put(Content { value, deadline }), (before, true))
-                }
-            }
+        Options { case: Case::Any, stay: Stay::Until(deadline), .. } => (store.set(key, new(Some(deadline)))?, true),
+        Options { case: Case::Any, stay: Stay::ForGood, .. } => (store.set(key, new(None))?, true),
+        Options { case, stay, .. } => store.change(key, |found| match (case, found) {
+            (Case::Absent, Some(before)) => (Step::Leave, (Some(before.value), false)),
+            (Case::Present, None) => (Step::Leave, (None, false)),
+            (_, Some(before)) => (Step::Put(new(stay.deadline(before.deadline))), (Some(before.value), true)),
+            (_, None) => (Step::Put(new(stay.deadline(None))), (None, true)),
         })?,
     };
     match (options.tells_before, is_put) {
-        (true, _) => replies.number_or_nil(before),
+        (true, _) => replies.or_nil(before),
         (false, true) => replies.status("OK"),
         (false, false) => replies.nil(),
     }
     Ok(())
 }
 
-fn get_and_expire(key: u64, stay: Stay, store: &Store) -> Result<Option<u64>, Error> {
+fn get_and_expire<'k, K: Key<'k>>(key: K, stay: Stay, store: &impl Pairs<'k, K>) -> Result<Option<K::Value>, Error> {
     store.change(key, |found| match found {
         None => (Step::Leave, None),
-        Some(before) => {
-            let after = Content { deadline: stay.deadline(before.deadline), ..before };
-            (if after == before { Step::Leave } else { Step::Put(after) }, Some(before.value))
+        Some(Content { value, deadline }) => {
+            let after = stay.deadline(deadline);
+            (if after == deadline { Step::Leave } else { Step::Put(Content { value: value.clone(), deadline: after }) }, Some(value))
         }
     })
 }
 
 /// Whether the key got the deadline, or was taken out since that is over.
-fn expire(key: u64, deadline: u64, only: Only, store: &Store) -> Result<bool, Error> {
+fn expire<'k, K: Key<'k>>(key: K, deadline: u64, only: Only, store: &impl Pairs<'k, K>) -> Result<bool, Error> {
     store.change(key, |found| match found {
         Some(content) if only.allows(content.deadline, deadline) => {
             let is_over = deadline <= clock::now();
@@ -152,7 +110,7 @@ fn expire(key: u64, deadline: u64, only: Only, store: &Store) -> Result<bool, Er
 }
 
 /// Whether the key had a deadline, and has none from now on.
-fn persist(key: u64, store: &Store) -> Result<bool, Error> {
+fn persist<'k, K: Key<'k>>(key: K, store: &impl Pairs<'k, K>) -> Result<bool, Error> {
     store.change(key, |found| match found {
         Some(Content { value, deadline: Some(_) }) => (Step::Put(Content::staying(value)), true),
         _ => (Step::Leave, false),
@@ -160,7 +118,7 @@ fn persist(key: u64, store: &Store) -> Result<bool, Error> {
 }
 
 /// When a key with this goes: -1 where it stays, and -2 where it isn't there. Seconds are rounded, as in Redis.
-fn time_of(content: Option<Content>, unit: Unit, is_from_now: bool) -> i64 {
+fn time_of<V>(content: Option<Content<V>>, unit: Unit, is_from_now: bool) -> i64 {
     let deadline = match content {
         None => return -2,
         Some(Content { deadline: None, .. }) => return -1,
@@ -174,14 +132,14 @@ fn time_of(content: Option<Content>, unit: Unit, is_from_now: bool) -> i64 {
     i64::try_from(time).unwrap_or(i64::MAX)
 }
 
-fn how_many(keys: &[u64], mut is_so: impl FnMut(u64) -> Result<bool, Error>) -> Result<u64, Error> {
+fn how_many<K: Copy>(keys: &[K], mut is_so: impl FnMut(K) -> Result<bool, Error>) -> Result<u64, Error> {
     keys.iter().try_fold(0, |count, key| Ok(count + u64::from(is_so(*key)?)))
 }
 
 /// A number that can't be counted is told in Redis's words.
-fn add(key: u64, amount: i64, store: &Store, replies: &mut Replies) -> Result<(), Error> {
+fn add<'k, K: Key<'k>>(key: K, amount: i64, store: &impl Pairs<'k, K>, replies: &mut Replies) -> Result<(), Error> {
     match store.add(key, amount) {
-        Ok(sum) => replies.count(sum),
+        Ok(sum) => replies.signed(sum),
         Err(Uncounted::TooLarge) => replies.error("ERR value is not an integer or out of range"),
         Err(Uncounted::Overflow) => replies.error("ERR increment or decrement would overflow"),
         Err(Uncounted::Index(error)) => return Err(error),
@@ -190,27 +148,32 @@ fn add(key: u64, amount: i64, store: &Store, replies: &mut Replies) -> Result<()
 }
 
 /// The key to go on from, and the pairs.
-fn tell(Range { low, high, limit, is_down }: Range, store: &Store, replies: &mut Replies) -> Result<(), Error> {
-    let page = if is_down { store.page_down(low, high, limit)? } else { store.page(low, high, limit)? };
+fn tell<'k, K: Key<'k>>(range: Range<K::End>, store: &impl Pairs<'k, K>, replies: &mut Replies) -> Result<(), Error> {
+    let page = store.page(range)?;
     replies.array(2);
-    replies.number_or_nil(page.next);
+    replies.or_nil(page.next);
     replies.array(2 * page.pairs.len());
     for (key, value) in page.pairs {
-        replies.number(key);
-        replies.number(value);
+        key.tell(replies);
+        value.tell(replies);
     }
     Ok(())
 }
 
 /// The cursor to go on from, 0 where all was told, and the keys of this part that are asked for.
-fn tell_keys(scan: Scan, store: &Store, replies: &mut Replies) -> Result<(), Error> {
-    let page = store.page(scan.from, u64::MAX, scan.count)?;
-    let looks_so = |key: &u64| scan.are_strings && scan.pattern.map_or(true, |pattern| matches(pattern, key.to_string().as_bytes()));
-    let keys: Vec<u64> = page.pairs.iter().map(|(key, _)| *key).filter(looks_so).collect();
+fn tell_keys<'k, K: Key<'k>>(scan: Scan, store: &impl Pairs<'k, K>, replies: &mut Replies) -> Result<(), Error> {
+    let Scanned { mut keys, next } = match store.scan(scan.from, scan.count, scan.pattern)? {
+        Some(told) => told,
+        None => {
+            replies.error("ERR invalid cursor");
+            return Ok(());
+        }
+    };
+    keys.retain(|key| scan.are_strings && scan.pattern.map_or(true, |pattern| matches(pattern, key)));
     replies.array(2);
-    replies.number(page.next.unwrap_or(0));
+    replies.number(next);
     replies.array(keys.len());
-    keys.into_iter().for_each(|key| replies.number(key));
+    keys.iter().for_each(|key| replies.bulk(key));
     Ok(())
 }
 
@@ -229,24 +192,27 @@ fn setting(name: &[u8], replies: &mut Replies) {
 #[cfg(test)]
 mod tests {
     use super::*;
+    use crate::census::Census;
+    use crate::pairs::{Keeper, Outcome};
     use crate::parser::Parser;
+    use crate::session::Session;
+    use crate::store::Store;
+    use crate::strings::StringStore;
     use citrus_map::Index;
 
     /// What the server says to a line.
-    fn told(store: &Store, line: &str) -> String {
+    fn told(store: &impl Keeper, line: &str) -> String {
         let mut parser = Parser::default();
         parser.feed(line.as_bytes());
         parser.feed(b"\n");
         let request = parser.request().expect("the tests have good lines alone").expect("a line is a request");
         let mut replies = Replies::default();
-        match Command::of(request) {
-            Ok(command) => {
-                let mut rest = answer(&command, store, &mut replies);
-                while let Some(clearing) = rest {
-                    rest = clearing.go_on(store, &mut replies);
-                }
+        let outcome = store.do_request(request, &mut Session::new(1), &Census::new(1, 0, 10), &mut replies);
+        if let Outcome::Clearing(clearing) = outcome {
+            let mut rest = Some(clearing);
+            while let Some(clearing) = rest {
+                rest = clearing.go_on(store, &mut replies);
             }
-            Err(refusal) => replies.error(&refusal.to_string()),
         }
         String::from_utf8_lossy(replies.unsent()).replace("\r\n", " ")
     }
@@ -256,11 +222,21 @@ mod tests {
         Store::all(&index).expect("an empty index is counted").remove(0)
     }
 
+    fn new_strings(pairs: u32) -> StringStore {
+        StringStore::all(Index::builder(pairs, 1)).expect("there is memory").remove(0)
+    }
+
+    /// What is answered the same whether keys are numbers or any bytes.
     fn check(pairs: u32, session: &[(&str, &str)]) {
+        check_numbers(pairs, session);
+        check_at(&new_strings(pairs), session);
+    }
+
+    fn check_numbers(pairs: u32, session: &[(&str, &str)]) {
         check_at(&new_store(pairs, 1), session);
     }
 
-    fn check_at(store: &Store, session: &[(&str, &str)]) {
+    fn check_at(store: &impl Keeper, session: &[(&str, &str)]) {
         for (line, reply) in session {
             assert_eq!(told(store, line).trim_end(), *reply, "{line}");
         }
@@ -326,9 +302,13 @@ mod tests {
 
     #[test]
     fn keys_go_at_their_deadline_and_not_where_they_lost_it() {
-        let store = new_store(100, 1);
+        keys_go_at_their_deadline_in(&new_store(100, 1));
+        keys_go_at_their_deadline_in(&new_strings(100));
+    }
+
+    fn keys_go_at_their_deadline_in(store: &impl Keeper) {
         check_at(
-            &store,
+            store,
             &[
                 ("SET 1 10 EXAT 99999999999", "+OK"),
                 ("EXPIRETIME 1", ":99999999999"),
@@ -367,15 +347,19 @@ mod tests {
                 ("DBSIZE", ":0"),
             ],
         );
-        assert_eq!(store.deadlines(), (0, 0));
+        assert_eq!((store.facts().size, store.facts().deadlines), (0, (0, 0)));
     }
 
     #[test]
     fn the_time_that_is_left_is_told() {
-        let store = new_store(100, 1);
+        the_time_that_is_left_in(&new_store(100, 1));
+        the_time_that_is_left_in(&new_strings(100));
+    }
+
+    fn the_time_that_is_left_in(store: &impl Keeper) {
         for line in ["SET 1 10 EX 100", "SET 1 10 PX 100000", "SETEX 1 100 10", "PSETEX 1 100000 10", "EXPIRE 1 100", "PEXPIRE 1 100000"] {
-            assert!(["+OK", ":1"].contains(&told(&store, line).trim_end()), "{line}");
-            let left = |line| told(&store, line).trim_end().trim_start_matches(':').parse::<u64>().expect("it is a number");
+            assert!(["+OK", ":1"].contains(&told(store, line).trim_end()), "{line}");
+            let left = |line| told(store, line).trim_end().trim_start_matches(':').parse::<u64>().expect("it is a number");
             assert!((50..=100).contains(&left("TTL 1")), "{line}");
             assert!((50_000..=100_000).contains(&left("PTTL 1")), "{line}");
         }
@@ -407,19 +391,22 @@ mod tests {
             ("SCAN 0", "*2 $1 0 *0"),
         ];
         for (line, reply) in lines {
-            let store = new_store(100, 1);
-            check_at(&store, &[("SET 5 50 PXAT 1", "+OK"), (line, reply)]);
-            let is_there = store.get(5) != Ok(None);
-            check_at(
-                &store,
-                &[("TTL 5", if is_there { ":-1" } else { ":-2" }), ("DEL 5", if is_there { ":1" } else { ":0" }), ("DBSIZE", ":0")],
-            );
+            behind_a_deadline(&new_store(100, 1), line, reply);
+            behind_a_deadline(&new_strings(100), line, reply);
         }
+    }
+
+    fn behind_a_deadline(store: &impl Keeper, line: &str, reply: &str) {
+        check_at(store, &[("SET 5 50 PXAT 1", "+OK"), (line, reply)]);
+        let is_there = told(store, "GET 5").trim_end() != "$-1";
+        let (time, deleted) = if is_there { (":-1", ":1") } else { (":-2", ":0") };
+        check_at(store, &[("TTL 5", time), ("DEL 5", deleted), ("DBSIZE", ":0")]);
+        assert_eq!(store.facts().deadlines.0, 0, "{line}");
     }
 
     #[test]
     fn keys_are_told_by_a_cursor() {
-        check(
+        check_numbers(
             100,
             &[
                 ("SCAN 0", "*2 $1 0 *0"),
@@ -435,7 +422,7 @@ mod tests {
 
     #[test]
     fn values_as_great_as_names_are_values() {
-        check(
+        check_numbers(
             100,
             &[
                 ("SET 5 18446744073709551615", "+OK"),
@@ -455,7 +442,7 @@ mod tests {
     fn counters_stay_from_0_to_the_greatest_integer_of_the_protocol() {
         const OVERFLOW: &str = "-ERR increment or decrement would overflow";
         const NO_INTEGER: &str = "-ERR value is not an integer or out of range";
-        check(
+        check_numbers(
             100,
             &[
                 ("INCR 1", ":1"),
@@ -482,16 +469,20 @@ mod tests {
 
     #[test]
     fn all_pairs_can_be_taken_out() {
-        let store = new_store(2_000, 1);
+        all_pairs_can_be_taken_out_of(&new_store(2_000, 1));
+        all_pairs_can_be_taken_out_of(&new_strings(4_000));
+    }
+
+    fn all_pairs_can_be_taken_out_of(store: &impl Keeper) {
         for key in 0..2_000u64 {
-            assert_eq!(told(&store, &format!("SET {} {key}", key.reverse_bits())).trim_end(), "+OK");
+            assert_eq!(told(store, &format!("SET {} {key}", key.reverse_bits())).trim_end(), "+OK");
         }
-        check_at(&store, &[("DBSIZE", ":2000"), ("FLUSHALL", "+OK"), ("DBSIZE", ":0"), ("RANGE - +", "*2 $-1 *0"), ("flushall", "+OK")]);
+        check_at(store, &[("DBSIZE", ":2000"), ("FLUSHALL", "+OK"), ("DBSIZE", ":0"), ("RANGE - +", "*2 $-1 *0"), ("flushall", "+OK")]);
     }
 
     #[test]
     fn ranges_go_down_too() {
-        check(
+        check_numbers(
             100,
             &[
                 ("REVRANGE + -", "*2 $-1 *0"),
@@ -509,7 +500,7 @@ mod tests {
 
     #[test]
     fn ranges_come_in_pages() {
-        check(
+        check_numbers(
             100,
             &[
                 ("RANGE - +", "*2 $-1 *0"),
@@ -560,7 +551,7 @@ mod tests {
     #[test]
     fn a_value_comes_back_as_it_was_sent() {
         const ZEROS: &str = "-ERR value is not in its one spelling, which has no zeros before its digits";
-        check(
+        check_numbers(
             100,
             &[
                 ("SET 5 0", "+OK"),
@@ -584,7 +575,7 @@ mod tests {
     fn bad_requests_change_nothing() {
         const NO_KEY: &str = "-ERR key is not an integer or out of range";
         const NO_NUMBER: &str = "-ERR value is not an integer or out of range";
-        check(
+        check_numbers(
             100,
             &[
                 ("SET 5 50", "+OK"),
@@ -687,6 +678,96 @@ mod tests {
                 ("hOsT:", ""),
                 ("HOST", "-ERR unknown command 'HOST', with args beginning with:"),
             ],
+        );
+    }
+
+    #[test]
+    fn keys_and_values_may_be_any_bytes() {
+        const ZEROS: &str = "$7 a\0b\u{1}\r c";
+        check_at(
+            &new_strings(100),
+            &[
+                (r#"SET "a b" "\x00\"""#, "+OK"),
+                (r#"GET "a b""#, "$2 \0\""),
+                (r#"SET "" """#, "+OK"),
+                (r#"GET """#, "$0"),
+                (r#"SET user:7 "a\x00b\x01\r c""#, "+OK"),
+                ("GET user:7", ZEROS),
+                ("GET user:07", "$-1"),
+                ("MSET 05 1 5 2", "+OK"),
+                ("MGET 05 5 005", "*3 $1 1 $1 2 $-1"),
+                ("EXISTS user:7 \"\" \"a b\" a", ":3"),
+                ("GETSET user:7 070", "$7 a\0b\u{1}\r c"),
+                ("GETDEL user:7", "$3 070"),
+                ("DBSIZE", ":4"),
+            ],
+        );
+    }
+
+    #[test]
+    fn integers_among_strings_are_counted_as_in_redis() {
+        const OVERFLOW: &str = "-ERR increment or decrement would overflow";
+        const NO_INTEGER: &str = "-ERR value is not an integer or out of range";
+        check_at(
+            &new_strings(100),
+            &[
+                ("DECR n", ":-1"),
+                ("DECRBY n 9", ":-10"),
+                ("GET n", "$3 -10"),
+                ("INCRBY n 9223372036854775807", ":9223372036854775797"),
+                ("INCRBY n 11", OVERFLOW),
+                ("SET n -9223372036854775808 EXAT 99999999999", "+OK"),
+                ("DECR n", OVERFLOW),
+                ("INCR n", ":-9223372036854775807"),
+                ("EXPIRETIME n", ":99999999999"),
+                ("SET n 007", "+OK"),
+                ("INCR n", NO_INTEGER),
+                ("SET n seven", "+OK"),
+                ("INCR n", NO_INTEGER),
+                ("GET n", "$5 seven"),
+            ],
+        );
+    }
+
+    #[test]
+    fn strings_are_listed_in_their_order() {
+        const BAD_END: &str = "-ERR min or max not valid string range item";
+        check_at(
+            &new_strings(100),
+            &[
+                ("RANGE - +", "*2 $-1 *0"),
+                ("MSET b 2 user:8 8 user:7 7 a 1 users 9", "+OK"),
+                ("RANGE - + LIMIT 2", "*2 $6 user:7 *4 $1 a $1 1 $1 b $1 2"),
+                ("RANGE [user:7 + LIMIT 1", "*2 $6 user:8 *2 $6 user:7 $1 7"),
+                ("RANGE (user:7 (users", "*2 $-1 *2 $6 user:8 $1 8"),
+                ("REVRANGE + - LIMIT 2", "*2 $6 user:7 *4 $5 users $1 9 $6 user:8 $1 8"),
+                ("REVRANGE [b -", "*2 $-1 *4 $1 b $1 2 $1 a $1 1"),
+                ("RANGE + -", "*2 $-1 *0"),
+                ("RANGE [b [a", "*2 $-1 *0"),
+                ("RANGE a +", BAD_END),
+                ("RANGE - \"\"", BAD_END),
+                ("SCAN 0 COUNT 2", "*2 $1 1 *2 $1 a $1 b"),
+                ("SCAN 1 COUNT 2", "*2 $1 2 *2 $6 user:7 $6 user:8"),
+                ("SCAN 2 COUNT 2", "*2 $1 0 *1 $5 users"),
+                ("SCAN 1 COUNT 2", "*2 $1 3 *2 $6 user:7 $6 user:8"),
+                ("SCAN 99", "-ERR invalid cursor"),
+                ("SCAN 0 MATCH user:* COUNT 2", "*2 $1 4 *2 $6 user:7 $6 user:8"),
+                ("SCAN 4 MATCH user:*", "*2 $1 0 *0"),
+                ("SCAN 0 MATCH ?", "*2 $1 0 *2 $1 a $1 b"),
+                ("SCAN 0 MATCH user:7", "*2 $1 0 *1 $6 user:7"),
+                ("SCAN 0 TYPE list", "*2 $1 0 *0"),
+            ],
+        );
+    }
+
+    #[test]
+    fn a_full_map_of_strings_refuses_new_keys_alone() {
+        let store = new_strings(2);
+        let refused = (0..1_000).find(|key| told(&store, &format!("SET {key} 0")).trim_end() == "-FULL the index is full");
+        let refused = refused.expect("it is full at some time");
+        check_at(
+            &store,
+            &[("DBSIZE", &format!(":{refused}")), ("SET 1 1", "+OK"), ("GET 1", "$1 1"), ("SETNX new 1", "-FULL the index is full")],
         );
     }
 }

@@ -1,10 +1,11 @@
 //! From requests to commands.
 
 use crate::deadlines::{Only, Options, Stay, Time, Unit};
+use crate::keys::{Key, Value};
 use crate::parser::Request;
 use crate::refusals::{shown, Refusal};
 use crate::session_commands::{self, SessionCommand};
-use crate::words::{amount, integer, key_of, keys_of, negative, value_of, Name};
+use crate::words::{amount, integer, negative, value_of, Name};
 
 /// So many pairs a `RANGE` or `REVRANGE` tells where it has no limit.
 pub const DEFAULT_LIMIT: usize = 1_000;
@@ -17,11 +18,11 @@ const DEFAULT_COUNT: usize = 10;
 
 /// Which pairs a `RANGE` or `REVRANGE` tells.
 #[derive(Clone, Copy, Debug, PartialEq, Eq)]
-pub struct Range {
+pub struct Range<E> {
     /// The least key.
-    pub low: u64,
+    pub low: E,
     /// The greatest key.
-    pub high: u64,
+    pub high: E,
     /// So many pairs at most, and one at least.
     pub limit: usize,
     /// Whether it begins at the greatest key.
@@ -31,7 +32,7 @@ pub struct Range {
 /// Which keys a `SCAN` tells.
 #[derive(Clone, Copy, Debug, PartialEq, Eq)]
 pub struct Scan<'a> {
-    /// The least key.
+    /// Where it goes on, or 0.
     pub from: u64,
     /// So many keys are looked at, at most, and one at least.
     pub count: usize,
@@ -41,93 +42,93 @@ pub struct Scan<'a> {
     pub are_strings: bool,
 }
 
-/// What a request asks for. Keys and values are numbers by then, and times are moments.
+/// What a request asks for. Keys and values are what they are to be by then, and times are moments.
 #[derive(Clone, Debug, PartialEq, Eq)]
-pub enum Command<'a> {
+pub enum Command<'a, K: Key<'a>> {
     /// A sign of life, with this answer or `PONG`.
     Ping(Option<&'a [u8]>),
     /// The same word back.
     Echo(&'a [u8]),
     /// The key's value.
-    Get(u64),
+    Get(K),
     /// The values of these keys, one after another.
-    GetMany(Vec<u64>),
+    GetMany(Vec<K>),
     /// The key's value, and what becomes of its deadline.
     GetAndExpire {
         /// The key.
-        key: u64,
+        key: K,
         /// How long it stays from now on.
         stay: Stay,
     },
     /// The key gets this value, and no deadline.
     Set {
         /// The key.
-        key: u64,
+        key: K,
         /// Its value from now on.
-        value: u64,
+        value: K::Value,
     },
     /// The same with options.
     SetAs {
         /// The key.
-        key: u64,
+        key: K,
         /// Its value from now on, in the cases that the options say.
-        value: u64,
+        value: K::Value,
         /// In which cases, how long it stays, and what is told.
         options: Options,
     },
     /// Each of these keys gets the value beside it, one after another.
-    SetMany(Vec<(u64, u64)>),
+    SetMany(Vec<(K, K::Value)>),
     /// The key gets this value, and the one before is told.
     Exchange {
         /// The key.
-        key: u64,
+        key: K,
         /// Its value from now on.
-        value: u64,
+        value: K::Value,
     },
     /// So much is added to the key's value, from 0 where it is absent.
     Add {
         /// The key.
-        key: u64,
+        key: K,
         /// What is added, or taken away where it is below 0.
         amount: i64,
     },
     /// The key gets this value where it is absent.
     SetIfAbsent {
         /// The key.
-        key: u64,
+        key: K,
         /// Its value, where it has none.
-        value: u64,
+        value: K::Value,
     },
     /// The key gets this deadline in these cases. One that is over takes it out.
     Expire {
         /// The key.
-        key: u64,
+        key: K,
         /// When it goes, in milliseconds since the begin of 1970.
         deadline: u64,
         /// In which cases.
         only: Only,
     },
     /// The key stays for good from now on.
-    Persist(u64),
+    Persist(K),
     /// When the key goes.
     Deadline {
         /// The key.
-        key: u64,
+        key: K,
         /// In what it is told.
         unit: Unit,
         /// Whether it is told how long that is from now on.
         is_from_now: bool,
     },
     /// These keys are taken out, one after another.
-    Delete(Vec<u64>),
+    Delete(Vec<K>),
     /// The key is taken out, and its value told.
-    Take(u64),
+    Take(K),
     /// How many of these keys are present, one after another.
-    Exist(Vec<u64>),
+    Exist(Vec<K>),
     /// The type of the key's value.
-    Type(u64),
+    Type(K),
     /// Pairs in the order of their keys.
-    Range(Range),
+    Range(Range<K::End>),
     /// Keys in their order.
     Scan(Scan<'a>),
     /// How many pairs there are.
@@ -150,21 +151,19 @@ pub enum Command<'a> {
 }
 
 /// The pairs of an `MSET`, where their number is even and there is one.
-fn pairs(words: &[&[u8]]) -> Result<Vec<(u64, u64)>, Refusal> {
+fn pairs<'a, K: Key<'a>>(words: &[&'a [u8]]) -> Result<Vec<(K, K::Value)>, Refusal> {
     if words.is_empty() || words.len() % 2 != 0 {
         return Err(Refusal::Arguments { name: "mset".into() });
     }
-    words.chunks_exact(2).map(|pair| Ok((key_of(pair[0])?, value_of(pair[1])?))).collect()
+    words.chunks_exact(2).map(|pair| Ok((K::of(pair[0])?, Value::of(pair[1])?))).collect()
 }
 
-impl Range {
-    /// The ends are numbers, or `-` for the least key and `+` for the greatest.
-    fn of(low: &[u8], high: &[u8], rest: &[&[u8]], is_down: bool) -> Result<Range, Refusal> {
-        let end = |word: &[u8]| match word {
-            b"-" => Ok(0),
-            b"+" => Ok(u64::MAX),
-            _ => key_of(word),
-        };
+fn keys<'a, K: Key<'a>>(words: &[&'a [u8]]) -> Result<Vec<K>, Refusal> {
+    words.iter().map(|word| K::of(word)).collect()
+}
+
+impl<E> Range<E> {
+    fn of<'a, K: Key<'a, End = E>>(low: &'a [u8], high: &'a [u8], rest: &[&[u8]], is_down: bool) -> Result<Range<E>, Refusal> {
         let most = if is_down { MAX_LIMIT_DOWN } else { MAX_LIMIT };
         let limit = match rest {
             [] => DEFAULT_LIMIT,
@@ -173,7 +172,7 @@ impl Range {
             }
             _ => return Err(Refusal::Syntax),
         };
-        Ok(Range { low: end(low)?, high: end(high)?, limit, is_down })
+        Ok(Range { low: K::end_of(low)?, high: K::end_of(high)?, limit, is_down })
     }
 }
 
@@ -197,8 +196,8 @@ impl<'a> Scan<'a> {
 }
 
 /// A `SET` of these words. Where no option is among them it is the plain one.
-fn set<'a>(key: &[u8], value: &[u8], options: &[&[u8]]) -> Result<Command<'a>, Refusal> {
-    let (key, value) = (key_of(key)?, value_of(value)?);
+fn set<'a, K: Key<'a>>(key: &'a [u8], value: &[u8], options: &[&[u8]]) -> Result<Command<'a, K>, Refusal> {
+    let (key, value) = (K::of(key)?, K::Value::of(value)?);
     match options {
         [] => Ok(Command::Set { key, value }),
         _ => Ok(Command::SetAs { key, value, options: Options::of_set(options)? }),
@@ -206,24 +205,30 @@ fn set<'a>(key: &[u8], value: &[u8], options: &[&[u8]]) -> Result<Command<'a>, R
 }
 
 /// A `SETEX` or `PSETEX`.
-fn set_for<'a>(key: &[u8], time: &[u8], value: &[u8], unit: Unit, name: &'static str) -> Result<Command<'a>, Refusal> {
-    let (key, value) = (key_of(key)?, value_of(value)?);
+fn set_for<'a, K: Key<'a>>(key: &'a [u8], time: &[u8], value: &[u8], unit: Unit, name: &'static str) -> Result<Command<'a, K>, Refusal> {
+    let (key, value) = (K::of(key)?, K::Value::of(value)?);
     let stay = Stay::Until(Time::After(unit).of_value(time, name)?);
     Ok(Command::SetAs { key, value, options: Options { stay, ..Options::default() } })
 }
 
 /// An `EXPIRE` or one of the three like it.
-fn expire<'a>(key: &[u8], time: &[u8], options: &[&[u8]], kind: Time, name: &'static str) -> Result<Command<'a>, Refusal> {
+fn expire<'a, K: Key<'a>>(
+    key: &'a [u8],
+    time: &[u8],
+    options: &[&[u8]],
+    kind: Time,
+    name: &'static str,
+) -> Result<Command<'a, K>, Refusal> {
     let only = Only::of(options)?;
-    Ok(Command::Expire { deadline: kind.of_key(time, name)?, key: key_of(key)?, only })
+    Ok(Command::Expire { deadline: kind.of_key(time, name)?, key: K::of(key)?, only })
 }
 
-impl<'a> Command<'a> {
+impl<'a, K: Key<'a>> Command<'a, K> {
     /// The command that a request is.
     ///
     /// # Errors
     /// Where it is none. Nothing was done then.
-    pub fn of(request: &'a Request) -> Result<Command<'a>, Refusal> {
+    pub fn of(request: &'a Request) -> Result<Command<'a, K>, Refusal> {
         let words = request.words();
         let (name, arguments) = words.split_first().ok_or(Refusal::Syntax)?;
         let name = Name::of(name);
@@ -236,7 +241,7 @@ impl<'a> Command<'a> {
 
     /// The commands that aren't asked for all the time.
     #[inline(never)]
-    fn of_others(name: &[u8], arguments: &[&'a [u8]]) -> Result<Option<Command<'a>>, Refusal> {
+    fn of_others(name: &[u8], arguments: &[&'a [u8]]) -> Result<Option<Command<'a, K>>, Refusal> {
         if let Some(command) = Command::with_deadlines(name, arguments)? {
             return Ok(Some(command));
         }
@@ -247,32 +252,32 @@ impl<'a> Command<'a> {
     }
 
     /// A command on pairs. The name is in capitals.
-    fn with_keys(name: &[u8], arguments: &[&[u8]]) -> Result<Option<Command<'a>>, Refusal> {
+    fn with_keys(name: &[u8], arguments: &[&'a [u8]]) -> Result<Option<Command<'a, K>>, Refusal> {
         Ok(Some(match (name, arguments) {
-            (b"GET", [key]) => Command::Get(key_of(key)?),
-            (b"MGET", [_, ..]) => Command::GetMany(keys_of(arguments)?),
+            (b"GET", [key]) => Command::Get(K::of(key)?),
+            (b"MGET", [_, ..]) => Command::GetMany(keys(arguments)?),
             (b"SET", [key, value, options @ ..]) => set(key, value, options)?,
             (b"MSET", _) => Command::SetMany(pairs(arguments)?),
-            (b"SETNX", [key, value]) => Command::SetIfAbsent { key: key_of(key)?, value: value_of(value)? },
-            (b"GETSET", [key, value]) => Command::Exchange { key: key_of(key)?, value: value_of(value)? },
-            (b"INCR", [key]) => Command::Add { key: key_of(key)?, amount: 1 },
-            (b"DECR", [key]) => Command::Add { key: key_of(key)?, amount: -1 },
-            (b"INCRBY", [key, more]) => Command::Add { key: key_of(key)?, amount: amount(more)? },
-            (b"DECRBY", [key, less]) => Command::Add { key: key_of(key)?, amount: negative(less)? },
-            (b"DEL" | b"UNLINK", [_, ..]) => Command::Delete(keys_of(arguments)?),
-            (b"GETDEL", [key]) => Command::Take(key_of(key)?),
-            (b"EXISTS", [_, ..]) => Command::Exist(keys_of(arguments)?),
-            (b"TYPE", [key]) => Command::Type(key_of(key)?),
-            (b"RANGE", [low, high, rest @ ..]) => Command::Range(Range::of(low, high, rest, false)?),
-            (b"REVRANGE", [high, low, rest @ ..]) => Command::Range(Range::of(low, high, rest, true)?),
+            (b"SETNX", [key, value]) => Command::SetIfAbsent { key: K::of(key)?, value: Value::of(value)? },
+            (b"GETSET", [key, value]) => Command::Exchange { key: K::of(key)?, value: Value::of(value)? },
+            (b"INCR", [key]) => Command::Add { key: K::of(key)?, amount: 1 },
+            (b"DECR", [key]) => Command::Add { key: K::of(key)?, amount: -1 },
+            (b"INCRBY", [key, more]) => Command::Add { key: K::of(key)?, amount: amount(more)? },
+            (b"DECRBY", [key, less]) => Command::Add { key: K::of(key)?, amount: negative(less)? },
+            (b"DEL" | b"UNLINK", [_, ..]) => Command::Delete(keys(arguments)?),
+            (b"GETDEL", [key]) => Command::Take(K::of(key)?),
+            (b"EXISTS", [_, ..]) => Command::Exist(keys(arguments)?),
+            (b"TYPE", [key]) => Command::Type(K::of(key)?),
+            (b"RANGE", [low, high, rest @ ..]) => Command::Range(Range::of::<K>(low, high, rest, false)?),
+            (b"REVRANGE", [high, low, rest @ ..]) => Command::Range(Range::of::<K>(low, high, rest, true)?),
             _ => return Ok(None),
         }))
     }
 
     /// A command on the deadline of a key.
-    fn with_deadlines(name: &[u8], arguments: &[&[u8]]) -> Result<Option<Command<'a>>, Refusal> {
+    fn with_deadlines(name: &[u8], arguments: &[&'a [u8]]) -> Result<Option<Command<'a, K>>, Refusal> {
         use Unit::{Milliseconds, Seconds};
-        let told = |key: &[u8], unit, is_from_now| Ok(Command::Deadline { key: key_of(key)?, unit, is_from_now });
+        let told = |key: &'a [u8], unit, is_from_now| Ok(Command::Deadline { key: K::of(key)?, unit, is_from_now });
         Ok(Some(match (name, arguments) {
             (b"EXPIRE", [key, time, rest @ ..]) => expire(key, time, rest, Time::After(Seconds), "expire")?,
             (b"PEXPIRE", [key, time, rest @ ..]) => expire(key, time, rest, Time::After(Milliseconds), "pexpire")?,
@@ -282,8 +287,8 @@ impl<'a> Command<'a> {
             (b"PTTL", [key]) => told(key, Milliseconds, true)?,
             (b"EXPIRETIME", [key]) => told(key, Seconds, false)?,
             (b"PEXPIRETIME", [key]) => told(key, Milliseconds, false)?,
-            (b"PERSIST", [key]) => Command::Persist(key_of(key)?),
-            (b"GETEX", [key, options @ ..]) => Command::GetAndExpire { key: key_of(key)?, stay: Stay::of_get(options)? },
+            (b"PERSIST", [key]) => Command::Persist(K::of(key)?),
+            (b"GETEX", [key, options @ ..]) => Command::GetAndExpire { key: K::of(key)?, stay: Stay::of_get(options)? },
             (b"SETEX", [key, time, value]) => set_for(key, time, value, Seconds, "setex")?,
             (b"PSETEX", [key, time, value]) => set_for(key, time, value, Milliseconds, "psetex")?,
             _ => return Ok(None),
@@ -291,7 +296,7 @@ impl<'a> Command<'a> {
     }
 
     /// A command on the index as a whole, or on the server.
-    fn without_keys(name: &[u8], arguments: &[&'a [u8]]) -> Result<Option<Command<'a>>, Refusal> {
+    fn without_keys(name: &[u8], arguments: &[&'a [u8]]) -> Result<Option<Command<'a, K>>, Refusal> {
         Ok(Some(match (name, arguments) {
             (b"DBSIZE", []) => Command::Size,
             (b"FLUSHALL" | b"FLUSHDB", []) => Command::Clear,

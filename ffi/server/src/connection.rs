@@ -1,13 +1,10 @@
 //! One connection: what came by it, what is to be sent, and what it waits for. No call here waits.
 
-use crate::answers::{answer, Clearing};
 use crate::census::Census;
-use crate::commands::Command;
-use crate::info;
+use crate::pairs::{Clearing, Keeper, Outcome};
 use crate::parser::Parser;
 use crate::replies::Replies;
 use crate::session::Session;
-use crate::store::Store;
 use std::io::{self, ErrorKind, Read, Write};
 use std::net::{Shutdown, SocketAddr, TcpStream};
 use std::time::{Duration, Instant};
@@ -63,11 +60,11 @@ enum Stop {
 
 /// A connection with a client, on a socket that waits for nothing.
 #[derive(Debug)]
-pub(crate) struct Connection {
+pub(crate) struct Connection<P> {
     stream: TcpStream,
     parser: Parser,
     replies: Replies,
-    clearing: Option<Clearing>,
+    clearing: Option<Clearing<P>>,
     session: Session,
     phase: Phase,
     /// Whether requests that came whole may be unanswered.
@@ -76,9 +73,9 @@ pub(crate) struct Connection {
     alive: Instant,
 }
 
-impl Connection {
+impl<P> Connection<P> {
     /// The number is this connection's alone.
-    pub(crate) fn new(stream: TcpStream, number: u64, now: Instant) -> Connection {
+    pub(crate) fn new(stream: TcpStream, number: u64, now: Instant) -> Connection<P> {
         let (parser, replies, session) = (Parser::default(), Replies::default(), Session::new(number));
         Connection { stream, parser, replies, clearing: None, session, phase: Phase::Open, is_behind: false, alive: now }
     }
@@ -105,7 +102,7 @@ impl Connection {
     ///
     /// # Errors
     /// Where the client is gone.
-    pub(crate) fn turn(&mut self, store: &Store, census: &Census, chunk: &mut [u8], now: Instant) -> io::Result<Next> {
+    pub(crate) fn turn(&mut self, store: &impl Keeper<Place = P>, census: &Census, chunk: &mut [u8], now: Instant) -> io::Result<Next> {
         if !self.send(now)? {
             return Ok(Next::Write);
         }
@@ -187,7 +184,7 @@ impl Connection {
     }
 
     /// Answers requests that came whole, until there are as many replies as are sent at once. Each request has its reply, in their order.
-    fn answer_some(&mut self, store: &Store, census: &Census, now: Instant) -> Stop {
+    fn answer_some(&mut self, store: &impl Keeper<Place = P>, census: &Census, now: Instant) -> Stop {
         while self.replies.unsent().len() < CHUNK {
             if let Some(clearing) = self.clearing.take() {
                 self.alive = now;
@@ -196,8 +193,8 @@ impl Connection {
                     return Stop::Turn;
                 }
             }
-            let command = match self.parser.request() {
-                Ok(Some(request)) => Command::of(request),
+            let request = match self.parser.request() {
+                Ok(Some(request)) => request,
                 Ok(None) => return Stop::Bytes,
                 Err(broken) => {
                     self.replies.error(&format!("ERR {broken}"));
@@ -205,18 +202,11 @@ impl Connection {
                 }
             };
             self.alive = now;
-            let (session, replies) = (&mut self.session, &mut self.replies);
-            match command {
-                Ok(Command::Http) => return Stop::Http,
-                Ok(Command::Quit) => {
-                    replies.status("OK");
-                    return Stop::Farewell;
-                }
-                Ok(Command::Session(command)) => session.answer(&command, replies),
-                Ok(_) if session.is_in_transaction() => replies.status("QUEUED"),
-                Ok(Command::Info(names)) => info::tell(&names, store, census, replies),
-                Ok(command) => self.clearing = answer(&command, store, replies),
-                Err(refusal) => replies.error(&refusal.to_string()),
+            match store.do_request(request, &mut self.session, census, &mut self.replies) {
+                Outcome::Replied => {}
+                Outcome::Clearing(clearing) => self.clearing = Some(clearing),
+                Outcome::Farewell => return Stop::Farewell,
+                Outcome::Http => return Stop::Http,
             }
         }
         Stop::Turn

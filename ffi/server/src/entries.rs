@@ -30,16 +30,16 @@ const NO_LIST: u64 = u64::MAX;
 
 /// What a key has.
 #[derive(Clone, Copy, Debug, PartialEq, Eq)]
-pub struct Content {
+pub struct Content<V = u64> {
     /// Its value.
-    pub value: u64,
+    pub value: V,
     /// The moment at which it goes, in milliseconds since the begin of 1970, if it is to go. From 1 to 2^63 - 1.
     pub deadline: Option<u64>,
 }
 
-impl Content {
+impl<V> Content<V> {
     /// A value that stays.
-    pub fn staying(value: u64) -> Content {
+    pub fn staying(value: V) -> Content<V> {
         Content { value, deadline: None }
     }
 

@@ -29,6 +29,12 @@ pub(crate) fn matches(pattern: &[u8], text: &[u8]) -> bool {
     }
 }
 
+/// The first signs of a pattern that are meant themselves: each text that is as it says begins with them.
+pub(crate) fn literal_prefix(pattern: &[u8]) -> &[u8] {
+    let end = pattern.iter().position(|sign| b"*?[\\".contains(sign));
+    &pattern[..end.unwrap_or(pattern.len())]
+}
+
 /// The length of the pattern's first part, where that is one sign and the byte is one.
 fn one(pattern: &[u8], byte: u8) -> Option<usize> {
     match *pattern {
@@ -72,6 +78,14 @@ fn among(class: &[u8], byte: u8) -> Option<usize> {
 #[cfg(test)]
 mod tests {
     use super::*;
+
+    #[test]
+    fn what_matches_begins_as_the_pattern_does() {
+        let patterns = [("user:*", "user:"), ("a?", "a"), ("a[bc]", "a"), ("a\\*b", "a"), ("*", ""), ("", ""), ("abc", "abc")];
+        for (pattern, prefix) in patterns {
+            assert_eq!(literal_prefix(pattern.as_bytes()), prefix.as_bytes(), "{pattern}");
+        }
+    }
 
     #[test]
     fn patterns_are_as_in_redis() {

@@ -1,8 +1,8 @@
 //! What the server tells of itself: `INFO`, in Redis's form.
 
 use crate::census::Census;
+use crate::pairs::Facts;
 use crate::replies::Replies;
-use crate::store::Store;
 use std::fmt::Write;
 use std::fs;
 
@@ -12,13 +12,13 @@ const SECONDS_OF_A_DAY: u64 = 86_400;
 const PAGE: u64 = 4_096;
 
 /// A section: its name, and what writes its lines.
-type Section = (&'static str, fn(&mut String, &Store, &Census));
+type Section = (&'static str, fn(&mut String, &Facts, &Census));
 
 const SECTIONS: [Section; 6] =
     [("Server", server), ("Clients", clients), ("Memory", memory), ("Stats", stats), ("Index", index), ("Keyspace", keyspace)];
 
 /// Adds one reply with the sections of these names, or with all where none is named.
-pub(crate) fn tell(names: &[&[u8]], store: &Store, census: &Census, replies: &mut Replies) {
+pub(crate) fn tell(names: &[&[u8]], facts: &Facts, census: &Census, replies: &mut Replies) {
     let is_all = |name: &&[u8]| [&b"all"[..], b"default", b"everything"].iter().any(|all| name.eq_ignore_ascii_case(all));
     let is_asked = |title: &str| names.is_empty() || names.iter().any(|name| is_all(name) || name.eq_ignore_ascii_case(title.as_bytes()));
     let mut text = String::new();
@@ -27,7 +27,7 @@ pub(crate) fn tell(names: &[&[u8]], store: &Store, census: &Census, replies: &mu
             text.push_str("\r\n");
         }
         line(&mut text, format_args!("# {title}"));
-        lines(&mut text, store, census);
+        lines(&mut text, facts, census);
     }
     replies.text(&text);
 }
@@ -38,7 +38,7 @@ fn line(text: &mut String, words: std::fmt::Arguments) {
     text.push_str("\r\n");
 }
 
-fn server(text: &mut String, _: &Store, census: &Census) {
+fn server(text: &mut String, _: &Facts, census: &Census) {
     let age = census.age().as_secs();
     line(text, format_args!("redis_version:{LIKE_REDIS}"));
     line(text, format_args!("citrus_version:{}", env!("CARGO_PKG_VERSION")));
@@ -49,13 +49,13 @@ fn server(text: &mut String, _: &Store, census: &Census) {
     line(text, format_args!("uptime_in_days:{}", age / SECONDS_OF_A_DAY));
 }
 
-fn clients(text: &mut String, _: &Store, census: &Census) {
+fn clients(text: &mut String, _: &Facts, census: &Census) {
     line(text, format_args!("connected_clients:{}", census.connections()));
     line(text, format_args!("maxclients:{}", census.most));
 }
 
 /// The memory of the process that is in the machine's, as the system tells it.
-fn memory(text: &mut String, _: &Store, _: &Census) {
+fn memory(text: &mut String, _: &Facts, _: &Census) {
     let resident = fs::read_to_string("/proc/self/statm").ok().and_then(|told| told.split_whitespace().nth(1)?.parse::<u64>().ok());
     if let Some(pages) = resident {
         line(text, format_args!("used_memory:{}", pages * PAGE));
@@ -63,17 +63,17 @@ fn memory(text: &mut String, _: &Store, _: &Census) {
     }
 }
 
-fn stats(text: &mut String, store: &Store, census: &Census) {
+fn stats(text: &mut String, facts: &Facts, census: &Census) {
     line(text, format_args!("total_connections_received:{}", census.received()));
-    line(text, format_args!("expired_keys:{}", store.deadlines().1));
+    line(text, format_args!("expired_keys:{}", facts.deadlines.1));
 }
 
 /// What the library tells by the handle of the worker that answers.
-fn index(text: &mut String, store: &Store, _: &Census) {
-    let told = store.stats();
+fn index(text: &mut String, facts: &Facts, _: &Census) {
+    let told = facts.stats;
     line(text, format_args!("slots:{}", told.slots));
     line(text, format_args!("free_slots:{}", told.free));
-    line(text, format_args!("worker:{}", store.worker()));
+    line(text, format_args!("worker:{}", facts.worker));
     line(text, format_args!("worker_waits:{}", told.waits));
     line(text, format_args!("worker_tickets:{}", told.tickets));
     line(text, format_args!("worker_kept_slots:{}", told.kept));
@@ -81,8 +81,8 @@ fn index(text: &mut String, store: &Store, _: &Census) {
 }
 
 /// Redis has no line for an empty database, and neither has this.
-fn keyspace(text: &mut String, store: &Store, _: &Census) {
-    let (size, (deadlines, _)) = (store.size(), store.deadlines());
+fn keyspace(text: &mut String, facts: &Facts, _: &Census) {
+    let (size, (deadlines, _)) = (facts.size, facts.deadlines);
     if size > 0 {
         line(text, format_args!("db0:keys={size},expires={deadlines},avg_ttl=0"));
     }
@@ -92,6 +92,8 @@ fn keyspace(text: &mut String, store: &Store, _: &Census) {
 mod tests {
     use super::*;
     use crate::entries::Content;
+    use crate::pairs::Keeper;
+    use crate::store::Store;
     use citrus_map::Index;
 
     fn told(names: &[&str], store: &Store) -> String {
@@ -100,7 +102,7 @@ mod tests {
         census.next_number();
         let mut replies = Replies::default();
         let names: Vec<&[u8]> = names.iter().map(|name| name.as_bytes()).collect();
-        tell(&names, store, &census, &mut replies);
+        tell(&names, &store.facts(), &census, &mut replies);
         String::from_utf8_lossy(replies.unsent()).into_owned()
     }
 

@@ -1,21 +1,23 @@
-//! `citrus_server [--bind ADDRESS] [--port N] [--pairs N] [--workers N] [--connections N] [--timeout SECONDS] [--waiter eer|domain|deer]
-//! [--keep N] [--salt N]`
+//! `citrus_server [--strings] [--bind ADDRESS] [--port N] [--pairs N] [--workers N] [--connections N] [--timeout SECONDS]
+//! [--waiter eer|domain|deer] [--keep N] [--salt N]`
 
-use citrus_map::{Error, Index, Waiter, LANES, MAX_HANDLES, MAX_PAIRS};
+use citrus_map::{Builder, Index, Waiter, LANES, MAX_HANDLES, MAX_PAIRS};
 use citrus_server::files;
 use citrus_server::server::{Limits, Server};
 use std::process::ExitCode;
 use std::thread::available_parallelism;
 use std::time::Duration;
 
-const USAGE: &str = "usage: citrus_server [--bind ADDRESS] [--port N] [--pairs N] [--workers N] [--connections N] [--timeout SECONDS] \
-                     [--waiter eer|domain|deer] [--keep N] [--salt N]";
+const USAGE: &str = "usage: citrus_server [--strings] [--bind ADDRESS] [--port N] [--pairs N] [--workers N] [--connections N] \
+                     [--timeout SECONDS] [--waiter eer|domain|deer] [--keep N] [--salt N]";
 /// Where the system doesn't say how many processors there are.
 const SOME_WORKERS: usize = 4;
 /// Above that the times of a worker's connections take it too long to look through.
 const MAX_CONNECTIONS: usize = 1_000_000;
 
 struct Options {
+    /// Whether keys and values are any bytes, and else numbers.
+    strings: bool,
     bind: String,
     port: u16,
     pairs: u32,
@@ -34,6 +36,7 @@ impl Default for Options {
     fn default() -> Options {
         let processors = available_parallelism().map_or(SOME_WORKERS, |count| count.get());
         Options {
+            strings: false,
             bind: "127.0.0.1".into(),
             port: 6380,
             pairs: 1_000_000,
@@ -51,6 +54,10 @@ impl Options {
     fn of(mut words: impl Iterator<Item = String>) -> Option<Options> {
         let mut options = Options::default();
         while let Some(word) = words.next() {
+            if word == "--strings" {
+                options.strings = true;
+                continue;
+            }
             let value = words.next()?;
             match word.as_str() {
                 "--bind" => options.bind = value,
@@ -83,12 +90,22 @@ impl Options {
         Ok(connections)
     }
 
-    /// Each worker has lanes, as far as there are places for them.
-    fn index(&self) -> Result<Index, Error> {
-        let lanes = self.workers.min((MAX_HANDLES - self.workers) / LANES);
-        let builder = Index::builder(self.pairs, self.workers).lanes(lanes).waiter(self.waiter);
+    fn builder(&self) -> Builder {
+        let builder = Index::builder(self.pairs, self.workers).waiter(self.waiter);
         let builder = self.keep.map_or(builder, |keep| builder.keep(keep));
-        self.salt.map_or(builder, |salt| builder.salt(salt)).build()
+        self.salt.map_or(builder, |salt| builder.salt(salt))
+    }
+
+    /// Listens. Where keys are numbers each worker has lanes, as far as there are places for them.
+    fn bind(&self, limits: Limits) -> Result<Server, String> {
+        let (address, builder) = ((self.bind.as_str(), self.port), self.builder());
+        let at = |error| format!("{}:{}: {error}", self.bind, self.port);
+        if self.strings {
+            return Server::bind_strings(address, builder, limits).map_err(at);
+        }
+        let lanes = self.workers.min((MAX_HANDLES - self.workers) / LANES);
+        let index = builder.lanes(lanes).build().map_err(|error| error.to_string())?;
+        Server::bind(address, index, limits).map_err(at)
     }
 
     /// A server whose index isn't full before it has so many pairs, and what it says of itself.
@@ -103,10 +120,8 @@ impl Options {
             return Err("--keep is 0, or 16 or more".into());
         }
         let limits = Limits { connections: self.connections()?, idle: self.idle };
-        let index = self.index().map_err(|error| error.to_string())?;
-        let at = |error| format!("{}:{}: {error}", self.bind, self.port);
-        let server = Server::bind((self.bind.as_str(), self.port), index, limits).map_err(at)?;
-        let address = server.address().map_err(at)?;
+        let server = self.bind(limits)?;
+        let address = server.address().map_err(|error| error.to_string())?;
         let Options { pairs, workers, .. } = self;
         let says =
             format!("citrus_server listens at {address}: up to {pairs} pairs and {} connections, {workers} workers", limits.connections);

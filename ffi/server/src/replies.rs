@@ -1,6 +1,32 @@
 //! From answers to the bytes of RESP2, or of RESP3 where a client asked for that.
 
 use crate::session_commands::Protocol;
+use std::sync::Arc;
+
+/// A key or a value, as a reply tells it.
+pub trait Tells {
+    /// Adds it.
+    fn tell(&self, replies: &mut Replies);
+}
+
+impl Tells for u64 {
+    #[inline]
+    fn tell(&self, replies: &mut Replies) {
+        replies.number(*self);
+    }
+}
+
+impl Tells for Arc<[u8]> {
+    fn tell(&self, replies: &mut Replies) {
+        replies.bulk(self);
+    }
+}
+
+impl Tells for Vec<u8> {
+    fn tell(&self, replies: &mut Replies) {
+        replies.bulk(self);
+    }
+}
 
 /// Replies, and how far they have been sent.
 #[derive(Debug, Default)]
@@ -64,9 +90,9 @@ impl Replies {
     }
 
     /// A key or a value that may be absent.
-    pub fn number_or_nil(&mut self, number: Option<u64>) {
-        match number {
-            Some(number) => self.number(number),
+    pub fn or_nil<T: Tells>(&mut self, told: Option<T>) {
+        match told {
+            Some(told) => told.tell(self),
             None => self.nil(),
         }
     }
@@ -166,7 +192,7 @@ mod tests {
         replies.array(3);
         replies.bulk(b"");
         replies.number(345);
-        replies.number_or_nil(None);
+        replies.or_nil(None::<u64>);
         assert_eq!(replies.unsent(), b"+OK\r\n-ERR a  b\r\n:12\r\n*3\r\n$0\r\n\r\n$3\r\n345\r\n$-1\r\n");
     }
 

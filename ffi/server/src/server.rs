@@ -1,12 +1,14 @@
 //! Connections are taken in one thread, and each is handed over to the worker that has the fewest.
 
 use crate::census::Census;
+use crate::pairs::Keeper;
 use crate::replies::Replies;
 use crate::store::Store;
+use crate::strings::StringStore;
 use crate::system::let_wait;
 use crate::warnings::Warnings;
 use crate::worker::Inbox;
-use citrus_map::Index;
+use citrus_map::{Builder, Error, Index};
 use std::io::{self, ErrorKind, Read, Write};
 use std::net::{Shutdown, SocketAddr, TcpListener, TcpStream, ToSocketAddrs};
 use std::sync::Arc;
@@ -52,15 +54,31 @@ impl Server {
     /// What the system says to the address, or to one more thread or file. Where all handles are out, and where the pairs of the index
     /// can't be counted.
     pub fn bind(address: impl ToSocketAddrs, index: Index, limits: Limits) -> io::Result<Server> {
+        Server::start(address, limits, || Store::all(&index))
+    }
+
+    /// Listens at the address, and keeps keys and values of any bytes, in a map of what the builder says, with a worker for each handle.
+    ///
+    /// # Errors
+    /// As [`bind`](Server::bind), and where the map can't be made.
+    pub fn bind_strings(address: impl ToSocketAddrs, builder: Builder, limits: Limits) -> io::Result<Server> {
+        Server::start(address, limits, || StringStore::all(builder))
+    }
+
+    fn start<S: Keeper + Send + 'static>(
+        address: impl ToSocketAddrs,
+        limits: Limits,
+        stores: impl FnOnce() -> Result<Vec<S>, Error>,
+    ) -> io::Result<Server> {
         let listener = TcpListener::bind(address)?;
         let_wait(&listener, QUEUE)?;
-        let stores = Store::all(&index).map_err(|error| io::Error::new(ErrorKind::Other, error))?;
+        let stores = stores().map_err(|error| io::Error::new(ErrorKind::Other, error))?;
         let census = Arc::new(Census::new(stores.len(), listener.local_addr()?.port(), limits.connections));
         let of_http = Arc::new(Warnings::default());
         let inboxes = stores.into_iter().map(|store| Inbox::start(store, Arc::clone(&census), limits.idle, Arc::clone(&of_http)));
         let workers = inboxes.collect::<io::Result<Vec<_>>>()?;
         if workers.is_empty() {
-            return Err(io::Error::new(ErrorKind::Other, citrus_map::Error::NoHandle));
+            return Err(io::Error::new(ErrorKind::Other, Error::NoHandle));
         }
         Ok(Server { listener, workers, census, warnings: Warnings::default() })
     }

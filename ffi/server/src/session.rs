@@ -106,7 +106,7 @@ mod tests {
             let mut parser = Parser::default();
             parser.feed(format!("{line}\n").as_bytes());
             let request = parser.request().expect("the tests have good lines alone").expect("a line is a request");
-            match Command::of(request) {
+            match Command::<u64>::of(request) {
                 Ok(Command::Session(command)) => session.answer(&command, &mut replies),
                 Ok(_) => replies.status(if session.is_in_transaction() { "kept" } else { "done" }),
                 Err(refusal) => replies.error(&refusal.to_string()),

@@ -3,10 +3,17 @@
 //! A key whose deadline is over counts as absent. Who meets it takes it out, and the worker looks for others now and then. It is taken out while
 //! the index has the name of that very entry alone, so no key that was renewed meanwhile goes with it.
 
+use crate::census::Census;
 use crate::clock;
+use crate::commands::Range;
 use crate::counts::Counts;
 use crate::entries::{is_name, Content, Entries};
-use citrus_map::{Error, Handle, Index, Lanes, Page, Stats};
+use crate::pairs::{Facts, Keeper, Outcome, Page, Pairs, Scanned};
+use crate::parser::Request;
+use crate::replies::Replies;
+use crate::requests::do_request;
+use crate::session::Session;
+use citrus_map::{Error, Handle, Index, Lanes};
 use std::cell::RefCell;
 use std::iter::from_fn;
 use std::sync::Arc;
@@ -38,11 +45,11 @@ impl From<Error> for Uncounted {
 
 /// What is done with a key that was looked at: see [`Store::change`].
 #[derive(Clone, Copy, Debug, PartialEq, Eq)]
-pub enum Step {
+pub enum Step<V = u64> {
     /// It stays as it is.
     Leave,
     /// It has this from now on.
-    Put(Content),
+    Put(Content<V>),
     /// It is taken out, if it is there.
     Remove,
 }
@@ -87,16 +94,6 @@ impl Store {
             Store { handle, lanes, entries, sizes: Arc::clone(&sizes), expired: Arc::clone(&expired), worker }
         };
         Ok(handles.into_iter().zip(entries).enumerate().map(store).collect())
-    }
-
-    /// The number of its worker: no other store of the index has the same.
-    pub fn worker(&self) -> usize {
-        self.worker
-    }
-
-    /// What the worker's handle knows of itself and of the index.
-    pub fn stats(&self) -> Stats {
-        self.handle.stats()
     }
 
     fn grew(&self, by: i64) {
@@ -305,26 +302,12 @@ impl Store {
         }
     }
 
-    /// Adds so much to the key's value, from 0 where it is absent, and tells the sum. It is one update, and the key's deadline stays.
-    ///
-    /// # Errors
-    /// Where the value or the sum isn't from 0 to 2^63 - 1, and as [`Handle::insert`].
-    pub fn add(&self, key: u64, amount: i64) -> Result<u64, Uncounted> {
-        self.change(key, |found| {
-            let before = found.unwrap_or(Content::staying(0));
-            match sum(before.value, amount) {
-                Ok(value) => (Step::Put(Content { value, ..before }), Ok(value)),
-                Err(error) => (Step::Leave, Err(error)),
-            }
-        })?
-    }
-
     /// The first pairs with keys from `low` to `high` as they were at one moment, keys ascending, and the key behind them. Those whose deadline
     /// was over when the call began are left out, so there may be fewer than the limit before that key.
     ///
     /// # Errors
     /// As [`Handle::page`].
-    pub fn page(&self, low: u64, high: u64, limit: usize) -> Result<Page, Error> {
+    pub fn page(&self, low: u64, high: u64, limit: usize) -> Result<citrus_map::Page, Error> {
         let _list = self.entries.list();
         let begin = clock::now();
         let mut page = self.handle.page(low..=high, limit)?;
@@ -341,17 +324,17 @@ impl Store {
     ///
     /// # Errors
     /// As [`Handle::last_to`].
-    pub fn page_down(&self, low: u64, high: u64, limit: usize) -> Result<Page, Error> {
+    pub fn page_down(&self, low: u64, high: u64, limit: usize) -> Result<citrus_map::Page, Error> {
         let mut pairs = Vec::new();
         let mut from = Some(high);
         while let Some((key, value)) = self.last(low, from)? {
             if pairs.len() == limit {
-                return Ok(Page { pairs, next: Some(key) });
+                return Ok(citrus_map::Page { pairs, next: Some(key) });
             }
             pairs.push((key, value));
             from = key.checked_sub(1);
         }
-        Ok(Page { pairs, next: None })
+        Ok(citrus_map::Page { pairs, next: None })
     }
 
     fn last(&self, low: u64, mut high: Option<u64>) -> Result<Option<(u64, u64)>, Error> {
@@ -407,10 +390,76 @@ impl Store {
     }
 }
 
-fn sum(value: u64, amount: i64) -> Result<u64, Uncounted> {
-    let value = i64::try_from(value).map_err(|_| Uncounted::TooLarge)?;
-    let sum = value.checked_add(amount).and_then(|sum| u64::try_from(sum).ok());
-    sum.ok_or(Uncounted::Overflow)
+impl Keeper for Store {
+    type Place = u64;
+
+    fn facts(&self) -> Facts {
+        Facts { worker: self.worker, stats: self.handle.stats(), size: self.size(), deadlines: self.deadlines() }
+    }
+
+    fn worker(&self) -> usize {
+        self.worker
+    }
+
+    fn clear_some(&self, from: u64) -> Result<Option<u64>, Error> {
+        Store::clear_some(self, from)
+    }
+
+    fn may_expire(&self) -> bool {
+        Store::may_expire(self)
+    }
+
+    fn expire_some(&self) -> Result<bool, Error> {
+        Store::expire_some(self)
+    }
+
+    fn do_request(&self, request: &Request, session: &mut Session, census: &Census, replies: &mut Replies) -> Outcome<u64> {
+        do_request::<u64, Store>(request, self, session, census, replies)
+    }
+}
+
+impl<'k> Pairs<'k, u64> for Store {
+    type Listed = u64;
+
+    fn get(&self, key: u64) -> Result<Option<u64>, Error> {
+        Store::get(self, key)
+    }
+
+    fn get_many(&self, keys: &[u64]) -> Result<Vec<Option<u64>>, Error> {
+        Store::get_many(self, keys)
+    }
+
+    fn content(&self, key: u64) -> Result<Option<Content>, Error> {
+        Store::content(self, key)
+    }
+
+    fn set(&self, key: u64, content: Content) -> Result<Option<u64>, Error> {
+        Store::set(self, key, content)
+    }
+
+    fn set_if_absent(&self, key: u64, value: u64) -> Result<bool, Error> {
+        Store::set_if_absent(self, key, value)
+    }
+
+    fn remove(&self, key: u64) -> Result<Option<u64>, Error> {
+        Store::remove(self, key)
+    }
+
+    fn change<A>(&self, key: u64, change: impl FnMut(Option<Content>) -> (Step, A)) -> Result<A, Error> {
+        Store::change(self, key, change)
+    }
+
+    fn page(&self, range: Range<u64>) -> Result<Page<u64, u64>, Error> {
+        let Range { low, high, limit, is_down } = range;
+        let page = if is_down { self.page_down(low, high, limit) } else { Store::page(self, low, high, limit) }?;
+        Ok(Page { pairs: page.pairs, next: page.next })
+    }
+
+    fn scan(&self, cursor: u64, count: usize, _: Option<&[u8]>) -> Result<Option<Scanned>, Error> {
+        let page = Store::page(self, cursor, u64::MAX, count)?;
+        let keys = page.pairs.into_iter().map(|(key, _)| key.to_string().into_bytes()).collect();
+        Ok(Some(Scanned { keys, next: page.next.unwrap_or(0) }))
+    }
 }
 
 #[cfg(test)]
@@ -437,16 +486,6 @@ mod tests {
                 assert_eq!(store.get_many(&keys), Ok(values.clone()));
             }
         }
-    }
-
-    #[test]
-    fn sums_stay_integers_of_the_protocol() {
-        assert_eq!(sum(5, -5), Ok(0));
-        assert_eq!(sum(5, -6), Err(Uncounted::Overflow));
-        assert_eq!(sum(0, i64::MIN), Err(Uncounted::Overflow));
-        assert_eq!(sum(i64::MAX as u64 - 1, 1), Ok(i64::MAX as u64));
-        assert_eq!(sum(i64::MAX as u64, 1), Err(Uncounted::Overflow));
-        assert_eq!(sum(i64::MAX as u64 + 1, -1), Err(Uncounted::TooLarge));
     }
 
     #[test]
@@ -505,6 +544,6 @@ mod tests {
             low = other.clear_some(from).expect("there is memory");
         }
         assert_eq!((one.size(), other.size()), (0, 0));
-        assert_eq!(one.page(0, u64::MAX, 1), Ok(Page { pairs: vec![], next: None }));
+        assert_eq!(one.page(0, u64::MAX, 1), Ok(citrus_map::Page { pairs: vec![], next: None }));
     }
 }

@@ -58,10 +58,6 @@ pub(crate) fn key_of(word: &[u8]) -> Result<u64, Refusal> {
     digits(word).map_or_else(|| number(word, Role::Key), Ok)
 }
 
-pub(crate) fn keys_of(words: &[&[u8]]) -> Result<Vec<u64>, Refusal> {
-    words.iter().map(|word| key_of(word)).collect()
-}
-
 #[inline]
 pub(crate) fn value_of(word: &[u8]) -> Result<u64, Refusal> {
     digits(word).map_or_else(|| number(word, Role::Value), Ok)

@@ -2,7 +2,7 @@
 
 use crate::census::Census;
 use crate::connection::{Connection, Next, CHUNK};
-use crate::store::Store;
+use crate::pairs::Keeper;
 use crate::system::{Epoll, Interest};
 use crate::warnings::Warnings;
 use std::collections::HashMap;
@@ -36,7 +36,12 @@ impl Inbox {
     ///
     /// # Errors
     /// Where there is no file or no thread for it.
-    pub(crate) fn start(store: Store, census: Arc<Census>, idle: Option<Duration>, warnings: Arc<Warnings>) -> io::Result<Inbox> {
+    pub(crate) fn start(
+        store: impl Keeper + Send + 'static,
+        census: Arc<Census>,
+        idle: Option<Duration>,
+        warnings: Arc<Warnings>,
+    ) -> io::Result<Inbox> {
         let (connections, handed_over) = channel();
         let (wake, woken) = UnixStream::pair()?;
         wake.set_nonblocking(true)?;
@@ -87,22 +92,22 @@ impl Inbox {
 }
 
 /// A connection, and what is waited for at it.
-struct Watched {
-    connection: Connection,
+struct Watched<P> {
+    connection: Connection<P>,
     interest: Interest,
 }
 
-struct Worker {
+struct Worker<S: Keeper> {
     epoll: Epoll,
     handed_over: Receiver<TcpStream>,
     woken: UnixStream,
-    connections: HashMap<u64, Watched>,
+    connections: HashMap<u64, Watched<S::Place>>,
     last_token: u64,
     /// The tokens of those that go on without anything that they wait for.
     behind: Vec<u64>,
     /// Where bytes are read to.
     chunk: Vec<u8>,
-    store: Store,
+    store: S,
     idle: Option<Duration>,
     /// When it last looked for connections that are to end.
     swept: Instant,
@@ -112,7 +117,7 @@ struct Worker {
     warnings: Arc<Warnings>,
 }
 
-impl Worker {
+impl<S: Keeper> Worker<S> {
     /// Serves until nobody can hand over connections any more.
     fn run(mut self) -> io::Result<()> {
         let mut due = Vec::new();
@@ -230,6 +235,7 @@ impl Worker {
 #[cfg(test)]
 mod tests {
     use super::*;
+    use crate::store::Store;
     use citrus_map::Index;
     use std::net::TcpListener;
 

@@ -1,7 +1,6 @@
 #!/usr/bin/env python3
-"""Asks this server and redis-server the same, and tells where an answer isn't the same: `same_as_redis.py PORT PORT_OF_REDIS`. The requests are
-those of same_as_redis.txt. Times that are left may differ by what passes between the two. Its status is 0 where all answers were the same."""
-import os
+"""Asks this server and redis-server the same, and tells where an answer isn't the same: `same_as_redis.py PORT PORT_OF_REDIS FILE..`. The requests
+are those of the files. Times that are left may differ by what passes between the two. Its status is 0 where all answers were the same."""
 import re
 import socket
 import sys
@@ -33,10 +32,11 @@ class Client:
         self.socket.close()
 
 
-def sessions():
-    with open(os.path.join(os.path.dirname(os.path.abspath(__file__)), "same_as_redis.txt"), encoding="utf-8") as file:
-        text = re.sub(r"(?m)^#.*\n", "", file.read())
-    return [part.splitlines() for part in text.strip().split("\n\n")]
+def sessions(names):
+    for name in names:
+        with open(name, encoding="utf-8") as file:
+            text = re.sub(r"(?m)^#.*\n", "", file.read())
+        yield from (part.splitlines() for part in text.strip().split("\n\n"))
 
 
 def is_same(line, ours, theirs):
@@ -47,9 +47,9 @@ def is_same(line, ours, theirs):
 
 
 def main():
-    ports = [int(word) for word in sys.argv[1:]]
+    ports = [int(word) for word in sys.argv[1:3]]
     count, different = 0, 0
-    for lines in sessions():
+    for lines in sessions(sys.argv[3:]):
         clients = [Client(port) for port in ports]
         for client in clients:
             client.ask("FLUSHALL")

@@ -9,7 +9,7 @@ ghost use Rattle.tree_handles.specs.Calls.{CausedBy, CausedReady, CausedTended, 
 ghost use Rattle.tree_handles.specs.declared.status.Status.TheVariants.{Lost};
 
 use super::{Caller, TICKETS};
-use crate::keeper::{forget_if, forget_unless_kept, is_under_way};
+use crate::keeper::{forget_if, forget_unless_kept, is_under_way, serves_next};
 use crate::spinning::{GaveUp, InTheWay};
 use crate::status::Status;
 use citrus_tree::Removed;
@@ -30,7 +30,8 @@ const TURN_TICKETS: u64 = 11;
 
 impl<W: WaitPart> Caller<W> {
     /// Takes the key's pair out, where it is present and its value is the expected one if there is one, and tells its value. Where others are in
-    /// its way it spins, or is busy; and so it is where its place has no room for what it takes out, until the keeper is over.
+    /// its way it spins, or is busy; and so it is where its place has no room for what it takes out, or no spare and no slot is free for one,
+    /// until the keeper is over.
     pub(crate) fn remove(&mut self, key: u64, expected: Option<u64>) -> Result<Removed, Status>
         ensures taken { IfOk result (λ removed. IsRemovedTended self.old key expected removed self.new) }
         ensures cause { IfErr result (λ status. CausedTended (Del key) status self.old self.new) }
@@ -102,7 +103,11 @@ impl<W: WaitPart> Caller<W> {
     {
         let table = self.shared.table();
         let waits = self.seat.waits();
-        let patience = self.spinning.for_call(self.shared.queue());
+        let again = serves_next(&self.seat, &self.keeper, &self.cookie);
+        let patience = self
+            .spinning
+            .for_call(self.shared.queue())
+            .leaving_readers(again);
         let answer = remove_by_bypass(&patience, table, &mut self.seat, &OpenGate, key, expected);
         forget_if(self.seat.waits() != waits, &mut self.keeper);
         match answer {
@@ -146,7 +151,11 @@ impl<W: WaitPart> Caller<W> {
     {
         let table = self.shared.table();
         let waits = self.seat.waits();
-        let patience = self.spinning.for_call(self.shared.queue());
+        let again = serves_next(&self.seat, &self.keeper, &self.cookie);
+        let patience = self
+            .spinning
+            .for_call(self.shared.queue())
+            .leaving_readers(again);
         let answer = remove(&patience, table, &mut self.seat, &OpenGate, key, expected);
         forget_unless_kept(&self.seat, waits, &mut self.keeper);
         match answer {

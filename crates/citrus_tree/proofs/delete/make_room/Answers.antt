@@ -2,8 +2,9 @@ use Rattle.std.proofs.Common.{◌+◌, ◌<◌, ◌≤◌, length, sym, ap, ◌�
 use Rattle.node_slots.proofs.Returns.{listed_length}
 use Rattle.node_slots.proofs.Points.{reclaim_retired}
 use Rattle.tree_points.proofs.Passing.{none_raised}
+use Rattle.std.proofs.lemmas.Result.{IfOk-weaker}
 use Rattle.citrus_tree.proofs.DeleteTries.{empty_listed, given_spare, no_spare, ready_at_once, ready_reclaimed, room_reclaimed, room_same, same_room}
-use Rattle.citrus_tree.proofs.Leavings.{none_back_same, slots_reclaimed, slots_self}
+use Rattle.citrus_tree.proofs.Leavings.{keeps_same, none_back_same, slots_reclaimed, slots_self}
 use Rattle.citrus_tree.proofs.delete.make_room.Goals as goal
 
 pub reclaim-requires-clause-outside : goal.reclaim-requires-clause-outside
@@ -96,11 +97,35 @@ pub returns-then-is_some-clause-at_once : goal.returns-then-is_some-clause-at_on
 returns-then-is_some-clause-at_once g c few some = refl
 
 pub returns-clause-at_once : goal.returns-clause-at_once
-returns-clause-at_once g c few some = absurd (some (no_spare c.spare.result c.args.seat.now.view.hands.spare c.spare.ensures
-    (sym c.is_some.ensures ∙ c.if-is_some.false)))
+returns-clause-at_once g c = IfOk-weaker c.take_spare.result _ _ (λ answer kept few some. absurd (some
+    (no_spare c.spare.result c.args.seat.now.view.hands.spare c.spare.ensures (sym c.is_some.ensures ∙ c.if-is_some.false))))
+    c.take_spare.ensures.kept
 
 pub returns-then-retired-room-clause-stays : goal.returns-then-retired-room-clause-stays
 returns-then-retired-room-clause-stays g c = inr c.in_ok-reclaim.ensures.listed
 
 pub returns-then-is_some-clause-stays : goal.returns-then-is_some-clause-stays
 returns-then-is_some-clause-stays g c = inl (none_back_same c.args.seat.now c.args.seat.now refl refl)
+
+-- where it is busy nothing was done
+
+pub returns-in-Err-clause-busy : goal.returns-in-Err-clause-busy
+returns-in-Err-clause-busy g c = keeps_same c.requires.quiet
+
+pub returns-in-Err-clause-room : goal.returns-in-Err-clause-room
+returns-in-Err-clause-room g c = room_same c.args.seat.now.view
+
+pub returns-in-Err-clause-slots : goal.returns-in-Err-clause-slots
+returns-in-Err-clause-slots g c = slots_self c.args.seat.now
+
+pub returns-in-Err-clause-kept : goal.returns-in-Err-clause-kept
+returns-in-Err-clause-kept g c = inl refl
+
+pub returns-in-Err-clause-stays : goal.returns-in-Err-clause-stays
+returns-in-Err-clause-stays g c = inl (none_back_same c.args.seat.now c.args.seat.now refl refl)
+
+pub returns-in-Err-clause-listed : goal.returns-in-Err-clause-listed
+returns-in-Err-clause-listed g c = c.requires.quiet.listed
+
+pub returns-in-Err-clause-at_once : goal.returns-in-Err-clause-at_once
+returns-in-Err-clause-at_once g c few some = refl

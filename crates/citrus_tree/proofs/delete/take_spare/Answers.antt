@@ -2,7 +2,7 @@ use Rattle.seat_table.specs.Seats.{shape_of}
 use Rattle.node_slots.specs.Taking.{Takes}
 use Rattle.node_slots.specs.declared.answers.Taken.{Taken}
 use Rattle.node_slots.proofs.Points.{none_retired_now, tries_further}
-use Rattle.citrus_tree.proofs.DeleteTries.{kept_retired, may_reclaim_spare, needs_kept, ready_kept, ready_spare, room_kept, room_spare}
+use Rattle.citrus_tree.proofs.DeleteTries.{found_none_keeps, found_none_room, kept_retired, may_reclaim_spare, needs_kept, ready_kept, ready_spare, room_kept, room_spare}
 use Rattle.std.proofs.Common.{[], ap, ◌∙◌, inl, inr, subst}
 use Rattle.core_state.specs.declared.view.View.{View}
 use Rattle.citrus_tree.proofs.Leavings.{none_back_same, slots_goes, slots_on, slots_reclaimed, slots_same, listed_on}
@@ -145,3 +145,37 @@ returns-in-Slot-clause-stays g c =
 
 pub returns-in_ok-reclaim-in-Empty-clause-stays : goal.returns-in_ok-reclaim-in-Empty-clause-stays
 returns-in_ok-reclaim-in-Empty-clause-stays g c = inr c.in_ok-reclaim-in-Empty.ensures.listed
+
+-- where it is busy the free count was asked, and nothing else is changed
+pub returns-in-Err-clause-busy : goal.returns-in-Err-clause-busy
+returns-in-Err-clause-busy g c =
+    let none = subst (λ (r : Taken). Takes
+    (shape_of g.W.WaitWords.WAY c.args.table.now) c.args.seat.now.view r c.take.new.seat.view) c.in-Empty.is c.in_ok-slot.ensures.view in
+    found_none_keeps c.requires.quiet none (tries_further _ _ _ _ _ _ c.in_ok-slot.ensures.tries) c.take.ensures.seat.1
+
+pub returns-in-Err-clause-room : goal.returns-in-Err-clause-room
+returns-in-Err-clause-room g c =
+    let none = subst (λ (r : Taken). Takes
+    (shape_of g.W.WaitWords.WAY c.args.table.now) c.args.seat.now.view r c.take.new.seat.view) c.in-Empty.is c.in_ok-slot.ensures.view in
+    found_none_room none (tries_further _ _ _ _ _ _ c.in_ok-slot.ensures.tries)
+
+pub returns-in-Err-clause-slots : goal.returns-in-Err-clause-slots
+returns-in-Err-clause-slots g c =
+    let none = subst (λ (r : Taken). Takes
+    (shape_of g.W.WaitWords.WAY c.args.table.now) c.args.seat.now.view r c.take.new.seat.view) c.in-Empty.is c.in_ok-slot.ensures.view in
+    slots_goes c.args.seat.now c.take.new.seat [] (goes_none none (tries_further _ _ _ _ _ _ c.in_ok-slot.ensures.tries)) c.take.ensures.seat.1
+
+pub returns-in-Err-clause-kept : goal.returns-in-Err-clause-kept
+returns-in-Err-clause-kept g c = inl c.take.ensures.seat.1
+
+pub returns-in-Err-clause-stays : goal.returns-in-Err-clause-stays
+returns-in-Err-clause-stays g c =
+    let none = subst (λ (r : Taken). Takes
+    (shape_of g.W.WaitWords.WAY c.args.table.now) c.args.seat.now.view r c.take.new.seat.view) c.in-Empty.is c.in_ok-slot.ensures.view in
+    inl (none_back_same c.args.seat.now c.take.new.seat (ap retired_marks none.rest) c.take.ensures.seat.1)
+
+pub returns-in-Err-clause-listed : goal.returns-in-Err-clause-listed
+returns-in-Err-clause-listed g c = listed_on c.args.seat.now c.take.new.seat c.take.ensures.seat.1
+    (none_retired_now (subst (λ (r : Taken). Takes
+    (shape_of g.W.WaitWords.WAY c.args.table.now) c.args.seat.now.view r c.take.new.seat.view) c.in-Empty.is
+    c.in_ok-slot.ensures.view)) c.requires.quiet.listed

@@ -24,7 +24,7 @@ returns-then-slots-eq0-clause-gives g c =
     let left = ap (λ (z : CookieAt). z.slots) c.give_some.ensures.cookie in (
       c.most_to_give-most.result,
       c.give_some.result,
-      c.most_to_give-most.ensures,
+      c.most_to_give-most.ensures.most,
       c.give_some.ensures.many,
       c.give_some.ensures.back,
       inl (sym left ∙ sym c.slots.ensures ∙ c.if-slots-eq0.true, refl),
@@ -46,7 +46,7 @@ returns-clause-gives g c =
     let left = ap (λ (z : CookieAt). z.slots) c.give_some.ensures.cookie in (
       c.most_to_give-most.result,
       c.give_some.result,
-      c.most_to_give-most.ensures,
+      c.most_to_give-most.ensures.most,
       c.give_some.ensures.many,
       c.give_some.ensures.back,
       inr (

@@ -1,9 +1,19 @@
-use Rattle.std.proofs.Common.{rules, arith}
+use Rattle.std.proofs.Common.{◌∙◌, ap, rules, arith}
+use Rattle.std_alloc.specs.Arc.{arc_value}
+use Rattle.seat_table.specs.Seats.{shape_of}
+use Rattle.tree_handles.specs.Callers.{CallerAt}
+use Rattle.tree_handles.proofs.Keepers.{user_earlier}
 use Rattle.tree_handles.proofs.Cookies.{cookies_after, keeper_after, keeps_keeper}
 use Rattle.citrus_tree.specs.Going.{KeepsSeat}
 use Rattle.citrus_tree.proofs.Leavings.{keeps_more}
 use Rattle.tree_handles.specs.Calls.{lift_tickets}
 use Rattle.tree_handles.proofs.caller.Caller.lift_behind.Goals as goal
+
+pub serves_next-requires : goal.serves_next-requires
+serves_next-requires g c = record {
+  begun = λ d is. user_earlier (shape_of g.W.WaitWords.WAY (arc_value c.self.inside.shared)) c.self.inside.cookie c.self.inside.seat.view d
+      (c.self.invariant.2 (ap (λ (z : CallerAt). z.lost) c.self.view_is ∙ c.requires.may.kept)).of_user is;
+}
 
 -- the lift made as many attempts as it was paid for, at most
 pub returns-in-Ok-clause-behind : goal.returns-in-Ok-clause-behind

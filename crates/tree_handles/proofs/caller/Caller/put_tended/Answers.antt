@@ -22,18 +22,18 @@ pub put_reusing-answer-requires-clause-ready : goal.put_reusing-answer-requires-
 put_reusing-answer-requires-clause-ready g c =
     let kept = ap (λ (z : CallerAt). z.lost) c.self.view_is ∙ c.requires.may.kept in
     let quiet = subst (λ (z : CallerAt). IsQuietSeat z.seat) (sym c.self.view_is) c.requires.may.quiet in
-    subst (λ (r : Reuse). MayUse r c.self.inside.seat.view) (sym c.slot_for_insert-reuse.ensures)
+    subst (λ (r : Reuse). MayUse r c.self.inside.seat.view) (sym (subst (λ (z : CallerAt). c.args.reuse ≡ slot_for z.keeper z.seat.listed) (sym c.self.view_is) c.requires.slot))
     (may_use (shape_of g.W.WaitWords.WAY (arc_value c.self.inside.shared)) c.self.inside.keeper c.self.inside.seat.listed c.self.inside.seat refl
     (c.self.invariant.2 kept).of_caller quiet.view)
 
 -- the seat as the put left it, and what came behind
 pub returns-in-Ok-Ok-clause-called : goal.returns-in-Ok-Ok-clause-called
 returns-in-Ok-Ok-clause-called g c =
-    let keeps : KeepsSeatBy 4 (slot_for c.self.inside.keeper c.self.inside.seat.listed) c.self.inside.seat c.put_reusing-answer.new.seat = subst (λ (r : Reuse). KeepsSeatBy 4 r c.self.inside.seat c.put_reusing-answer.new.seat) c.slot_for_insert-reuse.ensures
-    (IfOk-at_ok (λ _. KeepsSeatBy 4 c.slot_for_insert-reuse.result c.self.inside.seat c.put_reusing-answer.new.seat) c.in-Ok-Ok.is c.put_reusing-answer.ensures.keeps) in
+    let keeps : KeepsSeatBy 4 (slot_for c.self.inside.keeper c.self.inside.seat.listed) c.self.inside.seat c.put_reusing-answer.new.seat = subst (λ (r : Reuse). KeepsSeatBy 4 r c.self.inside.seat c.put_reusing-answer.new.seat) (subst (λ (z : CallerAt). c.args.reuse ≡ slot_for z.keeper z.seat.listed) (sym c.self.view_is) c.requires.slot)
+    (IfOk-at_ok (λ _. KeepsSeatBy 4 c.args.reuse c.self.inside.seat c.put_reusing-answer.new.seat) c.in-Ok-Ok.is c.put_reusing-answer.ensures.keeps) in
     let how = keeps_or_serves c.self.inside.keeper c.self.inside.seat.listed c.self.inside.seat c.put_reusing-answer.new.seat refl keeps.slots in
     let least = (put_latest c.self.inside.seat c.put_reusing-answer.new.seat keeps how).waits in
-    let uses : c.in-Ok-Ok.called.told.reply ≡ New → TakesBy c.slot_for_insert-reuse.result c.self.inside.seat.view.hands.spare c.self.inside.seat c.put_reusing-answer.new.seat = search rules in record {
+    let uses : c.in-Ok-Ok.called.told.reply ≡ New → TakesBy c.args.reuse c.self.inside.seat.view.hands.spare c.self.inside.seat c.put_reusing-answer.new.seat = search rules in record {
       index = search rules;
       keeper = may_serve c.self.view_is (served_behind c.self.inside.seat (keeper_put c.self.inside.seat c.put_reusing-answer.new.seat keeps how _ _ c.forget_if.ensures.gone (λ same. c.forget_if.ensures.kept same)
           (λ same. same_waits same c.waits-waits.ensures c.waits.ensures) (shorter_by _ _ c.retired.ensures c.retired-kept.ensures)
@@ -51,7 +51,7 @@ returns-in-Ok-Ok-clause-called g c =
         uses = subst (λ (z : CallerAt). c.in-Ok-Ok.called.told.reply ≡ New → TakesBy (slot_for z.keeper z.seat.listed) z.seat.view.hands.spare z.seat
             c.put_reusing-answer.new.seat) c.self.view_is
             (subst (λ (r : Reuse). c.in-Ok-Ok.called.told.reply ≡ New → TakesBy r c.self.inside.seat.view.hands.spare c.self.inside.seat c.put_reusing-answer.new.seat)
-            c.slot_for_insert-reuse.ensures uses);
+            (subst (λ (z : CallerAt). c.args.reuse ≡ slot_for z.keeper z.seat.listed) (sym c.self.view_is) c.requires.slot) uses);
         informed = search rules;
       };
       behind = c.lift_behind.ensures.behind;
@@ -59,8 +59,8 @@ returns-in-Ok-Ok-clause-called g c =
 
 pub returns-in-Ok-Err-clause-cause : goal.returns-in-Ok-Err-clause-cause
 returns-in-Ok-Err-clause-cause g c =
-    let keeps : KeepsSeatBy 4 (slot_for c.self.inside.keeper c.self.inside.seat.listed) c.self.inside.seat c.put_reusing-answer.new.seat = subst (λ (r : Reuse). KeepsSeatBy 4 r c.self.inside.seat c.put_reusing-answer.new.seat) c.slot_for_insert-reuse.ensures
-    (IfOk-at_ok (λ _. KeepsSeatBy 4 c.slot_for_insert-reuse.result c.self.inside.seat c.put_reusing-answer.new.seat) c.in-Ok-Err.is c.put_reusing-answer.ensures.keeps) in
+    let keeps : KeepsSeatBy 4 (slot_for c.self.inside.keeper c.self.inside.seat.listed) c.self.inside.seat c.put_reusing-answer.new.seat = subst (λ (r : Reuse). KeepsSeatBy 4 r c.self.inside.seat c.put_reusing-answer.new.seat) (subst (λ (z : CallerAt). c.args.reuse ≡ slot_for z.keeper z.seat.listed) (sym c.self.view_is) c.requires.slot)
+    (IfOk-at_ok (λ _. KeepsSeatBy 4 c.args.reuse c.self.inside.seat c.put_reusing-answer.new.seat) c.in-Ok-Err.is c.put_reusing-answer.ensures.keeps) in
     let how = keeps_or_serves c.self.inside.keeper c.self.inside.seat.listed c.self.inside.seat c.put_reusing-answer.new.seat refl keeps.slots in
     let least = (put_latest c.self.inside.seat c.put_reusing-answer.new.seat keeps how).waits in record {
       index = search rules;
@@ -80,8 +80,8 @@ returns-in-Ok-Err-clause-cause g c =
 -- the cookies are good still, without the keeper where a wait was begun
 pub invariant_of-self : goal.invariant_of-self
 invariant_of-self g c =
-    let keeps : KeepsSeatBy 4 (slot_for c.self.inside.keeper c.self.inside.seat.listed) c.self.inside.seat c.put_reusing-answer.new.seat = subst (λ (r : Reuse). KeepsSeatBy 4 r c.self.inside.seat c.put_reusing-answer.new.seat) c.slot_for_insert-reuse.ensures
-    (IfOk-at_ok (λ _. KeepsSeatBy 4 c.slot_for_insert-reuse.result c.self.inside.seat c.put_reusing-answer.new.seat) c.in-Ok-Ok.is c.put_reusing-answer.ensures.keeps) in
+    let keeps : KeepsSeatBy 4 (slot_for c.self.inside.keeper c.self.inside.seat.listed) c.self.inside.seat c.put_reusing-answer.new.seat = subst (λ (r : Reuse). KeepsSeatBy 4 r c.self.inside.seat c.put_reusing-answer.new.seat) (subst (λ (z : CallerAt). c.args.reuse ≡ slot_for z.keeper z.seat.listed) (sym c.self.view_is) c.requires.slot)
+    (IfOk-at_ok (λ _. KeepsSeatBy 4 c.args.reuse c.self.inside.seat c.put_reusing-answer.new.seat) c.in-Ok-Ok.is c.put_reusing-answer.ensures.keeps) in
     let how = keeps_or_serves c.self.inside.keeper c.self.inside.seat.listed c.self.inside.seat c.put_reusing-answer.new.seat refl keeps.slots in (
       search rules,
       search rules,
@@ -93,8 +93,8 @@ invariant_of-self g c =
 
 pub invariant_of-self-in-Ok-Err : goal.invariant_of-self-in-Ok-Err
 invariant_of-self-in-Ok-Err g c =
-    let keeps : KeepsSeatBy 4 (slot_for c.self.inside.keeper c.self.inside.seat.listed) c.self.inside.seat c.put_reusing-answer.new.seat = subst (λ (r : Reuse). KeepsSeatBy 4 r c.self.inside.seat c.put_reusing-answer.new.seat) c.slot_for_insert-reuse.ensures
-    (IfOk-at_ok (λ _. KeepsSeatBy 4 c.slot_for_insert-reuse.result c.self.inside.seat c.put_reusing-answer.new.seat) c.in-Ok-Err.is c.put_reusing-answer.ensures.keeps) in
+    let keeps : KeepsSeatBy 4 (slot_for c.self.inside.keeper c.self.inside.seat.listed) c.self.inside.seat c.put_reusing-answer.new.seat = subst (λ (r : Reuse). KeepsSeatBy 4 r c.self.inside.seat c.put_reusing-answer.new.seat) (subst (λ (z : CallerAt). c.args.reuse ≡ slot_for z.keeper z.seat.listed) (sym c.self.view_is) c.requires.slot)
+    (IfOk-at_ok (λ _. KeepsSeatBy 4 c.args.reuse c.self.inside.seat c.put_reusing-answer.new.seat) c.in-Ok-Err.is c.put_reusing-answer.ensures.keeps) in
     let how = keeps_or_serves c.self.inside.keeper c.self.inside.seat.listed c.self.inside.seat c.put_reusing-answer.new.seat refl keeps.slots in (
       search rules,
       search rules,

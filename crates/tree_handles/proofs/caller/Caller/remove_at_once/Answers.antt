@@ -1,11 +1,20 @@
-use Rattle.std.proofs.Common.{rules}
+use Rattle.std.proofs.Common.{◌∙◌, ap, rules}
+use Rattle.std_alloc.specs.Arc.{arc_value}
 use Rattle.seat_table.specs.Seats.{shape_of}
 use Rattle.citrus_tree.specs.Deletes.{DelGaveWay, Removes}
 use Rattle.citrus_tree.specs.Going.{KeepsSeat}
+use Rattle.tree_handles.specs.Callers.{CallerAt}
 use Rattle.tree_handles.proofs.Callers.{removed_so}
 use Rattle.tree_handles.proofs.Cookies.{keeps_keeper}
+use Rattle.tree_handles.proofs.Keepers.{user_earlier}
 use Rattle.tree_handles.proofs.Serving.{cookies_removed, keeper_removed, removed_slots}
 use Rattle.tree_handles.proofs.caller.Caller.remove_at_once.Goals as goal
+
+pub serves_next-again-requires : goal.serves_next-again-requires
+serves_next-again-requires g c = record {
+  begun = λ d is. user_earlier (shape_of g.W.WaitWords.WAY (arc_value c.self.inside.shared)) c.self.inside.cookie c.self.inside.seat.view d
+      (c.self.invariant.2 (ap (λ (z : CallerAt). z.lost) c.self.view_is ∙ c.requires.may.kept)).of_user is;
+}
 
 pub returns-in-Ok-Ok-clause-taken : goal.returns-in-Ok-Ok-clause-taken
 returns-in-Ok-Ok-clause-taken g c =

@@ -1,0 +1,10 @@
+pub mod Texts
+pub mod Trie
+pub mod Frames
+pub mod Layers
+pub mod Sections
+pub mod Updates
+pub mod Numbers
+pub mod Keeping
+pub mod Promises
+pub mod Examples

@@ -1,0 +1,5 @@
+use Rattle.string_layers.proofs.Promises.{no_section_has_it}
+use Rattle.string_layers.proofs.laws.no_section_has_it.Goals as goal
+
+pub returns : goal.returns
+returns c = no_section_has_it
