@@ -9,7 +9,7 @@ import sys
 
 ROOT = os.path.dirname(os.path.dirname(os.path.abspath(__file__)))
 # names of the toolchain, of other languages and libraries, and of how a name is made
-ELSEWHERE = {"seq_cst", "concurrent_map", "IsSomeAnd-map", "kN", "keepsN", "passes_X_", "in_ok-f", "in_ok-x", "in_err-x", "returns-in_err-x", "returns-in_default-f"}
+ELSEWHERE = {"RT_JOBS", "seq_cst", "concurrent_map", "IsSomeAnd-map", "kN", "keepsN", "passes_X_", "in_ok-f", "in_ok-x", "in_err-x", "returns-in_err-x", "returns-in_default-f"}
 
 
 def text_of(path):
