@@ -128,7 +128,11 @@ static void ranges(uint32_t waiter) {
         const auto between = std::distance(next, end);
         WANT(mine.each(low, other, is_next), between);
         WANT(next == end, true);
-        const auto is_before = [&](std::string_view text, const object &value) { not_right += (--next)->first != text || next->second != value.number; };
+        const auto is_before = [&](std::string_view text, const object &value) {
+            const bool is_it = next != all.begin() && std::prev(next)->first == text && std::prev(next)->second == value.number;
+            not_right += !is_it;
+            if (is_it) --next;
+        };
         WANT(mine.each_down(low, other, is_before), between);
         WANT(next == all.lower_bound(low) || between == 0, true);
         const auto behind = all.upper_bound(low);
@@ -139,8 +143,13 @@ static void ranges(uint32_t waiter) {
     }
     auto first = all.begin();
     auto last = all.end();
-    WANT(mine.each_down([&](std::string_view text, const object &value) { not_right += text != (--last)->first || value.number != last->second; }), all.size());
-    WANT(mine.each([&](std::string_view text, const object &) { not_right += text != first++->first; }), all.size());
+    const auto is_last = [&](std::string_view text, const object &value) {
+        const bool is_it = last != all.begin() && std::prev(last)->first == text && std::prev(last)->second == value.number;
+        not_right += !is_it;
+        if (is_it) --last;
+    };
+    WANT(mine.each_down(is_last), all.size());
+    WANT(mine.each([&](std::string_view text, const object &) { not_right += first == all.end() || text != first++->first; }), all.size());
     WANT(mine.size(), all.size());
     WANT(not_right, 0);
 }
